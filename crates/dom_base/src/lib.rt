@@ -1,0 +1,169 @@
+// The small types that every layer of the engine shares: owners, names of nodes, kinds, refusals and limits.
+#![tactic(auto)]
+
+ghost use Rattle.std.specs.Prelude.{◌≡◌};
+ghost use Rattle.dom_base.specs.Refusals.{refusal_number, refusal_word};
+
+#[cfg(test)]
+mod tests;
+
+use std::alloc::{AllocError, AllocFailed};
+
+/// Whose trees: the page's, or those of the component with this number (1, 2, ..).
+#[derive(Clone, Copy, PartialEq, Eq, PartialOrd, Ord, Hash, Debug)]
+pub enum Owner {
+    Page,
+    Component(u32),
+}
+
+/// A node's name: its owner, and its number in the order in which that owner's nodes were made.
+#[derive(Clone, Copy, PartialEq, Eq, PartialOrd, Ord, Hash, Debug)]
+pub struct NodeName {
+    pub owner: Owner,
+    pub number: u32,
+}
+
+/// A string of 16-bit code units.
+pub type DomStr = Vec<u16>;
+
+/// The kind of a node.
+#[derive(Clone, Copy, PartialEq, Eq, PartialOrd, Ord, Hash, Debug)]
+pub enum Kind {
+    Document,
+    Fragment,
+    Shadow,
+    Element,
+    Text,
+    Comment,
+}
+
+/// What a filter answers at an element that has its name.
+#[derive(Clone, Copy, PartialEq, Eq, PartialOrd, Ord, Hash, Debug)]
+pub enum Verdict {
+    Skip,
+    Reject,
+}
+
+/// A move of a tree walker.
+#[derive(Clone, Copy, PartialEq, Eq, PartialOrd, Ord, Hash, Debug)]
+pub enum Move {
+    Parent,
+    First,
+    Last,
+    Next,
+    Previous,
+    NextSibling,
+    PreviousSibling,
+}
+
+/// What a listener does when it is called.
+#[derive(Clone, Copy, PartialEq, Eq, PartialOrd, Ord, Hash, Debug)]
+pub enum Action {
+    Log,
+    Stop,
+    StopNow,
+    Cancel,
+}
+
+/// Why a command was refused, in the order in which the tests are made.
+#[derive(Clone, Copy, PartialEq, Eq, PartialOrd, Ord, Hash, Debug)]
+pub enum Refusal {
+    Syntax,
+    Busy,
+    Foreign,
+    Unknown,
+    WrongKind,
+    Hierarchy,
+    NotFound,
+    NotSupported,
+    InvalidCharacter,
+    Selector,
+    IndexSize,
+    TypeFault,
+    Limit,
+}
+
+/// A call that was not done: it was refused, or memory was refused to it.
+#[derive(Clone, Copy, PartialEq, Eq, PartialOrd, Ord, Hash, Debug)]
+pub enum Fault {
+    Refused(Refusal),
+    Memory,
+}
+
+impl From<AllocError> for Fault {
+    ghost use Rattle.std.specs.Prelude.{◌≡◌};
+    ghost use Rattle.dom_base.specs.declared.Fault.TheVariants.{Memory};
+
+    ghost from_gives = { λ _ f. f ≡ Memory };
+
+    fn from(_error: AllocError) -> Fault {
+        Fault::Memory
+    }
+}
+
+impl<T: Drop> From<AllocFailed<T>> for Fault {
+    ghost use Rattle.std.specs.Prelude.{◌≡◌};
+    ghost use Rattle.dom_base.specs.declared.Fault.TheVariants.{Memory};
+
+    ghost from_gives = { λ _ f. f ≡ Memory };
+
+    fn from(_refused: AllocFailed<T>) -> Fault {
+        Fault::Memory
+    }
+}
+
+/// The longest line in bytes, without its end.
+pub const MAX_LINE: usize = 65_536;
+
+/// How many nodes one owner makes at most; the same of ranges, iterators, walkers and observers.
+pub const MAX_NODES: u32 = 1_000_000;
+
+/// How many components the page makes at most.
+pub const MAX_COMPONENTS: u32 = 1_000;
+
+/// The longest input in bytes.
+pub const MAX_INPUT: u64 = 1 << 30;
+
+impl Refusal {
+    /// Its number, 1 to 13.
+    pub fn number(self) -> u8
+        ensures { result ≡ refusal_number self }
+    {
+        match self {
+            Refusal::Syntax => 1,
+            Refusal::Busy => 2,
+            Refusal::Foreign => 3,
+            Refusal::Unknown => 4,
+            Refusal::WrongKind => 5,
+            Refusal::Hierarchy => 6,
+            Refusal::NotFound => 7,
+            Refusal::NotSupported => 8,
+            Refusal::InvalidCharacter => 9,
+            Refusal::Selector => 10,
+            Refusal::IndexSize => 11,
+            Refusal::TypeFault => 12,
+            Refusal::Limit => 13,
+        }
+    }
+
+    /// Its word in a reply.
+    pub fn word(self) -> &'static str
+        ensures { result.now ≡ refusal_word self }
+    {
+        match self {
+            Refusal::Syntax => "syntax",
+            Refusal::Busy => "busy",
+            Refusal::Foreign => "foreign",
+            Refusal::Unknown => "unknown",
+            Refusal::WrongKind => "wrong-kind",
+            Refusal::Hierarchy => "hierarchy",
+            Refusal::NotFound => "not-found",
+            Refusal::NotSupported => "not-supported",
+            Refusal::InvalidCharacter => "invalid-character",
+            Refusal::Selector => "selector",
+            Refusal::IndexSize => "index-size",
+            Refusal::TypeFault => "type",
+            Refusal::Limit => "limit",
+        }
+    }
+}

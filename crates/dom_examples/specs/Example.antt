@@ -1,0 +1,37 @@
+-- What an example is, and what it claims of the definitions.
+use Rattle.std.specs.Prelude.{◌≡◌, ℕ, List, [], ◌∷◌, map}
+use Rattle.dom_base.specs.declared.Owner.{Owner}
+use Rattle.dom_model.specs.DocumentMachine.{outputs_of}
+use Rattle.dom_model.specs.Trace.{trace_of}
+use Rattle.dom_model.specs.PageMachine.{page_outputs_of}
+use Rattle.dom_text.specs.Decode.{decode}
+use Rattle.dom_text.specs.Lines.{lines_from, page_lines, text_of_lines}
+use Rattle.dom_text.specs.Text.{output_text}
+
+-- A script, and the lines that answer it.
+pub record Example : Type 0 where
+  pub lines : List (List ℕ)
+  pub answers : List (List ℕ)
+
+-- The document machine answers the script so, and the page machine answers the page's lines on the script's trace.
+pub record Computes (e : Example) : Type 0 where
+  pub document : output_text (outputs_of (map decode e.lines)) ≡ text_of_lines e.answers
+  pub page : output_text (page_outputs_of decode (trace_of decode e.lines)) ≡ text_of_lines (page_lines e.answers)
+
+-- the page's lines of the answers
+abbrev pub page_answers : Example → List (List ℕ)
+page_answers e = page_lines e.answers
+
+-- the lines of an owner in the answers
+abbrev pub answers_for : Owner → Example → List (List ℕ)
+answers_for owner e = lines_from owner e.answers
+
+-- A script of one line, and the line that answers it.
+pub record Single : Type 0 where
+  pub line : List ℕ
+  pub answer : List ℕ
+
+-- each of the lines is answered so
+abbrev pub Singles : List Single → Type 0
+Singles [] = Unit {0}
+Singles (s ∷ rest) = (output_text (outputs_of (decode s.line ∷ [])) ≡ text_of_lines (s.answer ∷ [])) × Singles rest

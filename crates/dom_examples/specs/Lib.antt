@@ -1,0 +1,10 @@
+pub mod Example
+pub mod TreeExamples
+pub mod ObserverExamples
+pub mod RangeExamples
+pub mod CursorExamples
+pub mod SelectorExamples
+pub mod EventExamples
+pub mod ProtocolExamples
+pub mod LineExamples
+pub mod PathExamples

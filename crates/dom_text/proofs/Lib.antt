@@ -1,0 +1,16 @@
+pub mod Examples
+pub mod TextExamples
+pub mod LineLaws
+pub mod WordLaws
+pub mod PartLaws
+pub mod StringLaws
+pub mod NumberLaws
+pub mod NameLaws
+pub mod FlagLaws
+pub mod CommandParts
+pub mod CommandForms
+pub mod EventForms
+pub mod CommandLaws
+pub mod DecodeLaws
+pub mod TextLaws
+pub mod PrintableLines

@@ -1,0 +1,203 @@
+-- Each byte of a line that says a command is one of text: 0x20 to 0x7E.
+use Rattle.std.proofs.Common.{◌≡◌, ℕ, Bool, true, false, List, [], ◌∷◌, Option, Some, None, arith, refl}
+use Rattle.std.specs.Prelude.{codes}
+use Rattle.std.specs.List.{AllByRecursion, list_all}
+use Rattle.std.specs.Int.{IsInRange, is_in_range}
+use Rattle.std.specs.Char.{is_ascii_hexdigit}
+use Rattle.std.proofs.lemmas.Bool.Decides.{nat_tests}
+use Rattle.dom_base.specs.declared.Owner.{Owner}
+use Rattle.dom_base.specs.declared.Move.{Move}
+use Rattle.dom_base.specs.declared.Action.{Action}
+use Rattle.dom_model.specs.Names.{Word}
+use Rattle.dom_model.specs.Command.{Spelled, Filter, ListenerWords, EventWords, ObserveWords, Command, new_element, new_text, new_comment, new_fragment, new_document, attach, append, insert, replace, remove, adopt, normalize, set_attribute, unset_attribute, set_data, replace_data, split, set_text, tree, attribute, parent, document_of, children, contains, connected, shadow_root, slot_of, assigned, range_new, range_start, range_end, range_collapse, range_drop, range_get, range_text, extract, delete, insert_node, iterator_new, walker_new, iterator_next, iterator_previous, iterator_at, walk, walker_at, walker_set, query, matches, listen, unlisten, dispatch, observer, observe, disconnect, take, micro, end_turn}
+use Rattle.dom_text.specs.Words.{end_word, move_word, action_word}
+use Rattle.dom_text.specs.Tokens.{IsWord, IsItem, itself, quote, backslash, by_digits, AreItems, IsNameFilter, IsAttributeFilter}
+use Rattle.dom_text.specs.Grammar.{Part, key, word, label, string, number, node, range, iterator, walker, observed, flag, perhaps, filter_parts, listener_parts, related_parts, event_parts, observe_parts, parts, Spells, IsLine}
+use Rattle.dom_text.proofs.WordLaws.{in_range_is, each_from, list_all_each}
+use Rattle.dom_text.proofs.NumberLaws.{each-append, number_says, numbered_says, node_says, owner_is_word}
+use Rattle.dom_text.proofs.NameLaws.{label_says, show_says, name_filter_says, attribute_filter_says}
+use Rattle.dom_text.proofs.CommandParts.{end_is_word, move_is_word, action_is_word}
+
+-- the bytes are those of text
+abbrev pub IsPrintable : List ℕ → Type 0
+IsPrintable bytes = AllByRecursion (IsInRange 0x20 0x7E) bytes
+
+-- the texts that may stand for the part are text
+abbrev PrintablePart : Part → Type 0
+PrintablePart part = (text : List ℕ) → part text → IsPrintable text
+
+-- so are those of each of the parts
+abbrev PrintableParts : List Part → Type 0
+PrintableParts [] = Unit {0}
+PrintableParts (part ∷ others) = PrintablePart part × PrintableParts others
+
+word_printable : (text : List ℕ) → IsWord text → IsPrintable text
+word_printable [] h = tt
+word_printable (b ∷ bytes) h = each_from (λ c p. (omega (arith, p), omega (arith, p))) (b ∷ bytes) h.1
+
+printable_key : (name : List ℕ) → list_all (is_in_range 0x20 0x7E) name ≡ true → PrintablePart (key name)
+printable_key name h text e = rw e (each_from (λ b p. in_range_is 0x20 0x7E b p) name (list_all_each (is_in_range 0x20 0x7E) name h))
+
+printable_word : (name : Word) → PrintablePart (word name)
+printable_word name text h = rw (h.0) (word_printable name h.1)
+
+printable_label : (name : Word) → PrintablePart (label name)
+printable_label name text h = word_printable text (label_says.is_word text name h)
+
+printable_number : (n : ℕ) → PrintablePart (number n)
+printable_number n text h = word_printable text (number_says.is_word text n h)
+
+printable_node : (o : Owner) (n : Spelled) → PrintablePart (node o n)
+printable_node o n text h = word_printable text ((node_says o).is_word text n h)
+
+printable_range : (n : ℕ) → PrintablePart (range n)
+printable_range n text h = word_printable text ((numbered_says 114 (omega arith, omega arith)).is_word text n h)
+
+printable_iterator : (n : ℕ) → PrintablePart (iterator n)
+printable_iterator n text h = word_printable text ((numbered_says 105 (omega arith, omega arith)).is_word text n h)
+
+printable_walker : (n : ℕ) → PrintablePart (walker n)
+printable_walker n text h = word_printable text ((numbered_says 119 (omega arith, omega arith)).is_word text n h)
+
+printable_observed : (n : ℕ) → PrintablePart (observed n)
+printable_observed n text h = word_printable text ((numbered_says 111 (omega arith, omega arith)).is_word text n h)
+
+printable_end : (b : Bool) → PrintablePart (key (end_word b))
+printable_end b text e = rw e (word_printable (end_word b) (end_is_word b))
+
+printable_move : (m : Move) → PrintablePart (key (move_word m))
+printable_move m text e = rw e (word_printable (move_word m) (move_is_word m))
+
+printable_action : (a : Action) → PrintablePart (key (action_word a))
+printable_action a text e = rw e (word_printable (action_word a) (action_is_word a))
+
+hex_printable : (b : ℕ) → is_ascii_hexdigit b ≡ true → IsInRange 0x20 0x7E b
+hex_printable b h = grind (arith, nat_tests)
+
+item_printable : (item : List ℕ) (unit : ℕ) → IsItem item unit → IsPrintable item
+item_printable item unit (itself e h) = rw e (h.0, tt)
+item_printable item unit (quote e h) = rw e ((omega arith, omega arith), ((omega arith, omega arith), tt))
+item_printable item unit (backslash e h) = rw e ((omega arith, omega arith), ((omega arith, omega arith), tt))
+item_printable item unit (by_digits a b c d e ha hb hc hd h) =
+    rw e ((omega arith, omega arith), ((omega arith, omega arith), (hex_printable a ha, (hex_printable b hb, (hex_printable c hc, (hex_printable d hd, tt))))))
+
+items_printable : (units items : List ℕ) → AreItems items units → IsPrintable items
+items_printable [] items h = rw h tt
+items_printable (unit ∷ units) items h = rw (h.4) (each-append (IsInRange 0x20 0x7E) h.0 h.1 (item_printable h.0 unit h.2) (items_printable units h.1 h.3))
+
+printable_string : (units : List ℕ) → PrintablePart (string units)
+printable_string units text h =
+    let quoted : IsPrintable (34 ∷ []) = ((omega arith, omega arith), tt) in
+    rw (h.2) ((omega arith, omega arith), each-append (IsInRange 0x20 0x7E) h.0 (34 ∷ []) (items_printable units h.0 h.1) quoted)
+
+printable_flag : (b : Bool) (name : List ℕ) (others : List Part) → list_all (is_in_range 0x20 0x7E) name ≡ true → PrintableParts others → PrintableParts (flag b name others)
+printable_flag true name others h rest = (printable_key name h, rest)
+printable_flag false name others h rest = rest
+
+printable_filter : (f : Filter) → PrintableParts (filter_parts f)
+printable_filter f = (λ text h. word_printable text (show_says.is_word text f.shown h), named f.named)
+  where
+    named : (o : Option _) → PrintableParts (perhaps IsNameFilter o)
+    named None = tt
+    named (Some g) = (λ text h. word_printable text (name_filter_says.is_word text g h), tt)
+
+printable_listener : (l : ListenerWords) → PrintableParts (listener_parts l)
+printable_listener l = (
+  printable_label l.event,
+  (
+    printable_label l.label,
+    (
+      printable_action l.action,
+      printable_flag l.capture (codes "capture") _ refl (printable_flag l.once (codes "once") _ refl (printable_flag l.passive (codes "passive") [] refl tt)),
+    ),
+  ),
+)
+
+printable_related : (o : Owner) (r : Option Spelled) → PrintableParts (related_parts o r)
+printable_related o None = tt
+printable_related o (Some n) = (printable_key (codes "related") refl, (printable_node o n, tt))
+
+printable_event : (o : Owner) (e : EventWords) (r : Option Spelled) → PrintableParts (event_parts o e r)
+printable_event o e r = (
+  printable_label e.event,
+  printable_flag e.bubbles (codes "bubbles") _ refl (printable_flag e.cancelable (codes "cancelable") _ refl
+      (printable_flag e.composed (codes "composed") _ refl (printable_related o r))),
+)
+
+printable_names : (o : Option (List Word)) → PrintableParts (perhaps IsAttributeFilter o)
+printable_names None = tt
+printable_names (Some names) = (λ text h. word_printable text (attribute_filter_says.is_word text names h), tt)
+
+printable_observe : (w : ObserveWords) → PrintableParts (observe_parts w)
+printable_observe w = printable_flag w.child_list (codes "childList") _ refl (printable_flag w.attributes (codes "attributes") _ refl (printable_flag w.character_data (codes "characterData") _ refl
+    (printable_flag w.subtree (codes "subtree") _ refl (printable_flag w.attribute_old_value (codes "attributeOldValue") _ refl
+    (printable_flag w.character_data_old_value (codes "characterDataOldValue") _ refl (printable_names w.filter))))))
+
+printable_parts : (o : Owner) (c : Command) → PrintableParts (parts o c)
+printable_parts o (new_element name) = (printable_key (codes "new") refl, (printable_key (codes "element") refl, (printable_word name, tt)))
+printable_parts o (new_text data') = (printable_key (codes "new") refl, (printable_key (codes "text") refl, (printable_string data', tt)))
+printable_parts o (new_comment data') = (printable_key (codes "new") refl, (printable_key (codes "comment") refl, (printable_string data', tt)))
+printable_parts o new_fragment = (printable_key (codes "new") refl, (printable_key (codes "fragment") refl, tt))
+printable_parts o new_document = (printable_key (codes "document") refl, tt)
+printable_parts o (attach e) = (printable_key (codes "attach") refl, (printable_node o e, tt))
+printable_parts o (append p n) = (printable_key (codes "append") refl, (printable_node o p, (printable_node o n, tt)))
+printable_parts o (insert p n c) = (printable_key (codes "insert") refl, (printable_node o p, (printable_node o n, (printable_node o c, tt))))
+printable_parts o (replace p n c) = (printable_key (codes "replace") refl, (printable_node o p, (printable_node o n, (printable_node o c, tt))))
+printable_parts o (remove n) = (printable_key (codes "remove") refl, (printable_node o n, tt))
+printable_parts o (adopt d n) = (printable_key (codes "adopt") refl, (printable_node o d, (printable_node o n, tt)))
+printable_parts o (normalize n) = (printable_key (codes "normalize") refl, (printable_node o n, tt))
+printable_parts o (set_attribute e name value) = (printable_key (codes "set") refl, (printable_node o e, (printable_word name, (printable_string value, tt))))
+printable_parts o (unset_attribute e name) = (printable_key (codes "unset") refl, (printable_node o e, (printable_word name, tt)))
+printable_parts o (set_data t data') = (printable_key (codes "data") refl, (printable_node o t, (printable_string data', tt)))
+printable_parts o (replace_data t offset count data') = (printable_key (codes "replace-data") refl, (printable_node o t, (printable_number offset, (printable_number count, (printable_string data', tt)))))
+printable_parts o (split n offset) = (printable_key (codes "split") refl, (printable_node o n, (printable_number offset, tt)))
+printable_parts o (set_text n data') = (printable_key (codes "text") refl, (printable_node o n, (printable_string data', tt)))
+printable_parts o (tree n) = (printable_key (codes "tree") refl, (printable_node o n, tt))
+printable_parts o (attribute e name) = (printable_key (codes "attr") refl, (printable_node o e, (printable_word name, tt)))
+printable_parts o (parent n) = (printable_key (codes "parent") refl, (printable_node o n, tt))
+printable_parts o (document_of n) = (printable_key (codes "docof") refl, (printable_node o n, tt))
+printable_parts o (children n) = (printable_key (codes "children") refl, (printable_node o n, tt))
+printable_parts o (contains a n) = (printable_key (codes "contains") refl, (printable_node o a, (printable_node o n, tt)))
+printable_parts o (connected n) = (printable_key (codes "connected") refl, (printable_node o n, tt))
+printable_parts o (shadow_root e) = (printable_key (codes "shadow-root") refl, (printable_node o e, tt))
+printable_parts o (slot_of n) = (printable_key (codes "slot-of") refl, (printable_node o n, tt))
+printable_parts o (assigned e) = (printable_key (codes "assigned") refl, (printable_node o e, tt))
+printable_parts o range_new = (printable_key (codes "range-new") refl, tt)
+printable_parts o (range_start r n offset) = (printable_key (codes "range-start") refl, (printable_range r, (printable_node o n, (printable_number offset, tt))))
+printable_parts o (range_end r n offset) = (printable_key (codes "range-end") refl, (printable_range r, (printable_node o n, (printable_number offset, tt))))
+printable_parts o (range_collapse r to_start) = (printable_key (codes "range-collapse") refl, (printable_range r, (printable_end to_start, tt)))
+printable_parts o (range_drop r) = (printable_key (codes "range-drop") refl, (printable_range r, tt))
+printable_parts o (range_get r) = (printable_key (codes "range-get") refl, (printable_range r, tt))
+printable_parts o (range_text r) = (printable_key (codes "range-text") refl, (printable_range r, tt))
+printable_parts o (extract r) = (printable_key (codes "extract") refl, (printable_range r, tt))
+printable_parts o (delete r) = (printable_key (codes "delete") refl, (printable_range r, tt))
+printable_parts o (insert_node r n) = (printable_key (codes "insert-node") refl, (printable_range r, (printable_node o n, tt)))
+printable_parts o (iterator_new n filter) = (printable_key (codes "iter-new") refl, (printable_node o n, printable_filter filter))
+printable_parts o (walker_new n filter) = (printable_key (codes "walk-new") refl, (printable_node o n, printable_filter filter))
+printable_parts o (iterator_next i) = (printable_key (codes "iter-next") refl, (printable_iterator i, tt))
+printable_parts o (iterator_previous i) = (printable_key (codes "iter-prev") refl, (printable_iterator i, tt))
+printable_parts o (iterator_at i) = (printable_key (codes "iter-at") refl, (printable_iterator i, tt))
+printable_parts o (walk w move) = (printable_key (codes "walk") refl, (printable_walker w, (printable_move move, tt)))
+printable_parts o (walker_at w) = (printable_key (codes "walk-at") refl, (printable_walker w, tt))
+printable_parts o (walker_set w n) = (printable_key (codes "walk-set") refl, (printable_walker w, (printable_node o n, tt)))
+printable_parts o (query n selector) = (printable_key (codes "query") refl, (printable_node o n, (printable_string selector, tt)))
+printable_parts o (matches e selector) = (printable_key (codes "matches") refl, (printable_node o e, (printable_string selector, tt)))
+printable_parts o (listen n l) = (printable_key (codes "listen") refl, (printable_node o n, printable_listener l))
+printable_parts o (unlisten n event l capture) = (printable_key (codes "unlisten") refl, (printable_node o n, (printable_label event, (printable_label l, printable_flag capture (codes "capture") [] refl tt))))
+printable_parts o (dispatch n e related) = (printable_key (codes "dispatch") refl, (printable_node o n, printable_event o e related))
+printable_parts o observer = (printable_key (codes "observer") refl, tt)
+printable_parts o (observe b n w) = (printable_key (codes "observe") refl, (printable_observed b, (printable_node o n, printable_observe w)))
+printable_parts o (disconnect b) = (printable_key (codes "disconnect") refl, (printable_observed b, tt))
+printable_parts o (take b) = (printable_key (codes "take") refl, (printable_observed b, tt))
+printable_parts o (micro l) = (printable_key (codes "micro") refl, (printable_label l, tt))
+printable_parts o end_turn = (printable_key (codes ".") refl, tt)
+
+spelled_printable : (those : List Part) (text : List ℕ) → PrintableParts those → Spells those text → IsPrintable text
+spelled_printable [] text h s = rw s tt
+spelled_printable (part ∷ others) text h s =
+    rw (s.4) ((omega arith, omega arith), each-append (IsInRange 0x20 0x7E) s.0 s.1 (h.0 s.0 s.2) (spelled_printable others s.1 h.1 s.3))
+
+-- A line that says a command has only bytes of text.
+pub IsLine-printable : (line : List ℕ) (o : Owner) (c : Command) → IsLine line o c → IsPrintable line
+IsLine-printable line o c h =
+    rw (h.whole) (each-append (IsInRange 0x20 0x7E) h.name h.said (word_printable h.name (owner_is_word h.name o h.owned)) (spelled_printable (parts o c) h.said (printable_parts o c) h.spelled))

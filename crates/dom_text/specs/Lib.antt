@@ -1,0 +1,8 @@
+pub mod Words
+pub mod Lines
+pub mod Tokens
+pub mod Grammar
+pub mod Readers
+pub mod Decode
+pub mod Text
+pub mod Laws
