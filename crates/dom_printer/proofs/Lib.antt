@@ -1,0 +1,3 @@
+pub mod KeepLaws
+pub mod LineLaws
+pub mod TreeLaws

@@ -1,0 +1,15 @@
+-- Lines as rows of pieces, and as the specification groups them.
+use Rattle.std.proofs.Common.{◌≡◌, ℕ, List, [], ◌++◌, append_assoc}
+use Rattle.std.proofs.lemmas.List.{append-nil}
+
+-- the line of a call of a listener
+pub event_row : (owner space a b c d e f g h i j k l m n end : List ℕ)
+    → owner ++ space ++ ((a ++ b) ++ ((c ++ d) ++ ((e ++ f) ++ ((g ++ h) ++ ((i ++ j) ++ ((k ++ l) ++ ((m ++ n) ++ []))))))) ++ end
+    ≡ ((owner ++ space ++ (a ++ b ++ c ++ d ++ e ++ f ++ g ++ h ++ i ++ j ++ k ++ l ++ m ++ n)) ++ end) ++ []
+event_row owner space a b c d e f g h i j k l m n end = simp (append_assoc, append-nil)
+
+-- the line of a record of children
+pub child_list_row : (owner space a n kind target b c d e f g h i end : List ℕ)
+    → owner ++ space ++ ((a ++ n) ++ (((space ++ kind) ++ target) ++ ((b ++ c) ++ ((d ++ e) ++ ((f ++ g) ++ ((h ++ i) ++ [])))))) ++ end
+    ≡ ((owner ++ space ++ (a ++ n ++ space ++ (kind ++ target ++ b ++ c ++ d ++ e ++ f ++ g ++ h ++ i))) ++ end) ++ []
+child_list_row owner space a n kind target b c d e f g h i end = simp (append_assoc, append-nil)

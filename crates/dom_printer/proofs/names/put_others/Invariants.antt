@@ -1,0 +1,8 @@
+-- The buffer has the nodes so far.
+use Rattle.std.proofs.Common.{◌≡◌, ◌++◌, take}
+use Rattle.std.specs.List.{flat_map}
+use Rattle.dom_text.specs.Text.{next_node_text}
+use Rattle.dom_printer.proofs.names.put_others.Given as goal
+
+abbrev pub invariant-loop-node : goal.invariant-loop-node
+invariant-loop-node l = l.out.items ≡ l.fn.out.items ++ flat_map (next_node_text l.viewer) (take l.node-index l.nodes)

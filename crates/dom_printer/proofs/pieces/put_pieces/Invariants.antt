@@ -1,0 +1,7 @@
+-- The buffer has the pieces so far.
+use Rattle.std.proofs.Common.{◌≡◌, ◌++◌, take}
+use Rattle.dom_printer.specs.Pieces.{pieces_text}
+use Rattle.dom_printer.proofs.pieces.put_pieces.Given as goal
+
+abbrev pub invariant-loop-piece : goal.invariant-loop-piece
+invariant-loop-piece l = l.out.items ≡ l.fn.out.items ++ pieces_text l.viewer (take l.piece-index l.pieces)

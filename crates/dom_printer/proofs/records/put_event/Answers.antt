@@ -1,0 +1,17 @@
+-- The pieces of the line of an event have its text.
+use Rattle.std.proofs.Common.{◌≡◌, ◌++◌, [], ◌∷◌, ℕ, List, OnOk, subst}
+use Rattle.std.specs.Prelude.{codes}
+use Rattle.std.specs.Fmt.{decimal}
+use Rattle.dom_text.specs.Text.{node_text, node_or_null, list_text}
+use Rattle.dom_text.specs.Words.{owner_word}
+use Rattle.dom_printer.proofs.LineLaws.{event_row}
+use Rattle.dom_printer.proofs.records.put_event.Goals as goal
+
+pub returns-clause-ok : goal.returns-clause-ok
+returns-clause-ok c =
+    let owner = c.args.owner in
+    let event = c.args.event.now in
+    let same = event_row (owner_word owner) (codes " ") (codes "event ") event.label.now (codes " ") event.event.now (codes " phase=") (decimal event.phase)
+    (codes " target=") (node_text owner event.target) (codes " current=") (node_text owner event.current) (codes " related=") (node_or_null owner event.related)
+    (codes " path=") (list_text owner event.path.now) (10 ∷ []) in
+    subst (λ (text : List ℕ). OnOk c.put_line.result (c.put_line.new.out.items ≡ c.args.out.now.items ++ text)) same c.put_line.ensures.ok

@@ -1,0 +1,8 @@
+-- The buffer has the steps so far.
+use Rattle.std.proofs.Common.{◌≡◌, ◌++◌, take}
+use Rattle.dom_text.specs.Text.{steps_text}
+use Rattle.dom_printer.specs.Steps.{steps_view}
+use Rattle.dom_printer.proofs.trees.put_steps.Given as goal
+
+abbrev pub invariant-loop-step : goal.invariant-loop-step
+invariant-loop-step l = l.out.items ≡ l.fn.out.items ++ steps_text l.viewer (steps_view (take l.step-index l.steps))

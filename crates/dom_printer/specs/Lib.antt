@@ -1,0 +1,6 @@
+pub mod Keeping
+pub mod Lines
+pub mod Steps
+pub mod Pieces
+pub mod Replies
+pub mod Records

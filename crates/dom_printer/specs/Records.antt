@@ -1,0 +1,17 @@
+-- Events and records of the code, seen as those of the specification.
+use Rattle.std.specs.Prelude.{option_copied}
+use Rattle.dom_base.specs.declared.NodeName.{NodeName}
+use Rattle.dom_model.specs.Output as model
+use Rattle.dom_printer.specs.declared.records.Change.{Change}
+use Rattle.dom_printer.specs.declared.records.Change.TheVariants as changes
+use Rattle.dom_printer.specs.declared.records.Event.{Event}
+
+-- a call of a listener
+abbrev pub event_view : Event → model.EventLine NodeName
+event_view e = record { label = e.label.now; event = e.event.now; phase = e.phase; target = e.target; current = e.current; related = e.related; path = e.path.now }
+
+-- a change
+abbrev pub change_view : Change → model.Change NodeName
+change_view (changes.ChildList target added removed previous next) = model.child_list target added.now removed.now previous next
+change_view (changes.Attributes target name old) = model.attributes target name.now (option_copied old)
+change_view (changes.CharacterData target old) = model.character_data target (option_copied old)

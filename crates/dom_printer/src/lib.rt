@@ -1,0 +1,18 @@
+//! The text of what the engine answers, put at the end of a buffer: replies, refusals, events, records, microtasks, trees
+//! and strings. A call puts its whole text, or nothing where memory is refused.
+#![tactic(auto)]
+
+mod buffers;
+mod names;
+mod pieces;
+mod records;
+mod replies;
+mod strings;
+#[cfg(test)]
+mod tests;
+mod trees;
+
+pub use records::{Change, Event, put_event, put_micro, put_record};
+pub use replies::{Boundary, Value, put_refusal, put_reply};
+pub use strings::put_string;
+pub use trees::{Attribute, Opening, TreeStep, Words, put_tree};

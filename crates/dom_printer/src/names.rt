@@ -1,0 +1,99 @@
+//! Numbers, owners and nodes.
+ghost use Rattle.std.specs.Prelude.{◌≡◌, ◌++◌, OnOk, OnErr};
+ghost use Rattle.std.specs.Fmt.{decimal};
+ghost use Rattle.std.specs.List.{flat_map};
+ghost use Rattle.dom_text.specs.Text.{node_text, node_or_null, next_node_text, list_text};
+ghost use Rattle.dom_text.specs.Words.{owner_word};
+ghost use Rattle.dom_printer.specs.Keeping.{Keeps};
+
+use dom_base::{NodeName, Owner};
+use itoa::Buffer;
+use std::alloc::AllocError;
+
+/// Puts a number's digits.
+pub(crate) fn put_number(out: &mut Vec<u8>, number: usize) -> Result<(), AllocError>
+    ensures ok { OnOk result (out.new.items ≡ out.old.items ++ decimal number) }
+    ensures err { OnErr result (Keeps out.old.items out.new.items) }
+{
+    let mut buffer = Buffer::new();
+    out.extend_from_slice(buffer.format(number).as_bytes())
+}
+
+/// Puts the word of an owner.
+pub(crate) fn put_owner(out: &mut Vec<u8>, owner: Owner) -> Result<(), AllocError>
+    ensures ok { OnOk result (out.new.items ≡ out.old.items ++ owner_word owner) }
+    ensures err { OnErr result (Keeps out.old.items out.new.items) }
+{
+    match owner {
+        Owner::Page => out.extend_from_slice(b"p"),
+        Owner::Component(k) => {
+            out.extend_from_slice(b"c")?;
+            put_number(out, k as usize)
+        }
+    }
+}
+
+/// Puts a node as the viewer sees it: `nJ` of the page, `mJ` of the viewer's own, `cK:mJ` of another component.
+#[tactic(auto, using(crate::proofs::KeepLaws::keeps_at))]
+pub(crate) fn put_node(out: &mut Vec<u8>, viewer: Owner, node: NodeName) -> Result<(), AllocError>
+    ensures ok { OnOk result (out.new.items ≡ out.old.items ++ node_text viewer node) }
+    ensures err { OnErr result (Keeps out.old.items out.new.items) }
+{
+    match node.owner {
+        Owner::Page => out.extend_from_slice(b"n")?,
+        Owner::Component(k) => {
+            if viewer != node.owner {
+                out.extend_from_slice(b"c")?;
+                put_number(out, k as usize)?;
+                out.extend_from_slice(b":")?;
+            }
+            out.extend_from_slice(b"m")?;
+        }
+    }
+    put_number(out, node.number as usize)
+}
+
+/// Puts a node, or `null` where there is none.
+pub(crate) fn put_node_or_null(
+    out: &mut Vec<u8>,
+    viewer: Owner,
+    node: Option<NodeName>,
+) -> Result<(), AllocError>
+    ensures ok { OnOk result (out.new.items ≡ out.old.items ++ node_or_null viewer node) }
+    ensures err { OnErr result (Keeps out.old.items out.new.items) }
+{
+    match node {
+        None => out.extend_from_slice(b"null"),
+        Some(node) => put_node(out, viewer, node),
+    }
+}
+
+/// Puts nodes in brackets, with commas between them.
+pub(crate) fn put_list(
+    out: &mut Vec<u8>,
+    viewer: Owner,
+    nodes: &[NodeName],
+) -> Result<(), AllocError>
+    ensures ok { OnOk result (out.new.items ≡ out.old.items ++ list_text viewer nodes.now) }
+    ensures err { OnErr result (Keeps out.old.items out.new.items) }
+{
+    out.extend_from_slice(b"[")?;
+    if let [first, others @ ..] = nodes {
+        put_node(out, viewer, *first)?;
+        put_others(out, viewer, others)?;
+    }
+    out.extend_from_slice(b"]")
+}
+
+/// Puts nodes, each behind a comma.
+#[tactic(auto, using(crate::proofs::KeepLaws::keeps_at))]
+fn put_others(out: &mut Vec<u8>, viewer: Owner, nodes: &[NodeName]) -> Result<(), AllocError>
+    ensures ok { OnOk result (out.new.items ≡ out.old.items ++ flat_map (next_node_text viewer) nodes.now) }
+    ensures err { OnErr result (Keeps out.old.items out.new.items) }
+{
+    for node in nodes {
+        out.extend_from_slice(b",")?;
+        put_node(out, viewer, *node)?;
+    }
+    Ok(())
+}

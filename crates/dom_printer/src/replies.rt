@@ -1,0 +1,136 @@
+//! Replies and refusals.
+ghost use Rattle.std.specs.Prelude.{◌≡◌, ◌++◌, ◌∷◌, [], OnOk, OnErr};
+ghost use Rattle.dom_model.specs.Output.{boundaries, reference, replied, says};
+ghost use Rattle.dom_text.specs.Text.{output_text};
+ghost use Rattle.dom_printer.specs.Replies.{boundary_view, value_view, refusal_output};
+
+use crate::pieces::{Piece, put_line};
+use dom_base::{NodeName, Owner, Refusal};
+use std::alloc::AllocError;
+
+/// A boundary point: a node and an offset, in children or in code units (DOM Standard, 5.2 Boundary points).
+#[derive(Clone, Copy)]
+pub struct Boundary {
+    pub node: NodeName,
+    pub offset: usize,
+}
+
+/// What stands behind `ok` in a reply: anything but a tree, which `put_tree` prints.
+#[derive(Clone, Copy)]
+pub enum Value<'a> {
+    /// `ok` alone.
+    Nothing,
+    /// `null`: no node, or no string.
+    Null,
+    Node(NodeName),
+    /// Nodes in brackets, with commas between them.
+    List(&'a [NodeName]),
+    /// A component, by its owner's word.
+    Component(Owner),
+    /// The number of a range, behind `r`.
+    Range(u32),
+    /// The number of an iterator, behind `i`.
+    Iterator(u32),
+    /// The number of a walker, behind `w`.
+    Walker(u32),
+    /// The number of an observer, behind `o`.
+    Observer(u32),
+    Str(&'a [u16]),
+    Truth(bool),
+    Count(usize),
+    /// A range's start and end.
+    Boundaries { start: Boundary, end: Boundary },
+    /// An iterator's reference, and whether the iterator's pointer is before it.
+    Reference { node: NodeName, before: bool },
+}
+
+/// Puts a reply with its end: the owner's word, `ok`, and the value as this owner sees it. Where memory is refused, the
+/// buffer is as before.
+///
+/// Own rule.
+pub fn put_reply(out: &mut Vec<u8>, owner: Owner, value: &Value<'_>) -> Result<(), AllocError>
+    ensures ok { OnOk result (out.new.items
+        ≡ out.old.items ++ output_text (says owner (replied (value_view value.now)) ∷ [])) }
+    ensures err { OnErr result (out.new.items ≡ out.old.items) }
+{
+    let piece = match value {
+        Value::Nothing => Piece::Text(b"ok"),
+        Value::Null => Piece::Text(b"ok null"),
+        Value::Node(node) => Piece::Node(b"ok ", *node),
+        Value::List(nodes) => Piece::Nodes(b"ok ", nodes),
+        Value::Component(component) => Piece::Owner(b"ok ", *component),
+        Value::Range(number) => Piece::Number(b"ok r", *number as usize),
+        Value::Iterator(number) => Piece::Number(b"ok i", *number as usize),
+        Value::Walker(number) => Piece::Number(b"ok w", *number as usize),
+        Value::Observer(number) => Piece::Number(b"ok o", *number as usize),
+        Value::Str(units) => Piece::Units(b"ok ", units),
+        Value::Truth(true) => Piece::Text(b"ok true"),
+        Value::Truth(false) => Piece::Text(b"ok false"),
+        Value::Count(count) => Piece::Number(b"ok ", *count),
+        Value::Boundaries { start, end } => return put_boundaries(out, owner, *start, *end),
+        Value::Reference { node, before } => return put_reference(out, owner, *node, *before),
+    };
+    put_line(out, owner, &[piece])
+}
+
+/// Puts the reply that has an iterator's reference, and whether its pointer is before that.
+fn put_reference(
+    out: &mut Vec<u8>,
+    owner: Owner,
+    node: NodeName,
+    before: bool,
+) -> Result<(), AllocError>
+    ensures ok { OnOk result (out.new.items
+        ≡ out.old.items ++ output_text (says owner (replied (reference node before)) ∷ [])) }
+    ensures err { OnErr result (out.new.items ≡ out.old.items) }
+{
+    let side = if before {
+        Piece::Text(b" before")
+    } else {
+        Piece::Text(b" after")
+    };
+    put_line(out, owner, &[Piece::Node(b"ok ", node), side])
+}
+
+/// Puts the reply that has a range's start and end.
+fn put_boundaries(
+    out: &mut Vec<u8>,
+    owner: Owner,
+    start: Boundary,
+    end: Boundary,
+) -> Result<(), AllocError>
+    ensures ok { OnOk result (out.new.items
+        ≡ out.old.items ++ output_text (says owner (replied (boundaries (boundary_view start) (boundary_view end))) ∷ [])) }
+    ensures err { OnErr result (out.new.items ≡ out.old.items) }
+{
+    let pieces = [
+        Piece::Node(b"ok ", start.node),
+        Piece::Number(b" ", start.offset),
+        Piece::Node(b" ", end.node),
+        Piece::Number(b" ", end.offset),
+    ];
+    put_line(out, owner, &pieces)
+}
+
+/// Puts a refusal with its end: the owner's word, `!` and the refusal's word; of a line that has no owner `! owner`,
+/// whatever the refusal. Where memory is refused, the buffer is as before.
+///
+/// Own rule.
+pub fn put_refusal(
+    out: &mut Vec<u8>,
+    owner: Option<Owner>,
+    refusal: Refusal,
+) -> Result<(), AllocError>
+    ensures ok { OnOk result (out.new.items
+        ≡ out.old.items ++ output_text (refusal_output owner refusal ∷ [])) }
+    ensures err { OnErr result (out.new.items ≡ out.old.items) }
+{
+    match owner {
+        None => out.extend_from_slice(b"! owner\n"),
+        Some(owner) => put_line(
+            out,
+            owner,
+            &[Piece::Bytes(b"! ", refusal.word().as_bytes())],
+        ),
+    }
+}
