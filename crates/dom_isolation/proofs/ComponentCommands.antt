@@ -1,0 +1,153 @@
+-- A command of a component, as the page sees it: nothing, or an outward event.
+use Rattle.std.proofs.Common.{◌≡◌, ℕ, Bool, true, false, not, ◌&&◌, ◌||◌, List, [], ◌∷◌, ◌++◌, zero, suc, unwrap_or, flat_map, filter, map, Option, Some, None, option_map, refl, sym, ap, ◌∙◌, true≢false, subst, append-nil}
+use Rattle.std.specs.Prelude.{is_some, is_none, if◌then◌else◌, option_to_list}
+use Rattle.std.proofs.lemmas.List.Elements.{filter-append}
+use Rattle.std.proofs.lemmas.Bool.{cond-true, cond-false}
+use Rattle.dom_base.specs.declared.Owner.{Owner}
+use Rattle.dom_base.specs.declared.Owner.TheVariants.{Page, Component}
+use Rattle.dom_base.specs.declared.NodeName.{NodeName}
+use Rattle.dom_base.specs.declared.Refusal.{Refusal}
+use Rattle.dom_base.specs.declared.Refusal.TheVariants.{TypeFault}
+use Rattle.dom_model.specs.Names.{name_eq, owner_depth, last_of}
+use Rattle.dom_model.specs.Tree.{root_of}
+use Rattle.dom_model.specs.Command.{Command, Spelled, EventWords}
+use Rattle.dom_model.specs.Output.{says, nothing, a_truth}
+use Rattle.dom_model.specs.Part.{Part}
+use Rattle.dom_model.specs.Runs.{quiet, run_then, answering, unless_refused}
+use Rattle.dom_model.specs.CommandRefusals.{is_command_of, part_refusal, related_refusal, has_other_root}
+use Rattle.dom_model.specs.CommandNames.{named}
+use Rattle.dom_model.specs.Effects.{Effect, tables, changes, effect}
+use Rattle.dom_model.specs.World.{World, hosts_from, host_above, is_in_shadow_tree, micro_task, part_of, with_part}
+use Rattle.dom_model.specs.Dispatch.{dispatch_in}
+use Rattle.dom_model.specs.Turns.{ending_turn, opening_turn, is_page_turn}
+use Rattle.dom_model.specs.DocumentMachine.{refusal, effect_in, perform, accepted, run_command}
+use Rattle.dom_model.specs.Trace.{outputs_for, is_page, outward_of, outward_dispatch, outward_command}
+use Rattle.dom_model.specs.PageMachine.{PageState, page_of, is_page_task}
+use Rattle.dom_model.proofs.PartLaws.{part_of-with_part-other, owner-part_of}
+use Rattle.dom_model.proofs.StepLaws.{Component-IsNoPage}
+use Rattle.dom_isolation.specs.Laws.{page_run, IsQuiet}
+use Rattle.dom_isolation.proofs.Tests.{by_cases}
+use Rattle.dom_isolation.proofs.Squares.{run_then-square, same_page_of, outputs_for_page-other}
+use Rattle.dom_isolation.proofs.PageSteps.{page_of-world_after-other}
+use Rattle.dom_isolation.proofs.Acceptance.{next-test, part-accepted, accepted-facts}
+use Rattle.dom_isolation.proofs.Trees.{name_eq-true}
+use Rattle.dom_isolation.proofs.ComponentEvents.{outward_run, outward_at, run_then-quiet_end, HasSameRoot, dispatch-component}
+use Rattle.dom_isolation.proofs.TurnEndings.{quiet_then}
+use Rattle.dom_isolation.proofs.LineBegins.{ending-component, part_of-opening, opening-component, quiet-opening}
+use Rattle.dom_isolation.proofs.TableEffects.{KeepsBase, base-effect}
+use Rattle.dom_isolation.proofs.PageCommands.{owner-named}
+
+-- Effects in a component's part show nothing.
+effect-other : (w : World) (k : ℕ) (e : Effect) → KeepsBase (part_of w (Component k)) e → page_run (effect_in w (Component k) e) ≡ quiet (page_of w)
+effect-other w k (tables p lines v) h =
+    let f = Component-IsNoPage k in
+    let mine = h.0 ∙ owner-part_of w (Component k) in
+    quiet_then (with_part w p, map (says (Component k)) lines) (page_of w) (answering (Component k) v)
+    (ap (λ s. (s, outputs_for Page (map (says (Component k)) lines))) (same_page_of (with_part w p) w (part_of-with_part-other w p Page (λ e. f (sym mine ∙ e))) refl refl)
+    ∙ ap (λ ls. (page_of w, ls)) (outputs_for_page-other (Component k) f lines)) refl
+effect-other w k (changes steps v) h = ap (λ s. quiet s) (page_of-world_after-other (Component k) (Component-IsNoPage k) w steps)
+
+-- What an accepted dispatch of a component is known to have.
+related-near : (p : Part) (k : ℕ) (x : Spelled) (e : EventWords) (y : Spelled) → p.owner ≡ Component k → part_refusal p (Command.dispatch x e (Some y)) ≡ None → root_of p.trees (named p y) ≡ root_of p.trees (named p x)
+related-near p k x e y o h =
+    let c = Command.dispatch x e (Some y) in
+    let own : related_refusal (Component k) p (named p x) (Some y) ≡ None = subst (λ o. related_refusal o p (named p x) (Some y) ≡ None) o (part-accepted p c h).own in
+    let same = (next-test (has_other_root p (named p x) y || false) TypeFault [] own).0 in
+    sym (name_eq-true (root_of p.trees (named p x)) (root_of p.trees (named p y)) (from (name_eq (root_of p.trees (named p x)) (root_of p.trees (named p y))) same))
+  where
+    from : (b : Bool) → (not b || false) ≡ false → b ≡ true
+    from true g = refl
+    from false g = absurd (true≢false g)
+
+-- A dispatch.
+pub dispatched-component : (w : World) (k : ℕ) → IsQuiet w → (x : Spelled) (e : EventWords) (related : Option Spelled) → part_refusal (part_of w (Component k)) (Command.dispatch x e related) ≡ None →
+    page_run (perform w (Component k) (Command.dispatch x e related)) ≡ outward_run (page_of w) (outward_dispatch w (Component k) (Command.dispatch x e related))
+dispatched-component w k q x e related h =
+    let p = part_of w (Component k) in
+    let o = owner-part_of w (Component k) in
+    let target = named p x in
+    let mine : target.owner ≡ Component k = owner-named p x ∙ o in
+    let d = dispatch_in w target (option_map (named p) related) e in
+    let seen = dispatch-component w q target (option_map (named p) related) e (λ z. Component-IsNoPage k (sym mine ∙ z)) (near related h) in
+    run_then-square d.run (answering (Component k) (a_truth d.answer)) quiet refl
+    ∙ ap (λ r. run_then r quiet) seen ∙ run_then-quiet_end (outward_run (page_of w) (outward_at w target e (option_map (named p) related)))
+    ∙ ap (outward_run (page_of w)) (same_event related)
+  where
+    near : (r : Option Spelled) → part_refusal (part_of w (Component k)) (Command.dispatch x e r) ≡ None → HasSameRoot w (named (part_of w (Component k)) x) (option_map (named (part_of w (Component k))) r)
+    near None g = tt
+    near (Some y) g =
+        let p = part_of w (Component k) in
+        let o = owner-part_of w (Component k) in
+        let at_y : (named p y).owner ≡ Component k = owner-named p y ∙ o in
+        let at_x : (named p x).owner ≡ Component k = owner-named p x ∙ o in
+        ((at_y ∙ sym at_x, ap (λ q. root_of (part_of w q).trees (named p y)) at_y ∙ related-near p k x e y o g ∙ ap (λ q. root_of (part_of w q).trees (named p x)) (sym at_x)), tt)
+
+    same_event : (r : Option Spelled) → outward_at w (named (part_of w (Component k)) x) e (option_map (named (part_of w (Component k))) r) ≡ outward_dispatch w (Component k) (Command.dispatch x e r)
+    same_event None = refl
+    same_event (Some y) = refl
+
+-- Any accepted command.
+pub perform-component : (w : World) (k : ℕ) → IsQuiet w → is_page_turn w.turn ≡ false → (c : Command) → is_command_of (Component k) c ≡ true → part_refusal (part_of w (Component k)) c ≡ None →
+    page_run (perform w (Component k) c) ≡ outward_run (page_of w) (outward_dispatch w (Component k) c)
+perform-component w k q t (Command.attach a) h r = absurd (true≢false (sym h))
+perform-component w k q t (Command.connected a) h r = refl
+perform-component w k q t (Command.assigned a) h r = refl
+perform-component w k q t (Command.dispatch a b c) h r = dispatched-component w k q a b c r
+perform-component w k q t (Command.micro a) h r = ap quiet (same_page_of (record w { tasks = w.tasks ++ micro_task (Component k) a ∷ [] }) w refl (filter-append is_page_task w.tasks (micro_task (Component k) a ∷ []) ∙ append-nil (filter is_page_task w.tasks)) refl)
+perform-component w k q t Command.end_turn h r = quiet_then (ending_turn w) (page_of w) (answering (Component k) nothing) (ending-component w q t) refl
+perform-component w k q t c h r = effect-other w k (effect (part_of w (Component k)) c) (base-effect (part_of w (Component k)) c)
+
+-- With the turn that it opens.
+each-same : {X Y : Type 0} (f g : X → List Y) → ((x : X) → f x ≡ g x) → (xs : List X) → flat_map f xs ≡ flat_map g xs
+each-same f g h [] = refl
+each-same f g h (x ∷ xs) = ap (λ ys. ys ++ flat_map f xs) (h x) ∙ ap (λ ys. g x ++ ys) (each-same f g h xs)
+
+-- the turn changes no chain of hosts
+hosts-in_turn : (w : World) (t : Option Owner) (depth : ℕ) (x : NodeName) → hosts_from depth (record w { turn = t }) x ≡ hosts_from depth w x
+hosts-in_turn w t zero x = refl
+hosts-in_turn w t (suc depth) x =
+    ap (λ ys. x ∷ ys) (each-same (hosts_from depth (record w { turn = t })) (hosts_from depth w) (hosts-in_turn w t depth) (option_to_list (host_above w x)))
+
+-- nor an outward event
+opened-event : (w : World) (k : ℕ) (c : Command) → outward_dispatch (opening_turn w (Component k)) (Component k) c ≡ outward_dispatch w (Component k) c
+opened-event w k c =
+    by_cases (is_some w.turn) (λ e. ap (λ v. outward_dispatch v (Component k) c) (cond-true (is_some w.turn) w (record w { turn = Some (Component k) }) e))
+    (λ e. ap (λ v. outward_dispatch v (Component k) c) (cond-false (is_some w.turn) w (record w { turn = Some (Component k) }) e) ∙ in_turn c)
+  where
+    in_turn : (c : Command) → outward_dispatch (record w { turn = Some (Component k) }) (Component k) c ≡ outward_dispatch w (Component k) c
+    in_turn (Command.dispatch a b None) =
+        let v : World = record w { turn = Some (Component k) } in
+        let x = named (part_of w (Component k)) a in
+        ap (λ xs. if b.composed then option_map (outward_of b) (if is_in_shadow_tree w x && is_page (unwrap_or (last_of xs) x).owner then Some (unwrap_or (last_of xs) x) else None) else None) (hosts-in_turn w (Some (Component k)) (owner_depth x.owner) x)
+    in_turn c = refl
+
+-- with the turn that it opens
+opened : (w : World) (k : ℕ) → IsQuiet w → is_page_turn w.turn ≡ false → (c : Command) → is_command_of (Component k) c ≡ true → part_refusal (part_of w (Component k)) c ≡ None →
+    page_run (perform (opening_turn w (Component k)) (Component k) c) ≡ outward_run (page_of w) (outward_dispatch w (Component k) c)
+opened w k q t c h r =
+    perform-component (opening_turn w (Component k)) k (quiet-opening w q (Component k) (λ e. absurd (Component-IsNoPage k e))) (ap (λ (s : PageState). s.is_open) (opening-component w k t) ∙ t) c h (ap (λ p. part_refusal p c) (part_of-opening w (Component k) (Component k)) ∙ r)
+    ∙ ap (λ s. outward_run s (outward_dispatch (opening_turn w (Component k)) (Component k) c)) (opening-component w k t)
+    ∙ ap (outward_run (page_of w)) (opened-event w k c)
+
+-- `.` apart, which opens none
+accepted-component : (w : World) (k : ℕ) → IsQuiet w → is_page_turn w.turn ≡ false → (c : Command) → is_command_of (Component k) c ≡ true → part_refusal (part_of w (Component k)) c ≡ None →
+    page_run (accepted w (Component k) c) ≡ outward_run (page_of w) (outward_dispatch w (Component k) c)
+accepted-component w k q t Command.end_turn h r = perform-component w k q t Command.end_turn h r
+accepted-component w k q t c h r = opened w k q t c h r
+
+-- refused or accepted
+pub command-component : (w : World) (k : ℕ) → IsQuiet w → (c : Command) → page_run (run_command (Component k) c w) ≡ outward_run (page_of w) (outward_command w (Component k) c)
+command-component w k q c = from (refusal w (Component k) c) refl
+  where
+    not_open : (b : Bool) → (b && true) ≡ false → b ≡ false
+    not_open true h = absurd (true≢false h)
+    not_open false h = refl
+
+    from : (r : Option Refusal) → refusal w (Component k) c ≡ r → page_run (unless_refused (Component k) (refusal w (Component k) c) w (accepted w (Component k) c)) ≡ outward_run (page_of w) (if is_none (refusal w (Component k) c) then outward_dispatch w (Component k) c else None)
+    from (Some r) e =
+        ap (λ o. page_run (unless_refused (Component k) o w (accepted w (Component k) c))) e ∙ sym (ap (λ o. outward_run (page_of w) (if is_none o then outward_dispatch w (Component k) c else None)) e)
+    from None e =
+        let a = accepted-facts w (Component k) c e in
+        ap (λ o. page_run (unless_refused (Component k) o w (accepted w (Component k) c))) e
+        ∙ accepted-component w k q (not_open (is_page_turn w.turn) a.calm) c a.grammar a.part
+        ∙ sym (ap (λ o. outward_run (page_of w) (if is_none o then outward_dispatch w (Component k) c else None)) e)

@@ -1,0 +1,149 @@
+-- A command of the page in the world does to the page's part what it does in the page machine.
+use Rattle.std.proofs.Common.{◌≡◌, Bool, true, false, not, ◌&&◌, List, [], ◌∷◌, ◌++◌, length, map, Option, Some, None, option_map, unwrap_or, refl, sym, ap, ◌∙◌, true≢false, subst, suc}
+use Rattle.std.specs.Prelude.{option_to_list}
+use Rattle.std.specs.List.{AllByRecursion, last_or}
+use Rattle.std.specs.Option.{option_or}
+use Rattle.std.proofs.lemmas.List.Elements.{filter-append}
+use Rattle.dom_base.specs.declared.Owner.TheVariants.{Page}
+use Rattle.dom_base.specs.declared.NodeName.{NodeName}
+use Rattle.dom_base.specs.declared.Kind.TheVariants.{Shadow}
+use Rattle.dom_base.specs.declared.Refusal.{Refusal}
+use Rattle.dom_base.specs.declared.Refusal.TheVariants.{Syntax, Busy, Foreign, Unknown}
+use Rattle.dom_model.specs.Names.{last_of}
+use Rattle.dom_model.specs.Tree.{node_in, is_document, root_of, kind_of}
+use Rattle.dom_model.specs.Command.{Command, Spelled, EventWords, own, foreign}
+use Rattle.dom_model.specs.Output.{says, nothing, a_component, a_truth}
+use Rattle.dom_model.specs.Part.{Part}
+use Rattle.dom_model.specs.Runs.{run_then, answering, unless_refused}
+use Rattle.dom_model.specs.Validity.{first_refusal}
+use Rattle.dom_model.specs.CommandRefusals.{is_command_of, part_refusal}
+use Rattle.dom_model.specs.CommandNames.{named, names_foreign}
+use Rattle.dom_model.specs.Effects.{Effect, tables, changes, effect}
+use Rattle.dom_model.specs.World.{World, micro_task, part_of, with_part, is_there, kind_at, ancestors_at, is_connected, component_made}
+use Rattle.dom_model.specs.Dispatch.{Dispatched, dispatch_in}
+use Rattle.dom_model.specs.Turns.{ending_turn, opening_turn, is_page_turn}
+use Rattle.dom_model.specs.DocumentMachine.{refusal, is_busy, effect_in, attaching, part_with_root, perform, accepted, run_command}
+use Rattle.dom_model.specs.Trace.{outputs_for}
+use Rattle.dom_model.specs.PageMachine.{PageState, page_of, is_page_task, page_refusal, page_effect, page_attaching, page_perform, page_accepted, page_command}
+use Rattle.dom_model.proofs.PartLaws.{part_of-with_part, part_of-with_part-other, owner-part_of}
+use Rattle.dom_model.proofs.StepLaws.{Component-IsNoPage}
+use Rattle.dom_isolation.specs.Laws.{page_run, IsQuiet}
+use Rattle.dom_isolation.specs.Worlds.{IsWorld, IsOf}
+use Rattle.dom_isolation.proofs.Squares.{run_then-square, outputs_for_page-says}
+use Rattle.dom_isolation.proofs.PageSteps.{page_of-world_after}
+use Rattle.dom_isolation.proofs.Hiding.{ancestors-owned, shadow_including-page}
+use Rattle.dom_isolation.proofs.PagePaths.{views-page}
+use Rattle.dom_isolation.proofs.Dispatches.{dispatch-page}
+use Rattle.dom_isolation.proofs.TurnEndings.{ending_turn-page}
+use Rattle.dom_isolation.proofs.LineBegins.{IsPageTime, opening-page, quiet-opening}
+use Rattle.dom_isolation.proofs.TableEffects.{KeepsBase, base-effect}
+
+-- Refusals.
+and-false : (b : Bool) → (b && false) ≡ false
+and-false true = refl
+and-false false = refl
+
+-- the page's refusals are the page machine's
+pub refusal-page : (w : World) → IsWorld w → (c : Command) → refusal w Page c ≡ page_refusal (page_of w) c
+refusal-page w i c =
+    ap (λ b. option_or (first_refusal ((not (is_command_of Page c), Syntax) ∷ (b, Busy) ∷ (names_foreign c, Foreign) ∷ (not (is_there w Page), Unknown) ∷ [])) (part_refusal (part_of w Page) c)) (and-false (is_page_turn w.turn))
+    ∙ ap (λ b. option_or (first_refusal ((not (is_command_of Page c), Syntax) ∷ (names_foreign c, Foreign) ∷ (not b, Unknown) ∷ [])) (part_refusal (part_of w Page) c)) i.page
+
+-- Effects.
+pub page_of-with_part : (w : World) (p : Part) → p.owner ≡ Page → page_of (with_part w p) ≡ record (page_of w) { part = p }
+page_of-with_part w p h = ap (λ q. record (page_of w) { part = q }) (part_of-with_part w p Page h)
+
+-- an effect in the page's part is the page machine's
+effect-page : (w : World) (e : Effect) → KeepsBase (part_of w Page) e → page_run (effect_in w Page e) ≡ page_effect (page_of w) e
+effect-page w (tables p lines v) h =
+    let here = page_of-with_part w p (h.0 ∙ owner-part_of w Page) in
+    run_then-square (with_part w p, map (says Page) lines) (answering Page v) (answering Page v) refl
+    ∙ ap (λ s. run_then (s, outputs_for Page (map (says Page) lines)) (answering Page v)) here
+    ∙ ap (λ ls. run_then (record (page_of w) { part = p }, ls) (answering Page v)) (outputs_for_page-says lines)
+effect-page w (changes steps v) h = ap (λ s. answering Page v s) (page_of-world_after w steps)
+
+-- The commands that are no effects.
+attaching-page : (w : World) (x : NodeName) → page_run (attaching w Page x) ≡ page_attaching (page_of w) x
+attaching-page w x =
+    let p = part_of w Page in
+    let c = component_made Page (length p.attached) in
+    let marked = with_part w (record p { attached = p.attached ++ x ∷ [] }) in
+    let root = part_with_root c Shadow (node_in p.trees x).document in
+    ap (λ q. answering Page (a_component c) (record (page_of w) { part = q }))
+    (part_of-with_part-other marked root Page (Component-IsNoPage (suc (length p.attached))) ∙ part_of-with_part w (record p { attached = p.attached ++ x ∷ [] }) Page (owner-part_of w Page))
+
+-- the last of the page's nodes is the page's
+owner-last : (xs : List NodeName) (o : Option NodeName) (x : NodeName) → AllByRecursion (IsOf Page) xs → AllByRecursion (IsOf Page) (option_to_list o) → x.owner ≡ Page → (unwrap_or (last_or o xs) x).owner ≡ Page
+owner-last [] None x h g e = e
+owner-last [] (Some y) x h g e = g.0
+owner-last (y ∷ xs) o x h g e = owner-last xs (Some y) x h.1 (h.0, tt) e
+
+-- a page node is connected where its root is a document
+connected-page : (w : World) → IsWorld w → (x : NodeName) → x.owner ≡ Page → is_connected w x ≡ is_document (kind_of (part_of w Page).trees (root_of (part_of w Page).trees x))
+connected-page w i x h =
+    let up = ancestors_at w x in
+    let root = unwrap_or (last_of up) x in
+    let owned = subst (λ o. AllByRecursion (IsOf o) up) h (ancestors-owned w i x) in
+    ap (λ xs. is_document (kind_at w (unwrap_or (last_of xs) x))) (shadow_including-page w x h)
+    ∙ ap (λ o. is_document (kind_of (part_of w o).trees root)) (owner-last up None x owned tt h)
+    ∙ ap (λ o. is_document (kind_of (part_of w Page).trees (root_of (part_of w o).trees x))) h
+
+-- a node that is named is the owner's
+pub owner-named : (p : Part) (x : Spelled) → (named p x).owner ≡ p.owner
+owner-named p (own k) = refl
+owner-named p foreign = refl
+
+-- of the page
+page_named : (w : World) (x : Spelled) → (named (part_of w Page) x).owner ≡ Page
+page_named w x = owner-named (part_of w Page) x ∙ owner-part_of w Page
+
+-- and a related one too
+page_related : (w : World) (o : Option Spelled) → AllByRecursion (IsOf Page) (option_to_list (option_map (named (part_of w Page)) o))
+page_related w None = tt
+page_related w (Some x) = (page_named w x, tt)
+
+-- a dispatch of the page
+pub dispatched-page : (w : World) → IsQuiet w → (x : Spelled) (e : EventWords) (related : Option Spelled) → page_run (perform w Page (Command.dispatch x e related)) ≡ page_perform (page_of w) (Command.dispatch x e related)
+dispatched-page w q x e related =
+    let p = part_of w Page in
+    let d = dispatch_in w (named p x) (option_map (named p) related) e in
+    let same = dispatch-page w (named p x) (named p x) (option_map (named p) related) (option_map (named p) related) e (q.logs refl)
+    (views-page w q.world (named p x) (option_map (named p) related) e.composed (page_named w x) (page_related w related)) in
+    run_then-square d.run (answering Page (a_truth d.answer)) (answering Page (a_truth d.answer)) refl
+    ∙ ap (λ (f : Dispatched PageState). run_then f.run (answering Page (a_truth f.answer))) same
+
+-- every accepted command of the page
+pub perform-page : (w : World) → IsQuiet w → (c : Command) → is_command_of Page c ≡ true → page_run (perform w Page c) ≡ page_perform (page_of w) c
+perform-page w q (Command.attach a) h = attaching-page w (named (part_of w Page) a)
+perform-page w q (Command.connected a) h = ap (λ b. answering Page (a_truth b) (page_of w)) (connected-page w q.world (named (part_of w Page) a) (page_named w a))
+perform-page w q (Command.assigned a) h = absurd (true≢false (sym h))
+perform-page w q (Command.dispatch a b c) h = dispatched-page w q a b c
+perform-page w q (Command.micro a) h = ap (λ ts. answering Page nothing (record (page_of w) { tasks = ts })) (filter-append is_page_task w.tasks (micro_task Page a ∷ []))
+perform-page w q Command.end_turn h = run_then-square (ending_turn w) (answering Page nothing) (answering Page nothing) refl ∙ ap (λ r. run_then r (answering Page nothing)) (ending_turn-page w q)
+perform-page w q c h = effect-page w (effect (part_of w Page) c) (base-effect (part_of w Page) c)
+
+-- with the turn that it opens
+opened : (w : World) → IsQuiet w → IsPageTime w → (c : Command) → is_command_of Page c ≡ true → page_run (perform (opening_turn w Page) Page c) ≡ page_perform (record (page_of w) { is_open = true }) c
+opened w q t c h = perform-page (opening_turn w Page) (quiet-opening w q Page (λ e. t)) c h ∙ ap (λ s. page_perform s c) (opening-page w t)
+
+-- the turn is opened by every command but `.`
+pub accepted-page : (w : World) → IsQuiet w → IsPageTime w → (c : Command) → is_command_of Page c ≡ true → page_run (accepted w Page c) ≡ page_accepted (page_of w) c
+accepted-page w q t Command.end_turn h = perform-page w q Command.end_turn h
+accepted-page w q t c h = opened w q t c h
+
+-- A command of the page, refused or accepted.
+not-refused : (b : Bool) (ts : List (Bool × Refusal)) (r : Option Refusal) → option_or (first_refusal ((not b, Syntax) ∷ ts)) r ≡ None → b ≡ true
+not-refused true ts r h = refl
+not-refused false ts r h = cc
+
+-- refused or accepted
+pub command-page : (w : World) → IsQuiet w → IsPageTime w → (c : Command) → page_run (run_command Page c w) ≡ page_command (page_of w) c
+command-page w q t c = from (refusal w Page c) refl
+  where
+    from : (r : Option Refusal) → refusal w Page c ≡ r → page_run (unless_refused Page (refusal w Page c) w (accepted w Page c)) ≡ unless_refused Page (page_refusal (page_of w) c) (page_of w) (page_accepted (page_of w) c)
+    from (Some r) e =
+        ap (λ o. page_run (unless_refused Page o w (accepted w Page c))) e ∙ sym (ap (λ o. unless_refused Page o (page_of w) (page_accepted (page_of w) c)) (sym (refusal-page w q.world c) ∙ e))
+    from None e =
+        let mine = not-refused (is_command_of Page c) ((is_busy w Page, Busy) ∷ (names_foreign c, Foreign) ∷ (not (is_there w Page), Unknown) ∷ []) (part_refusal (part_of w Page) c) e in
+        ap (λ o. page_run (unless_refused Page o w (accepted w Page c))) e ∙ accepted-page w q t c mine
+        ∙ sym (ap (λ o. unless_refused Page o (page_of w) (page_accepted (page_of w) c)) (sym (refusal-page w q.world c) ∙ e))

@@ -1,0 +1,136 @@
+-- The path of an event of a page node: its inclusive ancestors, and between them nodes of shadow trees, which are hidden.
+use Rattle.std.proofs.Common.{◌≡◌, zero, Bool, true, false, not, ◌&&◌, List, [], ◌∷◌, ◌++◌, filter, flat_map, take_while, Option, Some, None, map, refl, sym, ap, ◌∙◌, subst, append-nil}
+use Rattle.std.specs.Prelude.{if◌then◌else◌, option_to_list}
+use Rattle.std.specs.List.{AllByRecursion}
+use Rattle.std.proofs.lemmas.List.Elements.{filter-append}
+use Rattle.std.proofs.lemmas.Bool.{cond-true, cond-false}
+use Rattle.dom_base.specs.declared.Owner.{Owner}
+use Rattle.dom_base.specs.declared.Owner.TheVariants.{Page}
+use Rattle.dom_base.specs.declared.NodeName.{NodeName}
+use Rattle.dom_model.specs.Names.{name_eq, max_depth}
+use Rattle.dom_model.specs.World.{World, part_of, ancestors_at, host_chain}
+use Rattle.dom_model.specs.Slots.{slot_of}
+use Rattle.dom_model.specs.Paths.{is_hidden_from, retarget, retarget_related, is_node, with_slots, way_up, whole_path, ends_at, event_path, view_at, views, plain_view, plain_views}
+use Rattle.dom_model.specs.Trace.{is_page}
+use Rattle.dom_model.proofs.OwnerLaws.{ne-owner_eq}
+use Rattle.dom_isolation.specs.Worlds.{IsWorld, IsOf, IsForeignTo}
+use Rattle.dom_isolation.proofs.Lists.{all-append, all-from, all-then, all-flat_map, filter-map, filter_none, filter_same, map_same, take_while_all}
+use Rattle.dom_isolation.proofs.Hiding.{IsInTree, slot-in_tree, ancestors-in_tree, ancestors-owned, host_chain-page, page-not_hidden, in_tree-hidden, retarget-page, retarget_related-page}
+use Rattle.dom_isolation.proofs.Dispatches.{is_page_view}
+
+-- whether a node is the page's
+abbrev pub is_page_node : NodeName → Bool
+is_page_node x = is_page x.owner
+
+-- a node of which page nodes see just whether it is the page's
+abbrev pub IsSeen : World → NodeName → Type 0
+IsSeen w y = (x : NodeName) → x.owner ≡ Page → not (is_hidden_from w x y) ≡ is_page_node y
+
+-- a page node is seen
+pub seen-page : (w : World) (y : NodeName) → y.owner ≡ Page → IsSeen w y
+seen-page w y h x e = ap not (page-not_hidden w x y h) ∙ sym (ap is_page h)
+
+-- the node is in some component's shadow tree
+abbrev pub IsInSome : World → NodeName → Type 0
+IsInSome w y = (c : Owner) × IsInTree w c y
+
+-- such a node is no page node
+pub in_some-foreign : (w : World) (y : NodeName) → IsInSome w y → IsForeignTo Page y
+in_some-foreign w y t e = t.1.foreign (sym t.1.owner ∙ e)
+
+-- and it is not seen
+pub seen-in_some : (w : World) → IsWorld w → (y : NodeName) → IsInSome w y → IsSeen w y
+seen-in_some w i y t x e = ap not (in_tree-hidden w i t.0 x y e t.1) ∙ sym (ne-owner_eq y.owner Page (in_some-foreign w y t))
+
+-- the way through the shadow tree in which a node is slotted
+abbrev pub slot_way : World → NodeName → List NodeName
+slot_way w x = flat_map (with_slots zero w) (flat_map (ancestors_at w) (option_to_list (slot_of w x)))
+
+-- the way through slots is in shadow trees
+pub slot_way-in_some : (w : World) → IsWorld w → (x : NodeName) → AllByRecursion (IsInSome w) (slot_way w x)
+slot_way-in_some w i x = by_slot (slot_of w x) refl
+  where
+    by_slot : (o : Option NodeName) → slot_of w x ≡ o → AllByRecursion (IsInSome w) (slot_way w x)
+    by_slot None e = subst (λ o. AllByRecursion (IsInSome w) (flat_map (with_slots zero w) (flat_map (ancestors_at w) (option_to_list o)))) (sym e) tt
+    by_slot (Some s) e =
+        let at = slot-in_tree w i x s e in
+        let up = all-then (IsInTree w at.0) (IsInSome w) (λ y t. (at.0, t)) (ancestors_at w s) (ancestors-in_tree w i at.0 s at.1) in
+        let all = all-append (IsInSome w) (ancestors_at w s) [] up tt in
+        subst (λ o. AllByRecursion (IsInSome w) (flat_map (with_slots zero w) (flat_map (ancestors_at w) (option_to_list o)))) (sym e)
+        (all-flat_map (IsInSome w) (with_slots zero w) (ancestors_at w s ++ []) (all-then (IsInSome w) (λ y. AllByRecursion (IsInSome w) (with_slots zero w y)) (λ y t. (t, tt)) (ancestors_at w s ++ []) all))
+
+-- The nodes of a way up from a page node, of which those of the page are the ancestors.
+pub way-seen : (w : World) → IsWorld w → (xs : List NodeName) → AllByRecursion (IsOf Page) xs → AllByRecursion (IsSeen w) (flat_map (with_slots max_depth w) xs)
+way-seen w i [] h = tt
+way-seen w i (x ∷ xs) h =
+    (seen-page w x h.0, all-append (IsSeen w) (slot_way w x) (flat_map (with_slots max_depth w) xs) (all-then (IsInSome w) (IsSeen w) (seen-in_some w i) (slot_way w x) (slot_way-in_some w i x)) (way-seen w i xs h.1))
+
+-- so it has no page node
+slot_way-no_page : (w : World) → IsWorld w → (x : NodeName) → filter is_page_node (slot_way w x) ≡ []
+slot_way-no_page w i x =
+    filter_none is_page_node (slot_way w x) (all-then (IsInSome w) (λ y. is_page_node y ≡ false) (λ y t. ne-owner_eq y.owner Page (in_some-foreign w y t)) (slot_way w x) (slot_way-in_some w i x))
+
+-- the page nodes of a way up are the ancestors
+pub way-pages : (w : World) → IsWorld w → (xs : List NodeName) → AllByRecursion (IsOf Page) xs → filter is_page_node (flat_map (with_slots max_depth w) xs) ≡ xs
+way-pages w i [] h = refl
+way-pages w i (x ∷ xs) h =
+    cond-true (is_page_node x) (x ∷ filter is_page_node (slot_way w x ++ flat_map (with_slots max_depth w) xs)) (filter is_page_node (slot_way w x ++ flat_map (with_slots max_depth w) xs)) (ap is_page h.0)
+    ∙ ap (λ ys. x ∷ ys) (filter-append is_page_node (slot_way w x) (flat_map (with_slots max_depth w) xs) ∙ ap (λ ys. ys ++ filter is_page_node (flat_map (with_slots max_depth w) xs)) (slot_way-no_page w i x) ∙ way-pages w i xs h.1)
+
+-- a path that is not cut
+pub uncut : (w : World) (target : NodeName) (related : Option NodeName) (xs : List NodeName) → AllByRecursion (λ y. ends_at w target related y ≡ false) xs → take_while (λ y. not (ends_at w target related y)) xs ≡ xs
+uncut w target related xs h = take_while_all (λ y. not (ends_at w target related y)) xs (all-then (λ y. ends_at w target related y ≡ false) (λ y. not (ends_at w target related y) ≡ true) (λ y e. ap not e) xs h)
+
+-- a node other than the target is not the target
+no_other : (b c : Bool) → (not b && (b && c)) ≡ false
+no_other true c = refl
+no_other false c = refl
+
+-- no path of a page target ends early
+ends-page : (w : World) (target : NodeName) (related : Option NodeName) → target.owner ≡ Page → (y : NodeName) → ends_at w target related y ≡ false
+ends-page w target related h y =
+    ap (λ t. not (name_eq y target) && (name_eq y t && is_node y (retarget_related w related y))) (retarget-page w target y h) ∙ no_other (name_eq y target) (is_node y (retarget_related w related y))
+
+-- a test does not hold with its contrary
+and-not : (b : Bool) → (b && not b) ≡ false
+and-not true = refl
+and-not false = refl
+
+-- the path of an event of a page target
+pub event_path-page : (w : World) → IsWorld w → (target : NodeName) (related : Option NodeName) (composed : Bool) → target.owner ≡ Page → AllByRecursion (IsOf Page) (option_to_list related) →
+    event_path w target related composed ≡ way_up w target
+event_path-page w i target related composed h g =
+    let whole : whole_path w target composed ≡ way_up w target = ap (flat_map (way_up w)) (chain composed) ∙ append-nil (way_up w target) in
+    let cut = λ (xs : List NodeName). take_while (λ y. not (ends_at w target related y)) xs in
+    ap (λ r. if is_node target r && not (is_node target related) then [] else cut (whole_path w target composed)) (retarget_related-page w related target g)
+    ∙ cond-false (is_node target related && not (is_node target related)) [] (cut (whole_path w target composed)) (and-not (is_node target related))
+    ∙ ap cut whole ∙ uncut w target related (way_up w target) (all-from (λ y. ends_at w target related y ≡ false) (ends-page w target related h) (way_up w target))
+  where
+    chain : (c : Bool) → (if c then host_chain w target else target ∷ []) ≡ target ∷ []
+    chain true = host_chain-page w target h
+    chain false = refl
+
+-- The views at page nodes are those of the page alone.
+pub view_at-page : (w : World) (target near : NodeName) (related : Option NodeName) (path pages : List NodeName) (x : NodeName) →
+    retarget w target x ≡ near → retarget_related w related x ≡ related → filter (λ y. not (is_hidden_from w x y)) path ≡ pages → view_at w target related path x ≡ plain_view near related pages x
+view_at-page w target near related path pages x a b c =
+    ap (λ t. record { node = x; target = t; related = retarget_related w related x; path = filter (λ y. not (is_hidden_from w x y)) path }) a
+    ∙ ap (λ r. record { node = x; target = near; related = r; path = filter (λ y. not (is_hidden_from w x y)) path }) b
+    ∙ ap (λ p. record { node = x; target = near; related = related; path = p }) c
+
+-- the views at its page nodes are the page machine's
+pub views-page : (w : World) → IsWorld w → (target : NodeName) (related : Option NodeName) (composed : Bool) → target.owner ≡ Page → AllByRecursion (IsOf Page) (option_to_list related) →
+    filter is_page_view (views w target related composed) ≡ plain_views (part_of w Page).trees target related
+views-page w i target related composed h g =
+    let way = way_up w target in
+    let up = ancestors_at w target in
+    let owned = subst (λ o. AllByRecursion (IsOf o) up) h (ancestors-owned w i target) in
+    let pages = way-pages w i up owned in
+    let path_is = event_path-page w i target related composed h g in
+    let at : (x : NodeName) → x.owner ≡ Page → view_at w target related way x ≡ plain_view target related up x =
+    λ x e. view_at-page w target target related way up x (retarget-page w target x h) (retarget_related-page w related x g)
+    (filter_same (λ y. not (is_hidden_from w x y)) is_page_node way (all-then (IsSeen w) (λ y. not (is_hidden_from w x y) ≡ is_page_node y) (λ y s. s x e) way (way-seen w i up owned)) ∙ pages) in
+    ap (λ path. filter is_page_view (map (view_at w target related path) path)) path_is
+    ∙ filter-map is_page_view (view_at w target related way) way ∙ ap (map (view_at w target related way)) pages
+    ∙ map_same (view_at w target related way) (plain_view target related up) up (all-then (IsOf Page) (λ x. view_at w target related way x ≡ plain_view target related up x) at up owned)
+    ∙ ap (λ o. plain_views (part_of w o).trees target related) h

@@ -1,0 +1,146 @@
+-- Steps in the world, as the page sees them: those of the page are its own, those of components are none.
+use Rattle.std.proofs.Common.{◌≡◌, ◌≢◌, Bool, true, false, ◌&&◌, List, [], ◌∷◌, ◌++◌, filter, fold, Option, Some, None, refl, sym, ap, ◌∙◌, append-nil, true≢false}
+use Rattle.std.specs.Prelude.{if◌then◌else◌}
+use Rattle.std.specs.List.{AllByRecursion, list_any}
+use Rattle.std.proofs.lemmas.List.Elements.{filter-append}
+use Rattle.std.proofs.lemmas.Bool.{and_parts}
+use Rattle.dom_base.specs.declared.Owner.{Owner}
+use Rattle.dom_base.specs.declared.Owner.TheVariants.{Page, Component}
+use Rattle.dom_base.specs.declared.NodeName.{NodeName}
+use Rattle.dom_model.specs.Names.{name_eq, max_depth, is_empty}
+use Rattle.dom_model.specs.Tree.{parent_of}
+use Rattle.dom_model.specs.Steps.{Step, place, take_out, set_document, set_attribute, queue_record, is_taken}
+use Rattle.dom_model.specs.World.{World, Task, micro_task, notify_task, part_of, node_at, is_in_shadow_tree, is_notify_of, queued_notify, with_notify, components_below, shadow_root_of}
+use Rattle.dom_model.specs.Slots.{signals, with_signal, assigned, is_slot_element, is_bare_slot, is_changed, own_slots, other_slots}
+use Rattle.dom_model.specs.WorldSteps.{world_step, world_after, stepped, with_signals, with_removal_signals, with_notify_if, with_shadow_document}
+use Rattle.dom_model.specs.PageMachine.{page_of, is_page_task, page_step, page_notify_if, page_stepped}
+use Rattle.dom_model.proofs.OwnerLaws.{ne-owner_eq}
+use Rattle.dom_model.proofs.StepLaws.{part_of-stepped, part_of-stepped-other, AllComponents, below-components}
+use Rattle.dom_isolation.specs.Worlds.{IsForeignTo}
+use Rattle.dom_isolation.proofs.Lists.{all-append, all-passed, all-distinct}
+use Rattle.dom_isolation.proofs.Tests.{by_cases}
+use Rattle.dom_isolation.proofs.Squares.{same_page_of}
+
+-- Queued notifications.
+pub page_tasks-queued_other : (o : Owner) → o ≢ Page → (ts : List Task) → filter is_page_task (queued_notify o ts) ≡ filter is_page_task ts
+page_tasks-queued_other o h ts =
+    by_cases (list_any (is_notify_of o) ts) (λ e. rw e refl)
+    (λ e. rw e (filter-append is_page_task ts (notify_task o ∷ []) ∙ rw (ne-owner_eq o Page h) (append-nil (filter is_page_task ts))))
+
+-- whether the page's notification is queued is seen among the page's tasks
+has_notify-page_tasks : (ts : List Task) → list_any (is_notify_of Page) (filter is_page_task ts) ≡ list_any (is_notify_of Page) ts
+has_notify-page_tasks [] = refl
+has_notify-page_tasks (micro_task Page label ∷ ts) = has_notify-page_tasks ts
+has_notify-page_tasks (micro_task (Component k) label ∷ ts) = has_notify-page_tasks ts
+has_notify-page_tasks (notify_task Page ∷ ts) = refl
+has_notify-page_tasks (notify_task (Component k) ∷ ts) = has_notify-page_tasks ts
+
+-- the page's notification is queued among the page's tasks
+pub page_tasks-queued_page : (ts : List Task) → filter is_page_task (queued_notify Page ts) ≡ queued_notify Page (filter is_page_task ts)
+page_tasks-queued_page ts =
+    by_cases (list_any (is_notify_of Page) ts) (λ e. rw (e, has_notify-page_tasks ts, e) refl)
+    (λ e. rw (e, has_notify-page_tasks ts, e) (filter-append is_page_task ts (notify_task Page ∷ [])))
+
+-- Signals are of components' slots alone.
+assigned-page : (w : World) (s : NodeName) → s.owner ≡ Page → assigned w s ≡ []
+assigned-page w s e = rw e refl
+
+-- a slot whose assigned nodes changed is no page node
+changed-foreign : (was now : World) (s : NodeName) → is_changed was now s ≡ true → IsForeignTo Page s
+changed-foreign was now s h e = true≢false (sym h ∙ rw (assigned-page was s e, assigned-page now s e) refl)
+
+-- a page node is in no shadow tree
+pub page_in_no_tree : (w : World) (x : NodeName) → x.owner ≡ Page → is_in_shadow_tree w x ≡ false
+page_in_no_tree w x e = rw e refl
+
+-- a slot without assigned nodes is no page node
+bare-foreign : (w : World) (s : NodeName) (is_move : Bool) → (is_move && is_bare_slot w s) ≡ true → IsForeignTo Page s
+bare-foreign w s is_move h e =
+    let both = and_parts is_move (is_bare_slot w s) h in
+    let inside = and_parts (is_slot_element (node_at w s)) (is_in_shadow_tree w s && is_empty (assigned w s)) both.1 in
+    let in_tree = and_parts (is_in_shadow_tree w s) (is_empty (assigned w s)) inside.1 in
+    true≢false (sym in_tree.0 ∙ page_in_no_tree w s e)
+
+-- all that is signalled
+pub signals-foreign : (was now : World) (x around : NodeName) (is_move : Bool) → AllByRecursion (IsForeignTo Page) (signals was now x around is_move)
+signals-foreign was now x around is_move =
+    let P = IsForeignTo Page in
+    let bare : List NodeName = if is_move && is_bare_slot now around then around ∷ [] else [] in
+    let own = filter (is_changed was now) (own_slots was now x) in
+    let other = filter (is_changed was now) (other_slots now x around) in
+    let bare-all : AllByRecursion P bare = by_cases (is_move && is_bare_slot now around) (λ e. rw e (bare-foreign now around is_move e, tt)) (λ e. rw e tt) in
+    let own-all : AllByRecursion P own = all-passed P (is_changed was now) (changed-foreign was now) (own_slots was now x) in
+    let other-all : AllByRecursion P other = all-passed P (is_changed was now) (changed-foreign was now) (other_slots now x around) in
+    all-distinct P name_eq (own ++ bare ++ other) (all-append P (own ++ bare) other (all-append P own bare own-all bare-all) other-all)
+
+-- a signal, as the page sees it
+page_of-with_signal : (w : World) (s : NodeName) → IsForeignTo Page s → page_of (with_signal w s) ≡ page_of w
+page_of-with_signal w s h = same_page_of (with_signal w s) w refl (page_tasks-queued_other s.owner h w.tasks) refl
+
+-- signals, as the page sees them
+page_of-each_signal : (ss : List NodeName) (w : World) → AllByRecursion (IsForeignTo Page) ss → page_of (fold with_signal w ss) ≡ page_of w
+page_of-each_signal [] w h = refl
+page_of-each_signal (s ∷ ss) w h = page_of-each_signal ss (with_signal w s) h.1 ∙ page_of-with_signal w s h.0
+
+-- the signals of a step
+pub page_of-with_signals : (was now : World) (x around : NodeName) (is_move : Bool) → page_of (with_signals was now x around is_move) ≡ page_of now
+page_of-with_signals was now x around is_move = page_of-each_signal (signals was now x around is_move) now (signals-foreign was now x around is_move)
+
+-- the signals of a removal
+pub page_of-with_removal_signals : (was now : World) (x : NodeName) (parent : Option NodeName) → page_of (with_removal_signals was now x parent) ≡ page_of now
+page_of-with_removal_signals was now x None = refl
+page_of-with_removal_signals was now x (Some parent) = page_of-with_signals was now x parent true
+
+-- A step in a component's part.
+pub page_of-stepped-other : (w : World) (c : Owner) (s : Step) → c ≢ Page → page_of (stepped c w s) ≡ page_of w
+page_of-stepped-other w c s h = same_page_of (stepped c w s) w (part_of-stepped-other w c Page s h) refl refl
+
+-- node documents in components' trees
+page_of-documents : (cs : List Owner) (d : NodeName) (v : World) → AllComponents cs → page_of (fold (with_shadow_document d) v cs) ≡ page_of v
+page_of-documents [] d v h = refl
+page_of-documents (c ∷ cs) d v h = page_of-documents cs d (with_shadow_document d v c) h.1 ∙ page_of-stepped-other v c (set_document (shadow_root_of c) d) h.0
+
+-- a component's notification
+page_of-notify_other : (b : Bool) (c : Owner) (w : World) → c ≢ Page → page_of (with_notify_if b c w) ≡ page_of w
+page_of-notify_other true c w h = same_page_of (with_notify w c) w refl (page_tasks-queued_other c h w.tasks) refl
+page_of-notify_other false c w h = refl
+
+-- a step of a component shows nothing
+pub page_of-world_step-other : (c : Owner) → c ≢ Page → (w : World) (s : Step) → page_of (world_step c w s) ≡ page_of w
+page_of-world_step-other c h w (place x parent before) = page_of-with_signals w (stepped c w (place x parent before)) x parent true ∙ page_of-stepped-other w c (place x parent before) h
+page_of-world_step-other c h w (take_out x) = page_of-with_removal_signals w (stepped c w (take_out x)) x (parent_of (part_of w c).trees x) ∙ page_of-stepped-other w c (take_out x) h
+page_of-world_step-other c h w (set_document x d) =
+    page_of-documents (components_below max_depth w x) d (stepped c w (set_document x d)) (below-components max_depth w x) ∙ page_of-stepped-other w c (set_document x d) h
+page_of-world_step-other c h w (set_attribute x a v) = page_of-with_signals w (stepped c w (set_attribute x a v)) x x false ∙ page_of-stepped-other w c (set_attribute x a v) h
+page_of-world_step-other c h w (queue_record r) = page_of-notify_other (is_taken (part_of w c) r) c (stepped c w (queue_record r)) h ∙ page_of-stepped-other w c (queue_record r) h
+page_of-world_step-other c h w s = page_of-stepped-other w c s h
+
+-- nor do many
+pub page_of-world_after-other : (c : Owner) → c ≢ Page → (w : World) (steps : List Step) → page_of (world_after c w steps) ≡ page_of w
+page_of-world_after-other c h w [] = refl
+page_of-world_after-other c h w (s ∷ steps) = page_of-world_after-other c h (world_step c w s) steps ∙ page_of-world_step-other c h w s
+
+-- A step in the page's part.
+page_of-stepped : (w : World) (s : Step) → page_of (stepped Page w s) ≡ page_stepped (page_of w) s
+page_of-stepped w s = ap (λ p. record (page_of w) { part = p }) (part_of-stepped w Page s)
+
+-- the page's notification
+page_of-notify : (b : Bool) (w : World) → page_of (with_notify_if b Page w) ≡ page_notify_if b (page_of w)
+page_of-notify true w = ap (λ ts. record (page_of w) { tasks = ts }) (page_tasks-queued_page w.tasks)
+page_of-notify false w = refl
+
+-- a step of the page is the page machine's
+pub page_of-world_step : (w : World) (s : Step) → page_of (world_step Page w s) ≡ page_step (page_of w) s
+page_of-world_step w (place x parent before) = page_of-with_signals w (stepped Page w (place x parent before)) x parent true ∙ page_of-stepped w (place x parent before)
+page_of-world_step w (take_out x) = page_of-with_removal_signals w (stepped Page w (take_out x)) x (parent_of (part_of w Page).trees x) ∙ page_of-stepped w (take_out x)
+page_of-world_step w (set_document x d) =
+    page_of-documents (components_below max_depth w x) d (stepped Page w (set_document x d)) (below-components max_depth w x) ∙ page_of-stepped w (set_document x d)
+page_of-world_step w (set_attribute x a v) = page_of-with_signals w (stepped Page w (set_attribute x a v)) x x false ∙ page_of-stepped w (set_attribute x a v)
+page_of-world_step w (queue_record c) =
+    page_of-notify (is_taken (part_of w Page) c) (stepped Page w (queue_record c)) ∙ ap (page_notify_if (is_taken (part_of w Page) c)) (page_of-stepped w (queue_record c))
+page_of-world_step w s = page_of-stepped w s
+
+-- and so are many
+pub page_of-world_after : (w : World) (steps : List Step) → page_of (world_after Page w steps) ≡ fold page_step (page_of w) steps
+page_of-world_after w [] = refl
+page_of-world_after w (s ∷ steps) = page_of-world_after (world_step Page w s) steps ∙ ap (λ s'. fold page_step s' steps) (page_of-world_step w s)

@@ -1,0 +1,135 @@
+-- Texts: the page's lines of input and of output are those that begin with `p `.
+use Rattle.std.proofs.Common.{◌≡◌, ℕ, Bool, true, false, List, [], ◌∷◌, ◌++◌, map, Option, Some, None, refl, sym, ap, ◌∙◌, true≢false, subst}
+use Rattle.std.specs.Prelude.{if◌then◌else◌, option_to_list}
+use Rattle.std.proofs.lemmas.Bool.{cond-true, cond-false, false_from_ne_true}
+use Rattle.dom_base.specs.declared.Owner.TheVariants.{Page, Component}
+use Rattle.dom_model.specs.Command.{Command, Line, no_owner, no_command, command, attach}
+use Rattle.dom_model.specs.CommandRefusals.{is_command_of}
+use Rattle.dom_model.specs.DocumentMachine.{step, first_world, run_lines, outputs_of}
+use Rattle.dom_model.specs.Output.{Output, bad_owner, says}
+use Rattle.dom_model.specs.Runs.{Run}
+use Rattle.dom_model.specs.PageMachine.{PageState, page_outputs_of}
+use Rattle.dom_model.specs.Trace.{TraceItem, line, outward, is_page, is_of, owner_of_line, items_of, trace_from, outputs_for, outward_event, OutwardEvent}
+use Rattle.dom_model.specs.World.{World}
+use Rattle.dom_text.specs.Lines.{lines_of, owner_prefix, begins_with, page_lines, text_of_lines}
+use Rattle.dom_text.specs.Grammar.{MayUse, Says}
+use Rattle.dom_text.specs.Decode.{decode}
+use Rattle.dom_text.specs.Text.{output_line}
+use Rattle.dom_text.proofs.DecodeLaws.{decode_says}
+use Rattle.dom_text.proofs.TextLaws.{IsSaidBy, begins-says, says-begins}
+use Rattle.dom_isolation.specs.Offering.{offered_line}
+use Rattle.dom_isolation.specs.Texts.{ReadsPrefix, OfferingReadsPrefix, lines_in, OutputHasPageLines, PageViewIsItsOutput, TraceHasPageLines, PageLinesAgree, PageLinesAgreeSoFar, PageTextAgrees, SamePageText, ForeignLineIsRefused}
+use Rattle.dom_isolation.proofs.Tests.{by_cases}
+use Rattle.dom_isolation.proofs.PageRuns.{page_run-agrees, page-sees_its_trace}
+use Rattle.dom_isolation.proofs.ForeignNames.{foreign-is_refused}
+
+-- a line is the page's just where it says something of the page
+page-said : (l : Line) → is_of is_page (owner_of_line l) ≡ true → IsSaidBy Page l
+page-said no_owner h = absurd (true≢false (sym h))
+page-said (no_command Page) h = refl
+page-said (no_command (Component k)) h = absurd (true≢false (sym h))
+page-said (command Page c) h = refl
+page-said (command (Component k) c) h = absurd (true≢false (sym h))
+
+-- and the other way round
+said-page : (l : Line) → IsSaidBy Page l → is_of is_page (owner_of_line l) ≡ true
+said-page no_owner h = absurd h
+said-page (no_command o) h = ap is_page h
+said-page (command o c) h = ap is_page h
+
+-- the protocol's reading
+pub decode-reads_prefix : ReadsPrefix decode
+decode-reads_prefix bytes =
+    by_cases (begins_with (owner_prefix Page) bytes) (λ h. said-page (decode bytes) (begins-says bytes Page tt h) ∙ sym h)
+    (λ h. false_from_ne_true (is_of is_page (owner_of_line (decode bytes))) (λ g. true≢false (sym (says-begins bytes Page (page-said (decode bytes) g)) ∙ h)) ∙ sym h)
+
+-- a line has its owner also where its command isn't offered
+owner-offered : (is_offered : Command → Bool) (l : Line) → owner_of_line (offered_line is_offered l) ≡ owner_of_line l
+owner-offered is_offered no_owner = refl
+owner-offered is_offered (no_command o) = refl
+owner-offered is_offered (command o c) = from (is_offered c)
+  where
+    from : (b : Bool) → owner_of_line (if b then command o c else no_command o) ≡ Some o
+    from true = refl
+    from false = refl
+
+-- so does the reading with fewer commands
+pub offering-reads_prefix : OfferingReadsPrefix
+offering-reads_prefix is_offered bytes = ap (is_of is_page) (owner-offered is_offered (decode bytes)) ∙ decode-reads_prefix bytes
+
+-- The lines in a trace.
+lines_in-append : {L : Type 0} (xs ys : List (TraceItem L)) → lines_in (xs ++ ys) ≡ lines_in xs ++ lines_in ys
+lines_in-append [] ys = refl
+lines_in-append (line l ∷ xs) ys = ap (λ ls. l ∷ ls) (lines_in-append xs ys)
+lines_in-append (outward e ∷ xs) ys = lines_in-append xs ys
+
+-- an outward event is no line
+lines_in-outward : {L : Type 0} (o : Option OutwardEvent) → lines_in {L = L} (map outward (option_to_list o)) ≡ []
+lines_in-outward None = refl
+lines_in-outward (Some e) = refl
+
+module _ (read : List ℕ → Line) where
+  -- the lines in a trace from a world on
+  lines_in-trace : ReadsPrefix read → (w : World) (ls : List (List ℕ)) → lines_in (trace_from read is_page w ls) ≡ page_lines ls
+  lines_in-trace h w [] = refl
+  lines_in-trace h w (l ∷ ls) =
+      let kept = is_of is_page (owner_of_line (read l)) in
+      let others = map outward (option_to_list (outward_event w (read l))) in
+      let rest = trace_from read is_page (step w (read l)).0 ls in
+      let more = lines_in-trace h (step w (read l)).0 ls in
+      let begins = begins_with (owner_prefix Page) l in
+      lines_in-append (items_of read is_page w l) rest
+      ∙ by_cases kept
+      (λ e. ap (λ items. lines_in items ++ lines_in rest) (cond-true kept (line l ∷ []) others e) ∙ ap (λ xs. l ∷ xs) more ∙ sym (cond-true begins (l ∷ page_lines ls) (page_lines ls) (sym (h l) ∙ e)))
+      (λ e. ap (λ items. lines_in items ++ lines_in rest) (cond-false kept (line l ∷ []) others e) ∙ ap (λ xs. xs ++ lines_in rest) (lines_in-outward (outward_event w (read l))) ∙ more
+      ∙ sym (cond-false begins (l ∷ page_lines ls) (page_lines ls) (sym (h l) ∙ e)))
+
+  -- of a script
+  pub trace-has_page_lines : ReadsPrefix read → TraceHasPageLines read
+  trace-has_page_lines h lines = lines_in-trace h first_world lines
+
+-- The page's lines of output.
+page_lines-output : (o : Output) (os : List Output) → page_lines (map output_line os) ≡ map output_line (outputs_for Page os) →
+    page_lines (map output_line (o ∷ os)) ≡ map output_line (outputs_for Page (o ∷ os))
+page_lines-output bad_owner os h = h
+page_lines-output (says Page s) os h = ap (λ ls. output_line (says Page s) ∷ ls) h
+page_lines-output (says (Component k) s) os h = h
+
+-- all lines of output
+pub output-has_page_lines : OutputHasPageLines
+output-has_page_lines [] = refl
+output-has_page_lines (o ∷ os) = page_lines-output o os (output-has_page_lines os)
+
+-- as text
+pub page_view-is_its_output : PageViewIsItsOutput
+page_view-is_its_output outputs = ap text_of_lines (output-has_page_lines outputs)
+
+module _ (read : List ℕ → Line) where
+  -- the page's lines of a script's output
+  pub page_lines-agree : PageLinesAgree read
+  page_lines-agree lines h = output-has_page_lines (outputs_of (map read lines)) ∙ ap (map output_line) (page-sees_its_trace read lines h)
+
+  -- of the lines so far
+  pub page_lines-agree_so_far : PageLinesAgreeSoFar read
+  page_lines-agree_so_far lines h =
+      output-has_page_lines (run_lines first_world (map read lines)).1 ∙ ap (λ (r : Run PageState). map output_line r.1) (page_run-agrees read lines h)
+
+  -- as text
+  pub page_text-agrees : PageTextAgrees read
+  page_text-agrees bytes h = ap text_of_lines (page_lines-agree (lines_of bytes) h)
+
+  -- of two texts
+  pub same-page_text : SamePageText read
+  same-page_text first second h g e =
+      page_text-agrees first h ∙ ap (λ items. text_of_lines (map output_line (page_outputs_of read items))) e ∙ sym (page_text-agrees second g)
+
+-- Foreign names.
+component-may_use : (k : ℕ) (c : Command) → MayUse c (Component k) → is_command_of (Component k) c ≡ true
+component-may_use k (attach x) h = absurd h
+component-may_use k c h = refl
+
+-- a line of bytes with such a command
+pub foreign_line-is_refused : ForeignLineIsRefused
+foreign_line-is_refused w bytes k c e h =
+    let says : Says bytes (command (Component k) c) = subst (Says bytes) e (decode_says bytes) in
+    ap (step w) e ∙ foreign-is_refused w k c (component-may_use k c says.may_use) h

@@ -1,0 +1,309 @@
+-- The text of what is said without line feeds has none, and the protocol's reading gives words without line feeds alone.
+use Rattle.std.proofs.Common.{◌≡◌, ℕ, zero, suc, ◌+◌, ◌/◌, ◌%◌, ◌≤◌, Bool, true, false, not, cond, ◌||◌, eqb, List, [], ◌∷◌, ◌++◌, map, Option, Some, None, refl, sym, ap, ◌∙◌, arith, true≢false, subst}
+use Rattle.std.specs.Prelude.{codes, nat_lt, if◌then◌else◌}
+use Rattle.std.specs.List.{AllByRecursion, list_all, flat_map}
+use Rattle.std.specs.Int.{is_in_range}
+use Rattle.std.specs.Char.{digit_char}
+use Rattle.std.specs.Fmt.{decimal, digits, digits_onto, digit_glyph}
+use Rattle.std.proofs.lemmas.Bool.{cond-true, cond-false, eqb-true, false_from_ne_true, and_parts, not-true}
+use Rattle.dom_base.specs.Refusals.{refusal_word}
+use Rattle.dom_base.specs.declared.Kind.{Kind}
+use Rattle.dom_base.specs.declared.Kind.TheVariants as kinds
+use Rattle.dom_base.specs.declared.NodeName.{NodeName}
+use Rattle.dom_base.specs.declared.Owner.{Owner}
+use Rattle.dom_base.specs.declared.Owner.TheVariants.{Page, Component}
+use Rattle.dom_base.specs.declared.Refusal.{Refusal}
+use Rattle.dom_base.specs.declared.Refusal.TheVariants.{Syntax}
+use Rattle.dom_model.specs.Command.{Command, Line, no_owner, no_command, command}
+use Rattle.dom_model.specs.Names.{DomString, owner_eq}
+use Rattle.dom_model.specs.Output.{Change, child_list, attributes, character_data, EventLine, Boundary, Value, nothing, null, a_node, a_list, a_component, a_range, an_iterator, a_walker, an_observer, a_string, a_truth, a_count, a_tree, boundaries, reference, Said, replied, refused, event_seen, recorded, micro_ran, Output, bad_owner, says}
+use Rattle.dom_model.specs.Tree.{Trees, none, tree, Node, Attribute}
+use Rattle.dom_text.specs.Decode.{decode}
+use Rattle.dom_text.specs.Grammar.{Says, Spells, parts}
+use Rattle.dom_text.specs.Lines.{line_feed, lines_of}
+use Rattle.dom_text.specs.Text.{hex_digits, unit_text, string_text, string_or_null, node_text_of, node_text, node_or_null, next_node_text, nodes_text, list_text, numbered_text, attribute_text, own_parts, opening_text, trees_text, boundary_text, truth_text, side_text, value_text, event_text, change_text, said_text, output_line, output_text}
+use Rattle.dom_text.specs.Tokens.{IsWord, IsWordByte, IsLabel, is_label_byte}
+use Rattle.dom_text.specs.Words.{owner_word, kind_word}
+use Rattle.dom_text.proofs.DecodeLaws.{decode_says}
+use Rattle.dom_text.proofs.LineLaws.{lines_of-text_of_lines}
+use Rattle.dom_isolation.specs.Offering.{offered_line}
+use Rattle.dom_isolation.specs.Words.{HasNoFeed, HasPlainWords, IsPlainLine, ReadsPlainWords, OfferingReadsPlainWords}
+use Rattle.dom_isolation.specs.Worlds.{AllNodes}
+use Rattle.dom_isolation.proofs.Lists.{all-append, all-flat_map, all-map, all-from, all-then}
+use Rattle.dom_isolation.proofs.Tests.{by_cases, either_way}
+use Rattle.dom_isolation.proofs.PlainWords.{IsPlainAttribute, IsPlainNode, IsPlainChange}
+use Rattle.dom_isolation.proofs.PlainRuns.{IsPlainEvent, IsPlainValue, IsPlainSaid, IsPlainOutput}
+
+-- a byte that is no line feed
+abbrev IsNoFeed : ℕ → Type 0
+IsNoFeed b = eqb b line_feed ≡ false
+
+-- bytes of which a test holds that no line feed passes
+passes : (test : ℕ → Bool) → test line_feed ≡ false → (b : ℕ) → test b ≡ true → IsNoFeed b
+passes test e b h = false_from_ne_true (eqb b line_feed) (λ t. true≢false (sym h ∙ ap test (eqb-true b line_feed t) ∙ e))
+
+-- a byte past that of a line feed
+past : (b : ℕ) → 11 ≤ b → IsNoFeed b
+past b h = false_from_ne_true (eqb b line_feed) (λ t. let e : b ≡ 10 = eqb-true b line_feed t in omega arith)
+
+-- a word that is written out
+plain-key : (name : List ℕ) → list_all (λ b. not (eqb b line_feed)) name ≡ true → HasNoFeed name
+plain-key [] h = tt
+plain-key (b ∷ bs) h = let both = and_parts (not (eqb b line_feed)) (list_all (λ b. not (eqb b line_feed)) bs) h in (not-true (eqb b line_feed) both.0, plain-key bs both.1)
+
+-- one text and then another
+and_then : (a b : List ℕ) → HasNoFeed a → HasNoFeed b → HasNoFeed (a ++ b)
+and_then a b h g = all-append IsNoFeed a b h g
+
+-- a text behind a word that is written out
+behind_key : (name b : List ℕ) → list_all (λ b. not (eqb b line_feed)) name ≡ true → HasNoFeed b → HasNoFeed (name ++ b)
+behind_key name b h g = and_then name b (plain-key name h) g
+
+-- Numbers.
+plain-glyph : (upper : Bool) (d : ℕ) → IsNoFeed (digit_glyph upper d)
+plain-glyph upper d = either_way IsNoFeed (nat_lt d 10) (48 + d) (if upper then 55 + d else 87 + d) (past (48 + d) (omega arith)) (either_way IsNoFeed upper (55 + d) (87 + d) (past (55 + d) (omega arith)) (past (87 + d) (omega arith)))
+
+-- digits
+plain-digits_onto : (k base : ℕ) (upper : Bool) (n : ℕ) (acc : List ℕ) → HasNoFeed acc → HasNoFeed (digits_onto k base upper n acc)
+plain-digits_onto zero base upper n acc h = h
+plain-digits_onto (suc k) base upper n acc h =
+    let more : HasNoFeed (digit_glyph upper (n % base) ∷ acc) = (plain-glyph upper (n % base), h) in
+    either_way HasNoFeed (eqb (n / base) 0) (digit_glyph upper (n % base) ∷ acc) (digits_onto k base upper (n / base) (digit_glyph upper (n % base) ∷ acc)) more
+    (plain-digits_onto k base upper (n / base) (digit_glyph upper (n % base) ∷ acc) more)
+
+-- a number
+plain-decimal : (n : ℕ) → HasNoFeed (decimal n)
+unfolding digits
+plain-decimal n = plain-digits_onto 64 10 false n [] tt
+
+-- Strings.
+plain-digit : (d : ℕ) → IsNoFeed (digit_char d)
+plain-digit d = either_way IsNoFeed (nat_lt d 10) (48 + d) (87 + d) (past (48 + d) (omega arith)) (past (87 + d) (omega arith))
+
+-- a code unit
+plain-unit : (u : ℕ) → HasNoFeed (unit_text u)
+plain-unit u =
+    let quoted = eqb u 34 || eqb u 92 in
+    let plain = is_in_range 0x20 0x7E u in
+    let escaped = 92 ∷ 117 ∷ hex_digits u in
+    let other : List ℕ = cond plain (u ∷ []) escaped in
+    by_cases quoted (λ e. subst HasNoFeed (sym (cond-true quoted (92 ∷ u ∷ []) other e)) (refl, (passes (λ v. eqb v 34 || eqb v 92) refl u e, tt)))
+    (λ e. subst HasNoFeed (sym (cond-false quoted (92 ∷ u ∷ []) other e))
+    (by_cases plain (λ f. subst HasNoFeed (sym (cond-true plain (u ∷ []) escaped f)) (passes (is_in_range 0x20 0x7E) refl u f, tt))
+    (λ f. subst HasNoFeed (sym (cond-false plain (u ∷ []) escaped f)) (refl, (refl, (plain-digit (u / 4096), (plain-digit (u / 256 % 16), (plain-digit (u / 16 % 16), (plain-digit (u % 16), tt)))))))))
+
+-- a string
+plain-string : (units : DomString) → HasNoFeed (string_text units)
+plain-string units = (refl, and_then (flat_map unit_text units) (34 ∷ []) (all-flat_map IsNoFeed unit_text units (all-from (λ u. HasNoFeed (unit_text u)) plain-unit units)) (refl, tt))
+
+-- or `null`
+plain-string_or_null : (o : Option DomString) → HasNoFeed (string_or_null o)
+plain-string_or_null None = plain-key (codes "null") refl
+plain-string_or_null (Some units) = plain-string units
+
+-- Names.
+plain-numbered : (letter : List ℕ) (n : ℕ) → list_all (λ b. not (eqb b line_feed)) letter ≡ true → HasNoFeed (letter ++ decimal n)
+plain-numbered letter n h = behind_key letter (decimal n) h (plain-decimal n)
+
+-- an owner's word
+plain-owner : (o : Owner) → HasNoFeed (owner_word o)
+plain-owner Page = plain-key (codes "p") refl
+plain-owner (Component k) = plain-numbered (codes "c") k refl
+
+-- a node, by its owner and number
+plain-node_of : (viewer o : Owner) (j : ℕ) → HasNoFeed (node_text_of viewer o j)
+plain-node_of viewer Page j = plain-numbered (codes "n") j refl
+plain-node_of viewer (Component k) j =
+    either_way HasNoFeed (owner_eq viewer (Component k)) (codes "m" ++ decimal j) (codes "c" ++ decimal k ++ codes ":m" ++ decimal j) (plain-numbered (codes "m") j refl)
+    (and_then (codes "c" ++ decimal k ++ codes ":m") (decimal j) (and_then (codes "c" ++ decimal k) (codes ":m") (plain-numbered (codes "c") k refl) (plain-key (codes ":m") refl)) (plain-decimal j))
+
+-- a node
+plain-node : (viewer : Owner) (x : NodeName) → HasNoFeed (node_text viewer x)
+plain-node viewer x = plain-node_of viewer x.owner x.number
+
+-- or `null`
+plain-node_or_null : (viewer : Owner) (o : Option NodeName) → HasNoFeed (node_or_null viewer o)
+plain-node_or_null viewer None = plain-key (codes "null") refl
+plain-node_or_null viewer (Some x) = plain-node viewer x
+
+-- nodes with commas
+plain-nodes : (viewer : Owner) (xs : List NodeName) → HasNoFeed (nodes_text viewer xs)
+plain-nodes viewer [] = tt
+plain-nodes viewer (x ∷ xs) =
+    and_then (node_text viewer x) (flat_map (next_node_text viewer) xs) (plain-node viewer x)
+    (all-flat_map IsNoFeed (next_node_text viewer) xs (all-from (λ y. HasNoFeed (next_node_text viewer y)) (λ y. behind_key (codes ",") (node_text viewer y) refl (plain-node viewer y)) xs))
+
+-- nodes in brackets
+plain-list : (viewer : Owner) (xs : List NodeName) → HasNoFeed (list_text viewer xs)
+plain-list viewer xs = and_then (codes "[" ++ nodes_text viewer xs) (codes "]") (behind_key (codes "[") (nodes_text viewer xs) refl (plain-nodes viewer xs)) (plain-key (codes "]") refl)
+
+-- Trees.
+plain-attribute : (a : Attribute) → IsPlainAttribute a → HasNoFeed (attribute_text a)
+plain-attribute a h = and_then (codes " " ++ a.name ++ codes "=") (string_text a.value) (and_then (codes " " ++ a.name) (codes "=") (behind_key (codes " ") a.name refl h) (plain-key (codes "=") refl)) (plain-string a.value)
+
+-- what stands behind the kind of a node
+plain-own_parts : (k : Kind) (n : Node) → IsPlainNode n → HasNoFeed (own_parts k n)
+plain-own_parts kinds.Element n h =
+    and_then (codes " " ++ n.element) (flat_map attribute_text n.attributes) (behind_key (codes " ") n.element refl h.0)
+    (all-flat_map IsNoFeed attribute_text n.attributes (all-then IsPlainAttribute (λ a. HasNoFeed (attribute_text a)) plain-attribute n.attributes h.1))
+plain-own_parts kinds.Text n h = behind_key (codes " ") (string_text n.text) refl (plain-string n.text)
+plain-own_parts kinds.Comment n h = behind_key (codes " ") (string_text n.text) refl (plain-string n.text)
+plain-own_parts k n h = tt
+
+-- the word of a kind
+plain-kind : (k : Kind) → list_all (λ b. not (eqb b line_feed)) (kind_word k) ≡ true
+plain-kind kinds.Element = refl
+plain-kind k = refl
+
+-- a tree up to its children
+plain-opening : (viewer : Owner) (n : Node) → IsPlainNode n → HasNoFeed (opening_text viewer n)
+plain-opening viewer n h =
+    let name = codes "(" ++ node_text viewer n.name in
+    and_then (name ++ codes " " ++ kind_word n.kind) (own_parts n.kind n)
+    (and_then (name ++ codes " ") (kind_word n.kind) (and_then name (codes " ") (behind_key (codes "(") (node_text viewer n.name) refl (plain-node viewer n.name)) (plain-key (codes " ") refl)) (plain-key (kind_word n.kind) (plain-kind n.kind)))
+    (plain-own_parts n.kind n h)
+
+-- trees
+plain-trees : (viewer : Owner) (ts : Trees) → AllNodes IsPlainNode ts → HasNoFeed (trees_text viewer ts)
+plain-trees viewer none h = tt
+plain-trees viewer (tree n c r) h =
+    let opening = codes " " ++ opening_text viewer n in
+    and_then (opening ++ trees_text viewer c ++ codes ")") (trees_text viewer r)
+    (and_then (opening ++ trees_text viewer c) (codes ")") (and_then opening (trees_text viewer c) (behind_key (codes " ") (opening_text viewer n) refl (plain-opening viewer n h.0)) (plain-trees viewer c h.1)) (plain-key (codes ")") refl))
+    (plain-trees viewer r h.2)
+
+-- Replies.
+plain-boundary : (viewer : Owner) (b : Boundary NodeName) → HasNoFeed (boundary_text viewer b)
+plain-boundary viewer b =
+    and_then (codes " " ++ node_text viewer b.node ++ codes " ") (decimal b.offset) (and_then (codes " " ++ node_text viewer b.node) (codes " ") (behind_key (codes " ") (node_text viewer b.node) refl (plain-node viewer b.node)) (plain-key (codes " ") refl)) (plain-decimal b.offset)
+
+-- a truth value
+plain-truth : (b : Bool) → HasNoFeed (truth_text b)
+plain-truth true = plain-key (codes "true") refl
+plain-truth false = plain-key (codes "false") refl
+
+-- the side of an iterator's reference
+plain-side : (b : Bool) → HasNoFeed (side_text b)
+plain-side true = plain-key (codes "before") refl
+plain-side false = plain-key (codes "after") refl
+
+-- what stands behind `ok`
+plain-value : (viewer : Owner) (v : Value) → IsPlainValue v → HasNoFeed (value_text viewer v)
+plain-value viewer nothing h = tt
+plain-value viewer null h = plain-key (codes " null") refl
+plain-value viewer (a_node x) h = behind_key (codes " ") (node_text viewer x) refl (plain-node viewer x)
+plain-value viewer (a_list xs) h = behind_key (codes " ") (list_text viewer xs) refl (plain-list viewer xs)
+plain-value viewer (a_component o) h = behind_key (codes " ") (owner_word o) refl (plain-owner o)
+plain-value viewer (a_range k) h = behind_key (codes " ") (numbered_text (codes "r") k) refl (plain-numbered (codes "r") k refl)
+plain-value viewer (an_iterator k) h = behind_key (codes " ") (numbered_text (codes "i") k) refl (plain-numbered (codes "i") k refl)
+plain-value viewer (a_walker k) h = behind_key (codes " ") (numbered_text (codes "w") k) refl (plain-numbered (codes "w") k refl)
+plain-value viewer (an_observer k) h = behind_key (codes " ") (numbered_text (codes "o") k) refl (plain-numbered (codes "o") k refl)
+plain-value viewer (a_string units) h = behind_key (codes " ") (string_text units) refl (plain-string units)
+plain-value viewer (a_truth b) h = behind_key (codes " ") (truth_text b) refl (plain-truth b)
+plain-value viewer (a_count n) h = plain-numbered (codes " ") n refl
+plain-value viewer (a_tree ts) h = plain-trees viewer ts h
+plain-value viewer (boundaries start end) h = and_then (boundary_text viewer start) (boundary_text viewer end) (plain-boundary viewer start) (plain-boundary viewer end)
+plain-value viewer (reference x before) h =
+    and_then (codes " " ++ node_text viewer x ++ codes " ") (side_text before) (and_then (codes " " ++ node_text viewer x) (codes " ") (behind_key (codes " ") (node_text viewer x) refl (plain-node viewer x)) (plain-key (codes " ") refl)) (plain-side before)
+
+-- Events and records.
+-- a text, a word that is written out, and a text
+joined : (a name b : List ℕ) → HasNoFeed a → list_all (λ b. not (eqb b line_feed)) name ≡ true → HasNoFeed b → HasNoFeed (a ++ name ++ b)
+joined a name b h e g = and_then (a ++ name) b (and_then a name h (plain-key name e)) g
+
+-- a call of a listener
+plain-event : (viewer : Owner) (l : EventLine NodeName) → IsPlainEvent l → HasNoFeed (event_text viewer l)
+plain-event viewer l h =
+    let label = codes "event " ++ l.label in
+    let event = label ++ codes " " ++ l.event in
+    let phase = event ++ codes " phase=" ++ decimal l.phase in
+    let target = phase ++ codes " target=" ++ node_text viewer l.target in
+    let current = target ++ codes " current=" ++ node_text viewer l.current in
+    let related = current ++ codes " related=" ++ node_or_null viewer l.related in
+    joined related (codes " path=") (list_text viewer l.path)
+    (joined current (codes " related=") (node_or_null viewer l.related)
+    (joined target (codes " current=") (node_text viewer l.current)
+    (joined phase (codes " target=") (node_text viewer l.target)
+    (joined event (codes " phase=") (decimal l.phase)
+    (joined label (codes " ") l.event (behind_key (codes "event ") l.label refl h.1) refl h.0) refl (plain-decimal l.phase)) refl (plain-node viewer l.target)) refl (plain-node viewer l.current))
+    refl (plain-node_or_null viewer l.related)) refl (plain-list viewer l.path)
+
+-- a change
+plain-change : (viewer : Owner) (c : Change NodeName) → IsPlainChange c → HasNoFeed (change_text viewer c)
+plain-change viewer (child_list x added removed previous next) h =
+    let target = codes "childList " ++ node_text viewer x in
+    let first = target ++ codes " added=" ++ list_text viewer added in
+    let second = first ++ codes " removed=" ++ list_text viewer removed in
+    let third = second ++ codes " prev=" ++ node_or_null viewer previous in
+    joined third (codes " next=") (node_or_null viewer next)
+    (joined second (codes " prev=") (node_or_null viewer previous)
+    (joined first (codes " removed=") (list_text viewer removed)
+    (joined target (codes " added=") (list_text viewer added) (behind_key (codes "childList ") (node_text viewer x) refl (plain-node viewer x)) refl (plain-list viewer added)) refl (plain-list viewer removed))
+    refl (plain-node_or_null viewer previous)) refl (plain-node_or_null viewer next)
+plain-change viewer (attributes x a old) h =
+    let target = codes "attributes " ++ node_text viewer x in
+    joined (target ++ codes " name=" ++ a) (codes " old=") (string_or_null old)
+    (joined target (codes " name=") a (behind_key (codes "attributes ") (node_text viewer x) refl (plain-node viewer x)) refl h) refl (plain-string_or_null old)
+plain-change viewer (character_data x old) h =
+    joined (codes "characterData " ++ node_text viewer x) (codes " old=") (string_or_null old) (behind_key (codes "characterData ") (node_text viewer x) refl (plain-node viewer x)) refl (plain-string_or_null old)
+
+-- Lines.
+plain-refusal : (r : Refusal) → list_all (λ b. not (eqb b line_feed)) (refusal_word r) ≡ true
+plain-refusal Syntax = refl
+plain-refusal r = refl
+
+-- what stands behind the owner's word
+plain-said : (viewer : Owner) (s : Said) → IsPlainSaid s → HasNoFeed (said_text viewer s)
+plain-said viewer (replied v) h = behind_key (codes "ok") (value_text viewer v) refl (plain-value viewer v h)
+plain-said viewer (refused r) h = behind_key (codes "! ") (refusal_word r) refl (plain-key (refusal_word r) (plain-refusal r))
+plain-said viewer (event_seen l) h = plain-event viewer l h
+plain-said viewer (recorded k c) h =
+    joined (codes "record " ++ numbered_text (codes "o") k) (codes " ") (change_text viewer c) (behind_key (codes "record ") (numbered_text (codes "o") k) refl (plain-numbered (codes "o") k refl)) refl (plain-change viewer c h)
+plain-said viewer (micro_ran label) h = behind_key (codes "micro ") label refl h
+
+-- a line of output
+plain-output : (o : Output) → IsPlainOutput o → HasNoFeed (output_line o)
+plain-output bad_owner h = plain-key (codes "! owner") refl
+plain-output (says o s) h = joined (owner_word o) (codes " ") (said_text o s) (plain-owner o) refl (plain-said o s h)
+
+-- the text of such lines is cut into them again
+pub lines_of-output : (os : List Output) → AllByRecursion IsPlainOutput os → lines_of (output_text os) ≡ map output_line os
+lines_of-output os h = lines_of-text_of_lines (map output_line os) (all-map HasNoFeed output_line os (all-then IsPlainOutput (λ o. HasNoFeed (output_line o)) plain-output os h))
+
+-- What is read.
+plain-word : (name : List ℕ) → IsWord name → HasNoFeed name
+plain-word [] h = tt
+plain-word (b ∷ bs) h = all-then IsWordByte IsNoFeed (λ c p. past c (omega (arith, p))) (b ∷ bs) h.1
+
+-- a label
+plain-label : (name : List ℕ) → IsLabel name → HasNoFeed name
+plain-label name h = all-then (λ b. is_label_byte b ≡ true) IsNoFeed (λ b p. passes is_label_byte refl b p) name h.2
+
+-- the words of a command that is spelled
+plain-spelled : (o : Owner) (c : Command) (text : List ℕ) → Spells (parts o c) text → HasPlainWords c
+plain-spelled o (Command.new_element name) text s = plain-word name s.3.3.2.1
+plain-spelled o (Command.set_attribute x name value) text s = plain-word name s.3.3.2.1
+plain-spelled o (Command.unset_attribute x name) text s = plain-word name s.3.3.2.1
+plain-spelled o (Command.listen x words) text s = (plain-label words.event s.3.3.2.1, plain-label words.label s.3.3.3.2.1)
+plain-spelled o (Command.micro label) text s = plain-label label s.3.2.1
+plain-spelled o c text s = tt
+
+-- what a line says
+plain-line : (bytes : List ℕ) (l : Line) → Says bytes l → IsPlainLine l
+plain-line bytes no_owner h = tt
+plain-line bytes (no_command o) h = tt
+plain-line bytes (command o c) h = plain-spelled o c h.said h.spelled
+
+-- the protocol's reading
+pub decode-reads_plain_words : ReadsPlainWords decode
+decode-reads_plain_words bytes = plain-line bytes (decode bytes) (decode_says bytes)
+
+-- with fewer commands
+plain-offered : (is_offered : Command → Bool) (l : Line) → IsPlainLine l → IsPlainLine (offered_line is_offered l)
+plain-offered is_offered no_owner h = tt
+plain-offered is_offered (no_command o) h = tt
+plain-offered is_offered (command o c) h = either_way IsPlainLine (is_offered c) (command o c) (no_command o) h tt
+
+-- that reading
+pub offering-reads_plain_words : OfferingReadsPlainWords
+offering-reads_plain_words is_offered bytes = plain-offered is_offered (decode bytes) (decode-reads_plain_words bytes)

@@ -1,0 +1,188 @@
+-- The isolation laws, each about one step of the two machines: what the page sees of the document machine is what the page
+-- machine does.
+use Rattle.std.specs.Prelude.{◌≡◌, ◌≢◌, ℕ, Bool, false, List, ◌++◌, filter, fold, map, Option, None, Some, is_some, option_to_list, IsTrue, true}
+use Rattle.std.specs.List.{AllByRecursion}
+use Rattle.dom_base.specs.declared.Owner.{Owner}
+use Rattle.dom_base.specs.declared.Owner.TheVariants.{Page, Component}
+use Rattle.dom_base.specs.declared.NodeName.{NodeName}
+use Rattle.dom_base.specs.declared.Kind.TheVariants.{Shadow}
+use Rattle.dom_model.specs.Tree.{has_node}
+use Rattle.dom_model.specs.Command.{Command, Line, EventWords, Spelled}
+use Rattle.dom_model.specs.Output.{EventLine}
+use Rattle.dom_model.specs.Listeners.{Visit, Dispatching, visited}
+use Rattle.dom_model.specs.Names.{name_eq}
+use Rattle.dom_model.specs.Paths.{views, plain_views}
+use Rattle.dom_model.specs.Runs.{Run, quiet, run_then, run_each}
+use Rattle.dom_model.specs.CommandRefusals.{part_refusal}
+use Rattle.dom_model.specs.World.{World, part_of, is_there, host_of, host_above, component_at, kind_at, parent_at, shadow_root_of}
+use Rattle.dom_model.specs.Dispatch.{Dispatched, dispatch_in, world_visit, visits_of}
+use Rattle.dom_model.specs.Slots.{assigned}
+use Rattle.dom_model.specs.Turns.{notifying, ending_turn, ending_other_turn}
+use Rattle.dom_model.specs.DocumentMachine.{first_world, step, run_lines, perform, finish}
+use Rattle.dom_model.specs.Trace.{is_page, is_of, owner_of_line, outputs_for, outward_dispatch, outward_event, line_may_stop, trace_from, trace_of, no_component_stops}
+use Rattle.dom_model.specs.PageMachine.{PageState, page_of, page_dispatch, page_outward, page_turn_end, page_finish, page_line, first_page, run_page}
+use Rattle.dom_isolation.specs.Worlds.{IsOf, IsWorld, MayBeShadow, HasKinds, HasOwners, ComponentsOnlyLog}
+
+-- A world of which the laws speak; where only_log, no listener of a component stops or cancels.
+pub record IsSound (only_log : Bool) (w : World) : Type 0 where
+  pub world : IsWorld w
+  pub logs : only_log ≡ true → ComponentsOnlyLog w
+
+-- the same, where no listener of a component stops or cancels
+abbrev pub IsQuiet : World → Type 0
+IsQuiet w = IsSound true w
+
+-- A world as the machine reaches it.
+pub record IsReached (only_log : Bool) (w : World) : Type 0 where
+  pub world : IsWorld w
+  pub kinds : (o : Owner) → HasKinds (part_of w o)
+  pub owners : HasOwners w
+  pub logs : only_log ≡ true → ComponentsOnlyLog w
+
+-- what the page sees of a run of the world
+abbrev pub page_run : Run World → Run PageState
+page_run r = (page_of r.0, outputs_for Page r.1)
+
+-- what the page sees of a dispatch
+abbrev pub page_dispatched : Dispatched World → Dispatched PageState
+page_dispatched d = record { run = page_run d.run; answer = d.answer }
+
+-- whether a line of a listener is the page's
+abbrev pub is_page_line : EventLine NodeName → Bool
+is_page_line l = is_page l.current.owner
+
+-- One visit: at a component's node it changes nothing of the page and none of the event's flags, and adds no page line.
+abbrev pub VisitIsUnseen : Type 0
+VisitIsUnseen =
+    (w : World) (d : Dispatching NodeName) (e : EventWords) (v : Visit NodeName) → v.current.owner ≢ Page → ComponentsOnlyLog w →
+    let end = world_visit e (w, d) v in
+    (part_of end.0 Page ≡ part_of w Page) × (end.1.stopped ≡ d.stopped) × (end.1.stopped_now ≡ d.stopped_now) × (end.1.cancelled ≡ d.cancelled)
+    × (filter is_page_line end.1.lines ≡ filter is_page_line d.lines)
+
+-- what the page sees of a dispatch on its way: its own listeners, its own lines, and the event's flags
+abbrev pub page_going : World × Dispatching NodeName → Dispatching NodeName
+page_going s = record s.1 { listeners = (part_of s.0 Page).listeners; lines = filter is_page_line s.1.lines }
+
+-- whether a visit is at a page node
+abbrev pub is_page_visit : Visit NodeName → Bool
+is_page_visit v = is_page v.current.owner
+
+-- All visits: what the page sees of them is what the visits at its own nodes do to its own listeners.
+abbrev pub FoldSkipsComponents : Type 0
+FoldSkipsComponents =
+    (e : EventWords) (vs : List (Visit NodeName)) (s : World × Dispatching NodeName) → ComponentsOnlyLog s.0 →
+    page_going (fold (world_visit e) s vs) ≡ fold (visited name_eq e) (page_going s) (filter is_page_visit vs)
+
+-- The visits at page nodes, with what is seen there, are the page machine's: of an event of the page, and of one that goes
+-- out of a shadow tree, which is the page machine's at the host.
+abbrev pub PageVisitsAgree : Type 0
+PageVisitsAgree =
+    (w : World) → IsQuiet w → (x : NodeName) (related : Option NodeName) (bubbles composed : Bool) → x.owner ≡ Page → AllByRecursion (IsOf Page) (option_to_list related) →
+    filter is_page_visit (visits_of name_eq bubbles (views w x related composed)) ≡ visits_of name_eq bubbles (plain_views (part_of w Page).trees x related)
+
+-- of one that goes out
+abbrev pub OutwardVisitsAgree : Type 0
+OutwardVisitsAgree =
+    (w : World) → IsQuiet w → (x host : NodeName) (bubbles : Bool) → x.owner ≢ Page → host_above w x ≡ Some host →
+    filter is_page_visit (visits_of name_eq bubbles (views w x None true)) ≡ visits_of name_eq bubbles (plain_views (part_of w Page).trees host None)
+
+-- One dispatch: one of the page is the page machine's; one of a component is nothing, or its outward event.
+abbrev pub PageDispatchAgrees : Type 0
+PageDispatchAgrees =
+    (w : World) → IsQuiet w → (x : NodeName) (related : Option NodeName) (e : EventWords) → x.owner ≡ Page → AllByRecursion (IsOf Page) (option_to_list related) →
+    page_dispatched (dispatch_in w x related e) ≡ page_dispatch (page_of w) x related e
+
+-- one of a component
+abbrev pub ComponentDispatchAgrees : Type 0
+ComponentDispatchAgrees =
+    (w : World) (k : ℕ) → IsQuiet w → (x : Spelled) (e : EventWords) (related : Option Spelled) →
+    let c = Command.dispatch x e related in
+    part_refusal (part_of w (Component k)) c ≡ None →
+    page_run (perform w (Component k) c) ≡ run_each page_outward (page_of w) (option_to_list (outward_dispatch w (Component k) c))
+
+-- One notification of a component shows nothing; and the ending of a turn does to the page what its own tasks do.
+abbrev pub NotificationIsUnseen : Type 0
+NotificationIsUnseen = (w : World) (o : Owner) → o ≢ Page → IsQuiet w → page_run (notifying w o) ≡ quiet (page_of w)
+
+-- the ending of a turn
+abbrev pub TurnEndingAgrees : Type 0
+TurnEndingAgrees = (w : World) → IsQuiet w → page_run (ending_turn w) ≡ page_turn_end (page_of w)
+
+-- the ending of a component's turn before a line shows nothing
+abbrev pub OtherEndingIsUnseen : Type 0
+OtherEndingIsUnseen = (w : World) → IsQuiet w → (o : Owner) → page_run (ending_other_turn w o) ≡ quiet (page_of w)
+
+-- One line: of the page, as the page machine takes it; of another, its outward event. And the end of input.
+abbrev pub PageLineAgrees : Type 0
+PageLineAgrees = (w : World) → IsQuiet w → (l : Line) → IsTrue (is_of is_page (owner_of_line l)) → page_run (step w l) ≡ page_line (page_of w) l
+
+-- a line of another owner, or of none
+abbrev pub OtherLineAgrees : Type 0
+OtherLineAgrees =
+    (w : World) → IsQuiet w → (l : Line) → is_of is_page (owner_of_line l) ≡ false →
+    page_run (step w l) ≡ run_each page_outward (page_of w) (option_to_list (outward_event w l))
+
+-- the end of input
+abbrev pub FinishAgrees : Type 0
+FinishAgrees = (w : World) → IsQuiet w → page_run (finish w) ≡ page_finish (page_of w)
+
+-- The lines so far: the page's part and the page's lines are those of the page machine on the trace.
+abbrev pub PageRunAgrees : {L : Type 0} → (L → Line) → Type 0
+PageRunAgrees {L = L} read =
+    (ls : List L) → IsTrue (no_component_stops read ls) → page_run (run_lines first_world (map read ls)) ≡ run_page read first_page (trace_of read ls)
+
+-- More lines only add to the trace, and so to what the page machine does.
+abbrev pub TraceGoesOn : {L : Type 0} → (L → Line) → Type 0
+TraceGoesOn {L = L} read =
+    (ls more : List L) → let rest = trace_from read is_page (run_lines first_world (map read ls)).0 more in
+    (trace_of read (ls ++ more) ≡ trace_of read ls ++ rest)
+    × (run_page read first_page (trace_of read (ls ++ more)) ≡ run_then (run_page read first_page (trace_of read ls)) (λ s. run_page read s rest))
+
+-- The first world is as the machine reaches it, and each line keeps that. Where components are to log alone, the line is
+-- no accepted `listen` of theirs that does more.
+abbrev pub FirstIsReached : Type 0
+FirstIsReached = (only_log : Bool) → IsReached only_log first_world
+
+-- each line
+abbrev pub StepKeepsReached : Type 0
+StepKeepsReached = (only_log : Bool) (w : World) (l : Line) → IsReached only_log w → (only_log ≡ true → line_may_stop w l ≡ false) → IsReached only_log (step w l).0
+
+-- The ending of another component's turn keeps it, and so does the end of input, behind which further lines may come.
+abbrev pub EndingKeepsReached : Type 0
+EndingKeepsReached = (only_log : Bool) (w : World) (o : Owner) → IsReached only_log w → IsReached only_log (ending_other_turn w o).0
+
+-- the end of input
+abbrev pub FinishKeepsReached : Type 0
+FinishKeepsReached = (only_log : Bool) (w : World) → IsReached only_log w → IsReached only_log (finish w).0
+
+-- So each script leads to such a world, and one in which no component listener stops or cancels to one where they only log.
+abbrev pub ScriptsReach : {L : Type 0} → (L → Line) → Type 0
+ScriptsReach {L = L} read = (ls : List L) → IsReached false (run_lines first_world (map read ls)).0
+
+-- scripts in which no component listener stops or cancels
+abbrev pub QuietScriptsReach : {L : Type 0} → (L → Line) → Type 0
+QuietScriptsReach {L = L} read = (ls : List L) → IsTrue (no_component_stops read ls) → IsReached true (run_lines first_world (map read ls)).0
+
+-- What follows, in the definitions' own words. An attached component's first node is there, is a shadow root and has no
+-- parent.
+abbrev pub ShadowRootsAreRoots : Type 0
+ShadowRootsAreRoots =
+    (only_log : Bool) (w : World) → IsReached only_log w → (o : Owner) → IsTrue (is_some (host_of w o)) →
+    let x = shadow_root_of o in
+    IsTrue (has_node (part_of w o).trees x) × (kind_at w x ≡ Shadow) × (parent_at w x ≡ None)
+
+-- No other node is a shadow root.
+abbrev pub NoOtherShadowRoots : Type 0
+NoOtherShadowRoots = (only_log : Bool) (w : World) → IsReached only_log w → (x : NodeName) → kind_at w x ≡ Shadow → MayBeShadow x.owner x
+
+-- But for the page, just those owners are there that have a host.
+abbrev pub AttachedAreThere : Type 0
+AttachedAreThere = (only_log : Bool) (w : World) → IsReached only_log w → (o : Owner) → o ≢ Page → is_there w o ≡ is_some (host_of w o)
+
+-- The component at a node is that whose host the node is.
+abbrev pub HostsAreTheirs : Type 0
+HostsAreTheirs = (only_log : Bool) (w : World) → IsReached only_log w → (o : Owner) (x : NodeName) → host_of w o ≡ Some x → component_at w x ≡ Some o
+
+-- The nodes that are assigned to a slot are the page's.
+abbrev pub AssignedArePage : Type 0
+AssignedArePage = (only_log : Bool) (w : World) → IsReached only_log w → (s : NodeName) → AllByRecursion (IsOf Page) (assigned w s)

@@ -1,0 +1,126 @@
+//! The page sees of components their outward events alone: laws over the definitions of the two machines. There is no
+//! code but functions whose contracts are the laws.
+#![tactic(auto)]
+
+ghost use Rattle.std.specs.Prelude.{List, ℕ, Bool, true};
+ghost use Rattle.dom_model.specs.Command.{Command, Line};
+ghost use Rattle.dom_model.specs.World.{World};
+ghost use Rattle.dom_model.specs.Isolation.{ForeignIsRefused, PagePartAgrees, PageSeesItsTrace, SamePage};
+ghost use Rattle.dom_isolation.specs.Laws.{VisitIsUnseen, FoldSkipsComponents, PageVisitsAgree, OutwardVisitsAgree, PageDispatchAgrees, ComponentDispatchAgrees, NotificationIsUnseen, TurnEndingAgrees, OtherEndingIsUnseen, PageLineAgrees, OtherLineAgrees, FinishAgrees, PageRunAgrees, TraceGoesOn, IsReached, IsQuiet, FirstIsReached, StepKeepsReached, EndingKeepsReached, FinishKeepsReached, ScriptsReach, QuietScriptsReach, ShadowRootsAreRoots, NoOtherShadowRoots, AttachedAreThere, HostsAreTheirs, AssignedArePage};
+ghost use Rattle.dom_isolation.specs.Offering.{offering};
+ghost use Rattle.dom_isolation.specs.Texts.{ReadsPrefix, DecodeReadsPrefix, OfferingReadsPrefix, TraceHasPageLines, OutputHasPageLines, PageViewIsItsOutput, PageLinesAgree, PageLinesAgreeSoFar, PageTextAgrees, SamePageText, ForeignLineIsRefused};
+ghost use Rattle.dom_isolation.specs.Words.{ReadsPlainWords, DecodeReadsPlainWords, OfferingReadsPlainWords, OutputHasItsLines, PickedLinesAgree};
+ghost use Rattle.dom_text.specs.Decode.{decode};
+
+/// A visit at a component's node, whose listeners neither stop nor cancel, is unseen by the page.
+pub fn one_visit()
+    ensures { VisitIsUnseen }
+{}
+
+/// Of all visits the page sees those at its own nodes, and these are the page machine's; so a dispatch of the page is the
+/// page machine's, and one of a component is nothing, or its outward event.
+pub fn one_dispatch()
+    ensures visits { FoldSkipsComponents }
+    ensures page_visits { PageVisitsAgree }
+    ensures outward_visits { OutwardVisitsAgree }
+    ensures page { PageDispatchAgrees }
+    ensures component { ComponentDispatchAgrees }
+{}
+
+/// A component's notification is unseen, and the ending of a turn does to the page what the page's own tasks do.
+pub fn one_ending()
+    ensures notification { NotificationIsUnseen }
+    ensures turn { TurnEndingAgrees }
+    ensures other { OtherEndingIsUnseen }
+{}
+
+/// A line of the page is the page machine's, another's is its outward event; so is the end of input.
+pub fn one_line()
+    ensures page { PageLineAgrees }
+    ensures other { OtherLineAgrees }
+    ensures finish { FinishAgrees }
+{}
+
+/// What holds of every world that the machine reaches, whatever its components' listeners do, and where they only log.
+pub fn reached_worlds()
+    ensures first { FirstIsReached }
+    ensures kept { StepKeepsReached }
+    ensures ending { EndingKeepsReached }
+    ensures finish { FinishKeepsReached }
+    ensures script { (read : List ℕ → Line) → ScriptsReach read }
+    ensures quiet_script { (read : List ℕ → Line) → QuietScriptsReach read }
+    ensures quiet { (w : World) → IsReached true w → IsQuiet w }
+    ensures roots { ShadowRootsAreRoots }
+    ensures no_others { NoOtherShadowRoots }
+    ensures there { AttachedAreThere }
+    ensures hosts { HostsAreTheirs }
+    ensures assigned { AssignedArePage }
+{}
+
+/// After every script in which no component listener stops or cancels the page's part is the page machine's state after
+/// the trace, and the page's output is the page machine's. Lines are bytes, and `read` is any reading of them.
+pub fn page_agrees()
+    ensures run { (read : List ℕ → Line) → PageRunAgrees read }
+    ensures part { (read : List ℕ → Line) → PagePartAgrees read }
+    ensures output { (read : List ℕ → Line) → PageSeesItsTrace read }
+    ensures longer { (read : List ℕ → Line) → TraceGoesOn read }
+{}
+
+/// Two scripts with equal traces have equal output of the page.
+pub fn same_page()
+    ensures { (read : List ℕ → Line) → SamePage read }
+{}
+
+/// Of input and of output the page's lines are those that begin with `p `: by the protocol's reading, whichever commands are
+/// offered, and so in a trace; and so of the lines of output, of which a view of the page writes just these.
+pub fn page_lines_have_their_prefix()
+    ensures input { DecodeReadsPrefix }
+    ensures offered { OfferingReadsPrefix }
+    ensures trace { (read : List ℕ → Line) → ReadsPrefix read → TraceHasPageLines read }
+    ensures output { OutputHasPageLines }
+    ensures view { PageViewIsItsOutput }
+{}
+
+/// Of a text in which no component listener stops or cancels the page's output is the page machine's on the trace: line by
+/// line, and as text.
+pub fn page_text_agrees()
+    ensures lines { (read : List ℕ → Line) → PageLinesAgree read }
+    ensures so_far { (read : List ℕ → Line) → PageLinesAgreeSoFar read }
+    ensures text { (read : List ℕ → Line) → PageTextAgrees read }
+{}
+
+/// Two texts with equal traces have equal output of the page.
+pub fn same_page_text()
+    ensures { (read : List ℕ → Line) → SamePageText read }
+{}
+
+/// No line of output has a line feed, so the text of a script's output is cut into the lines that were written: who picks those
+/// that begin with `p ` has the page's output. This is so for each reading whose words have no line feed, as the
+/// protocol's has none, whichever commands are offered.
+pub fn output_has_its_lines()
+    ensures input { DecodeReadsPlainWords }
+    ensures offered { OfferingReadsPlainWords }
+    ensures lines { (read : List ℕ → Line) → ReadsPlainWords read → OutputHasItsLines read }
+    ensures picked { (read : List ℕ → Line) → ReadsPlainWords read → PickedLinesAgree read }
+{}
+
+/// All this holds at each stage of the protocol, where a line whose command isn't offered yet has no command.
+pub fn offered_commands()
+    ensures run { (is_offered : Command → Bool) → PageRunAgrees (offering is_offered decode) }
+    ensures part { (is_offered : Command → Bool) → PagePartAgrees (offering is_offered decode) }
+    ensures output { (is_offered : Command → Bool) → PageSeesItsTrace (offering is_offered decode) }
+    ensures same { (is_offered : Command → Bool) → SamePage (offering is_offered decode) }
+    ensures trace { (is_offered : Command → Bool) → TraceHasPageLines (offering is_offered decode) }
+    ensures lines { (is_offered : Command → Bool) → PageLinesAgree (offering is_offered decode) }
+    ensures so_far { (is_offered : Command → Bool) → PageLinesAgreeSoFar (offering is_offered decode) }
+    ensures text { (is_offered : Command → Bool) → PageTextAgrees (offering is_offered decode) }
+    ensures picked { (is_offered : Command → Bool) → PickedLinesAgree (offering is_offered decode) }
+    ensures same_text { (is_offered : Command → Bool) → SamePageText (offering is_offered decode) }
+{}
+
+/// A component's command that names another owner's node is refused and changes nothing; so too a line of bytes that says
+/// such a command.
+pub fn foreign_is_refused()
+    ensures command { ForeignIsRefused }
+    ensures line { ForeignLineIsRefused }
+{}
