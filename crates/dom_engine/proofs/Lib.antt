@@ -1,0 +1,17 @@
+pub mod Finding
+pub mod Turned
+pub mod Refusing
+pub mod Handling
+pub mod TreeCommands
+pub mod Spots
+pub mod SpotReads
+pub mod Standing
+pub mod Places
+pub mod Closing
+pub mod WriteLaws
+pub mod ViewLaws
+pub mod RunLaws
+pub mod LineRuns
+pub mod PieceLaws
+pub mod ReadLaws
+pub mod PageRuns

@@ -1,0 +1,29 @@
+-- The isolation theorem for the text of runs.
+use Rattle.std.proofs.Common.{◌≡◌, ℕ, Bool, List, [], ◌++◌, map, Some, refl, sym, ap, ◌∙◌, append-nil}
+use Rattle.dom_base.specs.declared.Owner.TheVariants.{Page}
+use Rattle.dom_model.specs.DocumentMachine.{outputs_of}
+use Rattle.dom_model.specs.PageMachine.{page_outputs_of}
+use Rattle.dom_text.specs.Lines.{cut_of, last_line, lines_of, page_lines, text_of_lines}
+use Rattle.dom_text.specs.Text.{output_line, output_text}
+use Rattle.dom_text.proofs.LineLaws.{lines_of-cut}
+use Rattle.dom_isolation.proofs.PlainTexts.{picked_lines-agree}
+use Rattle.dom_isolation.proofs.PlainLines.{offering-reads_plain_words}
+use Rattle.dom_engine.specs.Session.{is_offered, read_line}
+use Rattle.dom_engine.specs.Run.{answers_to_end, run_text}
+use Rattle.dom_engine.specs.PageLaws.{PageTextIsThePageMachines, SamePageText}
+use Rattle.dom_engine.proofs.RunLaws.{text-ended}
+
+-- a text of lines is these lines, and no more
+lines_of-ended : (lines : List (List ℕ)) → (cut_of (text_of_lines lines)).finished ≡ lines_of (text_of_lines lines)
+lines_of-ended lines =
+    let cut = cut_of (text_of_lines lines) in
+    sym (append-nil cut.finished) ∙ ap (λ (rest : List ℕ). cut.finished ++ last_line rest) (sym (text-ended lines)) ∙ sym (lines_of-cut (text_of_lines lines))
+
+pub page_text-agrees : PageTextIsThePageMachines
+unfolding answers_to_end
+page_text-agrees bytes h =
+    let outputs = outputs_of (map read_line (lines_of bytes)) in
+    ap (λ (lines : List (List ℕ)). text_of_lines (page_lines lines)) (lines_of-ended (map output_line outputs)) ∙ ap text_of_lines (picked_lines-agree read_line (offering-reads_plain_words is_offered) bytes h)
+
+pub page_text-same : SamePageText
+page_text-same first second h g e = page_text-agrees first h ∙ ap (λ items. output_text (page_outputs_of read_line items)) e ∙ sym (page_text-agrees second g)

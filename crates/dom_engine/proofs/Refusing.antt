@@ -1,0 +1,38 @@
+-- The refusal of a command is that of its names, or else its own.
+use Rattle.std.proofs.Common.{◌≡◌, Bool, true, false, ◌&&◌, List, [], ◌∷◌, Option, Some, None, not, refl, ap, ◌∙◌}
+use Rattle.std.specs.Option.{option_or}
+use Rattle.dom_base.specs.declared.Owner.{Owner}
+use Rattle.dom_base.specs.declared.Refusal.{Refusal}
+use Rattle.dom_base.specs.declared.Refusal.TheVariants.{Syntax, Busy, Foreign, Unknown, WrongKind}
+use Rattle.dom_model.specs.Command.{Command}
+use Rattle.dom_model.specs.CommandNames.{names_foreign, nodes_exist, nodes_fit, thing_exists}
+use Rattle.dom_model.specs.CommandRefusals.{is_command_of, own_refusal, part_refusal}
+use Rattle.dom_model.specs.Validity.{first_refusal}
+use Rattle.dom_model.specs.World.{World, part_of, is_there}
+use Rattle.dom_model.specs.DocumentMachine.{is_busy, refusal}
+use Rattle.dom_engine.specs.declared.admission.Named.{Named}
+use Rattle.dom_engine.specs.Refusals.{has_foreign, are_there, are_fitting, early_refusal}
+
+-- two lists of tests, one after the other
+joined : (busy foreign absent unknown misfit : Bool) (own : Option Refusal) →
+    option_or (first_refusal ((false, Syntax) ∷ (busy, Busy) ∷ (foreign, Foreign) ∷ (absent, Unknown) ∷ []))
+    (option_or (first_refusal ((unknown, Unknown) ∷ (misfit, WrongKind) ∷ [])) own)
+    ≡ option_or (first_refusal ((busy, Busy) ∷ (foreign, Foreign) ∷ (absent, Unknown) ∷ (unknown, Unknown) ∷ (misfit, WrongKind) ∷ [])) own
+joined true foreign absent unknown misfit own = refl
+joined false true absent unknown misfit own = refl
+joined false false true unknown misfit own = refl
+joined false false false true misfit own = refl
+joined false false false false true own = refl
+joined false false false false false own = refl
+
+and_true : (b : Bool) → (b && true) ≡ b
+and_true true = refl
+and_true false = refl
+
+-- for a command that names these nodes
+pub refusal-of_names : (w : World) (o : Owner) (c : Command) (names : List Named) → is_command_of o c ≡ true → names_foreign c ≡ has_foreign names →
+    nodes_exist (part_of w o) c ≡ are_there (part_of w o) names → thing_exists (part_of w o) c ≡ true → nodes_fit (part_of w o) c ≡ are_fitting (part_of w o) names →
+    refusal w o c ≡ option_or (early_refusal w o names) (own_refusal (part_of w o) c)
+refusal-of_names w o c names command foreign exist thing fit =
+    rw (command, foreign, exist, thing, and_true (are_there (part_of w o) names), fit)
+    (joined (is_busy w o) (has_foreign names) (not (is_there w o)) (not (are_there (part_of w o) names)) (not (are_fitting (part_of w o) names)) (own_refusal (part_of w o) c))

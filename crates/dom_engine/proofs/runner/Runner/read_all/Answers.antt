@@ -1,0 +1,40 @@
+-- Each read goes behind those before it.
+use Rattle.std.proofs.Common.{◌≡◌, refl, ◌∙◌, ◌++◌, [], take, arith, length}
+use Rattle.std.proofs.lemmas.Result.{err_from_is_err_and, MatchResult-weaker}
+use Rattle.std.proofs.lemmas.List.{length-append, length-take}
+use Rattle.dom_engine.specs.Run.{input_limit}
+use Rattle.dom_engine.proofs.ReadLaws.{read-none, read-kept, read-more, stops-one_read, stops-more}
+use Rattle.dom_engine.proofs.runner.Runner.read_all.Goals as goal
+
+pub loop-left-init : goal.loop-left-init
+loop-left-init g c = ([], read-none c.args.self.now.view _ _ _ _ c.requires.splitter c.requires.world, refl, refl, refl, refl)
+
+pub take_read-requires-clause-kept : goal.take_read-requires-clause-kept
+take_read-requires-clause-kept g c = let i = c.loop-left.invariant in read-kept i.0 _ _ _ _ _ _ _ i.1
+
+pub returns-in_err-n-clause-stops : goal.returns-in_err-n-clause-stops
+returns-in_err-n-clause-stops g c =
+    let i = c.loop-left.invariant in
+    let p = err_from_is_err_and c.from_residual.result c.from_residual.ensures.1 in
+    rw (p.1, p.2) (stops-one_read _ i.0 c.args.self.now.view _ _ _ _ _ _ _ _ _ _ _ i.1 i.2 c.in_err-n.ensures.stops)
+
+pub returns-then-n-eq0-clause-read : goal.returns-then-n-eq0-clause-read
+returns-then-n-eq0-clause-read g c =
+    let i = c.loop-left.invariant in
+    let e = c.in_ok-n.ensures in
+    let bytes = take c.in_ok-n.n c.take_read.new.buffer in
+    (i.0 ++ bytes, read-more i.0 bytes _ _ _ _ _ _ _ _ _ _ _ _ i.1 i.2 e.consumed e.splitter e.world e.written, e.end c.if-n-eq0.true, omega (arith, i.3, e.bound.1, c.if-n-eq0.true, length-append i.0 bytes))
+
+pub loop-left-preserved : goal.loop-left-preserved
+loop-left-preserved g c =
+    let i = c.loop-left.invariant in
+    let e = c.in_ok-n.ensures in
+    let bytes = take c.in_ok-n.n c.take_read.new.buffer in
+    (i.0 ++ bytes, read-more i.0 bytes _ _ _ _ _ _ _ _ _ _ _ _ i.1 i.2 e.consumed e.splitter e.world e.written, e.view ∙ i.2, omega (arith, i.3, e.bound.0, e.bound.1, length-append i.0 bytes, c.take_read.auto.buffer, c.min-room.ensures, length-take c.min-room.result c.loop-left.buffer), e.reads ∙ i.4, e.writes ∙ i.5)
+
+pub returns-clause-stops : goal.returns-clause-stops
+returns-clause-stops g c =
+    let i = c.loop-left.invariant in
+    let more = c.expect_end.ensures.more in
+    let full : length i.0 ≡ input_limit = omega (arith, i.3, c.loop-left-test.false) in
+    MatchResult-weaker c.expect_end.result more.2 (λ _ _. tt) (λ e at. stops-more e i.0 more.0 _ _ _ _ _ _ _ _ i.1 full more.1 at)

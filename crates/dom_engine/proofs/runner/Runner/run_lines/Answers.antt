@@ -1,0 +1,30 @@
+-- Each line is run behind those before it.
+use Rattle.std.proofs.Common.{refl, sym, subst, ◌∙◌, map, take}
+use Rattle.std.specs.Io.KnownBytes.{Appends}
+use Rattle.std.proofs.KnownBytes.{Appends-nil}
+use Rattle.std.proofs.lemmas.Result.{err_from_is_err_and}
+use Rattle.dom_engine.proofs.RunLaws.{world_after-none, shown-none}
+use Rattle.dom_engine.proofs.LineRuns.{Behind, world-behind, lines_done, lines_between, one_more, around}
+use Rattle.dom_engine.proofs.runner.Runner.run_lines.Goals as goal
+
+pub loop-line-init : goal.loop-line-init
+loop-line-init g c =
+    let s = c.args.self.now in
+    (sym (world_after-none s.session.world), refl, refl, refl, subst (Appends _ _) (sym (shown-none s.view s.session.world)) (Appends-nil _))
+
+pub loop-line-preserved : goal.loop-line-preserved
+loop-line-preserved g c =
+    let i = c.loop-line.invariant in
+    let e = c.in_ok-run_line.ensures in
+    let at : Behind c.args.self.now.view c.args.self.now.session.world (map (λ line. line.items) (take c.loop-line.line-index c.args.lines.now)) c.loop-line.self.view c.loop-line.self.session.world =
+    record { same = i.2; world = i.0 } in
+    let more = one_more (λ line. line.items) c.args.lines.now c.loop-line.line-index c.line-item.result _ c.loop-line-test.true c.line-item.is c.deref.ensures.value in
+    (world-behind _ _ _ _ _ _ _ _ at more e.world, e.splitter ∙ i.1, e.view ∙ i.2, e.written.0 ∙ i.3, lines_done _ _ _ _ _ _ _ _ _ _ at more i.4 e.written.1)
+
+pub returns-in_err-run_line-clause-written : goal.returns-in_err-run_line-clause-written
+returns-in_err-run_line-clause-written g c =
+    let i = c.loop-line.invariant in
+    let p = err_from_is_err_and c.from_residual.result c.from_residual.ensures.1 in
+    let done = map (λ line. line.items) (take c.loop-line.line-index c.args.lines.now) in
+    rw (p.1, p.2)
+    (lines_between _ _ _ _ _ done _ _ _ _ _ _ _ _ _ (record { same = i.2; world = i.0 }) (around (λ line. line.items) c.args.lines.now c.loop-line.line-index c.line-item.result _ c.loop-line-test.true c.line-item.is c.deref.ensures.value) i.3 i.4 c.in_err-run_line.ensures.written)

@@ -1,0 +1,40 @@
+-- Each piece is taken behind those before it.
+use Rattle.std.proofs.Common.{refl, sym, ap, ◌∙◌, ◌++◌, []}
+use Rattle.std.proofs.lemmas.Result.{err_from_is_err_and}
+use Rattle.dom_reader.proofs.StreamLaws.{fed-none}
+use Rattle.dom_engine.proofs.LineRuns.{behind-none, shows-none, world-behind, lines_done, lines_between}
+use Rattle.dom_engine.proofs.PieceLaws.{fed-lines, fed-rest, fed-around, piece-behind}
+use Rattle.dom_engine.proofs.runner.Runner.take_bytes.Goals as goal
+
+pub loop-rest-init : goal.loop-rest-init
+loop-rest-init g c =
+    let s = c.args.self.now in
+    let none = fed-none s.splitter c.requires.kept in
+    let no_lines = ap (λ cut. cut.finished) none in
+    ([], refl, sym (ap (λ cut. cut.rest) none), behind-none s.view s.session.world _ no_lines, refl, shows-none _ s.view s.session.world _ no_lines)
+
+pub loop-rest-preserved : goal.loop-rest-preserved
+loop-rest-preserved g c =
+    let i = c.loop-rest.invariant in
+    let e = c.in_ok-take_piece.ensures in
+    let kept = c.args.self.now.splitter in
+    let piece = c.split_at.result.0.now in
+    let lines = fed-lines kept c.loop-rest.self.splitter i.0 piece (i.0 ++ piece) i.2 refl in (
+      i.0 ++ piece,
+      piece-behind _ i.0 c.loop-rest.rest.now piece c.split_at.result.1.now c.piece_len.result i.1 c.split_at.ensures.front c.split_at.ensures.back,
+      e.splitter ∙ sym (fed-rest kept c.loop-rest.self.splitter i.0 piece (i.0 ++ piece) i.2 refl),
+      record { same = e.view ∙ i.3.same; world = world-behind _ _ _ _ _ _ _ _ i.3 lines e.world },
+      e.written.0 ∙ i.4,
+      lines_done _ _ _ _ _ _ _ _ _ _ i.3 lines i.5 e.written.1,
+    )
+
+pub returns-in_err-take_piece-clause-written : goal.returns-in_err-take_piece-clause-written
+returns-in_err-take_piece-clause-written g c =
+    let i = c.loop-rest.invariant in
+    let kept = c.args.self.now.splitter in
+    let piece = c.split_at.result.0.now in
+    let later = c.split_at.result.1.now in
+    let p = err_from_is_err_and c.from_residual.result c.from_residual.ensures.1 in
+    let whole = piece-behind _ i.0 c.loop-rest.rest.now piece later c.piece_len.result i.1 c.split_at.ensures.front c.split_at.ensures.back in
+    rw (p.1, p.2)
+    (lines_between _ _ _ _ _ _ _ _ _ _ _ _ _ _ _ i.3 (fed-around kept c.loop-rest.self.splitter c.args.bytes.now i.0 piece later i.2 whole) i.4 i.5 c.in_err-take_piece.ensures.written)

@@ -1,0 +1,12 @@
+-- What the view keeps of the lines so far is written.
+use Rattle.std.proofs.Common.{◌≡◌, ◌++◌, List, ℕ, length}
+use Rattle.std.specs.Io.KnownBytes.{Appends}
+use Rattle.dom_engine.proofs.ViewLaws.{kept_by}
+use Rattle.dom_engine.proofs.view.write_lines_with.Given as goal
+
+abbrev pub invariant-loop-at : goal.invariant-loop-at
+invariant-loop-at g l = (front : List ℕ) × (kept_by l.prefix l.fn.text ≡ front ++ kept_by l.prefix l.rest) × Appends (g.W.Sink.contents l.fn.sink) (g.W.Sink.contents l.sink) front
+    × (g.W.Sink.failures l.sink ≡ g.W.Sink.failures l.fn.sink)
+
+abbrev pub decreases-loop-at : goal.decreases-loop-at
+decreases-loop-at g l = length l.rest

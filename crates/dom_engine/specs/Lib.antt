@@ -1,0 +1,10 @@
+pub mod Session
+pub mod Turned
+pub mod Refusals
+pub mod Handled
+pub mod TreeText
+pub mod Streams
+pub mod Run
+pub mod Piece
+pub mod Reading
+pub mod PageLaws

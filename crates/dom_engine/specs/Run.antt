@@ -1,0 +1,152 @@
+-- What a run writes: the output of the lines that it reads, and of a view the lines of one owner.
+use Rattle.std.specs.Prelude.{◌≡◌, ◌⊎◌, ℕ, ◌+◌, ◌^◌, ◌<◌, ◌≤◌, List, [], ◌++◌, length, take, map, Option, Some, None, Result, Ok, Err}
+use Rattle.std.specs.Io.KnownBytes.{Appends, Consumes, IsAtEnd}
+use Rattle.dom_base.specs.declared.Owner.{Owner}
+use Rattle.dom_model.specs.World.{World}
+use Rattle.dom_model.specs.DocumentMachine.{first_world, run_lines, finish, run_to_end}
+use Rattle.dom_text.specs.Lines.{cut_of, lines_of, owner_prefix, written}
+use Rattle.dom_text.specs.Text.{output_text}
+use Rattle.dom_engine.specs.Session.{read_line}
+use Rattle.dom_engine.specs.declared.fault.RunFault.{RunFault}
+use Rattle.dom_engine.specs.declared.fault.RunFault.TheVariants.{Read, Write, Memory, InputLimit}
+
+-- the world after the lines
+unfoldable pub world_after : World → List (List ℕ) → World
+world_after w lines = (run_lines w (map read_line lines)).0
+
+-- the text of what the lines answer
+unfoldable pub answers : World → List (List ℕ) → List ℕ
+answers w lines = output_text (run_lines w (map read_line lines)).1
+
+-- the text of what the lines answer, and of the ending behind them
+unfoldable pub answers_to_end : List (List ℕ) → List ℕ
+answers_to_end lines = output_text (run_to_end first_world (map read_line lines)).1
+
+-- the text of the ending
+unfoldable pub ending : World → List ℕ
+ending w = output_text (finish w).1
+
+-- what a view keeps of a text: without a view all of it, with one the lines that begin with the owner's word and a space
+abbrev pub viewed : Option Owner → List ℕ → List ℕ
+viewed None text = text
+viewed (Some owner) text = written (Some owner) (cut_of text).finished
+
+-- what a run writes for the bytes that it read, to their end
+abbrev pub run_text : Option Owner → List ℕ → List ℕ
+run_text view bytes = viewed view (answers_to_end (lines_of bytes))
+
+-- what a run has written when it has read these bytes, and more may come: nothing of the line that is not ended
+abbrev pub finished_text : Option Owner → List ℕ → List ℕ
+finished_text view bytes = viewed view (answers first_world (cut_of bytes).finished)
+
+-- what a view keeps of the answers to lines
+abbrev pub shown : Option Owner → World → List (List ℕ) → List ℕ
+shown view w lines = viewed view (answers w lines)
+
+-- some first bytes of the text were written
+pub record AppendsFront (old new : Option (List ℕ)) (text : List ℕ) : Type 0 where
+  pub front : List ℕ
+  pub back : List ℕ
+  pub split : text ≡ front ++ back
+  pub appends : Appends old new front
+
+-- what is written of some first lines was written
+pub record WritesSome (old new : Option (List ℕ)) (text : List (List ℕ) → List ℕ) (lines : List (List ℕ)) : Type 0 where
+  pub count : ℕ
+  pub within : count ≤ length lines
+  pub appends : Appends old new (text (take count lines))
+
+-- How a fault ends the writing of a text, with the sink's count of failed calls and what it holds, before and after: a write
+-- failed, and some first bytes are written; or memory was refused, and what is written is some of it.
+abbrev pub StopsWriting : RunFault → ℕ → ℕ → Option (List ℕ) → Option (List ℕ) → List ℕ → Type 0 → Type 0
+StopsWriting Write failed fails old new text some = (fails ≡ failed + 1) × AppendsFront old new text
+StopsWriting Memory failed fails old new text some = (fails ≡ failed) × some
+StopsWriting Read failed fails old new text some = ⊥
+StopsWriting InputLimit failed fails old new text some = ⊥
+
+-- how the writing of a text ends: all of it is written, or a fault stops it
+abbrev pub EndsWriting : {A : Type 0} → Result A RunFault → ℕ → ℕ → Option (List ℕ) → Option (List ℕ) → List ℕ → Type 0 → Type 0
+EndsWriting (Ok x) failed fails old new text some = (fails ≡ failed) × Appends old new text
+EndsWriting (Err e) failed fails old new text some = StopsWriting e failed fails old new text some
+
+-- How the running of lines ends, of which this text is written: all of it is, or a fault stops it, at Memory behind some of
+-- the lines.
+abbrev pub EndsLines : {A : Type 0} → Result A RunFault → ℕ → ℕ → Option (List ℕ) → Option (List ℕ) → (List (List ℕ) → List ℕ) → List (List ℕ) → Type 0
+EndsLines r failed fails old new text lines = EndsWriting r failed fails old new (text lines) (WritesSome old new text lines)
+
+-- the bytes with which a view's lines begin, and none without a view
+abbrev pub view_prefix : Option Owner → List ℕ
+view_prefix None = []
+view_prefix (Some owner) = owner_prefix owner
+
+-- the count of a sink's failed calls: one more where a write or the flush failed, and else the same
+abbrev pub CountsWrites : {A : Type 0} → Result A RunFault → ℕ → ℕ → Type 0
+CountsWrites (Ok x) old new = new ≡ old
+CountsWrites (Err Read) old new = new ≡ old
+CountsWrites (Err Write) old new = new ≡ old + 1
+CountsWrites (Err Memory) old new = new ≡ old
+CountsWrites (Err InputLimit) old new = new ≡ old
+
+-- the count of a source's failed calls: one more where a read failed, and else the same
+abbrev pub CountsReads : {A : Type 0} → Result A RunFault → ℕ → ℕ → Type 0
+CountsReads (Ok x) old new = new ≡ old
+CountsReads (Err Read) old new = new ≡ old + 1
+CountsReads (Err Write) old new = new ≡ old
+CountsReads (Err Memory) old new = new ≡ old
+CountsReads (Err InputLimit) old new = new ≡ old
+
+-- how many bytes one read is asked for at most
+abbrev pub read_size : ℕ
+read_size = 4096
+
+-- how many bytes a run reads at most
+abbrev pub input_limit : ℕ
+input_limit = 2 ^ 30
+
+-- A read failed: what is written is the text of the lines that the bytes read before it end.
+pub record StopsAtRead (view : Option Owner) (from to old new : Option (List ℕ)) : Type 0 where
+  pub given : List ℕ
+  pub consumed : Consumes from to given
+  pub written : Appends old new (finished_text view given)
+
+-- There are more bytes than a run reads: what is written is the text of the lines that those end which it does read.
+pub record StopsAtLimit (view : Option Owner) (from to old new : Option (List ℕ)) : Type 0 where
+  pub given : List ℕ
+  pub more : List ℕ
+  pub full : length given ≡ input_limit
+  pub over : 0 < length more
+  pub consumed : Consumes from to (given ++ more)
+  pub written : Appends old new (finished_text view given)
+
+-- Memory was refused: what is written is the text of some first lines of the bytes read, among them all that are ended
+-- before the bytes of the last read; a line that is not ended is among them only at the end of the input.
+pub record StopsAtMemory (view : Option Owner) (from to old new : Option (List ℕ)) : Type 0 where
+  pub early : List ℕ
+  pub late : List ℕ
+  pub near : length late ≤ read_size
+  pub consumed : Consumes from to (early ++ late)
+  pub count : ℕ
+  pub since : length (cut_of early).finished ≤ count
+  pub within : count ≤ length (lines_of (early ++ late))
+  pub ended : (count ≤ length (cut_of (early ++ late)).finished) ⊎ IsAtEnd to
+  pub written : Appends old new (viewed view (answers first_world (take count (lines_of (early ++ late)))))
+
+-- A write or the flush failed: what is written is the text of the lines that are ended before the bytes of the last read,
+-- and some first bytes of what comes behind it.
+pub record StopsAtWrite (view : Option Owner) (from to old new : Option (List ℕ)) : Type 0 where
+  pub early : List ℕ
+  pub late : List ℕ
+  pub near : length late ≤ read_size
+  pub consumed : Consumes from to (early ++ late)
+  pub front : List ℕ
+  pub back : List ℕ
+  pub split : (finished_text view (early ++ late) ≡ (finished_text view early ++ front) ++ back)
+      ⊎ ((run_text view (early ++ late) ≡ (finished_text view early ++ front) ++ back) × IsAtEnd to)
+  pub written : Appends old new (finished_text view early ++ front)
+
+-- how a fault stops a run, of what it has read and written
+abbrev pub StopsRun : RunFault → Option Owner → Option (List ℕ) → Option (List ℕ) → Option (List ℕ) → Option (List ℕ) → Type 0
+StopsRun Read view from to old new = StopsAtRead view from to old new
+StopsRun Write view from to old new = StopsAtWrite view from to old new
+StopsRun Memory view from to old new = StopsAtMemory view from to old new
+StopsRun InputLimit view from to old new = StopsAtLimit view from to old new

@@ -1,0 +1,27 @@
+//! The engine: a session takes lines of commands and gives the lines that answer them, and a run does so for all lines of a
+//! source.
+#![tactic(auto)]
+
+mod admission;
+mod answering;
+mod commands;
+mod fault;
+pub mod laws;
+mod piece;
+#[cfg(test)]
+mod run_tests;
+mod runner;
+mod session;
+mod state;
+mod streams;
+#[cfg(test)]
+mod tests;
+mod tree_text;
+mod turns;
+mod view;
+mod writing;
+
+pub use fault::RunFault;
+pub use runner::run;
+pub use session::Session;
+pub use streams::{FromReader, IntoWriter, Sink, Source};

@@ -1,0 +1,288 @@
+//! Runs: all lines of a source, from its first byte to its end, and their output into a sink.
+
+ghost use Rattle.std.specs.Prelude.{◌≡◌, ◌<◌, ◌≤◌, ℕ, List, ◌∷◌, [], ◌++◌, length, map, take, IfErr, IfOk, IfSome, OnOk};
+ghost use Rattle.std.specs.Io.{ReadsAtMost};
+ghost use Rattle.std.specs.Io.KnownBytes.{Appends, Consumes, IsAtEnd, ReadConsumes};
+ghost use Rattle.dom_model.specs.DocumentMachine.{first_world};
+ghost use Rattle.dom_text.specs.Lines.{last_line};
+ghost use Rattle.dom_reader.specs.Streams.{fed, IsKept};
+ghost use Rattle.dom_engine.specs.Run.{run_text, world_after, ending, viewed, shown, EndsWriting, EndsLines, WritesSome, CountsReads, CountsWrites, StopsRun, read_size, input_limit};
+ghost use Rattle.dom_engine.specs.Reading.{HasReadAll, LeavesMore, StopsOneRead};
+
+use crate::fault::RunFault;
+use crate::piece::line_end;
+use crate::session::Session;
+use crate::streams::{Sink, Source};
+use crate::view::View;
+use crate::writing::flush;
+use dom_base::Owner;
+use dom_reader::Splitter;
+use std::alloc::{AllocError, Global};
+
+/// How many bytes one read is asked for at most.
+const READ_SIZE: usize = 4096;
+
+/// How many bytes a run reads at most.
+const INPUT_LIMIT: usize = 1 << 30;
+
+/// A run under way: the unfinished line, the session, and whose lines are written.
+#[derive(Drop)]
+struct Runner {
+    splitter: Splitter,
+    session: Session,
+    view: View,
+}
+
+impl Runner {
+    /// A run before its first byte.
+    fn new(alloc: Global, view: Option<Owner>) -> Result<Runner, AllocError>
+        ensures { IfOk result (λ runner. (runner.splitter ≡ []) × (runner.session.world ≡ first_world) × (runner.view ≡ view)) }
+    {
+        Ok(Runner {
+            splitter: Splitter::new(alloc),
+            session: Session::new(alloc)?,
+            view: View::new(alloc, view)?,
+        })
+    }
+
+    /// Runs all that the source gives, and the ending.
+    fn run_all<R: Source, W: Sink>(&mut self, source: &mut R, sink: &mut W) -> Result<(), RunFault>
+        requires reads { R.failures source.old < u64.MAX }
+        requires writes { W.failures sink.old < u64.MAX }
+        requires splitter { self.old.splitter ≡ [] }
+        requires world { self.old.session.world ≡ first_world }
+        ensures ok { OnOk result (IfSome (R.remaining source.old) (λ bytes. Appends (W.contents sink.old) (W.contents sink.new) (run_text self.old.view bytes))) }
+        ensures end { OnOk result (IsAtEnd (R.remaining source.new)) }
+        ensures limit { OnOk result (IfSome (R.remaining source.old) (λ bytes. length bytes ≤ input_limit)) }
+        ensures reads { CountsReads result (R.failures source.old) (R.failures source.new) }
+        ensures writes { CountsWrites result (W.failures sink.old) (W.failures sink.new) }
+        ensures stops { IfErr result (λ e. StopsRun e self.old.view (R.remaining source.old) (R.remaining source.new)
+            (W.contents sink.old) (W.contents sink.new)) }
+    {
+        self.read_all(source, sink)?;
+        self.run_end(sink)
+    }
+
+    /// Runs one line, and writes its output.
+    fn run_line<W: Sink>(&mut self, sink: &mut W, line: &[u8]) -> Result<(), RunFault>
+        requires { W.failures sink.old < u64.MAX }
+        ensures written { EndsLines result (W.failures sink.old) (W.failures sink.new) (W.contents sink.old) (W.contents sink.new)
+            (shown self.old.view self.old.session.world) (line.now ∷ []) }
+        ensures world { OnOk result (self.new.session.world ≡ world_after self.old.session.world (line.now ∷ [])) }
+        ensures splitter { self.new.splitter ≡ self.old.splitter }
+        ensures view { self.new.view ≡ self.old.view }
+    {
+        let text = self.session.line(line)?;
+        self.view.write(sink, &text)
+    }
+
+    /// Runs lines one after another, each one's output being written before the next is run.
+    fn run_lines<W: Sink>(&mut self, sink: &mut W, lines: &[Vec<u8>]) -> Result<(), RunFault>
+        requires { W.failures sink.old < u64.MAX }
+        ensures written { EndsLines result (W.failures sink.old) (W.failures sink.new) (W.contents sink.old) (W.contents sink.new)
+            (shown self.old.view self.old.session.world) (map (λ line. line.items) lines.now) }
+        ensures world { OnOk result (self.new.session.world ≡ world_after self.old.session.world (map (λ line. line.items) lines.now)) }
+        ensures splitter { self.new.splitter ≡ self.old.splitter }
+        ensures view { self.new.view ≡ self.old.view }
+    {
+        for line in lines {
+            self.run_line(sink, line)?;
+        }
+        Ok(())
+    }
+
+    /// Takes a piece of the input, and runs the lines that it ends.
+    fn take_piece<W: Sink>(&mut self, sink: &mut W, piece: &[u8]) -> Result<(), RunFault>
+        requires { W.failures sink.old < u64.MAX }
+        ensures written { EndsLines result (W.failures sink.old) (W.failures sink.new) (W.contents sink.old) (W.contents sink.new)
+            (shown self.old.view self.old.session.world) (fed self.old.splitter piece.now).finished }
+        ensures world { OnOk result (self.new.session.world ≡ world_after self.old.session.world (fed self.old.splitter piece.now).finished) }
+        ensures splitter { OnOk result (self.new.splitter ≡ (fed self.old.splitter piece.now).rest) }
+        ensures view { self.new.view ≡ self.old.view }
+    {
+        let lines = self.splitter.feed(piece)?;
+        self.run_lines(sink, &lines)
+    }
+
+    /// Takes bytes of the input, and runs the lines that they end. Each piece of them has one line feed at most, so that
+    /// memory which is refused to a piece is refused to one line.
+    fn take_bytes<W: Sink>(&mut self, sink: &mut W, bytes: &[u8]) -> Result<(), RunFault>
+        requires writes { W.failures sink.old < u64.MAX }
+        requires kept { IsKept self.old.splitter }
+        ensures written { EndsLines result (W.failures sink.old) (W.failures sink.new) (W.contents sink.old) (W.contents sink.new)
+            (shown self.old.view self.old.session.world) (fed self.old.splitter bytes.now).finished }
+        ensures world { OnOk result (self.new.session.world ≡ world_after self.old.session.world (fed self.old.splitter bytes.now).finished) }
+        ensures splitter { OnOk result (self.new.splitter ≡ (fed self.old.splitter bytes.now).rest) }
+        ensures view { self.new.view ≡ self.old.view }
+    {
+        let mut rest = bytes;
+        while !rest.is_empty() {
+            let (piece, later) = rest.split_at(piece_len(rest));
+            self.take_piece(sink, piece)?;
+            rest = later;
+        }
+        Ok(())
+    }
+
+    /// Reads once, and runs the lines that the bytes end. The answer is how many bytes there were, 0 at the end.
+    fn take_read<R: Source, W: Sink>(
+        &mut self,
+        source: &mut R,
+        sink: &mut W,
+        buffer: &mut [u8],
+    ) -> Result<usize, RunFault>
+        requires reads { R.failures source.old < u64.MAX }
+        requires writes { W.failures sink.old < u64.MAX }
+        requires kept { IsKept self.old.splitter }
+        requires room { 0 < length buffer.old }
+        requires few { length buffer.old ≤ read_size }
+        ensures bound { ReadsAtMost result buffer.new }
+        ensures consumed { IfOk result (λ n. Consumes (R.remaining source.old) (R.remaining source.new) (take n buffer.new)) }
+        ensures end { IfOk result (λ n. n ≡ 0 → IsAtEnd (R.remaining source.new)) }
+        ensures splitter { IfOk result (λ n. self.new.splitter ≡ (fed self.old.splitter (take n buffer.new)).rest) }
+        ensures world { IfOk result (λ n. self.new.session.world ≡ world_after self.old.session.world (fed self.old.splitter (take n buffer.new)).finished) }
+        ensures view { self.new.view ≡ self.old.view }
+        ensures written { IfOk result (λ n. Appends (W.contents sink.old) (W.contents sink.new)
+            (shown self.old.view self.old.session.world (fed self.old.splitter (take n buffer.new)).finished)) }
+        ensures reads { CountsReads result (R.failures source.old) (R.failures source.new) }
+        ensures writes { CountsWrites result (W.failures sink.old) (W.failures sink.new) }
+        ensures stops { IfErr result (λ e. StopsOneRead e (shown self.old.view self.old.session.world) self.old.splitter
+            (R.remaining source.old) (R.remaining source.new) (W.failures sink.old) (W.failures sink.new) (W.contents sink.old) (W.contents sink.new)) }
+    {
+        let n = read_some(source, buffer)?;
+        self.take_bytes(sink, &buffer[..n])?;
+        Ok(n)
+    }
+
+    /// Reads to the end of the source, and runs the lines that are ended by then. Past the limit of a run's input one more
+    /// read decides.
+    fn read_all<R: Source, W: Sink>(&mut self, source: &mut R, sink: &mut W) -> Result<(), RunFault>
+        requires reads { R.failures source.old < u64.MAX }
+        requires writes { W.failures sink.old < u64.MAX }
+        requires splitter { self.old.splitter ≡ [] }
+        requires world { self.old.session.world ≡ first_world }
+        ensures read { OnOk result (HasReadAll self.old.view (R.remaining source.old) (R.remaining source.new)
+            (W.contents sink.old) (W.contents sink.new) self.new.splitter self.new.session.world) }
+        ensures view { self.new.view ≡ self.old.view }
+        ensures reads { CountsReads result (R.failures source.old) (R.failures source.new) }
+        ensures writes { CountsWrites result (W.failures sink.old) (W.failures sink.new) }
+        ensures stops { IfErr result (λ e. StopsRun e self.old.view (R.remaining source.old) (R.remaining source.new)
+            (W.contents sink.old) (W.contents sink.new)) }
+    {
+        let mut buffer = [0; READ_SIZE];
+        let mut left = INPUT_LIMIT;
+        while left > 0 {
+            let room = left.min(READ_SIZE);
+            let n = self.take_read(source, sink, &mut buffer[..room])?;
+            if n == 0 {
+                return Ok(());
+            }
+            left -= n;
+        }
+        expect_end(source, &mut buffer[..1])
+    }
+
+    /// Runs the line that is not ended, where there is one, as the last line.
+    fn run_last_line<W: Sink>(&mut self, sink: &mut W) -> Result<(), RunFault>
+        requires { W.failures sink.old < u64.MAX }
+        ensures written { EndsLines result (W.failures sink.old) (W.failures sink.new) (W.contents sink.old) (W.contents sink.new)
+            (shown self.old.view self.old.session.world) (last_line self.old.splitter) }
+        ensures world { OnOk result (self.new.session.world ≡ world_after self.old.session.world (last_line self.old.splitter)) }
+        ensures view { self.new.view ≡ self.old.view }
+    {
+        match self.splitter.finish() {
+            Some(line) => self.run_line(sink, &line),
+            None => Ok(()),
+        }
+    }
+
+    /// Runs what is left at the end of the input: the last line, where it is not ended, and the ending.
+    fn run_end<W: Sink>(&mut self, sink: &mut W) -> Result<(), RunFault>
+        requires { W.failures sink.old < u64.MAX }
+        ensures { EndsWriting result (W.failures sink.old) (W.failures sink.new) (W.contents sink.old) (W.contents sink.new)
+            (shown self.old.view self.old.session.world (last_line self.old.splitter)
+            ++ viewed self.old.view (ending (world_after self.old.session.world (last_line self.old.splitter))))
+            (WritesSome (W.contents sink.old) (W.contents sink.new) (shown self.old.view self.old.session.world) (last_line self.old.splitter)) }
+    {
+        self.run_last_line(sink)?;
+        self.run_ending(sink)
+    }
+
+    /// Ends the turn that is open, writes what that says, and flushes.
+    fn run_ending<W: Sink>(&mut self, sink: &mut W) -> Result<(), RunFault>
+        requires { W.failures sink.old < u64.MAX }
+        ensures { EndsWriting result (W.failures sink.old) (W.failures sink.new) (W.contents sink.old) (W.contents sink.new)
+            (viewed self.old.view (ending self.old.session.world)) (Appends (W.contents sink.old) (W.contents sink.new) []) }
+    {
+        let text = self.session.finish()?;
+        self.view.write(sink, &text)?;
+        flush(sink)
+    }
+}
+
+/// How many bytes stand up to and with the first line feed, or in all where there is none.
+fn piece_len(bytes: &[u8]) -> usize
+    requires { 0 < length bytes.now }
+    ensures some { 0 < result }
+    ensures within { result ≤ length bytes.now }
+{
+    match line_end(bytes) {
+        Some(at) => at + 1,
+        None => bytes.len(),
+    }
+}
+
+/// One read.
+fn read_some<R: Source>(source: &mut R, buffer: &mut [u8]) -> Result<usize, RunFault>
+    requires { R.failures source.old < u64.MAX }
+    ensures bound { ReadsAtMost result buffer.new }
+    ensures bytes { ReadConsumes (R.remaining source.old) (R.remaining source.new) result buffer.new }
+    ensures fault { IfErr result (λ e. e ≡ RunFault.Read) }
+    ensures count { CountsReads result (R.failures source.old) (R.failures source.new) }
+{
+    source.read(buffer).map_err(|_| RunFault::Read)
+}
+
+/// Reads once more, where a run has read as much as it reads.
+fn expect_end<R: Source>(source: &mut R, buffer: &mut [u8]) -> Result<(), RunFault>
+    requires reads { R.failures source.old < u64.MAX }
+    requires room { 0 < length buffer.old }
+    ensures end { OnOk result (IsAtEnd (R.remaining source.new)) }
+    ensures more { (more : List ℕ) × Consumes (R.remaining source.old) (R.remaining source.new) more × LeavesMore result more }
+    ensures count { CountsReads result (R.failures source.old) (R.failures source.new) }
+{
+    match read_some(source, buffer)? {
+        0 => Ok(()),
+        _ => Err(RunFault::InputLimit),
+    }
+}
+
+/// Runs all that the source gives, to its end: each line is run as soon as its line feed is read, and its output is written
+/// before the next line is run or more is read; at the end a last line that is not ended, where it is not empty, and the
+/// ending of the turn that is open. Then the sink is flushed. With a view only the lines of that owner are written.
+///
+/// The first fault stops the run. On `Read`, `Memory` and `InputLimit` what is written is the text of lines that are
+/// finished: an unfinished line is not run, and no turn is ended. On `Write` it is some first bytes of such a text, or of the
+/// whole run's. A read or write that was interrupted has failed like any other.
+pub fn run<R: Source, W: Sink>(
+    alloc: Global,
+    source: &mut R,
+    sink: &mut W,
+    view: Option<Owner>,
+) -> Result<(), RunFault>
+    requires reads { R.failures source.old < u64.MAX }
+    requires writes { W.failures sink.old < u64.MAX }
+    // All that the source gave was read, and the whole run's text was written.
+    ensures ok { OnOk result (IfSome (R.remaining source.old) (λ bytes. Appends (W.contents sink.old) (W.contents sink.new) (run_text view bytes))) }
+    ensures end { OnOk result (IsAtEnd (R.remaining source.new)) }
+    ensures limit { OnOk result (IfSome (R.remaining source.old) (λ bytes. length bytes ≤ input_limit)) }
+    // A fault is `Read` only where a read failed, and `Write` only where a write or the flush failed.
+    ensures reads { CountsReads result (R.failures source.old) (R.failures source.new) }
+    ensures writes { CountsWrites result (W.failures sink.old) (W.failures sink.new) }
+    // What was read and written when a fault stopped the run.
+    ensures stops { IfErr result (λ e. StopsRun e view (R.remaining source.old) (R.remaining source.new)
+        (W.contents sink.old) (W.contents sink.new)) }
+{
+    let mut runner = Runner::new(alloc, view)?;
+    runner.run_all(source, sink)
+}

@@ -1,0 +1,84 @@
+//! Sessions: lines in, answers out.
+ghost use Rattle.std.specs.Prelude.{◌≡◌, true, false, IfOk, OnOk, OnErr};
+ghost use Rattle.dom_model.specs.DocumentMachine.{first_world, step, finish};
+ghost use Rattle.dom_text.specs.Text.{output_text};
+ghost use Rattle.dom_engine.specs.Session.{read_line};
+
+use crate::state::State;
+use dom_reader::parse_line;
+use std::alloc::{AllocError, Global};
+use std::marker::Model;
+
+/// A run of the line protocol: the world as the lines so far have made it.
+///
+/// After want of memory in one call every call answers `AllocError`.
+#[derive(Drop)]
+pub struct Session {
+    state: State,
+    has_failed: bool,
+    alloc: Global,
+}
+
+impl Model for Session {
+    ghost use Rattle.std.specs.Coded.{codes};
+    ghost use Rattle.dom_model.specs.Codes.{trees_code};
+    ghost use Rattle.dom_engine.specs.Session.{SessionState};
+
+    ghost Value = { SessionState };
+
+    ghost coded = { Prim.hlevel (codes, trees_code) };
+
+    ghost view = { λ s. record { world = s.state.world; has_failed = s.has_failed } };
+}
+
+impl Session {
+    /// A session before its first line: the page has its first document, `n0`.
+    pub fn new(alloc: Global) -> Result<Session, AllocError>
+        ensures { IfOk result (λ session. session ≡ record { world = first_world; has_failed = false }) }
+    {
+        let state = State::new(alloc)?;
+        Ok(Session {
+            state,
+            has_failed: false,
+            alloc,
+        })
+    }
+
+    /// Takes a line, without its 0x0A, and gives the lines that answer it, each with its 0x0A.
+    pub fn line(&mut self, line: &[u8]) -> Result<Vec<u8>, AllocError>
+        ensures was { OnOk result (self.old.has_failed ≡ false) }
+        ensures text { IfOk result (λ text. text.items ≡ output_text (step self.old.world (read_line line.now)).1) }
+        ensures world { OnOk result (self.new ≡ record { world = (step self.old.world (read_line line.now)).0; has_failed = false }) }
+        ensures err { OnErr result (self.new.has_failed ≡ true) }
+    {
+        if self.has_failed {
+            return Err(AllocError);
+        }
+        let answer = self.answer(line);
+        self.has_failed = answer.is_err();
+        answer
+    }
+
+    /// Ends the input: an open turn is ended, and the lines of its microtasks are given. More lines may follow.
+    pub fn finish(&mut self) -> Result<Vec<u8>, AllocError>
+        ensures was { OnOk result (self.old.has_failed ≡ false) }
+        ensures text { IfOk result (λ text. text.items ≡ output_text (finish self.old.world).1) }
+        ensures world { OnOk result (self.new ≡ record { world = (finish self.old.world).0; has_failed = false }) }
+        ensures err { OnErr result (self.new.has_failed ≡ true) }
+    {
+        if self.has_failed {
+            return Err(AllocError);
+        }
+        self.state.close_any_turn();
+        Ok(Vec::new(self.alloc))
+    }
+
+    /// What a line does, and the lines that answer it.
+    fn answer(&mut self, line: &[u8]) -> Result<Vec<u8>, AllocError>
+        ensures text { IfOk result (λ text. text.items ≡ output_text (step self.old.world (read_line line.now)).1) }
+        ensures world { OnOk result (self.new.world ≡ (step self.old.world (read_line line.now)).0) }
+    {
+        let read = parse_line(self.alloc, line)?;
+        self.state.answer(read)
+    }
+}

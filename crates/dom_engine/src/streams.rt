@@ -1,0 +1,125 @@
+//! What a run reads from and writes to, and std's readers and writers as such.
+
+ghost use Rattle.std.specs.Prelude.{◌≡◌, ◌<◌, ℕ, List, Option};
+ghost use Rattle.std.specs.Io.{ReadsAtMost, WritesAtMost};
+ghost use Rattle.std.specs.Io.KnownBytes.{Keeps, ReadConsumes, WriteAppends};
+ghost use Rattle.dom_engine.specs.Streams.{CountsFailure, CountsWrite};
+
+use std::io;
+use std::io::{Read, Write};
+
+/// What gives a run its bytes. It counts the calls that failed.
+pub trait Source {
+    // The bytes that reads will give from here on, where they are known.
+    ghost remaining: { Self → Option (List ℕ) };
+
+    // How many reads have failed.
+    ghost failures: { Self → ℕ };
+
+    /// Puts the next bytes at the front of the buffer, and gives their number: at least 1, unless the bytes are at
+    /// their end or the buffer is empty. A read that fails takes no byte, and is counted.
+    fn read(&mut self, buffer: &mut [u8]) -> io::Result<usize>
+        requires { failures self.old < u64.MAX }
+        ensures bound { ReadsAtMost result buffer.new }
+        ensures bytes { ReadConsumes (remaining self.old) (remaining self.new) result buffer.new }
+        ensures count { CountsFailure result (failures self.old) (failures self.new) };
+}
+
+/// What takes the bytes that a run writes. It counts the calls that failed, and the writes that took nothing.
+pub trait Sink {
+    // The bytes that were taken so far, where they are known.
+    ghost contents: { Self → Option (List ℕ) };
+
+    // How many writes and flushes have failed, a write that took nothing being one.
+    ghost failures: { Self → ℕ };
+
+    /// Takes some first bytes, and gives their number. A write that fails takes none. It is counted, as is one that takes
+    /// none and does not fail.
+    fn write(&mut self, bytes: &[u8]) -> io::Result<usize>
+        requires { failures self.old < u64.MAX }
+        ensures bound { WritesAtMost result bytes.now }
+        ensures bytes { WriteAppends (contents self.old) (contents self.new) result bytes.now }
+        ensures count { CountsWrite result (failures self.old) (failures self.new) };
+
+    /// Passes on what it holds back of the bytes that it took.
+    fn flush(&mut self) -> io::Result<()>
+        requires { failures self.old < u64.MAX }
+        ensures bytes { Keeps (contents self.old) (contents self.new) }
+        ensures count { CountsFailure result (failures self.old) (failures self.new) };
+}
+
+/// One of std's readers as a source.
+#[derive(Drop)]
+pub struct FromReader<R: Read> {
+    reader: R,
+    failed_reads: u64,
+}
+
+impl<R: Read> FromReader<R> {
+    /// The reader, of which no call has failed yet.
+    pub fn new(reader: R) -> FromReader<R>
+        ensures remaining { ⟦<FromReader<R> as Source>⟧.remaining result ≡ R.remaining reader }
+        ensures failures { ⟦<FromReader<R> as Source>⟧.failures result ≡ 0 }
+    {
+        FromReader {
+            reader,
+            failed_reads: 0,
+        }
+    }
+}
+
+impl<R: Read> Source for FromReader<R> {
+    ghost remaining = { λ s. R.remaining s.reader };
+
+    ghost failures = { λ s. s.failed_reads };
+
+    fn read(&mut self, buffer: &mut [u8]) -> io::Result<usize> {
+        let outcome = self.reader.read(buffer);
+        if outcome.is_err() {
+            self.failed_reads += 1;
+        }
+        outcome
+    }
+}
+
+/// One of std's writers as a sink.
+#[derive(Drop)]
+pub struct IntoWriter<W: Write> {
+    writer: W,
+    failed_calls: u64,
+}
+
+impl<W: Write> IntoWriter<W> {
+    /// The writer, of which no call has failed yet.
+    pub fn new(writer: W) -> IntoWriter<W>
+        ensures contents { ⟦<IntoWriter<W> as Sink>⟧.contents result ≡ W.contents writer }
+        ensures failures { ⟦<IntoWriter<W> as Sink>⟧.failures result ≡ 0 }
+    {
+        IntoWriter {
+            writer,
+            failed_calls: 0,
+        }
+    }
+}
+
+impl<W: Write> Sink for IntoWriter<W> {
+    ghost contents = { λ s. W.contents s.writer };
+
+    ghost failures = { λ s. s.failed_calls };
+
+    fn write(&mut self, bytes: &[u8]) -> io::Result<usize> {
+        let outcome = self.writer.write(bytes);
+        if outcome.as_ref().map_or(true, |n| *n == 0) {
+            self.failed_calls += 1;
+        }
+        outcome
+    }
+
+    fn flush(&mut self) -> io::Result<()> {
+        let outcome = self.writer.flush();
+        if outcome.is_err() {
+            self.failed_calls += 1;
+        }
+        outcome
+    }
+}

@@ -1,0 +1,30 @@
+//! Writing whole texts.
+
+ghost use Rattle.std.specs.Prelude.{◌<◌, []};
+ghost use Rattle.dom_engine.specs.Run.{EndsWriting};
+
+use crate::fault::RunFault;
+use crate::streams::Sink;
+
+/// Writes all of the bytes.
+pub fn write_all_to<W: Sink>(sink: &mut W, bytes: &[u8]) -> Result<(), RunFault>
+    requires { W.failures sink.old < u64.MAX }
+    ensures { EndsWriting result (W.failures sink.old) (W.failures sink.new) (W.contents sink.old) (W.contents sink.new) bytes.now ⊥ }
+{
+    let mut rest = bytes;
+    while !rest.is_empty() {
+        match sink.write(rest) {
+            Ok(n) if n > 0 => rest = &rest[n..],
+            _ => return Err(RunFault::Write),
+        }
+    }
+    Ok(())
+}
+
+/// Flushes the sink.
+pub fn flush<W: Sink>(sink: &mut W) -> Result<(), RunFault>
+    requires { W.failures sink.old < u64.MAX }
+    ensures { EndsWriting result (W.failures sink.old) (W.failures sink.new) (W.contents sink.old) (W.contents sink.new) [] ⊥ }
+{
+    sink.flush().map_err(|_| RunFault::Write)
+}

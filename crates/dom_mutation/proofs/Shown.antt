@@ -1,0 +1,88 @@
+-- What the forest says of a node is what its owner's part in the world says of it.
+use Rattle.std.proofs.Common.{◌≡◌, ℕ, ◌<◌, true, List, length, Result, Ok, Err, Option, Some, None, option_map, refl, sym, ap, subst, ◌∙◌}
+use Rattle.std.specs.Prelude.{OnOk, OnErr}
+use Rattle.std.specs.Option.{ForSome}
+use Rattle.dom_base.specs.declared.NodeName.{NodeName}
+use Rattle.dom_base.specs.declared.Owner.{Owner}
+use Rattle.dom_base.specs.declared.Owner.TheVariants.{Page, Component}
+use Rattle.dom_model.specs.Tree.{Trees}
+use Rattle.dom_model.specs.World.{World, part_of, is_there}
+use Rattle.dom_model.specs.Output.{Change}
+use Rattle.dom_model.specs.Steps.{Step, queue_record}
+use Rattle.dom_model.specs.WorldSteps.{world_step}
+use Rattle.dom_tree.specs.Forest.{NamedTrees, name_at}
+use Rattle.dom_tree.specs.Owners.{trees_of_owner, IsReadOwn, IsOwnChange}
+use Rattle.dom_tree.proofs.Owned.{read_own}
+use Rattle.dom_mutation.specs.Doc.{DocState, state_from, world_from, IsHeld, name_in, owner_in, trees_in, stepped}
+use Rattle.dom_mutation.proofs.Held.{held_changed}
+use Rattle.dom_mutation.proofs.Quiet.{record_world}
+
+abbrev state_with : List NodeName → World → DocState
+state_with ns w = record { names = ns; world = w }
+
+-- the trees of a part
+pub own_in_part : (names : List NodeName) (ts : Trees) → IsHeld names ts → (o : Owner) → trees_of_owner o ts ≡ (part_of (world_from names ts) o).trees
+own_in_part names ts held Page = refl
+own_in_part names ts held (Component k) = held.absent (Component k) refl
+
+-- the owner of a name that is given by its key
+pub of_owner : (names : List NodeName) (o : Owner) (given : Option ℕ) → ForSome given (λ k. (name_at names k).owner ≡ o) → ForSome (option_map (name_at names) given) (λ x. x.owner ≡ o)
+of_owner names o None h x e = cc
+of_owner names o (Some k) h x e = let same : name_at names k ≡ x = cc in subst (λ (y : NodeName). y.owner ≡ o) same (h k refl)
+
+module _ (f : NamedTrees) (held : IsHeld f.names f.trees) {d : DocState} (is_d : state_from f.names f.trees ≡ d) where
+  -- a read of one node
+  pub shown : {R : Type 0} (read : Trees → NodeName → R) (value : List NodeName → R) (k : ℕ)
+      → value f.names ≡ read f.trees (name_at f.names k)
+      → (IsReadOwn (name_at f.names k).owner f.trees (name_at f.names k) → read f.trees (name_at f.names k) ≡ read (trees_of_owner (name_at f.names k).owner f.trees) (name_at f.names k))
+      → value d.names ≡ read (trees_in d k) (name_in d k)
+  shown read value k e own =
+      let x = name_at f.names k in
+      subst (λ (e : DocState). value e.names ≡ read (trees_in e k) (name_in e k)) is_d
+      (e ∙ own (read_own f.trees held.owned x.owner x refl) ∙ ap (λ ts. read ts x) (own_in_part f.names f.trees held x.owner))
+
+  -- the other way round: a read of the forest is that of the part
+  pub read_there : {R : Type 0} (read : Trees → NodeName → R) (k : ℕ)
+      → (IsReadOwn (name_at f.names k).owner f.trees (name_at f.names k) → read f.trees (name_at f.names k) ≡ read (trees_of_owner (name_at f.names k).owner f.trees) (name_at f.names k))
+      → read f.trees (name_at f.names k) ≡ read (trees_in (state_from f.names f.trees) k) (name_at f.names k)
+  read_there read k own =
+      let x = name_at f.names k in
+      own (read_own f.trees held.owned x.owner x refl) ∙ ap (λ ts. read ts x) (own_in_part f.names f.trees held x.owner)
+
+  -- what is known of a state is known of it as the forest gives it
+  pub known : (P : DocState → Type 0) → P d → P (state_from f.names f.trees)
+  known P h = subst P (sym is_d) h
+
+  -- a node's owner is there
+  pub owner_there : (k : ℕ) → k < length d.names → is_there (world_from f.names f.trees) (name_at f.names k).owner ≡ true
+  owner_there k k< = held.present k (known (λ e. k < length e.names) k<)
+
+  -- a change of a node's owner's trees: what holds after it, and that it is a step
+  module _ (k : ℕ) (h : Trees → Trees) (g : NamedTrees) (names : g.names ≡ f.names) (trees : g.trees ≡ h f.trees) where
+    pub step_held : k < length d.names → IsOwnChange (name_at f.names k).owner h f.trees → IsHeld g.names g.trees
+    step_held k< change =
+        subst (λ (ns : List NodeName). IsHeld ns g.trees) (sym names)
+        (subst (λ (us : Trees). IsHeld f.names us) (sym trees) (held_changed f.names f.trees held (name_at f.names k).owner (owner_there k k<) h change))
+
+    pub step_done : (s : List NodeName → Step) → world_from f.names (h f.trees) ≡ world_step (name_at f.names k).owner (world_from f.names f.trees) (s f.names)
+        → state_from g.names g.trees ≡ stepped (owner_in d k) (s d.names) d
+    step_done s e =
+        subst (λ (e : DocState). state_from g.names g.trees ≡ stepped (owner_in e k) (s e.names) e) is_d
+        (ap (λ ns. state_from ns g.trees) names ∙ ap (state_from f.names) trees ∙ ap (λ w. state_with f.names w) e)
+
+  -- the same of a call that may fail and then changes nothing
+  module _ (k : ℕ) (h : Trees → Trees) (g : NamedTrees) (names : g.names ≡ f.names) {T E : Type 0} where
+    pub step_held_if : (r : Result T E) → OnOk r (g.trees ≡ h f.trees) → OnErr r (g ≡ f) → k < length d.names → IsOwnChange (name_at f.names k).owner h f.trees → IsHeld g.names g.trees
+    step_held_if (Ok x) trees same k< change = step_held k h g names trees k< change
+    step_held_if (Err x) trees same k< change = subst (λ (p : NamedTrees). IsHeld p.names p.trees) (sym same) held
+
+    pub step_done_if : (s : List NodeName → Step) → world_from f.names (h f.trees) ≡ world_step (name_at f.names k).owner (world_from f.names f.trees) (s f.names)
+        → (r : Result T E) → OnOk r (g.trees ≡ h f.trees) → OnOk r (state_from g.names g.trees ≡ stepped (owner_in d k) (s d.names) d)
+    step_done_if s e (Ok x) trees = step_done k h g names trees s e
+    step_done_if s e (Err x) trees = tt
+
+  -- a record that no observer takes
+  pub untold : (k : ℕ) → k < length d.names → (c : Change NodeName) → d ≡ stepped (owner_in d k) (queue_record c) d
+  untold k k< c =
+      subst (λ (e : DocState). e ≡ stepped (owner_in e k) (queue_record c) e) is_d
+      (ap (λ w. state_with f.names w) (record_world f.names f.trees (name_at f.names k).owner (owner_there k k<) c))

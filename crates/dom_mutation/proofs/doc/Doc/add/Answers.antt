@@ -1,0 +1,17 @@
+use Rattle.std.proofs.Common.{refl}
+use Rattle.dom_tree.specs.Forest.{node_from}
+use Rattle.dom_mutation.proofs.Held.{added_held, limit_held}
+use Rattle.dom_mutation.proofs.doc.Doc.add.Goals as goal
+
+pub invariant_of-self : goal.invariant_of-self
+invariant_of-self c =
+    (added_held c.self.inside.forest c.add.new.self c.args.self.now c.self.view_is c.self.invariant c.args.owner c.requires.owner_is_there (λ ns x. node_from ns x c.args.node) (λ ns x. refl) c.add.result
+    c.add.ensures.names c.add.ensures.trees c.add.ensures.limit c.add.ensures.err).0
+
+pub returns-clause-world : goal.returns-clause-world
+returns-clause-world c =
+    (added_held c.self.inside.forest c.add.new.self c.args.self.now c.self.view_is c.self.invariant c.args.owner c.requires.owner_is_there (λ ns x. node_from ns x c.args.node) (λ ns x. refl) c.add.result
+    c.add.ensures.names c.add.ensures.trees c.add.ensures.limit c.add.ensures.err).1.1
+
+pub returns-clause-limit : goal.returns-clause-limit
+returns-clause-limit c = limit_held c.self.inside.forest c.args.self.now c.self.view_is c.self.invariant c.args.owner c.requires.owner_is_there c.add.ensures.limit

@@ -1,0 +1,12 @@
+use Rattle.std.proofs.Common.{ap, ◌∙◌}
+use Rattle.dom_model.specs.Changes.{removing, changing_document, observed}
+use Rattle.dom_mutation.specs.Doc.{name_in, owner_in, planned}
+use Rattle.dom_mutation.proofs.Made.{planned_then}
+use Rattle.dom_mutation.proofs.doc.Doc.adopting.Goals as goal
+
+pub returns : goal.returns
+returns c =
+    let d = c.args.self.now in
+    c.change_document.ensures
+    ∙ ap (λ e. planned (owner_in e c.args.node) (changing_document (name_in e c.args.document) (name_in e c.args.node)) e) c.removing.ensures
+    ∙ planned_then (owner_in d c.args.node) (c.laws.ensures.alone c.args.node c.requires.node_is_node) (removing observed (name_in d c.args.node)) (changing_document (name_in d c.args.document) (name_in d c.args.node)) d

@@ -1,0 +1,12 @@
+use Rattle.std.proofs.Common.{option_map}
+use Rattle.dom_model.specs.Tree.{children_of}
+use Rattle.dom_mutation.specs.Doc.{name_in, trees_in}
+use Rattle.dom_mutation.proofs.Covering.{left}
+use Rattle.dom_mutation.proofs.Listing.{Lists}
+use Rattle.dom_mutation.proofs.doc.Doc.children.Given as goal
+
+abbrev pub invariant-loop-at : goal.invariant-loop-at
+invariant-loop-at l = Lists l.self l.fn.node l.keys.items l.at
+
+abbrev pub decreases-loop-at : goal.decreases-loop-at
+decreases-loop-at l = left (children_of (trees_in l.self l.fn.node) (name_in l.self l.fn.node)) (option_map (name_in l.self) l.at)

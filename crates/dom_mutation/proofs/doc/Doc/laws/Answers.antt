@@ -1,0 +1,28 @@
+use Rattle.std.proofs.Common.{◌≤◌, arith, subst, sym}
+use Rattle.std.specs.Prelude.{count_by}
+use Rattle.dom_model.specs.Names.{name_eq}
+use Rattle.dom_model.specs.Tree.{Node, Trees, nodes}
+use Rattle.dom_model.specs.World.{part_of}
+use Rattle.dom_tree.specs.Owners.{trees_of_owner}
+use Rattle.dom_mutation.proofs.Once.{once_forest, once_own, times_count}
+use Rattle.dom_tree.specs.Forest.{name_at}
+use Rattle.dom_mutation.specs.Doc.{owner_in, StepsAlone}
+use Rattle.dom_mutation.proofs.Held.{there_page}
+use Rattle.dom_mutation.proofs.Made.{page_alone}
+use Rattle.dom_mutation.proofs.Shown.{own_in_part, owner_there}
+use Rattle.dom_mutation.proofs.doc.Doc.laws.Goals as goal
+
+pub returns-clause-once : goal.returns-clause-once
+returns-clause-once c o x =
+    let f = c.self.inside.forest in
+    let once = once_own o f.trees (once_forest f.names f.trees c.nodes_stand_once.ensures.once c.nodes_stand_once.ensures.only) x in
+    let times = times_count (trees_of_owner o f.trees) x in
+    let own : count_by (λ (n : Node). name_eq n.name x) (nodes (trees_of_owner o f.trees)) ≤ 1 = omega arith in
+    subst (λ e. count_by (λ (n : Node). name_eq n.name x) (nodes (part_of e.world o).trees) ≤ 1) c.self.view_is
+    (subst (λ (ts : Trees). count_by (λ (n : Node). name_eq n.name x) (nodes ts) ≤ 1) (own_in_part f.names f.trees c.self.invariant o) own)
+
+pub returns-clause-alone : goal.returns-clause-alone
+returns-clause-alone c k k< =
+    let f = c.self.inside.forest in
+    let page = there_page f.names f.trees (name_at f.names k).owner (owner_there f c.self.invariant c.self.view_is k k<) in
+    subst (λ e. StepsAlone (owner_in e k)) c.self.view_is (subst StepsAlone (sym page) page_alone)

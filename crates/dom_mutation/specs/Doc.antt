@@ -1,0 +1,110 @@
+-- What a contract sees of a `Doc`: the names of its nodes by their keys, and what it holds of the world.
+use Rattle.std.specs.Prelude.{◌≡◌, ℕ, ◌<◌, ◌≤◌, true, false, List, [], ◌∷◌, length, Option, Some, None}
+use Rattle.std.specs.List.{AllByRecursion}
+use Rattle.std.specs.Option.{ForSome}
+use Rattle.dom_base.specs.declared.Owner.{Owner}
+use Rattle.dom_base.specs.declared.Owner.TheVariants.{Page}
+use Rattle.dom_base.specs.declared.NodeName.{NodeName}
+use Rattle.dom_base.specs.declared.Kind.{Kind}
+use Rattle.dom_base.specs.declared.Kind.TheVariants.{Document, Shadow}
+use Rattle.dom_base.specs.declared.Refusal.{Refusal}
+use Rattle.dom_base.specs.declared.Refusal.TheVariants.{Hierarchy, NotSupported}
+use Rattle.dom_model.specs.Names.{name_eq}
+use Rattle.dom_model.specs.Tree.{Trees, none, parent_of, inclusive_ancestors, is_inclusive_ancestor}
+use Rattle.dom_model.specs.Part.{Part, empty_part}
+use Rattle.dom_model.specs.Steps.{Step, after}
+use Rattle.dom_model.specs.World.{World, part_of, is_there}
+use Rattle.dom_model.specs.WorldSteps.{world_step, world_after}
+use Rattle.dom_model.specs.Changes.{Plan, Observing, observed, suppressed, in_turn, steps_of, telling, making_room, placing}
+use Rattle.dom_model.specs.Output.{child_list}
+use Rattle.dom_mutation.specs.declared.doc.removing.Telling.{Telling}
+use Rattle.dom_mutation.specs.declared.doc.removing.Telling.TheVariants.{Observed, Suppressed}
+use Rattle.dom_tree.specs.Forest.{name_at, count_of}
+use Rattle.dom_tree.specs.Owners.{trees_of_owner, AreOwned}
+
+-- the world here has no listeners and no open turn: a `Doc` does not hold these
+pub record DocState : Type 0 where
+  pub names : List NodeName
+  pub world : World
+
+-- the part of an owner, from the names of all nodes and all trees
+abbrev pub part_from : List NodeName → Trees → Owner → Part
+part_from names ts o = record (empty_part o) { trees = trees_of_owner o ts; node_count = count_of o names }
+
+-- the world of the page alone
+abbrev pub world_from : List NodeName → Trees → World
+world_from names ts = record { parts = part_from names ts Page ∷ []; signalled = []; tasks = []; turn = None }
+
+abbrev pub state_from : List NodeName → Trees → DocState
+state_from names ts = record { names = names; world = world_from names ts }
+
+-- what holds of a `Doc`: each tree has one owner, each node's owner is there and no other one has trees, and no owner has
+-- more nodes than it may make
+pub record IsHeld (names : List NodeName) (ts : Trees) : Type 0 where
+  pub owned : AreOwned ts
+  pub present : (k : ℕ) → k < length names → is_there (world_from names ts) (name_at names k).owner ≡ true
+  pub absent : (o : Owner) → is_there (world_from names ts) o ≡ false → trees_of_owner o ts ≡ none
+  pub limited : (o : Owner) → count_of o names ≤ 1000000
+
+-- the world after an owner's plan
+abbrev pub made : Owner → Plan → World → World
+made o plan w = world_after o w (plan (part_of w o))
+
+-- the name of a key, its owner, and that one's trees
+abbrev pub name_in : DocState → ℕ → NodeName
+name_in d k = name_at d.names k
+
+abbrev pub owner_in : DocState → ℕ → Owner
+owner_in d k = (name_in d k).owner
+
+abbrev pub trees_in : DocState → ℕ → Trees
+trees_in d k = (part_of d.world (owner_in d k)).trees
+
+-- the state after a step, and after a plan, that make no node
+abbrev pub stepped : Owner → Step → DocState → DocState
+stepped o s d = record d { world = world_step o d.world s }
+
+abbrev pub planned : Owner → Plan → DocState → DocState
+planned o plan d = record d { world = made o plan d.world }
+
+-- whether observers are told, as plans say it
+abbrev pub observing_of : Telling → Observing
+observing_of Observed = observed
+observing_of Suppressed = suppressed
+
+-- an owner's steps do in its part what they do in a part alone: so it is of the page
+abbrev pub StepsAlone : Owner → Type 0
+StepsAlone o = (w : World) (steps : List Step) → part_of (world_after o w steps) o ≡ after (part_of w o) steps
+
+-- whether a node may be moved into a parent, before a child of it or last
+pub record MayMove (d : DocState) (parent : ℕ) (before : Option ℕ) (k : ℕ) : Type 0 where
+  pub node : k < length d.names
+  pub owner : owner_in d k ≡ owner_in d parent
+  pub not_above : is_inclusive_ancestor (trees_in d parent) (name_in d k) (name_in d parent) ≡ false
+  pub apart : ForSome before (λ b. name_eq (name_in d k) (name_in d b) ≡ false)
+
+-- what may be given for the node before which others are put: a child of the parent, or none
+pub record IsChild (d : DocState) (parent b : ℕ) : Type 0 where
+  pub node : b < length d.names
+  pub owner : owner_in d b ≡ owner_in d parent
+  pub child : parent_of (trees_in d parent) (name_in d b) ≡ Some (name_in d parent)
+
+-- the nodes that x is not above keep their inclusive ancestors
+abbrev pub KeepsPaths : ℕ → NodeName → DocState → DocState → Type 0
+KeepsPaths parent x d e = (y : NodeName) → is_inclusive_ancestor (trees_in d parent) x y ≡ false → inclusive_ancestors (trees_in e parent) y ≡ inclusive_ancestors (trees_in d parent) y
+
+-- the plan of an insertion, when the nodes that it places have no parent or are known: room, the placings and a record
+abbrev pub placed_all : Observing → List NodeName → NodeName → Option NodeName → Option NodeName → Owner → DocState → DocState
+placed_all how moved parent before prev o d =
+    planned o (steps_of (telling how (child_list parent moved [] prev before)))
+    (planned o (in_turn (placing parent before) moved) (planned o (making_room parent before (length moved)) d))
+
+-- nodes that are not above y
+abbrev pub NoneAbove : DocState → ℕ → NodeName → List ℕ → Type 0
+NoneAbove d top y ks = AllByRecursion (λ k. is_inclusive_ancestor (trees_in d top) (name_in d k) y ≡ false) ks
+
+-- the refusal of an adoption, by the node's kind (DOM Standard, adoptNode())
+abbrev pub adoption_refusal : Kind → Option Refusal
+adoption_refusal Document = Some NotSupported
+adoption_refusal Shadow = Some Hierarchy
+adoption_refusal _ = None

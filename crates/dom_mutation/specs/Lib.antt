@@ -1,0 +1,2 @@
+-- What contracts see of a `Doc`.
+pub mod Doc

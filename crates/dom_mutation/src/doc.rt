@@ -1,0 +1,115 @@
+//! The documents of a run.
+ghost use Rattle.std.specs.Prelude.{◌≡◌, ℕ, ◌<◌, ◌↔◌, ◌⊎◌, ◌++◌, ◌∷◌, [], true, false, length, IfOk, IfErr, OnOk, OnErr};
+ghost use Rattle.std.specs.Option.{ForSome};
+ghost use Rattle.dom_base.specs.declared.Owner.{Owner as OwnerOf};
+ghost use Rattle.dom_base.specs.declared.Owner.TheVariants.{Page};
+ghost use Rattle.dom_base.specs.declared.Refusal.TheVariants.{Limit};
+ghost use Rattle.dom_model.specs.Names.{node_of};
+ghost use Rattle.dom_model.specs.Tree.{is_shadow};
+ghost use Rattle.dom_model.specs.Part.{next_name};
+ghost use Rattle.dom_model.specs.Steps.{make};
+ghost use Rattle.dom_model.specs.Changes.{doing};
+ghost use Rattle.dom_model.specs.World.{part_of, is_there};
+ghost use Rattle.dom_model.specs.CommandRefusals.{past_limit};
+ghost use Rattle.dom_model.specs.DocumentMachine.{first_world};
+ghost use Rattle.dom_tree.specs.Forest.{name_at, node_from};
+ghost use Rattle.dom_tree.specs.Owners.{trees_of_owner, AreOwned};
+ghost use Rattle.dom_mutation.specs.Doc.{made};
+
+mod attributes;
+mod documents;
+mod inserting;
+mod reads;
+mod removing;
+mod steps;
+
+pub use attributes::is_name;
+use dom_base::{Fault, Kind, Owner};
+use dom_tree::{Forest, NodeData};
+use indexmap::IndexMap;
+use node_arena::Key;
+use std::alloc::{AllocError, Global};
+use std::marker::Model;
+
+/// The nodes of all owners, and how they stand.
+#[derive(Drop)]
+pub struct Doc {
+    forest: Forest,
+    alloc: Global,
+}
+
+impl Model for Doc {
+    ghost use Rattle.std.specs.Coded.{codes};
+    ghost use Rattle.dom_model.specs.Codes.{trees_code};
+    ghost use Rattle.dom_mutation.specs.Doc.{DocState, state_from, IsHeld};
+
+    ghost Value = { DocState };
+
+    ghost coded = { Prim.hlevel (codes, trees_code) };
+
+    ghost view = { λ d. state_from d.forest.names d.forest.trees };
+
+    ghost invariant = { λ d. IsHeld d.forest.names d.forest.trees };
+}
+
+impl Doc {
+    /// The page with its first document, and no component.
+    pub fn new(alloc: Global) -> Result<Self, AllocError>
+        ensures { IfOk result (λ doc. doc ≡ record { names = node_of Page 0 ∷ []; world = first_world }) }
+    {
+        let mut forest = Forest::new(alloc);
+        let document = NodeData {
+            kind: Kind::Document,
+            element: String::new(alloc),
+            attributes: IndexMap::new(alloc),
+            text: Vec::new(alloc),
+            document: None,
+        };
+        match forest.add(Owner::Page, document) {
+            Ok(_) => Ok(Doc { forest, alloc }),
+            Err(_) => Err(AllocError),
+        }
+    }
+
+    /// The forest, for reading.
+    pub fn forest(&self) -> &Forest
+        ensures names { result.now.names ≡ self.now.names }
+        ensures trees { (o : OwnerOf) → trees_of_owner o result.now.trees ≡ (part_of self.now.world o).trees }
+        ensures owned { AreOwned result.now.trees }
+        ensures present { (k : ℕ) → k < length self.now.names → is_there self.now.world (name_at self.now.names k).owner ≡ true }
+    {
+        &self.forest
+    }
+
+    /// Whether an owner has a part: so far the page alone has one.
+    pub fn is_there(&self, owner: Owner) -> bool
+        ensures { result ≡ is_there self.now.world owner }
+    {
+        let _ = &self.forest;
+        matches!(owner, Owner::Page)
+    }
+
+    /// Holds of every `Doc` so far: no microtask and no notification is queued.
+    pub fn nothing_is_queued(&self)
+        ensures { self.now.world.tasks ≡ [] }
+    {
+        let _ = &self.forest;
+    }
+
+    /// Makes a node with an owner's next number, in a tree of its own.
+    pub fn add(&mut self, owner: Owner, node: NodeData) -> Result<Key, Fault>
+        requires owner_is_there { is_there self.old.world owner ≡ true }
+        requires no_shadow { is_shadow node.kind ≡ false }
+        requires document_is_node { ForSome node.document (λ d. d < length self.old.names) }
+        ensures key { IfOk result (λ key. key ≡ length self.old.names) }
+        ensures names { OnOk result (self.new.names ≡ self.old.names ++ next_name (part_of self.old.world owner) ∷ []) }
+        ensures world { OnOk result (self.new.world ≡ made owner (doing (make (node_from self.old.names (next_name (part_of self.old.world owner)) node))) self.old.world) }
+
+        // An owner's nodes are at most 1,000,000. Nothing else but memory stops one more.
+        ensures limit { (result ≡ Err (Fault.Refused Limit)) ↔ (past_limit (part_of self.old.world owner).node_count 1 ≡ true) }
+        ensures other { IfErr result (λ fault. (fault ≡ Fault.Refused Limit) ⊎ (fault ≡ Fault.Memory)) }
+        ensures err { OnErr result (self.new ≡ self.old) }
+    {
+        self.forest.add(owner, node)
+    }
+}

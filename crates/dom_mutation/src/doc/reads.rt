@@ -1,0 +1,91 @@
+//! What is read of a node, in its owner's trees.
+ghost use Rattle.std.specs.Prelude.{◌≡◌, ℕ, ◌<◌, ◌≤◌, length, count_by, is_some};
+ghost use Rattle.std.specs.Option.{option_map, ForSome};
+ghost use Rattle.dom_model.specs.Names.{first_of, last_of, name_eq};
+ghost use Rattle.dom_model.specs.Tree.{nodes, node_in, attribute_value, kind_of, parent_of, children_of, next_sibling, previous_sibling};
+ghost use Rattle.dom_base.specs.declared.NodeName.{NodeName as Name};
+ghost use Rattle.dom_base.specs.declared.Owner.{Owner as OwnerOf};
+ghost use Rattle.dom_model.specs.World.{part_of};
+ghost use Rattle.dom_mutation.specs.Doc.{name_in, owner_in, trees_in, StepsAlone};
+
+use crate::Doc;
+use dom_base::Kind;
+use node_arena::Key;
+
+impl Doc {
+    /// Holds of every document: names tell the nodes apart, each node stands once in its owner's trees, and an owner's
+    /// steps do in its part what they do in a part alone.
+    pub(super) fn laws(&self)
+        ensures distinct { (j k : ℕ) → j < length self.now.names → k < length self.now.names → name_in self.now j ≡ name_in self.now k → j ≡ k }
+        ensures once { (o : OwnerOf) (x : Name) → count_by (λ n. name_eq n.name x) (nodes (part_of self.now.world o).trees) ≤ 1 }
+        ensures alone { (k : ℕ) → k < length self.now.names → StepsAlone (owner_in self.now k) }
+    {
+        self.forest.nodes_stand_once();
+    }
+
+    /// The kind of a node.
+    pub(super) fn kind(&self, node: Key) -> Kind
+        requires { node < length self.now.names }
+        ensures { result ≡ kind_of (trees_in self.now node) (name_in self.now node) }
+    {
+        self.forest.kind(node)
+    }
+
+    /// Whether a node has an attribute.
+    pub(super) fn has_attr(&self, node: Key, name: &str) -> bool
+        requires { node < length self.now.names }
+        ensures { result ≡ is_some (attribute_value (node_in (trees_in self.now node) (name_in self.now node)) name.now) }
+    {
+        self.forest.attr(node, name).is_some()
+    }
+
+    /// The parent of a node.
+    pub(super) fn parent(&self, node: Key) -> Option<Key>
+        requires { node < length self.now.names }
+        ensures value { option_map (name_in self.now) result ≡ parent_of (trees_in self.now node) (name_in self.now node) }
+        ensures node { ForSome result (λ k. k < length self.now.names) }
+        ensures owner { ForSome result (λ k. owner_in self.now k ≡ owner_in self.now node) }
+    {
+        self.forest.parent(node)
+    }
+
+    /// The first child of a node.
+    pub(super) fn first(&self, node: Key) -> Option<Key>
+        requires { node < length self.now.names }
+        ensures value { option_map (name_in self.now) result ≡ first_of (children_of (trees_in self.now node) (name_in self.now node)) }
+        ensures node { ForSome result (λ k. k < length self.now.names) }
+        ensures owner { ForSome result (λ k. owner_in self.now k ≡ owner_in self.now node) }
+    {
+        self.forest.first(node)
+    }
+
+    /// The last child of a node.
+    pub(super) fn last(&self, node: Key) -> Option<Key>
+        requires { node < length self.now.names }
+        ensures value { option_map (name_in self.now) result ≡ last_of (children_of (trees_in self.now node) (name_in self.now node)) }
+        ensures node { ForSome result (λ k. k < length self.now.names) }
+        ensures owner { ForSome result (λ k. owner_in self.now k ≡ owner_in self.now node) }
+    {
+        self.forest.last(node)
+    }
+
+    /// The sibling just after a node.
+    pub(super) fn next(&self, node: Key) -> Option<Key>
+        requires { node < length self.now.names }
+        ensures value { option_map (name_in self.now) result ≡ next_sibling (trees_in self.now node) (name_in self.now node) }
+        ensures node { ForSome result (λ k. k < length self.now.names) }
+        ensures owner { ForSome result (λ k. owner_in self.now k ≡ owner_in self.now node) }
+    {
+        self.forest.next(node)
+    }
+
+    /// The sibling just before a node.
+    pub(super) fn prev(&self, node: Key) -> Option<Key>
+        requires { node < length self.now.names }
+        ensures value { option_map (name_in self.now) result ≡ previous_sibling (trees_in self.now node) (name_in self.now node) }
+        ensures node { ForSome result (λ k. k < length self.now.names) }
+        ensures owner { ForSome result (λ k. owner_in self.now k ≡ owner_in self.now node) }
+    {
+        self.forest.prev(node)
+    }
+}

@@ -1,0 +1,80 @@
+//! Removal and adoption (DOM Standard, concepts: remove, adopt).
+ghost use Rattle.std.specs.Prelude.{◌≡◌, ◌<◌, ◌↔◌, length, Some, IfErr, OnOk, OnErr};
+ghost use Rattle.dom_base.specs.declared.Refusal.{Refusal as RefusalOf};
+ghost use Rattle.dom_model.specs.Tree.{kind_of};
+ghost use Rattle.dom_model.specs.Changes.{removing, adopting, observed};
+ghost use Rattle.dom_mutation.specs.Doc.{made, planned, name_in, owner_in, trees_in, observing_of, adoption_refusal};
+
+use crate::Doc;
+use dom_base::{Fault, Kind, Refusal};
+use node_arena::Key;
+
+/// Whether observers are told of a removal or an insertion (DOM Standard, suppress observers flag).
+#[derive(Clone, Copy)]
+pub(super) enum Telling {
+    Observed,
+    Suppressed,
+}
+
+impl Doc {
+    /// A node leaves its parent, with a record of the parent. One without a parent stays as it is (DOM Standard, remove).
+    pub fn remove(&mut self, node: Key) -> Result<(), Fault>
+        requires { node < length self.old.names }
+        ensures names { self.new.names ≡ self.old.names }
+        ensures world { OnOk result (self.new.world ≡ made (owner_in self.old node) (removing observed (name_in self.old node)) self.old.world) }
+
+        // Nothing but memory stops a removal.
+        ensures err { IfErr result (λ fault. fault ≡ Fault.Memory) }
+    {
+        self.removing(Telling::Observed, node);
+        Ok(())
+    }
+
+    /// A node leaves its parent and gets a node document, with all below it (DOM Standard, adopt). A document is not
+    /// adopted, nor is a shadow root.
+    pub fn adopt(&mut self, document: Key, node: Key) -> Result<(), Fault>
+        requires document_is_node { document < length self.old.names }
+        requires node_is_node { node < length self.old.names }
+        requires one_owner { owner_in self.old document ≡ owner_in self.old node }
+        ensures refused { (r : RefusalOf) → (result ≡ Err (Fault.Refused r)) ↔ (adoption_refusal (kind_of (trees_in self.old node) (name_in self.old node)) ≡ Some r) }
+        ensures unchanged { OnErr result (self.new ≡ self.old) }
+        ensures names { self.new.names ≡ self.old.names }
+        ensures world { OnOk result (self.new.world ≡ made (owner_in self.old node) (adopting (name_in self.old document) (name_in self.old node)) self.old.world) }
+    {
+        match self.kind(node) {
+            Kind::Document => Err(Fault::Refused(Refusal::NotSupported)),
+            Kind::Shadow => Err(Fault::Refused(Refusal::Hierarchy)),
+            _ => {
+                self.adopting(document, node);
+                Ok(())
+            }
+        }
+    }
+
+    /// A removal, of which observers are told or not.
+    pub(super) fn removing(&mut self, how: Telling, node: Key)
+        requires { node < length self.old.names }
+        ensures { self.new ≡ planned (owner_in self.old node) (removing (observing_of how) (name_in self.old node)) self.old }
+    {
+        let Some(parent) = self.parent(node) else {
+            return;
+        };
+        let prev = self.prev(node);
+        let next = self.next(node);
+        self.take_out(node);
+        if matches!(how, Telling::Observed) {
+            self.tell_children(parent, &[], &[node], prev, next);
+        }
+    }
+
+    /// A node leaves its parent and gets a node document, with all below it.
+    pub(super) fn adopting(&mut self, document: Key, node: Key)
+        requires document_is_node { document < length self.old.names }
+        requires node_is_node { node < length self.old.names }
+        ensures { self.new ≡ planned (owner_in self.old node) (adopting (name_in self.old document) (name_in self.old node)) self.old }
+    {
+        self.laws();
+        self.removing(Telling::Observed, node);
+        self.change_document(document, node);
+    }
+}

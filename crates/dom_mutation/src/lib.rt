@@ -1,0 +1,8 @@
+//! All changes of trees, as plans of elementary steps (DOM Standard, 4.2.3 Mutation algorithms).
+#![tactic(auto)]
+
+mod doc;
+#[cfg(test)]
+mod tests;
+
+pub use doc::{Doc, is_name};

@@ -1,0 +1,45 @@
+-- The parts of a text between commas, one after the other.
+use Rattle.std.proofs.Common.{◌≡◌, ℕ, zero, suc, ◌+◌, Bool, false, eqb, List, [], ◌∷◌, ◌++◌, length, Option, Some, None, ap, ◌∙◌, arith, refl}
+use Rattle.std.specs.List.{All, AllByRecursion}
+use Rattle.std.specs.Borrow.{Bor}
+use Rattle.std.proofs.lemmas.List.Splits.{slice_split_at, slice_split_none}
+use Rattle.std.specs.Prelude.{codes}
+use Rattle.std.proofs.lemmas.Bool.{ne_eqb}
+use Rattle.std.proofs.lemmas.List.Splits.{length-slice_split}
+use Rattle.dom_text.specs.Readers.{between_commas, take_name, show_of_names}
+use Rattle.dom_reader.proofs.Firsts.{Lacks}
+
+-- a fact of each byte, by its place
+each_at : (P : ℕ → Type 0) (xs : List ℕ) → AllByRecursion P xs → All P xs
+each_at P [] h = λ k d l. absurd (omega arith)
+each_at P (x ∷ xs) h = elim [
+  | zero ↦ λ d l. h.0
+  | suc k ↦ λ d l. each_at P xs h.1 k d (omega arith)
+]
+
+-- the part in front of the first comma, and the parts behind it
+pub part_at_comma : (text front rest : List ℕ) → Lacks 44 front × (text ≡ front ++ 44 ∷ rest) → between_commas text ≡ front ∷ between_commas rest
+part_at_comma text front rest h = ap between_commas h.1 ∙ slice_split_at (λ b. eqb b 44) front 44 rest (each_at (λ b. eqb b 44 ≡ false) front h.0) refl
+
+-- a text without a comma is one part
+pub part_without_comma : (text : List ℕ) → Lacks 44 text → between_commas text ≡ text ∷ []
+part_without_comma text lacks = slice_split_none (λ b. eqb b 44) text (each_at (λ b. eqb b 44 ≡ false) text lacks)
+
+-- how much text is left, with the comma before it
+abbrev pub parts_len : Option (Bor (List ℕ)) → ℕ
+parts_len None = 0
+parts_len (Some text) = length text.now + 1
+
+-- where a text is left there is a part
+text_left : (text : List ℕ) → eqb (length (between_commas text)) 0 ≡ false
+text_left text = ne_eqb (length (between_commas text)) 0 (λ e. omega (arith, length-slice_split (λ b. eqb b 44) text))
+
+-- where parts are left nothing is shown
+pub show_refused : (a b c d e : Bool) (names text : List ℕ) (as' bs cs ds : List (List ℕ))
+    → (a, as') ≡ take_name (codes "element") (between_commas names)
+    → (b, bs) ≡ take_name (codes "text") as'
+    → (c, cs) ≡ take_name (codes "comment") bs
+    → (d, ds) ≡ take_name (codes "document") cs
+    → (e, between_commas text) ≡ take_name (codes "fragment") ds
+    → None ≡ show_of_names (between_commas names)
+show_refused a b c d e names text as' bs cs ds h1 h2 h3 h4 h5 = rw (← h1, ← h2, ← h3, ← h4, ← h5, text_left text) refl

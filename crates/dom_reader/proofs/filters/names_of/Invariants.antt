@@ -1,0 +1,16 @@
+-- The names so far and the parts that are left are all parts.
+use Rattle.std.proofs.Common.{◌≡◌, true, ◌++◌}
+use Rattle.std.specs.Prelude.{map, string_bytes}
+use Rattle.std.specs.List.{list_all}
+use Rattle.dom_model.specs.Names.{is_name}
+use Rattle.dom_text.specs.Readers.{between_commas}
+use Rattle.dom_reader.specs.Filters.{parts_view}
+use Rattle.dom_reader.proofs.Commas.{parts_len}
+use Rattle.dom_reader.proofs.filters.names_of.Given as goal
+
+abbrev pub invariant-loop-parts : goal.invariant-loop-parts
+invariant-loop-parts l =
+    (map string_bytes l.names.items ++ parts_view l.parts ≡ between_commas l.fn.text) × (list_all is_name (map string_bytes l.names.items) ≡ true)
+
+abbrev pub decreases-loop-parts : goal.decreases-loop-parts
+decreases-loop-parts l = parts_len l.parts

@@ -1,0 +1,34 @@
+-- Lines as they are kept while their bytes come in pieces.
+use Rattle.std.specs.Prelude.{◌≡◌, ℕ, ◌+◌, ◌≤◌, ◌==◌, false, List, [], ◌∷◌, map, take, ◌++◌, length}
+use Rattle.std.specs.List.{AllByRecursion}
+use Rattle.dom_text.specs.Lines.{line_feed, max_line, Cut, cut_of, kept_line}
+
+-- a cut as it is kept: of each line, and of the rest, as much as is kept of a line
+abbrev pub kept_cut : Cut → Cut
+kept_cut cut = record { finished = map kept_line cut.finished; rest = kept_line cut.rest }
+
+-- what a piece makes of the bytes that are kept: the lines that it completes, and the bytes that are kept then
+abbrev pub fed : List ℕ → List ℕ → Cut
+fed kept piece = kept_cut (cut_of (kept ++ piece))
+
+-- a cut behind finished lines
+abbrev pub after_lines : List (List ℕ) → Cut → Cut
+after_lines lines cut = record { finished = lines ++ cut.finished; rest = cut.rest }
+
+-- what pieces make of the bytes that are kept, one fed after the other
+abbrev pub fed_all : List ℕ → List (List ℕ) → Cut
+fed_all kept [] = record { finished = []; rest = kept }
+fed_all kept (piece ∷ pieces) = after_lines (fed kept piece).finished (fed_all (fed kept piece).rest pieces)
+
+-- the bytes that are kept when a front of the piece was fed
+abbrev pub IsFedPart : List ℕ → List ℕ → List ℕ → Type 0
+IsFedPart kept piece left = (n : ℕ) × (left ≡ (fed kept (take n piece)).rest)
+
+-- no byte is a line feed
+abbrev pub IsOneLine : List ℕ → Type 0
+IsOneLine bytes = AllByRecursion (λ b. (b == line_feed) ≡ false) bytes
+
+-- bytes of one unfinished line, as many as are kept at most
+pub record IsKept (bytes : List ℕ) : Type 0 where
+  pub one_line : IsOneLine bytes
+  pub short : length bytes ≤ max_line + 1

@@ -1,0 +1,175 @@
+//! What is shown, and the words behind it that filter by name.
+
+ghost use Rattle.std.specs.Prelude.{◌≡◌, ◌∷◌, ◌<◌, length, option_map, IfSome, IsTrue, map, string_bytes};
+ghost use Rattle.std.specs.List.{list_all};
+ghost use Rattle.std.specs.Char.{is_ascii_graphic};
+ghost use Rattle.dom_model.specs.Names.{is_name as spec_is_name};
+ghost use Rattle.dom_text.specs.Readers.{only_if, between_commas, take_name as spec_take_name, show_of_names, show_of as spec_show_of, name_filter_of as spec_name_filter_of, attribute_filter_of as spec_attribute_filter_of, last_as};
+ghost use Rattle.dom_reader.specs.Gives.{Gives};
+ghost use Rattle.dom_reader.specs.Views.{show_view, name_filter_view};
+ghost use Rattle.dom_reader.specs.Filters.{parts_view, name_behind as spec_name_behind};
+
+use crate::labels::is_name;
+use crate::line::{NameFilter, Show};
+use crate::nodes::behind;
+use crate::not_read::NotRead;
+use crate::words::{Words, text_of};
+use dom_base::Verdict;
+use memchr::memchr;
+use std::alloc::Global;
+
+/// The first part of a text between commas, and the text behind its comma, if there is one.
+fn first_part(text: &[u8]) -> (&[u8], Option<&[u8]>)
+    ensures parts { between_commas text.now ≡ result.0.now ∷ parts_view result.1 }
+    ensures shorter { IfSome result.1 (λ others. length others.now < length text.now) }
+{
+    match memchr(b',', text) {
+        Some(comma) => (&text[..comma], Some(&text[comma + 1..])),
+        None => (text, None),
+    }
+}
+
+/// Whether the name comes first among the parts, and the parts behind it where it does.
+fn take_name<'a>(name: &[u8], parts: Option<&'a [u8]>) -> (bool, Option<&'a [u8]>)
+    ensures { (result.0, parts_view result.1) ≡ spec_take_name name.now (parts_view parts.entry) }
+{
+    match parts {
+        None => (false, None),
+        Some(text) => {
+            let (first, others) = first_part(text);
+            if first == name {
+                (true, others)
+            } else {
+                (false, Some(text))
+            }
+        }
+    }
+}
+
+/// What is shown: `all`, or some of the kinds in their order, with commas.
+pub fn show_of(word: &[u8]) -> Option<Show>
+    ensures { option_map show_view result ≡ spec_show_of word.now }
+{
+    if word == b"all".as_slice() {
+        return Some(Show {
+            element: true,
+            text: true,
+            comment: true,
+            document: true,
+            fragment: true,
+        });
+    }
+    show_of_parts(word)
+}
+
+/// What is shown by some of the kinds in their order, with commas.
+fn show_of_parts(word: &[u8]) -> Option<Show>
+    ensures { option_map show_view result ≡ show_of_names (between_commas word.now) }
+{
+    let (element, parts) = take_name(b"element", Some(word));
+    let (text, parts) = take_name(b"text", parts);
+    let (comment, parts) = take_name(b"comment", parts);
+    let (document, parts) = take_name(b"document", parts);
+    let (fragment, parts) = take_name(b"fragment", parts);
+    match parts {
+        Some(_) => None,
+        None => Some(Show {
+            element,
+            text,
+            comment,
+            document,
+            fragment,
+        }),
+    }
+}
+
+/// The name behind this front.
+#[tactic(auto, using(crate::proofs::Texts::graphic_name))]
+fn name_behind<'a>(front: &[u8], word: &'a [u8]) -> Option<&'a [u8]>
+    ensures read { option_map (λ x. x.now) result ≡ spec_name_behind front.now word.now }
+    ensures graphic { IfSome result (λ x. IsTrue (list_all is_ascii_graphic x.now)) }
+{
+    let name = behind(front, word)?;
+    if !is_name(name) {
+        return None;
+    }
+    Some(name)
+}
+
+/// `skip=NAME` or `reject=NAME`.
+fn name_filter_of(alloc: Global, word: &[u8]) -> Result<NameFilter, NotRead>
+    ensures { Gives name_filter_view result (spec_name_filter_of word.now) }
+{
+    let (verdict, name) = match name_behind(b"skip=", word) {
+        Some(name) => (Verdict::Skip, name),
+        None => (
+            Verdict::Reject,
+            name_behind(b"reject=", word).ok_or(NotRead::Syntax)?,
+        ),
+    };
+    Ok(NameFilter {
+        name: text_of(alloc, name)?,
+        verdict,
+    })
+}
+
+/// A name as a text of its own.
+#[tactic(auto, using(crate::proofs::Texts::graphic_name))]
+fn name_of(alloc: Global, text: &[u8]) -> Result<String, NotRead>
+    ensures { Gives string_bytes result (only_if (spec_is_name text.now) text.now) }
+{
+    if !is_name(text) {
+        return Err(NotRead::Syntax);
+    }
+    Ok(text_of(alloc, text)?)
+}
+
+/// The names between commas, one or more.
+fn names_of(alloc: Global, text: &[u8]) -> Result<Vec<String>, NotRead>
+    ensures { Gives (λ names. map string_bytes names.items) result (only_if (list_all spec_is_name (between_commas text.now)) (between_commas text.now)) }
+{
+    let mut names = Vec::new(alloc);
+    let mut parts = Some(text);
+    while let Some(text) = parts {
+        let (first, others) = first_part(text);
+        names.push(name_of(alloc, first)?)?;
+        parts = others;
+    }
+    Ok(names)
+}
+
+/// `filter=NAME,..`, with one name or more.
+fn attribute_filter_of(alloc: Global, word: &[u8]) -> Result<Vec<String>, NotRead>
+    ensures { Gives (λ names. map string_bytes names.items) result (spec_attribute_filter_of word.now) }
+{
+    let names = behind(b"filter=", word).ok_or(NotRead::Syntax)?;
+    names_of(alloc, names)
+}
+
+impl Words<'_> {
+    /// `skip=NAME` or `reject=NAME` as the line's last word, where there is one more.
+    pub fn last_name_filter(&mut self, alloc: Global) -> Result<Option<NameFilter>, NotRead>
+        ensures { Gives (option_map name_filter_view) result (last_as spec_name_filter_of self.old) }
+    {
+        if self.rest().is_empty() {
+            return Ok(None);
+        }
+        let word = self.word()?;
+        let filter = name_filter_of(alloc, word)?;
+        self.end()?;
+        Ok(Some(filter))
+    }
+
+    /// `filter=NAME,..` as the line's last word, where there is one more.
+    pub fn last_attribute_filter(&mut self, alloc: Global) -> Result<Option<Vec<String>>, NotRead>
+        ensures { Gives (option_map (λ names. map string_bytes names.items)) result (last_as spec_attribute_filter_of self.old) }
+    {
+        if self.rest().is_empty() {
+            return Ok(None);
+        }
+        let word = self.word()?;
+        let names = attribute_filter_of(alloc, word)?;
+        self.end()?;
+        Ok(Some(names))
+    }
+}

@@ -1,0 +1,197 @@
+//! What a line of the protocol says: an owner and a command, one variant for each form of line, with the line's words
+//! read. All own rules.
+
+use dom_base::{Action, DomStr, Move, Owner, Verdict};
+
+/// A node as a line names it: by its number, a node of the line's own owner, or, by its spelling, another owner's.
+///
+/// For the page `nJ` is its own, and `mJ` and `cK:mJ` are foreign; for a component `mJ` is its own, and `nJ` and every
+/// `cK:mJ` are foreign.
+#[derive(Clone, Copy, PartialEq, Eq, Debug)]
+pub enum Spelled {
+    Own(u32),
+    Foreign,
+}
+
+/// The kinds of node that a filter shows: `all`, or those named.
+#[derive(Clone, Copy, PartialEq, Eq, Debug)]
+pub struct Show {
+    pub element: bool,
+    pub text: bool,
+    pub comment: bool,
+    pub document: bool,
+    pub fragment: bool,
+}
+
+/// `skip=NAME` or `reject=NAME`.
+#[derive(PartialEq, Eq, Debug, Drop)]
+pub struct NameFilter {
+    pub name: String,
+    pub verdict: Verdict,
+}
+
+/// The words of an iterator or a walker behind its root: SHOW `[FILTER]`.
+#[derive(PartialEq, Eq, Debug, Drop)]
+pub struct Filter {
+    pub shown: Show,
+    pub named: Option<NameFilter>,
+}
+
+/// The words of `listen` behind the node: TYPE LABEL ACTION `[capture] [once] [passive]`.
+#[derive(PartialEq, Eq, Debug, Drop)]
+pub struct ListenerWords {
+    pub event: String,
+    pub label: String,
+    pub action: Action,
+    pub capture: bool,
+    pub once: bool,
+    pub passive: bool,
+}
+
+/// The words of `dispatch` behind the target, without the related node: TYPE `[bubbles] [cancelable] [composed]`.
+#[derive(PartialEq, Eq, Debug, Drop)]
+pub struct EventWords {
+    pub event: String,
+    pub bubbles: bool,
+    pub cancelable: bool,
+    pub composed: bool,
+}
+
+/// The words of `observe` behind the node, and the names behind `filter=`.
+#[derive(PartialEq, Eq, Debug, Drop)]
+pub struct ObserveWords {
+    pub child_list: bool,
+    pub attributes: bool,
+    pub character_data: bool,
+    pub subtree: bool,
+    pub attribute_old_value: bool,
+    pub character_data_old_value: bool,
+    pub filter: Option<Vec<String>>,
+}
+
+/// A command with its words, in the order of the line. Numbers of ranges, iterators, walkers and observers come before
+/// nodes; an offset or a count is in code units or children, as its command has it.
+#[derive(PartialEq, Eq, Debug, Drop)]
+pub enum Command {
+    /// `new element WORD`
+    NewElement(String),
+    /// `new text STR`
+    NewText(DomStr),
+    /// `new comment STR`
+    NewComment(DomStr),
+    /// `new fragment`
+    NewFragment,
+    /// `document`
+    NewDocument,
+    /// `attach E`, of the page alone
+    Attach(Spelled),
+    /// `append P N`
+    Append(Spelled, Spelled),
+    /// `insert P N C`
+    Insert(Spelled, Spelled, Spelled),
+    /// `replace P N C`
+    Replace(Spelled, Spelled, Spelled),
+    /// `remove N`
+    Remove(Spelled),
+    /// `adopt D N`
+    Adopt(Spelled, Spelled),
+    /// `normalize N`
+    Normalize(Spelled),
+    /// `set E WORD STR`
+    SetAttribute(Spelled, String, DomStr),
+    /// `unset E WORD`
+    UnsetAttribute(Spelled, String),
+    /// `data T STR`
+    SetData(Spelled, DomStr),
+    /// `replace-data T OFFSET COUNT STR`
+    ReplaceData(Spelled, u32, u32, DomStr),
+    /// `split N OFFSET`
+    Split(Spelled, u32),
+    /// `text N STR`
+    SetText(Spelled, DomStr),
+    /// `tree N`
+    Tree(Spelled),
+    /// `attr E WORD`
+    Attribute(Spelled, String),
+    /// `parent N`
+    Parent(Spelled),
+    /// `docof N`
+    DocumentOf(Spelled),
+    /// `children N`
+    Children(Spelled),
+    /// `contains N N`
+    Contains(Spelled, Spelled),
+    /// `connected N`
+    Connected(Spelled),
+    /// `shadow-root E`
+    ShadowRoot(Spelled),
+    /// `slot-of N`
+    SlotOf(Spelled),
+    /// `assigned E`, of a component alone
+    Assigned(Spelled),
+    /// `range-new`
+    RangeNew,
+    /// `range-start R N OFFSET`
+    RangeStart(u32, Spelled, u32),
+    /// `range-end R N OFFSET`
+    RangeEnd(u32, Spelled, u32),
+    /// `range-collapse R start` (true) or `end` (false)
+    RangeCollapse(u32, bool),
+    /// `range-drop R`
+    RangeDrop(u32),
+    /// `range-get R`
+    RangeGet(u32),
+    /// `range-text R`
+    RangeText(u32),
+    /// `extract R`
+    Extract(u32),
+    /// `delete R`
+    Delete(u32),
+    /// `insert-node R N`
+    InsertNode(u32, Spelled),
+    /// `iter-new N SHOW [FILTER]`
+    IteratorNew(Spelled, Filter),
+    /// `walk-new N SHOW [FILTER]`
+    WalkerNew(Spelled, Filter),
+    /// `iter-next I`
+    IteratorNext(u32),
+    /// `iter-prev I`
+    IteratorPrevious(u32),
+    /// `iter-at I`
+    IteratorAt(u32),
+    /// `walk W MOVE`
+    Walk(u32, Move),
+    /// `walk-at W`
+    WalkerAt(u32),
+    /// `walk-set W N`
+    WalkerSet(u32, Spelled),
+    /// `query N STR`
+    Query(Spelled, DomStr),
+    /// `matches E STR`
+    Matches(Spelled, DomStr),
+    /// `listen N TYPE LABEL ACTION [capture] [once] [passive]`
+    Listen(Spelled, ListenerWords),
+    /// `unlisten N TYPE LABEL [capture]`: the type, then the label
+    Unlisten(Spelled, String, String, bool),
+    /// `dispatch N TYPE [bubbles] [cancelable] [composed] [related N]`
+    Dispatch(Spelled, EventWords, Option<Spelled>),
+    /// `observer`
+    Observer,
+    /// `observe O N ..`
+    Observe(u32, Spelled, ObserveWords),
+    /// `disconnect O`
+    Disconnect(u32),
+    /// `take O`
+    Take(u32),
+    /// `micro LABEL`
+    Micro(String),
+    /// `.`
+    EndTurn,
+}
+
+/// An owner's command.
+#[derive(PartialEq, Eq, Debug, Drop)]
+pub struct Line {
+    pub owner: Owner,
+    pub command: Command,
+}

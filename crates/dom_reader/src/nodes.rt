@@ -1,0 +1,99 @@
+//! Owners, and nodes as lines name them.
+
+ghost use Rattle.std.specs.Prelude.{◌≡◌, option_map, length, ◌≤◌};
+ghost use Rattle.std.specs.List.{prefix_len};
+ghost use Rattle.std.specs.Char.{is_ascii_digit};
+ghost use Rattle.dom_text.specs.Readers.{owner_of as spec_owner_of, page_node as spec_page_node, inner_node as spec_inner_node, behind as spec_behind, full_name_of as spec_full_name_of, spelled_of as spec_spelled_of};
+ghost use Rattle.dom_text.specs.Decode.{before_space, owner_at as spec_owner_at};
+ghost use Rattle.dom_reader.specs.Views.{spelled_view};
+
+use crate::line::Spelled;
+use crate::numbers::{number_of, positive_of};
+use crate::words::word_at;
+use dom_base::Owner;
+
+/// The owner whose word this is.
+fn owner_of(word: &[u8]) -> Option<Owner>
+    ensures { result ≡ spec_owner_of word.now }
+{
+    match word {
+        [b'p'] => Some(Owner::Page),
+        [b'c', number @ ..] => Some(Owner::Component(positive_of(number)?)),
+        _ => None,
+    }
+}
+
+/// The owner whose word and a space begin the line, and the bytes from the space on.
+pub fn owner_at(line: &[u8]) -> Option<(Owner, &[u8])>
+    ensures { option_map (λ x. (x.0, x.1.now)) result ≡ spec_owner_at line.now }
+{
+    let (word, rest) = word_at(line)?;
+    let owner = owner_of(word)?;
+    match rest {
+        [b' ', ..] => Some((owner, rest)),
+        _ => None,
+    }
+}
+
+/// The node `nJ` in a line of the owner.
+fn page_node(owner: Owner, number: u32) -> Spelled
+    ensures { spelled_view result ≡ spec_page_node owner number }
+{
+    match owner {
+        Owner::Page => Spelled::Own(number),
+        Owner::Component(_) => Spelled::Foreign,
+    }
+}
+
+/// The node `mJ` in a line of the owner.
+fn inner_node(owner: Owner, number: u32) -> Spelled
+    ensures { spelled_view result ≡ spec_inner_node owner number }
+{
+    match owner {
+        Owner::Page => Spelled::Foreign,
+        Owner::Component(_) => Spelled::Own(number),
+    }
+}
+
+/// How many digits stand in front.
+fn digits_len(text: &[u8]) -> usize
+    ensures count { result ≡ prefix_len is_ascii_digit text.now }
+    ensures within { result ≤ length text.now }
+{
+    text.iter().take_while(|b| b.is_ascii_digit()).count()
+}
+
+/// The text behind this front.
+pub fn behind<'a>(front: &[u8], text: &'a [u8]) -> Option<&'a [u8]>
+    ensures { option_map (λ x. x.now) result ≡ spec_behind front.now text.now }
+{
+    match text.strip_prefix(front) {
+        None => None,
+        Some(rest) => Some(rest),
+    }
+}
+
+/// The text behind the `c` of `cK:mJ`.
+fn full_name_of(text: &[u8]) -> Option<Spelled>
+    ensures { option_map spelled_view result ≡ spec_full_name_of text.now }
+{
+    let (component, node) = text.split_at(digits_len(text));
+    positive_of(component)?;
+    number_of(behind(b":m", node)?)?;
+    Some(Spelled::Foreign)
+}
+
+/// The node that the word names in a line of the owner.
+pub fn spelled_of(owner: Owner, word: &[u8]) -> Option<Spelled>
+    ensures { option_map spelled_view result ≡ spec_spelled_of owner word.now }
+{
+    match word {
+        [] => None,
+        [first, text @ ..] => match *first {
+            b'n' => Some(page_node(owner, number_of(text)?)),
+            b'm' => Some(inner_node(owner, number_of(text)?)),
+            b'c' => full_name_of(text),
+            _ => None,
+        },
+    }
+}

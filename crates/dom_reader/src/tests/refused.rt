@@ -1,0 +1,172 @@
+//! Lines that say no command: each row is a line, ` => `, and how it is refused in the words of `Debug`.
+
+/// Lines of an owner, one for each way to be no command of the owner's.
+pub const REFUSED: &str = r#"p  => Some(Page) Syntax
+p  . => Some(Page) Syntax
+p .  => Some(Page) Syntax
+p  document => Some(Page) Syntax
+p document x => Some(Page) Syntax
+p Document => Some(Page) Syntax
+p docum => Some(Page) Syntax
+p documents => Some(Page) Syntax
+p unknown => Some(Page) Syntax
+p "a" => Some(Page) Syntax
+p new => Some(Page) Syntax
+p new div => Some(Page) Syntax
+p new element => Some(Page) Syntax
+p new element "a" => Some(Page) Syntax
+p new element a b => Some(Page) Syntax
+p new  element a => Some(Page) Syntax
+p new text a => Some(Page) Syntax
+p new text => Some(Page) Syntax
+p new text "a => Some(Page) Syntax
+p new text a" => Some(Page) Syntax
+p new text ""x => Some(Page) Syntax
+p new text "" "" => Some(Page) Syntax
+p new text "a"b" => Some(Page) Syntax
+p new text "\x" => Some(Page) Syntax
+p new text "\" => Some(Page) Syntax
+p new text "\u" => Some(Page) Syntax
+p new text "\ud83" => Some(Page) Syntax
+p new text "\ud8g0" => Some(Page) Syntax
+p new text "\U0041" => Some(Page) Syntax
+p new document => Some(Page) Syntax
+p new shadow => Some(Page) Syntax
+p new fragment x => Some(Page) Syntax
+p attach => Some(Page) Syntax
+p attach n1 n2 => Some(Page) Syntax
+c1 attach m1 => Some(Component(1)) Syntax
+p append n1 => Some(Page) Syntax
+p append n1 n2 n3 => Some(Page) Syntax
+p append n1  n2 => Some(Page) Syntax
+p append n1,n2 => Some(Page) Syntax
+p insert n0 n1 => Some(Page) Syntax
+p replace n0 n1 => Some(Page) Syntax
+p remove => Some(Page) Syntax
+p remove n => Some(Page) Syntax
+p remove 1 => Some(Page) Syntax
+p remove N1 => Some(Page) Syntax
+p remove n01 => Some(Page) Syntax
+p remove n-1 => Some(Page) Syntax
+p remove n1a => Some(Page) Syntax
+p remove n1234567890 => Some(Page) Syntax
+p remove r1 => Some(Page) Syntax
+p remove c1 => Some(Page) Syntax
+p remove c1: => Some(Page) Syntax
+p remove c1:m => Some(Page) Syntax
+p remove c1:n1 => Some(Page) Syntax
+p remove c0:m1 => Some(Page) Syntax
+p remove c01:m1 => Some(Page) Syntax
+p remove c:m1 => Some(Page) Syntax
+p remove c1m1 => Some(Page) Syntax
+p remove c1:m01 => Some(Page) Syntax
+p remove c1234567890:m1 => Some(Page) Syntax
+p tree n01 => Some(Page) Syntax
+p tree n0  => Some(Page) Syntax
+p set n1 class => Some(Page) Syntax
+p set n1 class a => Some(Page) Syntax
+p set n1 "class" "a" => Some(Page) Syntax
+p unset n1 => Some(Page) Syntax
+p data n2 => Some(Page) Syntax
+p data n2 x => Some(Page) Syntax
+p replace-data n2 0 1 => Some(Page) Syntax
+p replace-data n2 0 "x" => Some(Page) Syntax
+p replace-data n0 1234567890 0 "" => Some(Page) Syntax
+p replace-data n2 01 0 "" => Some(Page) Syntax
+p split n2 => Some(Page) Syntax
+p split n2 -1 => Some(Page) Syntax
+p split n2 1.5 => Some(Page) Syntax
+p attr n1 => Some(Page) Syntax
+p attr n1 "id" => Some(Page) Syntax
+p contains n1 => Some(Page) Syntax
+p assigned n0 => Some(Page) Syntax
+c1 assigned => Some(Component(1)) Syntax
+p range-new r0 => Some(Page) Syntax
+p range-start r0 n1 => Some(Page) Syntax
+p range-start n1 n1 0 => Some(Page) Syntax
+p range-start r00 n1 0 => Some(Page) Syntax
+p range-collapse r0 => Some(Page) Syntax
+p range-collapse r0 middle => Some(Page) Syntax
+p range-get => Some(Page) Syntax
+p range-get 0 => Some(Page) Syntax
+p insert-node n1 r1 => Some(Page) Syntax
+p iter-new n0 => Some(Page) Syntax
+p iter-new n0 "all" => Some(Page) Syntax
+p iter-new n0 ALL => Some(Page) Syntax
+p iter-new n0 none => Some(Page) Syntax
+p iter-new n0 text,element => Some(Page) Syntax
+p iter-new n0 text,text => Some(Page) Syntax
+p iter-new n0 all,element => Some(Page) Syntax
+p iter-new n0 element, => Some(Page) Syntax
+p iter-new n0 ,element => Some(Page) Syntax
+p iter-new n0 element,,text => Some(Page) Syntax
+p iter-new n0 shadow => Some(Page) Syntax
+p iter-new n0 all b => Some(Page) Syntax
+p iter-new n0 all skip= => Some(Page) Syntax
+p iter-new n0 all skip=1a => Some(Page) Syntax
+p iter-new n0 all skip=a,b => Some(Page) Syntax
+p iter-new n0 all SKIP=a => Some(Page) Syntax
+p iter-new n0 all reject => Some(Page) Syntax
+p iter-new n0 all skip=a reject=b => Some(Page) Syntax
+p walk-new n0 => Some(Page) Syntax
+p iter-next w0 => Some(Page) Syntax
+p walk w0 => Some(Page) Syntax
+p walk w0 up => Some(Page) Syntax
+p walk w0 next next => Some(Page) Syntax
+p walk-set w0 => Some(Page) Syntax
+p query n0 a => Some(Page) Syntax
+p matches n1 => Some(Page) Syntax
+p listen n1 go h => Some(Page) Syntax
+p listen n1 go log => Some(Page) Syntax
+p listen n1 go h shout => Some(Page) Syntax
+p listen n1 go h log once capture => Some(Page) Syntax
+p listen n1 go h log once once => Some(Page) Syntax
+p listen n1 go h log Capture => Some(Page) Syntax
+p listen n1 g/o h log => Some(Page) Syntax
+p listen n1 "go" h log => Some(Page) Syntax
+p unlisten n1 go => Some(Page) Syntax
+p unlisten n1 go h log => Some(Page) Syntax
+p unlisten n1 go h capture capture => Some(Page) Syntax
+p dispatch n1 => Some(Page) Syntax
+p dispatch n0 e composed bubbles => Some(Page) Syntax
+p dispatch n0 e bubbles bubbles => Some(Page) Syntax
+p dispatch n0 e related => Some(Page) Syntax
+p dispatch n0 e related n1 n2 => Some(Page) Syntax
+p dispatch n0 e related n1 bubbles => Some(Page) Syntax
+p dispatch n0 e n1 => Some(Page) Syntax
+p observer o0 => Some(Page) Syntax
+p observe o0 => Some(Page) Syntax
+p observe n1 o0 => Some(Page) Syntax
+p observe o0 n1 attributes childList => Some(Page) Syntax
+p observe o0 n1 childlist => Some(Page) Syntax
+p observe o0 n1 filter= => Some(Page) Syntax
+p observe o0 n1 filter=a, => Some(Page) Syntax
+p observe o0 n1 filter=1 => Some(Page) Syntax
+p observe o0 n1 filter=a subtree => Some(Page) Syntax
+p observe o0 n1 filter=a filter=b => Some(Page) Syntax
+p disconnect => Some(Page) Syntax
+p take r0 => Some(Page) Syntax
+p micro => Some(Page) Syntax
+p micro a b => Some(Page) Syntax
+p micro a/b => Some(Page) Syntax
+p micro "a" => Some(Page) Syntax
+p . . => Some(Page) Syntax
+p micro AAAAAAAAAAAAAAAAAAAAAAAAAAAAAAAAAAAAAAAAAAAAAAAAAAAAAAAAAAAAAAAAA => Some(Page) Syntax
+p listen n1 aaaaaaaaaaaaaaaaaaaaaaaaaaaaaaaaaaaaaaaaaaaaaaaaaaaaaaaaaaaaaaaaa h log => Some(Page) Syntax"#;
+
+/// Lines that begin with no owner's word and a space.
+pub const NO_OWNER: &str = r#" => None Syntax
+p => None Syntax
+c1 => None Syntax
+P . => None Syntax
+ p . => None Syntax
+pp . => None Syntax
+c . => None Syntax
+c0 . => None Syntax
+c01 . => None Syntax
+c1234567890 . => None Syntax
+d1 . => None Syntax
+"p" . => None Syntax
+. => None Syntax
+n0 => None Syntax
+c1: . => None Syntax"#;

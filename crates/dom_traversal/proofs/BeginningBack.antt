@@ -1,0 +1,107 @@
+-- Where a walker's searches for the last child and the previous sibling begin, and what they look for.
+use Rattle.std.proofs.Common.{◌≡◌, inl, inr, ℕ, ◌<◌, Bool, true, false, not, ◌&&◌, List, [], ◌∷◌, ◌++◌, length, Option, Some, None, refl, sym, ap, subst, ◌∙◌}
+use Rattle.std.specs.Prelude.{filter}
+use Rattle.std.specs.Option.{option_map, ForSome}
+use Rattle.std.proofs.lemmas.Bool.{and_right}
+use Rattle.dom_base.specs.declared.NodeName.{NodeName}
+use Rattle.dom_base.specs.declared.Move.TheVariants as moves
+use Rattle.dom_model.specs.Names.{name_eq, last_of}
+use Rattle.dom_model.specs.Traversal.{Walker, walker_children, walker_siblings, walker_step, walker_move, sibling_top}
+use Rattle.dom_model.specs.Tree.{Trees, inclusive_ancestors, ancestors, children_of, inclusive_descendants}
+use Rattle.dom_tree.specs.Forest.{NamedTrees, name_at}
+use Rattle.dom_traversal.specs.Walkers.{KeyedWalker, walker_view, is_opened, is_reached, is_candidate, stop_above, stop_of, StepsBehind, BeginsBackward}
+use Rattle.dom_traversal.specs.Within.{ahead_of, up_to_tree, StandsBelow}
+use Rattle.dom_traversal.proofs.Lists.{In, In-left, In-right, is_in-from, In-from, name_eq-from, name_eq-other, not_before, last_split, filter-no, filter-same}
+use Rattle.dom_traversal.proofs.Order.{IsWithin, here, below}
+use Rattle.dom_traversal.proofs.Steps.{within-itself, top_places, last_child, no_last_child}
+use Rattle.dom_traversal.proofs.Counts.{above-within}
+use Rattle.dom_traversal.proofs.Opening.{above-proper, all-from}
+use Rattle.dom_traversal.proofs.Stops.{IsBelow, within-below, other-below}
+use Rattle.dom_traversal.proofs.Reaching.{opened-above}
+use Rattle.dom_traversal.proofs.ReachingBack.{steps-filter}
+use Rattle.dom_traversal.proofs.Candidates.{children-reached, below-member}
+use Rattle.dom_traversal.proofs.Nested.{siblings-ahead}
+use Rattle.dom_traversal.proofs.Beginning.{move-step, place_of_child}
+
+-- ---- the last child
+
+module _ (ts : Trees) (w : Walker) (at : IsWithin ts w.current w.current) where
+  -- among the nodes of the current one's tree
+  in_tree : filter (is_candidate ts w w.current) (inclusive_descendants ts w.current) ≡ walker_children ts w
+  in_tree =
+      ap (filter (is_candidate ts w w.current)) (here ts w.current w.current at)
+      ∙ (filter-no (is_candidate ts w w.current) w.current (below ts w.current) (and_right (is_reached ts w w.current) _ (ap not (name_eq-from w.current w.current refl)))
+      ∙ (filter-same (is_candidate ts w w.current) (is_reached ts w) (below ts w.current) (λ y i. chosen y (name_eq-other y w.current (other-below ts w.current y (below-member ts w.current y at i))))
+      ∙ sym (children-reached ts w at)))
+    where
+      and_true : (t : Bool) → (t && true) ≡ t
+      and_true true = refl
+      and_true false = refl
+
+      chosen : (y : NodeName) → name_eq y w.current ≡ false → is_candidate ts w w.current y ≡ is_reached ts w y
+      chosen y e = ap (λ t. is_reached ts w y && not t) e ∙ and_true (is_reached ts w y)
+
+  -- where the last child stands
+  place_of_last : (c : NodeName) → last_of (children_of ts w.current) ≡ Some c → IsBelow ts w.current c × (ancestors ts c ≡ inclusive_ancestors ts w.current) × (stop_above ts w.filter w.current c ≡ w.current)
+  place_of_last c e = let split = last_split (children_of ts w.current) c e in place_of_child ts w at c (subst (In c) (sym split.1) (In-right c split.0 (c ∷ []) (inl refl)))
+
+  -- what the search from the last child looks through
+  pub last-zone : (o : Option NodeName) → last_of (children_of ts w.current) ≡ o → filter (is_candidate ts w (stop_of ts w.filter w.current o)) (up_to_tree ts (stop_of ts w.filter w.current o) o) ≡ walker_children ts w
+  last-zone None e = sym (children-reached ts w at ∙ ap (filter (is_reached ts w)) (no_last_child ts w.current e))
+  last-zone (Some c) e =
+      let last = last_child ts w.current w.current c at e in
+      ap (λ a. filter (is_candidate ts w a) (up_to_tree ts a (Some c))) (place_of_last c e).2
+      ∙ (ap (filter (is_candidate ts w w.current)) (last.1 ∙ ap (λ xs. xs ++ inclusive_descendants ts w.current) (top_places ts w.current at).0) ∙ in_tree)
+
+-- so the search may begin at the last child
+pub Begins-last : (f : NamedTrees) (w : KeyedWalker) → IsWithin f.trees (name_at f.names w.current) (name_at f.names w.current) → (child : Option ℕ) → option_map (name_at f.names) child ≡ last_of (children_of f.trees (name_at f.names w.current)) → ForSome child (λ k. k < length f.names)
+    → ForSome child (BeginsBackward f w w.current)
+Begins-last f w at child is node = λ k e.
+    let v = walker_view f.names w in
+    let place = place_of_last f.trees v at (name_at f.names k) (sym is ∙ ap (option_map (name_at f.names)) e) in
+    record {
+      below = record { node = node k e; below = is_in-from v.current (ancestors f.trees (name_at f.names k)) (place.0).above };
+      path = all-from (is_opened f.trees v) (ancestors f.trees (name_at f.names k)) (λ a i. opened-above f.trees v a (subst (In a) place.1 i));
+      apart = λ _. sym place.2;
+    }
+
+-- the last child is found
+pub Last-found : (ts : Trees) (w : Walker) → IsWithin ts w.root w.current → (o : Option NodeName) → o ≡ last_of (children_of ts w.current)
+    → last_of (filter (is_candidate ts w (stop_of ts w.filter w.current o)) (up_to_tree ts (stop_of ts w.filter w.current o) o)) ≡ walker_move ts w moves.Last
+Last-found ts w at o is = ap last_of (last-zone ts w (within-itself ts w.root w.current at) o (sym is)) ∙ move-step ts w moves.Last (above-within ts w.root w.current at)
+
+-- ---- the previous sibling
+
+-- the search may begin at the sibling before
+pub Begins-previous : (f : NamedTrees) (w : KeyedWalker) → IsBelow f.trees (name_at f.names w.root) (name_at f.names w.current) → (from : Option ℕ)
+    → StepsBehind f.trees w.filter (stop_above f.trees w.filter (name_at f.names w.root) (name_at f.names w.current)) (name_at f.names w.current) (option_map (name_at f.names) from) → ForSome from (StandsBelow f w.root)
+    → ForSome from (λ k. stop_above f.trees w.filter (name_at f.names w.root) (name_at f.names k) ≡ stop_above f.trees w.filter (name_at f.names w.root) (name_at f.names w.current))
+    → ForSome from (λ k. (above : List NodeName) × (ancestors f.trees (name_at f.names w.current) ≡ above ++ ancestors f.trees (name_at f.names k)))
+    → ForSome from (BeginsBackward f w w.root)
+Begins-previous f w b from s below same path = λ k e.
+    let v = walker_view f.names w in
+    let stop = sibling_top f.trees v in
+    let to = subst (λ o. StepsBehind f.trees w.filter stop v.current (option_map (name_at f.names) o)) e s in
+    record {
+      below = below k e;
+      path = all-from (is_opened f.trees v) (ancestors f.trees (name_at f.names k)) (λ a i.
+          opened-above f.trees v a (subst (In a) (sym (above-proper f.trees v.current b.stands)) (inr (subst (In a) (sym (path k e).1) (In-right a (path k e).0 (ancestors f.trees (name_at f.names k)) i)))));
+      apart = λ i. absurd (not_before v.current (inclusive_descendants f.trees stop) (subst (In v.current) (sym to.split) (In-left v.current (up_to_tree f.trees stop (Some (name_at f.names k))) to.passed
+          (subst (λ a. In v.current (up_to_tree f.trees a (Some (name_at f.names k)))) (same k e) (In-from v.current (up_to_tree f.trees (stop_above f.trees w.filter v.root (name_at f.names k)) (Some (name_at f.names k))) i)))));
+    }
+
+-- the previous sibling is found
+pub PreviousSibling-found : (ts : Trees) (w : Walker) → IsBelow ts w.root w.current → (o : Option NodeName) → StepsBehind ts w.filter (sibling_top ts w) w.current o
+    → ((y : NodeName) → o ≡ Some y → stop_above ts w.filter w.root y ≡ sibling_top ts w)
+    → last_of (filter (is_candidate ts w (stop_of ts w.filter w.root o)) (up_to_tree ts (stop_of ts w.filter w.root o) o)) ≡ walker_move ts w moves.PreviousSibling
+PreviousSibling-found ts w b o s same =
+    ap last_of (zone o same ∙ (sym (steps-filter ts w (sibling_top ts w) w.current o s) ∙ sym (siblings-ahead ts w b)))
+    ∙ (not_root (name_eq-other w.current w.root (other-below ts w.root w.current b)) ∙ move-step ts w moves.PreviousSibling (above-within ts w.root w.current (within-below ts w.root w.current b)))
+  where
+    zone : (q : Option NodeName) → ((y : NodeName) → q ≡ Some y → stop_above ts w.filter w.root y ≡ sibling_top ts w)
+        → filter (is_candidate ts w (stop_of ts w.filter w.root q)) (up_to_tree ts (stop_of ts w.filter w.root q) q) ≡ filter (is_candidate ts w (sibling_top ts w)) (up_to_tree ts (sibling_top ts w) q)
+    zone None h = refl
+    zone (Some y) h = ap (λ a. filter (is_candidate ts w a) (up_to_tree ts a (Some y))) (h y refl)
+
+    not_root : name_eq w.current w.root ≡ false → last_of (walker_siblings ts w (ahead_of ts w.root w.current)) ≡ walker_step ts w moves.PreviousSibling
+    not_root e = rw e refl

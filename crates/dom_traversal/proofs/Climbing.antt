@@ -1,0 +1,96 @@
+-- Steps aside and up by keys, within the tree of a node.
+use Rattle.std.proofs.Common.{◌≡◌, ℕ, ◌<◌, true, false, ◌++◌, length, Option, Some, None, refl, sym, ap, ◌∙◌, arith, true≢false, not, eqb}
+use Rattle.std.specs.Prelude.{is_some}
+use Rattle.std.specs.Option.{option_map, ForSome}
+use Rattle.std.proofs.lemmas.Bool.{not-true, eq-eqb, both_ways}
+use Rattle.dom_base.specs.declared.NodeName.{NodeName}
+use Rattle.dom_model.specs.Names.{first_of}
+use Rattle.dom_model.specs.Tree.{Trees, parent_of, next_sibling, inclusive_ancestors}
+use Rattle.dom_tree.specs.Forest.{NamedTrees, name_at}
+use Rattle.dom_traversal.specs.Within.{beyond, StandsIn}
+use Rattle.dom_traversal.proofs.Shapes.{above-parent}
+use Rattle.dom_traversal.proofs.Order.{IsWithin, stands_in, here}
+use Rattle.dom_traversal.proofs.Steps.{within-parent, within-root, next_places, no_next}
+use Rattle.dom_traversal.proofs.Counts.{StandOnce, StandAlone, above-within}
+use Rattle.dom_traversal.proofs.Searching.{IsWithin-key, StandsIn-found}
+
+-- the names tell the nodes apart
+abbrev pub TellApart : NamedTrees → Type 0
+TellApart f = (j k : ℕ) → j < length f.names → k < length f.names → name_at f.names j ≡ name_at f.names k → j ≡ k
+
+-- an option that is not there
+pub was_none : {X : Type 0} (o : Option X) → is_some o ≡ false → o ≡ None
+was_none None e = refl
+was_none (Some x) e = absurd (true≢false e)
+
+-- an option that is there
+pub was_some : {X : Type 0} (o : Option X) → is_some o ≡ true → (x : X) × (o ≡ Some x)
+was_some None e = absurd (true≢false (sym e))
+was_some (Some x) e = (x, refl)
+
+-- an option that is no value
+pub none_left : {X : Type 0} (o : Option X) → ((x : X) → o ≡ Some x → ⊥) → o ≡ None
+none_left None never = refl
+none_left (Some x) never = absurd (never x refl)
+
+-- the next sibling is the first node beyond
+first-tree : (ts : Trees) (top x s : NodeName) → IsWithin ts top x → (x ≡ top → ⊥) → next_sibling ts x ≡ Some s → first_of (beyond ts top x) ≡ Some s
+first-tree ts top x s w other e =
+    let is = next_places ts top x s w other e in
+    ap first_of (is.1 ∙ ap (λ xs. xs ++ beyond ts top s) (here ts top s is.0))
+
+-- a step aside goes to what is beyond a node
+pub next_step : (f : NamedTrees) → StandOnce f → StandAlone f → (top k : ℕ) (next : Option ℕ) → StandsIn f top k → (name_at f.names k ≡ name_at f.names top → ⊥)
+    → option_map (name_at f.names) next ≡ next_sibling f.trees (name_at f.names k) → ForSome next (λ j. j < length f.names) → is_some next ≡ true
+    → (option_map (name_at f.names) next ≡ first_of (beyond f.trees (name_at f.names top) (name_at f.names k))) × ForSome next (StandsIn f top)
+next_step f once only top k next s other is node some =
+    let w = IsWithin-key f once only top k s in
+    let found = was_some next some in
+    let named : option_map (name_at f.names) next ≡ Some (name_at f.names found.0) = ap (option_map (name_at f.names)) found.1 in (
+      named ∙ sym (first-tree f.trees (name_at f.names top) (name_at f.names k) (name_at f.names found.0) w other (sym is ∙ named)),
+      StandsIn-found f top next _ is node (λ y e. (next_places f.trees (name_at f.names top) (name_at f.names k) y w other e).0),
+    )
+
+-- a step up, by itself
+pub parent_step : (f : NamedTrees) → StandOnce f → StandAlone f → (top k p : ℕ) → StandsIn f top k → (name_at f.names k ≡ name_at f.names top → ⊥) → Some (name_at f.names p) ≡ parent_of f.trees (name_at f.names k) → p < length f.names
+    → StandsIn f top p × (length (inclusive_ancestors f.trees (name_at f.names p)) < length (inclusive_ancestors f.trees (name_at f.names k)))
+parent_step f once only top k p s other up node =
+    let w = IsWithin-key f once only top k s in
+    let longer = (above-parent f.trees (name_at f.names k) (name_at f.names p) w.once (stands_in f.trees (name_at f.names top) (name_at f.names k) w) (sym up)).0 in (
+      record { node = node; within = above-within f.trees (name_at f.names top) (name_at f.names p) (within-parent f.trees (name_at f.names top) (name_at f.names k) (name_at f.names p) w other (sym up)) },
+      omega (arith, ap (length {A = NodeName}) longer),
+    )
+
+-- a step up, where there is no node aside
+pub record Climbs (f : NamedTrees) (top k p : ℕ) : Type 0 where
+  pub stands : StandsIn f top p
+  pub beyond_is : beyond f.trees (name_at f.names top) (name_at f.names k) ≡ beyond f.trees (name_at f.names top) (name_at f.names p)
+  pub higher : length (inclusive_ancestors f.trees (name_at f.names p)) < length (inclusive_ancestors f.trees (name_at f.names k))
+
+-- the parent then has the same nodes beyond
+pub climb_step : (f : NamedTrees) → StandOnce f → StandAlone f → (top k p : ℕ) (next up : Option ℕ) → StandsIn f top k → (name_at f.names k ≡ name_at f.names top → ⊥)
+    → option_map (name_at f.names) next ≡ next_sibling f.trees (name_at f.names k) → is_some next ≡ false
+    → option_map (name_at f.names) up ≡ parent_of f.trees (name_at f.names k) → up ≡ Some p → p < length f.names → Climbs f top k p
+climb_step f once only top k p next up s other next_is none_left up_is found node =
+    let w = IsWithin-key f once only top k s in
+    let parent : Some (name_at f.names p) ≡ parent_of f.trees (name_at f.names k) = sym (ap (option_map (name_at f.names)) found) ∙ up_is in
+    let step = parent_step f once only top k p s other parent node in
+    record {
+      stands = step.0;
+      beyond_is = no_next f.trees (name_at f.names top) (name_at f.names k) (name_at f.names p) w other (sym parent) (sym next_is ∙ ap (option_map (name_at f.names)) (was_none next none_left));
+      higher = step.1;
+    }
+
+-- only the top has no node above it
+pub climb_ends : (f : NamedTrees) → StandOnce f → StandAlone f → (top k : ℕ) (up : Option ℕ) → StandsIn f top k → (name_at f.names k ≡ name_at f.names top → ⊥)
+    → option_map (name_at f.names) up ≡ parent_of f.trees (name_at f.names k) → up ≡ None → ⊥
+climb_ends f once only top k up s other up_is e =
+    within-root f.trees (name_at f.names top) (name_at f.names k) (IsWithin-key f once only top k s) other (sym up_is ∙ ap (option_map (name_at f.names)) e)
+
+-- two keys that differ have names that differ
+pub other_name : (f : NamedTrees) → TellApart f → (j k : ℕ) → j < length f.names → k < length f.names → not (eqb j k) ≡ true → name_at f.names j ≡ name_at f.names k → ⊥
+other_name f apart j k at_j at_k e same = both_ways _ (not-true _ e) (eq-eqb j k (apart j k at_j at_k same))
+
+-- the same by the test that they are equal
+pub other_key : (f : NamedTrees) → TellApart f → (j k : ℕ) → j < length f.names → k < length f.names → eqb j k ≡ false → name_at f.names j ≡ name_at f.names k → ⊥
+other_key f apart j k at_j at_k e = other_name f apart j k at_j at_k (ap not e)

@@ -1,0 +1,20 @@
+use Rattle.std.proofs.Common.{◌≡◌, ◌<◌, ◌++◌, List, length, true, Some}
+use Rattle.std.specs.List.{list_all}
+use Rattle.dom_base.specs.declared.NodeName.{NodeName}
+use Rattle.dom_model.specs.Tree.{ancestors, inclusive_descendants, is_inclusive_ancestor}
+use Rattle.dom_tree.specs.Forest.{name_at}
+use Rattle.dom_traversal.specs.Filters.{filter_of}
+use Rattle.dom_traversal.specs.Walkers.{is_entered}
+use Rattle.dom_traversal.specs.Within.{up_to_tree}
+use Rattle.dom_traversal.proofs.filter.Filter.lowest.Given as goal
+
+abbrev pub invariant-loop-at : goal.invariant-loop-at
+invariant-loop-at l = record {
+  node : l.at < length l.forest.names;
+  within : (top : NodeName) → is_inclusive_ancestor l.forest.trees top (name_at l.forest.names l.fn.key) ≡ true → is_inclusive_ancestor l.forest.trees top (name_at l.forest.names l.at) ≡ true;
+  tree : (top : NodeName) → is_inclusive_ancestor l.forest.trees top (name_at l.forest.names l.fn.key) ≡ true → up_to_tree l.forest.trees top (Some (name_at l.forest.names l.at)) ≡ up_to_tree l.forest.trees top (Some (name_at l.forest.names l.fn.key));
+  path : (between : List NodeName) × (ancestors l.forest.trees (name_at l.forest.names l.at) ≡ between ++ ancestors l.forest.trees (name_at l.forest.names l.fn.key)) × (list_all (is_entered l.forest.trees (filter_of l.self) l.through) between ≡ true);
+}
+
+abbrev pub decreases-loop-at : goal.decreases-loop-at
+decreases-loop-at l = length (inclusive_descendants l.forest.trees (name_at l.forest.names l.at))

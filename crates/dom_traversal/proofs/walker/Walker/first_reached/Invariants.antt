@@ -1,0 +1,18 @@
+use Rattle.std.proofs.Common.{length}
+use Rattle.std.specs.Option.{option_map}
+use Rattle.dom_tree.specs.Forest.{name_at}
+use Rattle.dom_traversal.specs.Filters.{filter_of}
+use Rattle.dom_traversal.specs.Walkers.{KeyedWalker}
+use Rattle.dom_traversal.specs.Within.{from_node}
+use Rattle.dom_traversal.proofs.Reaching.{Reaches, stop_from}
+use Rattle.dom_traversal.proofs.walker.Walker.first_reached.Given as goal
+
+abbrev pub invariant-loop-at : goal.invariant-loop-at
+invariant-loop-at l =
+    let w : KeyedWalker = record { root = l.self-inside.root; current = l.self-inside.current; filter = filter_of l.self-inside.filter } in
+    Reaches l.forest w l.top l.initial.at l.at
+
+abbrev pub decreases-loop-at : goal.decreases-loop-at
+decreases-loop-at l =
+    let w : KeyedWalker = record { root = l.self-inside.root; current = l.self-inside.current; filter = filter_of l.self-inside.filter } in
+    length (from_node l.forest.trees (stop_from l.forest w l.top l.initial.at) (option_map (name_at l.forest.names) l.at))

@@ -1,0 +1,19 @@
+use Rattle.std.proofs.Common.{length}
+use Rattle.std.specs.Option.{option_map}
+use Rattle.dom_tree.specs.Forest.{name_at}
+use Rattle.dom_traversal.specs.Filters.{filter_of}
+use Rattle.dom_traversal.specs.Walkers.{KeyedWalker}
+use Rattle.dom_traversal.specs.Within.{up_to_tree}
+use Rattle.dom_traversal.proofs.Reaching.{stop_from}
+use Rattle.dom_traversal.proofs.ReachingBack.{ReachesBack}
+use Rattle.dom_traversal.proofs.walker.Walker.last_reached.Given as goal
+
+abbrev pub invariant-loop-at : goal.invariant-loop-at
+invariant-loop-at l =
+    let w : KeyedWalker = record { root = l.self-inside.root; current = l.self-inside.current; filter = filter_of l.self-inside.filter } in
+    ReachesBack l.forest w l.top l.initial.at l.at
+
+abbrev pub decreases-loop-at : goal.decreases-loop-at
+decreases-loop-at l =
+    let w : KeyedWalker = record { root = l.self-inside.root; current = l.self-inside.current; filter = filter_of l.self-inside.filter } in
+    length (up_to_tree l.forest.trees (stop_from l.forest w l.top l.initial.at) (option_map (name_at l.forest.names) l.at))

@@ -1,0 +1,18 @@
+use Rattle.std.proofs.Common.{◌≡◌, length}
+use Rattle.std.specs.Option.{option_map, ForSome}
+use Rattle.dom_model.specs.Names.{last_of}
+use Rattle.dom_model.specs.Traversal.{walker_nodes}
+use Rattle.dom_tree.specs.Forest.{name_at}
+use Rattle.dom_traversal.specs.Walkers.{walker_view, ComesBack}
+use Rattle.dom_traversal.specs.Within.{ahead_of, up_to_node}
+use Rattle.dom_traversal.proofs.walker.Walker.previous_node.Given as goal
+
+abbrev pub invariant-loop-at : goal.invariant-loop-at
+invariant-loop-at l = record {
+  comes : ForSome l.at (ComesBack l.forest l.self);
+  left : last_of (walker_nodes l.forest.trees (walker_view l.forest.names l.self) (up_to_node l.forest.trees (name_at l.forest.names l.self.root) (option_map (name_at l.forest.names) l.at)))
+      ≡ last_of (walker_nodes l.forest.trees (walker_view l.forest.names l.self) (ahead_of l.forest.trees (name_at l.forest.names l.self.root) (name_at l.forest.names l.self.current)));
+}
+
+abbrev pub decreases-loop-at : goal.decreases-loop-at
+decreases-loop-at l = length (up_to_node l.forest.trees (name_at l.forest.names l.self.root) (option_map (name_at l.forest.names) l.at))

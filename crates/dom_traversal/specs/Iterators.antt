@@ -1,0 +1,39 @@
+-- What a contract sees of an `Iter`: a node iterator with keys in place of names.
+use Rattle.std.specs.Prelude.{◌≡◌, ℕ, ◌<◌, Bool, false, List, length, Option, Some, None}
+use Rattle.dom_base.specs.declared.NodeName.{NodeName}
+use Rattle.dom_model.specs.Command.{Filter}
+use Rattle.dom_model.specs.Traversal.{Iterator}
+use Rattle.dom_model.specs.Tree.{is_inclusive_ancestor}
+use Rattle.dom_model.specs.TreeChanges.{taken_out}
+use Rattle.dom_tree.specs.Forest.{NamedTrees, name_at}
+use Rattle.dom_traversal.specs.Within.{StandsIn}
+
+-- an iterator by keys
+pub record KeyedIterator : Type 0 where
+  pub root : ℕ
+  pub reference : ℕ
+  pub before : Bool
+  pub filter : Filter
+
+-- the same iterator with the names of its nodes
+abbrev pub iterator_view : List NodeName → KeyedIterator → Iterator
+iterator_view names i = record { root = name_at names i.root; reference = name_at names i.reference; before = i.before; filter = i.filter }
+
+-- its root and its reference are nodes, and the reference is an inclusive descendant of the root
+pub record IsIteratorOf (f : NamedTrees) (i : KeyedIterator) : Type 0 where
+  pub root : i.root < length f.names
+  pub reference : StandsIn f i.root i.reference
+
+-- the iterator at a node, if there is one
+abbrev pub iterator_at : KeyedIterator → Bool → Option ℕ → KeyedIterator
+iterator_at i before None = i
+iterator_at i before (Some k) = record i { reference = k; before = before }
+
+-- its reference is not in a node's tree, unless its root is
+abbrev pub HasLeft : NamedTrees → KeyedIterator → ℕ → Type 0
+HasLeft f i node =
+    is_inclusive_ancestor f.trees (name_at f.names node) (name_at f.names i.root) ≡ false → is_inclusive_ancestor f.trees (name_at f.names node) (name_at f.names i.reference) ≡ false
+
+-- the same nodes with the tree of one of them taken out
+abbrev pub with_taken_out : NamedTrees → ℕ → NamedTrees
+with_taken_out f node = record { names = f.names; trees = taken_out (name_at f.names node) f.trees }

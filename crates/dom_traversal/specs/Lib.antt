@@ -1,0 +1,4 @@
+pub mod Filters
+pub mod Within
+pub mod Iterators
+pub mod Walkers

@@ -1,0 +1,15 @@
+//! Node iterators and tree walkers: cursors over the nodes of a forest (DOM Standard, 6 Traversal).
+#![tactic(auto)]
+
+mod filter;
+mod iter;
+mod search;
+mod siblings;
+mod walker;
+
+pub use filter::Filter;
+pub use iter::{Iter, iterators_stay};
+pub use walker::Walker;
+
+#[cfg(test)]
+mod tests;

@@ -1,0 +1,94 @@
+//! Searches among the nodes that stand in the place of the siblings of a node, or of the children of a node: those that are
+//! accepted and reached through skipped nodes alone.
+ghost use Rattle.std.specs.Prelude.{◌≡◌, ◌<◌, ◌++◌, List, length, false};
+ghost use Rattle.std.specs.Option.{option_map, ForSome};
+ghost use Rattle.dom_model.specs.Names.{first_of, last_of};
+ghost use Rattle.dom_model.specs.Traversal.{accepts};
+ghost use Rattle.dom_base.specs.declared.NodeName.{NodeName as Name};
+ghost use Rattle.dom_model.specs.Tree.{ancestors};
+ghost use Rattle.dom_tree.specs.Forest.{name_at};
+ghost use Rattle.dom_traversal.specs.Filters.{filter_of};
+ghost use Rattle.dom_traversal.specs.Walkers.{is_stop, stop_above, StepsBehind};
+ghost use Rattle.dom_traversal.specs.Within.{behind, beyond, StandsBelow};
+
+use crate::filter::Filter;
+use dom_tree::Forest;
+use node_arena::Key;
+
+impl Filter {
+    /// The first node behind a node and all that is below it, in the tree of the nearest node above it that is accepted or
+    /// is `top`.
+    pub(crate) fn aside(&self, forest: &Forest, key: Key, top: Key) -> Option<Key>
+        requires top_is_node { top < length forest.now.names }
+        requires below { StandsBelow forest.now top key }
+        ensures value { option_map (name_at forest.now.names) result ≡ first_of (beyond forest.now.trees (stop_above forest.now.trees (filter_of self.now) (name_at forest.now.names top) (name_at forest.now.names key)) (name_at forest.now.names key)) }
+        ensures below { ForSome result (StandsBelow forest.now top) }
+        ensures stop { ForSome result (λ k. stop_above forest.now.trees (filter_of self.now) (name_at forest.now.names top) (name_at forest.now.names k) ≡ stop_above forest.now.trees (filter_of self.now) (name_at forest.now.names top) (name_at forest.now.names key)) }
+    {
+        forest.nodes_stand_once();
+        let mut at = key;
+        'up: loop {
+            let next = forest.next(at);
+            if next.is_some() {
+                return next;
+            }
+            let parent = forest.parent(at)?;
+            if self.is_stop(forest, parent, top) {
+                return None;
+            }
+            at = parent;
+        }
+    }
+
+    /// The first child of a skipped node, and the node aside of one without children.
+    pub(crate) fn onward(&self, forest: &Forest, key: Key, top: Key) -> Option<Key>
+        requires top_is_node { top < length forest.now.names }
+        requires below { StandsBelow forest.now top key }
+        requires skipped { accepts forest.now.trees (filter_of self.now) (name_at forest.now.names key) ≡ false }
+        ensures value { option_map (name_at forest.now.names) result ≡ first_of (behind forest.now.trees (stop_above forest.now.trees (filter_of self.now) (name_at forest.now.names top) (name_at forest.now.names key)) (name_at forest.now.names key)) }
+        ensures below { ForSome result (StandsBelow forest.now top) }
+        ensures stop { ForSome result (λ k. stop_above forest.now.trees (filter_of self.now) (name_at forest.now.names top) (name_at forest.now.names k) ≡ stop_above forest.now.trees (filter_of self.now) (name_at forest.now.names top) (name_at forest.now.names key)) }
+    {
+        forest.nodes_stand_once();
+        let child = forest.first(key);
+        if child.is_some() {
+            return child;
+        }
+        self.aside(forest, key, top)
+    }
+
+    /// The last node of the tree before a node, in the tree of the nearest node above it that is accepted or is `top`: the
+    /// sibling before the node, or before the nearest node above it that has one.
+    pub(crate) fn aback(&self, forest: &Forest, key: Key, top: Key) -> Option<Key>
+        requires top_is_node { top < length forest.now.names }
+        requires below { StandsBelow forest.now top key }
+        ensures value { StepsBehind forest.now.trees (filter_of self.now) (stop_above forest.now.trees (filter_of self.now) (name_at forest.now.names top) (name_at forest.now.names key)) (name_at forest.now.names key) (option_map (name_at forest.now.names) result) }
+        ensures below { ForSome result (StandsBelow forest.now top) }
+        ensures stop { ForSome result (λ k. stop_above forest.now.trees (filter_of self.now) (name_at forest.now.names top) (name_at forest.now.names k) ≡ stop_above forest.now.trees (filter_of self.now) (name_at forest.now.names top) (name_at forest.now.names key)) }
+        ensures path { ForSome result (λ k. (above : List Name) × (ancestors forest.now.trees (name_at forest.now.names key) ≡ above ++ ancestors forest.now.trees (name_at forest.now.names k))) }
+    {
+        forest.nodes_stand_once();
+        let mut at = key;
+        'up: loop {
+            let previous = forest.prev(at);
+            if previous.is_some() {
+                return previous;
+            }
+            let parent = forest.parent(at)?;
+            if self.is_stop(forest, parent, top) {
+                return None;
+            }
+            at = parent;
+        }
+    }
+
+    /// Whether a node is accepted or is `top`.
+    fn is_stop(&self, forest: &Forest, key: Key, top: Key) -> bool
+        requires key_is_node { key < length forest.now.names }
+        requires top_is_node { top < length forest.now.names }
+        ensures { result ≡ is_stop forest.now.trees (filter_of self.now) (name_at forest.now.names top) (name_at forest.now.names key) }
+    {
+        forest.nodes_stand_once();
+        self.accepts(forest, key) || key == top
+    }
+}

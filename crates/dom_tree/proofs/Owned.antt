@@ -1,0 +1,298 @@
+-- An owner's own trees: what they hold, and that reads of an owner's nodes are reads of its own trees.
+use Rattle.std.proofs.Common.{◌≡◌, inl, inr, Bool, true, false, not, cond, ◌||◌, List, [], ◌∷◌, ◌++◌, drop, Option, Some, None, unwrap_or, refl, sym, ap, subst, ◌∙◌, true≢false}
+use Rattle.std.specs.Prelude.{find, length}
+use Rattle.std.specs.List.{AllByRecursion, last_or}
+use Rattle.std.specs.Option.{ForSome, option_map_or, option_or}
+use Rattle.std.proofs.lemmas.Bool.{and_left, or_from, or_cases, cases_Bool}
+use Rattle.std.proofs.lemmas.List.{map-append}
+use Rattle.std.proofs.lemmas.Option.{same_Some, none-some}
+use Rattle.std.proofs.lemmas.List.Folds.{find-append}
+use Rattle.dom_base.specs.declared.Owner.{Owner}
+use Rattle.dom_base.specs.declared.NodeName.{NodeName}
+use Rattle.dom_model.specs.Names.{owner_eq, name_eq, is_in, first_of, last_of, items_before, items_after}
+use Rattle.dom_model.specs.Tree.{Trees, none, tree, Node, nodes, roots, names_of, node_in, no_node, kind_of, attribute_value, subtree, or_else, trees_below, on_top, inclusive_ancestors, is_inclusive_ancestor, inclusive_descendants, child_nodes, children_of, parent_of, siblings, has_data}
+use Rattle.dom_model.specs.Validity.{first_refusal, placing_tests, has_parent, without_given, breaks_document, insertion_refusal, replacement_refusal}
+use Rattle.dom_model.proofs.OwnerLaws.{owner_eq-true}
+use Rattle.dom_tree.specs.Owners.{trees_of_owner, AreOf, HaveOwners, NoneBefore, AreInOrder, AreOwned, IsReadOwn, StaysOwn}
+use Rattle.dom_tree.proofs.Names.{name_eq-true}
+use Rattle.dom_tree.proofs.Reach.{reaches, has_node-reaches, subtree-none, inclusive_ancestors-none, find-none}
+
+-- ---- the trees
+
+-- trees of one owner are trees with owners
+pub HaveOwners-one : (o : Owner) (ts : Trees) → AreOf o ts → HaveOwners ts
+HaveOwners-one o none of = tt
+HaveOwners-one o (tree n c r) of = (subst (λ (p : Owner). AreOf p c) (sym of.0) of.1, HaveOwners-one o r of.2)
+
+-- an owner's own trees are the owner's
+pub AreOf-own : (o : Owner) (ts : Trees) → HaveOwners ts → AreOf o (trees_of_owner o ts)
+AreOf-own o none have = tt
+AreOf-own o (tree n c r) have = elim (cases_Bool (owner_eq n.name.owner o)) [
+  | inl e ↦ let is = owner_eq-true n.name.owner o e in rw e (is, subst (λ (p : Owner). AreOf p c) is have.0, AreOf-own o r have.1)
+  | inr e ↦ rw e (AreOf-own o r have.1)
+]
+
+-- no owner's tree comes earlier among its own than among all
+NoneBefore-own : (o : Owner) (x : NodeName) (ts : Trees) → NoneBefore x ts → NoneBefore x (trees_of_owner o ts)
+NoneBefore-own o x none off = tt
+NoneBefore-own o x (tree n c r) off = elim (cases_Bool (owner_eq n.name.owner o)) [
+  | inl e ↦ rw e (off.0, NoneBefore-own o x r off.1)
+  | inr e ↦ rw e (NoneBefore-own o x r off.1)
+]
+
+-- an owner's own trees stand in order
+AreInOrder-own : (o : Owner) (ts : Trees) → AreInOrder ts → AreInOrder (trees_of_owner o ts)
+AreInOrder-own o none order = tt
+AreInOrder-own o (tree n c r) order = elim (cases_Bool (owner_eq n.name.owner o)) [
+  | inl e ↦ rw e (NoneBefore-own o n.name r order.0, AreInOrder-own o r order.1)
+  | inr e ↦ rw e (AreInOrder-own o r order.1)
+]
+
+-- an owner's own trees are trees of all owners, and the owner's
+pub own_trees : (ts : Trees) → AreOwned ts → (o : Owner) → AreOwned (trees_of_owner o ts) × AreOf o (trees_of_owner o ts)
+own_trees ts owned o =
+    let of = AreOf-own o ts owned.owners in
+    (record { owners = HaveOwners-one o (trees_of_owner o ts) of; order = AreInOrder-own o ts owned.order }, of)
+
+-- ---- the reads
+
+-- a node of one owner has no name of another one
+pub name_apart : (o p : Owner) → owner_eq p o ≡ false → (x y : NodeName) → x.owner ≡ o → y.owner ≡ p → name_eq y x ≡ false
+name_apart o p apart x y of_x of_y = and_left (owner_eq y.owner x.owner) _ (rw (of_x, of_y) apart)
+
+-- so it is not among the other's
+reaches-apart : (o p : Owner) → owner_eq p o ≡ false → (x : NodeName) → x.owner ≡ o → (ts : Trees) → AreOf p ts → reaches ts x ≡ false
+reaches-apart o p apart x is none of = refl
+reaches-apart o p apart x is (tree n c r) of =
+    or_from (name_eq n.name x) _ (name_apart o p apart x n.name is of.0)
+    (or_from (reaches c x) _ (reaches-apart o p apart x is c of.1) (reaches-apart o p apart x is r of.2))
+
+-- the tree of an owner's node, alone
+subtree-own : (o : Owner) (x : NodeName) → x.owner ≡ o → (ts : Trees) → HaveOwners ts → subtree ts x ≡ subtree (trees_of_owner o ts) x
+subtree-own o x is none have = refl
+subtree-own o x is (tree n c r) have = elim (cases_Bool (owner_eq n.name.owner o)) [
+  | inl e ↦ rw e (ap (λ t. cond (name_eq n.name x) (tree n c none) (or_else (subtree c x) t)) (subtree-own o x is r have.1))
+  | inr e ↦ rw (e, name_apart o n.name.owner e x n.name is refl, subtree-none c x (reaches-apart o n.name.owner e x is c have.0)) (subtree-own o x is r have.1)
+]
+
+-- the nodes above an owner's node
+path-own : (o : Owner) (x : NodeName) → x.owner ≡ o → (ts : Trees) → HaveOwners ts → inclusive_ancestors ts x ≡ inclusive_ancestors (trees_of_owner o ts) x
+path-own o x is none have = refl
+path-own o x is (tree n c r) have = elim (cases_Bool (owner_eq n.name.owner o)) [
+  | inl e ↦ rw e (ap (λ t. cond (name_eq n.name x) (x ∷ []) (on_top (inclusive_ancestors c x) n.name t)) (path-own o x is r have.1))
+  | inr e ↦ rw (e, name_apart o n.name.owner e x n.name is refl, inclusive_ancestors-none c x (reaches-apart o n.name.owner e x is c have.0)) (path-own o x is r have.1)
+]
+
+-- the node of a name
+find-own : (o : Owner) (x : NodeName) → x.owner ≡ o → (ts : Trees) → HaveOwners ts
+    → find (λ n. name_eq n.name x) (nodes ts) ≡ find (λ n. name_eq n.name x) (nodes (trees_of_owner o ts))
+find-own o x is none have = refl
+find-own o x is (tree n c r) have =
+    let p : Node → Bool = λ y. name_eq y.name x in
+    let split = find-append p (nodes c) in
+    elim (cases_Bool (owner_eq n.name.owner o)) [
+      | inl e ↦ rw e (ap (λ t. cond (p n) (Some n) t) (split (nodes r) ∙ (ap (option_or (find p (nodes c))) (find-own o x is r have.1) ∙ sym (split (nodes (trees_of_owner o r))))))
+      | inr e ↦ rw (e, name_apart o n.name.owner e x n.name is refl)
+          (split (nodes r) ∙ (ap (λ t. option_or t (find p (nodes r))) (find-none c x (reaches-apart o n.name.owner e x is c have.0)) ∙ find-own o x is r have.1))
+    ]
+
+-- whether a name has a node
+reaches-own : (o : Owner) (x : NodeName) → x.owner ≡ o → (ts : Trees) → HaveOwners ts → reaches ts x ≡ reaches (trees_of_owner o ts) x
+reaches-own o x is none have = refl
+reaches-own o x is (tree n c r) have = elim (cases_Bool (owner_eq n.name.owner o)) [
+  | inl e ↦ rw e (ap (λ b. name_eq n.name x || (reaches c x || b)) (reaches-own o x is r have.1))
+  | inr e ↦ rw (e, name_apart o n.name.owner e x n.name is refl, reaches-apart o n.name.owner e x is c have.0) (reaches-own o x is r have.1)
+]
+
+-- ---- what is read of an owner's trees is the owner's
+
+-- names of one owner
+abbrev AllOf : Owner → List NodeName → Type 0
+AllOf o ys = AllByRecursion (λ (y : NodeName). y.owner ≡ o) ys
+
+-- two lists of an owner's names, one after the other
+AllOf-append : (o : Owner) (xs ys : List NodeName) → AllOf o xs → AllOf o ys → AllOf o (xs ++ ys)
+AllOf-append o [] ys a b = b
+AllOf-append o (x ∷ xs) ys a b = (a.0, AllOf-append o xs ys a.1 b)
+
+-- a name in such a list is the owner's
+AllOf-in : (o : Owner) (ys : List NodeName) → AllOf o ys → (y : NodeName) → is_in name_eq y ys ≡ true → y.owner ≡ o
+AllOf-in o [] all y found = absurd (true≢false (sym found))
+AllOf-in o (z ∷ zs) all y found = elim (or_cases (name_eq y z) _ found) [
+  | inl e ↦ ap (λ (w : NodeName). w.owner) (name_eq-true y z e) ∙ all.0
+  | inr e ↦ AllOf-in o zs all.1 y e
+]
+
+-- so is the first
+AllOf-first : (o : Owner) (ys : List NodeName) → AllOf o ys → ForSome (first_of ys) (λ y. y.owner ≡ o)
+AllOf-first o [] all = λ y e. absurd (none-some y e)
+AllOf-first o (y ∷ ys) all = λ z e. subst (λ (w : NodeName). w.owner ≡ o) (same_Some y z e) all.0
+
+-- all but the first are
+AllOf-drop : (o : Owner) (ys : List NodeName) → AllOf o ys → AllOf o (drop 1 ys)
+AllOf-drop o [] all = tt
+AllOf-drop o (y ∷ ys) all = all.1
+
+-- so is the last
+AllOf-last : (o : Owner) (q : Option NodeName) (x : NodeName) (ys : List NodeName) → (unwrap_or q x).owner ≡ o → AllOf o ys → (unwrap_or (last_or q ys) x).owner ≡ o
+AllOf-last o q x [] is all = is
+AllOf-last o q x (y ∷ ys) is all = AllOf-last o (Some y) x ys all.0 all.1
+
+-- the names in an owner's trees
+AllOf-nodes : (o : Owner) (ts : Trees) → AreOf o ts → AllOf o (names_of (nodes ts))
+AllOf-nodes o none of = tt
+AllOf-nodes o (tree n c r) of =
+    (of.0, subst (AllOf o) (sym (map-append (λ (y : Node). y.name) (nodes c) (nodes r))) (AllOf-append o _ _ (AllOf-nodes o c of.1) (AllOf-nodes o r of.2)))
+
+-- the names of their roots
+AllOf-roots : (o : Owner) (ts : Trees) → AreOf o ts → AllOf o (names_of (roots ts))
+AllOf-roots o none of = tt
+AllOf-roots o (tree n c r) of = (of.0, AllOf-roots o r of.2)
+
+-- the trees of the first root's children
+AreOf-below : (o : Owner) (ts : Trees) → AreOf o ts → AreOf o (trees_below ts)
+AreOf-below o none of = tt
+AreOf-below o (tree n c r) of = of.1
+
+-- one of two lists of an owner's trees
+AreOf-or_else : (o : Owner) (ts us : Trees) → AreOf o ts → AreOf o us → AreOf o (or_else ts us)
+AreOf-or_else o none us of_ts of_us = of_us
+AreOf-or_else o (tree n c r) us of_ts of_us = of_ts
+
+-- the tree of a node among an owner's trees
+AreOf-subtree : (o : Owner) (x : NodeName) (ts : Trees) → AreOf o ts → AreOf o (subtree ts x)
+AreOf-subtree o x none of = tt
+AreOf-subtree o x (tree n c r) of = elim (cases_Bool (name_eq n.name x)) [
+  | inl e ↦ rw e (of.0, of.1, tt)
+  | inr e ↦ rw e (AreOf-or_else o (subtree c x) (subtree r x) (AreOf-subtree o x c of.1) (AreOf-subtree o x r of.2))
+]
+
+-- a path with a node on top
+AllOf-on_top : (o : Owner) (x : NodeName) (path others : List NodeName) → x.owner ≡ o → AllOf o path → AllOf o others → AllOf o (on_top path x others)
+AllOf-on_top o x [] others is all rest = rest
+AllOf-on_top o x (a ∷ path) others is all rest = AllOf-append o (a ∷ path) (x ∷ []) all (is, tt)
+
+-- the path of an owner's node in an owner's trees
+AllOf-path : (o : Owner) (x : NodeName) → x.owner ≡ o → (ts : Trees) → AreOf o ts → AllOf o (inclusive_ancestors ts x)
+AllOf-path o x is none of = tt
+AllOf-path o x is (tree n c r) of = elim (cases_Bool (name_eq n.name x)) [
+  | inl e ↦ rw e (is, tt)
+  | inr e ↦ rw e (AllOf-on_top o n.name (inclusive_ancestors c x) (inclusive_ancestors r x) of.0 (AllOf-path o x is c of.1) (AllOf-path o x is r of.2))
+]
+
+-- the tree of an owner's node is the owner's
+pub AreOf-alone : (o : Owner) (x : NodeName) → x.owner ≡ o → (ts : Trees) → HaveOwners ts → AreOf o (subtree ts x)
+AreOf-alone o x is ts have = subst (AreOf o) (sym (subtree-own o x is ts have)) (AreOf-subtree o x (trees_of_owner o ts) (AreOf-own o ts have))
+
+-- what is around an owner's node is the owner's
+pub stays_own : (ts : Trees) → AreOwned ts → (o : Owner) (x : NodeName) → x.owner ≡ o → StaysOwn o ts x
+stays_own ts owned o x is =
+    let above : AllOf o (inclusive_ancestors ts x) =
+    subst (AllOf o) (sym (path-own o x is ts owned.owners)) (AllOf-path o x is (trees_of_owner o ts) (AreOf-own o ts owned.owners)) in
+    let alone = AreOf-alone o x is ts owned.owners in
+    record {
+      path = AllOf-in o (inclusive_ancestors ts x) above;
+      inside = AllOf-in o (inclusive_descendants ts x) (AllOf-nodes o (subtree ts x) alone);
+      children = AllOf-in o (children_of ts x) (AllOf-roots o _ (AreOf-below o (subtree ts x) alone));
+      parent = AllOf-first o _ (AllOf-drop o (inclusive_ancestors ts x) above);
+      root = AllOf-last o None x (inclusive_ancestors ts x) is above;
+    }
+
+-- ---- the laws of reads
+
+-- the siblings of an owner's node, by its parent
+siblings-own : (o : Owner) (ts : Trees) → HaveOwners ts → (x : NodeName) (q : Option NodeName) → ForSome q (λ y. y.owner ≡ o)
+    → option_map_or (children_of ts) q (x ∷ []) ≡ option_map_or (children_of (trees_of_owner o ts)) q (x ∷ [])
+siblings-own o ts have x None of = refl
+siblings-own o ts have x (Some p) of = ap (λ us. names_of (roots (trees_below us))) (subtree-own o p (of p refl) ts have)
+
+-- each read of an owner's node is that of the owner's own trees
+pub read_own : (ts : Trees) → AreOwned ts → (o : Owner) (x : NodeName) → x.owner ≡ o → IsReadOwn o ts x
+read_own ts owned o x is = record {
+  node = node;
+  presence = has_node-reaches ts x ∙ (reaches-own o x is ts owned.owners ∙ sym (has_node-reaches us x));
+  alone = alone;
+  path = path;
+  parent = parent;
+  root = ap (λ ys. unwrap_or (last_of ys) x) path;
+  inside = ap (λ us. names_of (nodes us)) alone;
+  child_list = ap (λ us. roots (trees_below us)) alone;
+  children = children;
+  sibling_list = siblings_same;
+  before = ap (λ ys. last_of (items_before name_eq x ys)) siblings_same;
+  behind = ap (λ ys. first_of (items_after name_eq x ys)) siblings_same;
+  index = ap (λ ys. length (items_before name_eq x ys)) siblings_same;
+  size = ap (λ (n : Node). cond (has_data n.kind) (length n.text) (length (children_of ts x))) node
+      ∙ ap (λ ys. cond (has_data (node_in us x).kind) (length (node_in us x).text) (length ys)) children;
+  attribute = λ a. ap (λ n. attribute_value n a) node;
+}
+  where
+    us : Trees
+    us = trees_of_owner o ts
+
+    node : node_in ts x ≡ node_in us x
+    node = ap (λ q. unwrap_or q (no_node x)) (find-own o x is ts owned.owners)
+
+    alone : subtree ts x ≡ subtree us x
+    alone = subtree-own o x is ts owned.owners
+
+    path : inclusive_ancestors ts x ≡ inclusive_ancestors us x
+    path = path-own o x is ts owned.owners
+
+    parent : parent_of ts x ≡ parent_of us x
+    parent = ap (λ ys. first_of (drop 1 ys)) path
+
+    children : children_of ts x ≡ children_of us x
+    children = ap (λ vs. names_of (roots (trees_below vs))) alone
+
+    siblings_same : siblings ts x ≡ siblings us x
+    siblings_same = siblings-own o ts owned.owners x (parent_of ts x) (stays_own ts owned o x is).parent ∙ ap (λ q. option_map_or (children_of us) q (x ∷ [])) parent
+
+-- ---- validity
+
+-- the tests of an insertion among an owner's nodes
+placing-own : (ts : Trees) → AreOwned ts → (o : Owner) (parent node : NodeName) (is_lost : Bool) (others : List Node) → parent.owner ≡ o → node.owner ≡ o
+    → placing_tests ts parent node is_lost others ≡ placing_tests (trees_of_owner o ts) parent node is_lost others
+placing-own ts owned o parent node is_lost others of_parent of_node =
+    let around = read_own ts owned o parent of_parent in
+    let inside = read_own ts owned o node of_node in
+    let into : kind_of ts parent ≡ kind_of (trees_of_owner o ts) parent = ap (λ (n : Node). n.kind) around.node in
+    let kind : kind_of ts node ≡ kind_of (trees_of_owner o ts) node = ap (λ (n : Node). n.kind) inside.node in
+    let above : is_inclusive_ancestor ts node parent ≡ is_inclusive_ancestor (trees_of_owner o ts) node parent = ap (is_in name_eq node) around.path in
+    let below : child_nodes ts node ≡ child_nodes (trees_of_owner o ts) node = inside.child_list in
+    let breaks : breaks_document ts node others ≡ breaks_document (trees_of_owner o ts) node others = rw (kind, below) refl in
+    cc
+
+-- whether an owner's node has a parent
+has_parent-own : (ts : Trees) → AreOwned ts → (o : Owner) (parent x : NodeName) → x.owner ≡ o → has_parent ts parent x ≡ has_parent (trees_of_owner o ts) parent x
+has_parent-own ts owned o parent x is = ap (λ q. option_map_or (name_eq parent) q false) (read_own ts owned o x is).parent
+
+-- the refusal of an insertion among an owner's nodes
+pub insertion_own : (ts : Trees) → AreOwned ts → (o : Owner) (parent node : NodeName) (child : Option NodeName)
+    → parent.owner ≡ o → node.owner ≡ o → ForSome child (λ c. c.owner ≡ o)
+    → insertion_refusal ts parent node child ≡ insertion_refusal (trees_of_owner o ts) parent node child
+insertion_own ts owned o parent node child of_parent of_node of_child =
+    ap first_refusal (placing-own ts owned o parent node (lost ts child) (child_nodes ts parent) of_parent of_node
+    ∙ (ap (λ b. placing_tests us parent node b (child_nodes ts parent)) (same_lost child of_child)
+    ∙ ap (placing_tests us parent node (lost us child)) (read_own ts owned o parent of_parent).child_list))
+  where
+    us : Trees
+    us = trees_of_owner o ts
+
+    lost : Trees → Option NodeName → Bool
+    lost vs given = option_map_or (λ c. not (has_parent vs parent c)) given false
+
+    same_lost : (given : Option NodeName) → ForSome given (λ c. c.owner ≡ o) → lost ts given ≡ lost us given
+    same_lost None of = refl
+    same_lost (Some c) of = ap not (has_parent-own ts owned o parent c (of c refl))
+
+-- the refusal of a replacement among an owner's nodes
+pub replacement_own : (ts : Trees) → AreOwned ts → (o : Owner) (parent node child : NodeName)
+    → parent.owner ≡ o → node.owner ≡ o → child.owner ≡ o
+    → replacement_refusal ts parent node child ≡ replacement_refusal (trees_of_owner o ts) parent node child
+replacement_own ts owned o parent node child of_parent of_node of_child =
+    let us = trees_of_owner o ts in
+    let others : Trees → List Node = λ vs. without_given (Some child) (child_nodes vs parent) in
+    ap first_refusal (placing-own ts owned o parent node (not (has_parent ts parent child)) (others ts) of_parent of_node
+    ∙ (ap (λ b. placing_tests us parent node (not b) (others ts)) (has_parent-own ts owned o parent child of_child)
+    ∙ ap (λ ns. placing_tests us parent node (not (has_parent us parent child)) (without_given (Some child) ns)) (read_own ts owned o parent of_parent).child_list))

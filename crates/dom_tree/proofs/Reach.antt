@@ -1,0 +1,195 @@
+-- Each node of a forest is found in the trees, with what is above and below it.
+use Rattle.std.proofs.Common.{◌≡◌, inl, inr, ℕ, zero, suc, ◌<◌, ◌≤◌, Bool, true, false, ◌||◌, eqb, List, [], ◌∷◌, ◌++◌, map, length, Some, None, refl, sym, ap, subst, ◌∙◌, arith, true≢false, append_assoc}
+use Rattle.std.specs.Prelude.{slice_get, find}
+use Rattle.std.proofs.lemmas.Bool.{both_ways, or_cases, or_parts, or_left, or_right, cases_Bool}
+use Rattle.std.proofs.lemmas.Bool.Decides.{eqb_tells}
+use Rattle.std.specs.List.{list_any}
+use Rattle.std.proofs.lemmas.List.{map-append}
+use Rattle.std.proofs.lemmas.List.Folds.{list_any-append}
+use Rattle.std.proofs.lemmas.Option.{slice_get-get_or, get_or_from_slice_get, none-some}
+use Rattle.dom_base.specs.declared.NodeName.{NodeName}
+use Rattle.dom_model.specs.Names.{name_eq}
+use Rattle.dom_model.specs.Tree.{Trees, none, tree, Node, nodes as nodes_in, names_of, has_node, subtree, or_else, inclusive_ancestors, roots, trees_below}
+use Rattle.node_arena.specs.Nodes.{children_of, contains, parent_of, ancestors_of, IsForest}
+use Rattle.node_arena.proofs.Forests.{cases_Option, parent_within, parent_of_is, contains-parent, ancestors_of-child}
+use Rattle.node_arena.proofs.Lists.{contains-head}
+use Rattle.dom_tree.specs.Rows.{node_at}
+use Rattle.dom_tree.proofs.Names.{name_eq-turned}
+use Rattle.dom_tree.proofs.Rows.{Stands, IsNamed, same_name, name_of_key}
+
+-- a node of this name stands in the trees
+abbrev pub reaches : Trees → NodeName → Bool
+reaches none x = false
+reaches (tree n children rest) x = name_eq n.name x || (reaches children x || reaches rest x)
+
+-- a name is found in a tree as its root, below it or in the trees after it
+has_node-tree : (n : Node) (c r : Trees) (x : NodeName) → has_node (tree n c r) x ≡ (name_eq x n.name || (has_node c x || has_node r x))
+has_node-tree n c r x = ap (λ ys. name_eq x n.name || list_any (name_eq x) ys) (map-append (λ (y : Node). y.name) (nodes_in c) (nodes_in r))
+    ∙ ap (λ b. name_eq x n.name || b) (list_any-append (name_eq x) (names_of (nodes_in c)) (names_of (nodes_in r)))
+
+pub has_node-reaches : (ts : Trees) (x : NodeName) → has_node ts x ≡ reaches ts x
+has_node-reaches none x = refl
+has_node-reaches (tree n c r) x = has_node-tree n c r x ∙ rw (name_eq-turned x n.name, has_node-reaches c x, has_node-reaches r x) refl
+
+pub reaches-root : (nodes : List Node) (lists : List (List ℕ)) → IsNamed nodes → (x : ℕ) (m : Node) → slice_get nodes x ≡ Some m
+    → (ts : Trees) (ks : List ℕ) → Stands nodes lists ts ks → contains ks x ≡ true → reaches ts m.name ≡ true
+reaches-root nodes lists named x m at none [] s found = absurd (true≢false (sym found))
+reaches-root nodes lists named x m at none (k ∷ ks) s found = absurd s
+reaches-root nodes lists named x m at (tree n c r) [] s found = absurd s
+reaches-root nodes lists named x m at (tree n c r) (k ∷ ks) s found = elim (or_cases (eqb k x) (contains ks x) found) [
+  | inl h ↦ or_left (name_eq n.name m.name) _ (same_name nodes named k x n m s.0 at ∙ h)
+  | inr h ↦ or_right (name_eq n.name m.name) _ (or_right (reaches c m.name) _ (reaches-root nodes lists named x m at r ks s.2 h))
+]
+
+pub reaches-child : (nodes : List Node) (lists : List (List ℕ)) → IsNamed nodes → (p x : ℕ) (q m : Node) → slice_get nodes p ≡ Some q → slice_get nodes x ≡ Some m
+    → contains (children_of lists p) x ≡ true → (ts : Trees) (ks : List ℕ) → Stands nodes lists ts ks → reaches ts q.name ≡ true → reaches ts m.name ≡ true
+reaches-child nodes lists named p x q m at_p at_x child none ks s found = absurd (true≢false (sym found))
+reaches-child nodes lists named p x q m at_p at_x child (tree n c r) [] s found = absurd s
+reaches-child nodes lists named p x q m at_p at_x child (tree n c r) (k ∷ ks) s found =
+    let tells : name_eq n.name q.name ≡ eqb k p = same_name nodes named k p n q s.0 at_p in
+    elim (or_cases (name_eq n.name q.name) _ found) [
+      | inl h ↦ elim (eqb_tells k p) [
+        | inl e ↦ or_right (name_eq n.name m.name) _ (or_left (reaches c m.name) _ (reaches-root nodes lists named x m at_x c (children_of lists k) s.1 (ap (λ j. contains (children_of lists j) x) e.1 ∙ child)))
+        | inr e ↦ absurd (both_ways (name_eq n.name q.name) (tells ∙ e.0) h)
+      ]
+      | inr h ↦ elim (or_cases (reaches c q.name) (reaches r q.name) h) [
+        | inl i ↦ or_right (name_eq n.name m.name) _ (or_left (reaches c m.name) _ (reaches-child nodes lists named p x q m at_p at_x child c (children_of lists k) s.1 i))
+        | inr i ↦ or_right (name_eq n.name m.name) _ (or_right (reaches c m.name) _ (reaches-child nodes lists named p x q m at_p at_x child r ks s.2 i))
+      ]
+    ]
+
+-- all nodes of a forest are reached from its roots
+reaches-within : (nodes : List Node) (lists : List (List ℕ)) → IsNamed nodes → IsForest lists → length nodes ≡ length lists → (ts : Trees) (ks : List ℕ) → Stands nodes lists ts ks
+    → ((k : ℕ) → k < length lists → parent_of lists k ≡ None → contains ks k ≡ true)
+    → (d x : ℕ) → length (ancestors_of lists x) ≤ d → x < length lists → reaches ts (name_of_key nodes x) ≡ true
+reaches-within nodes lists named forest paired ts ks s all zero x deep node = elim (cases_Option (parent_of lists x)) [
+  | inl e ↦ reaches-root nodes lists named x (node_at nodes x) (slice_get-get_or nodes x _ (omega arith)) ts ks s (all x node e)
+  | inr w ↦ absurd (omega (arith, ap (length {A = ℕ}) (ancestors_of-child lists forest x w.0 w.1)))
+]
+reaches-within nodes lists named forest paired ts ks s all (suc d) x deep node = elim (cases_Option (parent_of lists x)) [
+  | inl e ↦ reaches-root nodes lists named x (node_at nodes x) (slice_get-get_or nodes x _ (omega arith)) ts ks s (all x node e)
+  | inr w ↦
+      let p = w.0 in
+      let child = contains-parent lists x p w.1 in
+      let within : p < length lists = parent_within lists p x child in
+      reaches-child nodes lists named p x (node_at nodes p) (node_at nodes x) (slice_get-get_or nodes p _ (omega arith)) (slice_get-get_or nodes x _ (omega arith)) child ts ks s
+      (reaches-within nodes lists named forest paired ts ks s all d p (omega (arith, ap (length {A = ℕ}) (ancestors_of-child lists forest x p w.1))) within)
+]
+
+pub reaches-all : (nodes : List Node) (lists : List (List ℕ)) → IsNamed nodes → IsForest lists → length nodes ≡ length lists → (ts : Trees) (ks : List ℕ) → Stands nodes lists ts ks
+    → ((k : ℕ) → k < length lists → parent_of lists k ≡ None → contains ks k ≡ true) → (x : ℕ) → x < length lists → reaches ts (name_of_key nodes x) ≡ true
+reaches-all nodes lists named forest paired ts ks s all x node =
+    reaches-within nodes lists named forest paired ts ks s all (length (ancestors_of lists x)) x (omega arith) node
+
+-- the tree of a node that is reached, alone
+pub subtree-none : (ts : Trees) (x : NodeName) → reaches ts x ≡ false → subtree ts x ≡ none
+subtree-none none x lost = refl
+subtree-none (tree n c r) x lost =
+    let parts = or_parts (name_eq n.name x) _ lost in
+    let more = or_parts (reaches c x) (reaches r x) parts.1 in
+    rw (parts.0, subtree-none c x more.0) (subtree-none r x more.1)
+
+pub Stands-subtree : (nodes : List Node) (lists : List (List ℕ)) → IsNamed nodes → (x : ℕ) (m : Node) → slice_get nodes x ≡ Some m
+    → (ts : Trees) (ks : List ℕ) → Stands nodes lists ts ks → reaches ts m.name ≡ true → Stands nodes lists (subtree ts m.name) (x ∷ [])
+Stands-subtree nodes lists named x m at none ks s found = absurd (true≢false (sym found))
+Stands-subtree nodes lists named x m at (tree n c r) [] s found = absurd s
+Stands-subtree nodes lists named x m at (tree n c r) (k ∷ ks) s found =
+    let tells : name_eq n.name m.name ≡ eqb k x = same_name nodes named k x n m s.0 at in
+    elim (eqb_tells k x) [
+      | inl e ↦ rw (tells, e.0) (subst (λ (j : ℕ). Stands nodes lists (tree n c none) (j ∷ [])) e.1 (s.0, s.1, tt))
+      | inr e ↦
+          let off : name_eq n.name m.name ≡ false = tells ∙ e.0 in
+          rw off (elim (cases_Bool (reaches c m.name)) [
+            | inl h ↦ or_else_first (subtree c m.name) (subtree r m.name) (Stands-subtree nodes lists named x m at c (children_of lists k) s.1 h)
+            | inr h ↦ rw (subtree-none c m.name h) (Stands-subtree nodes lists named x m at r ks s.2 (rw (off, h) at found))
+          ])
+    ]
+  where
+    or_else_first : (ts us : Trees) → Stands nodes lists ts (x ∷ []) → Stands nodes lists (or_else ts us) (x ∷ [])
+    or_else_first none us s = absurd s
+    or_else_first (tree n c r) us s = s
+
+-- a list that begins with a name, and what follows it, with the names of some keys behind that
+abbrev pub LeadsTo : List Node → List NodeName → NodeName → List ℕ → List ℕ → Type 0
+LeadsTo nodes found x up above = (path : List NodeName) × (found ≡ x ∷ path) × (path ++ map (name_of_key nodes) up ≡ map (name_of_key nodes) above)
+
+pub inclusive_ancestors-none : (ts : Trees) (x : NodeName) → reaches ts x ≡ false → inclusive_ancestors ts x ≡ []
+inclusive_ancestors-none none x lost = refl
+inclusive_ancestors-none (tree n c r) x lost =
+    let parts = or_parts (name_eq n.name x) _ lost in
+    let more = or_parts (reaches c x) (reaches r x) parts.1 in
+    rw (parts.0, inclusive_ancestors-none c x more.0) (inclusive_ancestors-none r x more.1)
+
+pub inclusive_ancestors-from : (nodes : List Node) (lists : List (List ℕ)) → IsNamed nodes → IsForest lists → (x : ℕ) (m : Node) → slice_get nodes x ≡ Some m
+    → (ts : Trees) (ks up : List ℕ) → Stands nodes lists ts ks → ((k : ℕ) → contains ks k ≡ true → ancestors_of lists k ≡ up)
+    → reaches ts m.name ≡ true → LeadsTo nodes (inclusive_ancestors ts m.name) m.name up (ancestors_of lists x)
+inclusive_ancestors-from nodes lists named forest x m at none ks up s above found = absurd (true≢false (sym found))
+inclusive_ancestors-from nodes lists named forest x m at (tree n c r) [] up s above found = absurd s
+inclusive_ancestors-from nodes lists named forest x m at (tree n c r) (k ∷ ks) up s above found =
+    let tells : name_eq n.name m.name ≡ eqb k x = same_name nodes named k x n m s.0 at in
+    elim (eqb_tells k x) [
+      | inl e ↦ rw (tells, e.0) ([], refl, ap (map (name_of_key nodes)) (sym (above k (contains-head k ks)) ∙ ap (ancestors_of lists) e.1))
+      | inr e ↦
+          let off : name_eq n.name m.name ≡ false = tells ∙ e.0 in
+          rw off (elim (cases_Bool (reaches c m.name)) [
+            | inl h ↦
+                let below = inclusive_ancestors-from nodes lists named forest x m at c (children_of lists k) (k ∷ up) s.1
+                (λ j child. ancestors_of-child lists forest j k (parent_of_is lists forest.one_list k j child) ∙ ap (λ ys. k ∷ ys) (above k (contains-head k ks))) h in
+                let is : name_of_key nodes k ≡ n.name = ap (λ (y : Node). y.name) (get_or_from_slice_get nodes k n _ s.0) in
+                rw below.1 (below.0 ++ n.name ∷ [], refl, append_assoc below.0 (n.name ∷ []) (map (name_of_key nodes) up) ∙ (ap (λ z. below.0 ++ z ∷ map (name_of_key nodes) up) (sym is) ∙ below.2))
+            | inr h ↦ rw (inclusive_ancestors-none c m.name h) (inclusive_ancestors-from nodes lists named forest x m at r ks up s.2 (λ j found_j. above j (or_right (eqb k j) (contains ks j) found_j)) (rw (off, h) at found))
+          ])
+    ]
+
+-- the node of a name
+find-append_some : (p : Node → Bool) (xs ys : List Node) (n : Node) → find p xs ≡ Some n → find p (xs ++ ys) ≡ Some n
+find-append_some p [] ys n e = absurd (none-some n e)
+find-append_some p (x ∷ xs) ys n e = elim (cases_Bool (p x)) [
+  | inl h ↦ rw h (rw h at e)
+  | inr h ↦ rw h (find-append_some p xs ys n (rw h at e))
+]
+
+find-append_none : (p : Node → Bool) (xs ys : List Node) → find p xs ≡ None → find p (xs ++ ys) ≡ find p ys
+find-append_none p [] ys e = refl
+find-append_none p (x ∷ xs) ys e = elim (cases_Bool (p x)) [
+  | inl h ↦ absurd (none-some x (sym (rw h at e)))
+  | inr h ↦ rw h (find-append_none p xs ys (rw h at e))
+]
+
+pub find-none : (ts : Trees) (x : NodeName) → reaches ts x ≡ false → find (λ n. name_eq n.name x) (nodes_in ts) ≡ None
+find-none none x lost = refl
+find-none (tree n c r) x lost =
+    let parts = or_parts (name_eq n.name x) _ lost in
+    let more = or_parts (reaches c x) (reaches r x) parts.1 in
+    rw parts.0 (find-append_none (λ y. name_eq y.name x) (nodes_in c) (nodes_in r) (find-none c x more.0) ∙ find-none r x more.1)
+
+pub find-reached : (nodes : List Node) (lists : List (List ℕ)) → IsNamed nodes → (x : ℕ) (m : Node) → slice_get nodes x ≡ Some m
+    → (ts : Trees) (ks : List ℕ) → Stands nodes lists ts ks → reaches ts m.name ≡ true → find (λ n. name_eq n.name m.name) (nodes_in ts) ≡ Some m
+find-reached nodes lists named x m at none ks s found = absurd (true≢false (sym found))
+find-reached nodes lists named x m at (tree n c r) [] s found = absurd s
+find-reached nodes lists named x m at (tree n c r) (k ∷ ks) s found =
+    let tells : name_eq n.name m.name ≡ eqb k x = same_name nodes named k x n m s.0 at in
+    elim (eqb_tells k x) [
+      | inl e ↦ rw (tells, e.0) (sym s.0 ∙ (ap (slice_get nodes) e.1 ∙ at))
+      | inr e ↦
+          let off : name_eq n.name m.name ≡ false = tells ∙ e.0 in
+          rw off (elim (cases_Bool (reaches c m.name)) [
+            | inl h ↦ find-append_some (λ y. name_eq y.name m.name) (nodes_in c) (nodes_in r) m (find-reached nodes lists named x m at c (children_of lists k) s.1 h)
+            | inr h ↦ find-append_none (λ y. name_eq y.name m.name) (nodes_in c) (nodes_in r) (find-none c m.name h) ∙ find-reached nodes lists named x m at r ks s.2 (rw (off, h) at found)
+          ])
+    ]
+
+-- the nodes of a row
+pub roots-Stands : (nodes : List Node) (lists : List (List ℕ)) (ts : Trees) (ks : List ℕ) → Stands nodes lists ts ks → roots ts ≡ map (node_at nodes) ks
+roots-Stands nodes lists none [] s = refl
+roots-Stands nodes lists none (k ∷ ks) s = absurd s
+roots-Stands nodes lists (tree n c r) [] s = absurd s
+roots-Stands nodes lists (tree n c r) (k ∷ ks) s =
+    let is : node_at nodes k ≡ n = get_or_from_slice_get nodes k n _ s.0 in
+    let rest = roots-Stands nodes lists r ks s.2 in
+    cc
+
+-- the children of a node that is reached
+pub trees_below-Stands : (nodes : List Node) (lists : List (List ℕ)) (ts : Trees) (x : ℕ) → Stands nodes lists ts (x ∷ []) → Stands nodes lists (trees_below ts) (children_of lists x)
+trees_below-Stands nodes lists none x s = absurd s
+trees_below-Stands nodes lists (tree n c r) x s = s.1

@@ -1,0 +1,212 @@
+-- Trees that stand for keys: the root of each is the node of the key, and its children stand for the key's list.
+use Rattle.std.proofs.Common.{◌≡◌, ◌≢◌, ◌⊎◌, inl, inr, ℕ, zero, suc, ◌+◌, ◌<◌, ◌≤◌, true, false, eqb, List, [], ◌∷◌, ◌++◌, map, length, Option, Some, None, refl, sym, ap, subst, ◌∙◌, arith}
+use Rattle.std.specs.Prelude.{slice_get}
+use Rattle.std.specs.Option.{option_map}
+use Rattle.std.proofs.lemmas.Bool.{or_right, cases_Bool}
+use Rattle.std.proofs.lemmas.Bool.Decides.{eqb_tells}
+use Rattle.std.proofs.lemmas.Option.{same_Some, slice_get-get_or, get_or_from_slice_get}
+use Rattle.dom_base.specs.declared.NodeName.{NodeName}
+use Rattle.dom_model.specs.Names.{name_eq, name_before}
+use Rattle.dom_model.specs.Tree.{Trees, none, tree, Node}
+use Rattle.dom_model.specs.TreeChanges.{followed_by, without, put_before, put_below, put_root, map_nodes}
+use Rattle.node_arena.specs.Nodes.{children_of, contains, ancestors_of, IsForest, without as without_key, put_before as put_key_before, insert_before}
+use Rattle.node_arena.proofs.Forests.{parent_of_is, ancestors_of-child, length-ancestors_of, children_of-without}
+use Rattle.node_arena.proofs.Lists.{contains-head}
+use Rattle.dom_tree.specs.Rows.{node_at, row, below_within, trees_on, put_key}
+use Rattle.dom_model.proofs.OwnerLaws.{name_eq-same}
+use Rattle.dom_tree.proofs.Names.{name_eq-other}
+
+-- the trees stand for the keys
+abbrev pub Stands : List Node → List (List ℕ) → Trees → List ℕ → Type 0
+Stands nodes lists none [] = Unit {0}
+Stands nodes lists none (k ∷ ks) = ⊥
+Stands nodes lists (tree n children rest) [] = ⊥
+Stands nodes lists (tree n children rest) (k ∷ ks) =
+    (slice_get nodes k ≡ Some n) × Stands nodes lists children (children_of lists k) × Stands nodes lists rest ks
+
+-- no two keys have nodes of one name
+pub record IsNamed (nodes : List Node) : Type 0 where
+  pub distinct : (j k : ℕ) (m n : Node) → slice_get nodes j ≡ Some m → slice_get nodes k ≡ Some n → m.name ≡ n.name → j ≡ k
+
+-- names tell keys apart
+pub same_name : (nodes : List Node) → IsNamed nodes → (j k : ℕ) (m n : Node) → slice_get nodes j ≡ Some m → slice_get nodes k ≡ Some n → name_eq m.name n.name ≡ eqb j k
+same_name nodes named j k m n at_j at_k = by (eqb_tells j k)
+  where
+    by : ((eqb j k ≡ true) × (j ≡ k)) ⊎ ((eqb j k ≡ false) × (j ≢ k)) → name_eq m.name n.name ≡ eqb j k
+    by (inl h) = let e : m ≡ n = same_Some m n (sym at_j ∙ (ap (slice_get nodes) h.1 ∙ at_k)) in
+        (ap (λ (y : Node). name_eq m.name y.name) (sym e) ∙ name_eq-same m.name) ∙ sym h.0
+    by (inr h) = name_eq-other m.name n.name (λ e. h.1 (named.distinct j k m n at_j at_k e)) ∙ sym h.0
+
+-- ---- at most one list of trees stands for a list of keys
+
+pub Stands-one : (nodes : List Node) (lists : List (List ℕ)) (ts us : Trees) (ks : List ℕ) → Stands nodes lists ts ks → Stands nodes lists us ks → ts ≡ us
+Stands-one nodes lists none none ks s t = refl
+Stands-one nodes lists none (tree m d q) [] s t = absurd t
+Stands-one nodes lists none (tree m d q) (k ∷ ks) s t = absurd s
+Stands-one nodes lists (tree n c r) us [] s t = absurd s
+Stands-one nodes lists (tree n c r) none (k ∷ ks) s t = absurd t
+Stands-one nodes lists (tree n c r) (tree m d q) (k ∷ ks) s t =
+    let root : n ≡ m = same_Some n m (sym s.0 ∙ t.0) in
+    let below = Stands-one nodes lists c d (children_of lists k) s.1 t.1 in
+    let rest = Stands-one nodes lists r q ks s.2 t.2 in
+    cc
+
+-- ---- where the lists make a forest, the trees that the view makes stand for their keys
+
+abbrev pub Each : (ℕ → Type 0) → List ℕ → Type 0
+Each P ks = (k : ℕ) → contains ks k ≡ true → P k
+
+Each-tail : (P : ℕ → Type 0) (k : ℕ) (ks : List ℕ) → Each P (k ∷ ks) → Each P ks
+Each-tail P k ks each j found = each j (or_right (eqb k j) (contains ks j) found)
+
+Stands-row : (nodes : List Node) (lists : List (List ℕ)) (below : ℕ → Trees) (ks : List ℕ)
+    → Each (λ k. k < length nodes) ks → Each (λ k. Stands nodes lists (below k) (children_of lists k)) ks
+    → Stands nodes lists (row (node_at nodes) below ks) ks
+Stands-row nodes lists below [] within stand = tt
+Stands-row nodes lists below (k ∷ ks) within stand = (
+  slice_get-get_or nodes k _ (within k (contains-head k ks)),
+  stand k (contains-head k ks),
+  Stands-row nodes lists below ks (Each-tail (λ j. j < length nodes) k ks within) (Each-tail (λ j. Stands nodes lists (below j) (children_of lists j)) k ks stand),
+)
+
+Stands-below : (nodes : List Node) (lists : List (List ℕ)) → IsForest lists → length nodes ≡ length lists → (m k : ℕ)
+    → k < length lists → length lists ≤ m + length (ancestors_of lists k) → Stands nodes lists (below_within m nodes lists k) (children_of lists k)
+Stands-below nodes lists forest paired zero k node deep = absurd (omega (arith, length-ancestors_of lists forest k node))
+Stands-below nodes lists forest paired (suc m) k node deep =
+    Stands-row nodes lists (below_within m nodes lists) (children_of lists k)
+    (λ j found. omega (arith, forest.nodes k j found))
+    (λ j found.
+    let up = ap (length {A = ℕ}) (ancestors_of-child lists forest j k (parent_of_is lists forest.one_list k j found)) in
+    Stands-below nodes lists forest paired m j (forest.nodes k j found) (omega (arith, up)))
+
+pub Stands-trees_on : (nodes : List Node) (lists : List (List ℕ)) → IsForest lists → length nodes ≡ length lists → (ks : List ℕ)
+    → Each (λ k. k < length lists) ks → Stands nodes lists (trees_on nodes lists ks) ks
+unfolding trees_on
+Stands-trees_on nodes lists forest paired ks within =
+    Stands-row nodes lists (below_within (length lists) nodes lists) ks
+    (λ k found. omega (arith, within k found))
+    (λ k found. Stands-below nodes lists forest paired (length lists) k (within k found) (omega arith))
+
+-- ---- changes
+
+-- trees stand for the same keys where nothing changes at these and below them
+pub Stands-kept : (nodes others : List Node) (lists changed : List (List ℕ)) (P : ℕ → Type 0)
+    → ((k : ℕ) (n : Node) → P k → slice_get nodes k ≡ Some n → slice_get others k ≡ Some n)
+    → ((k : ℕ) → P k → children_of changed k ≡ children_of lists k)
+    → ((k j : ℕ) → P k → contains (children_of lists k) j ≡ true → P j)
+    → (ts : Trees) (ks : List ℕ) → Each P ks → Stands nodes lists ts ks → Stands others changed ts ks
+Stands-kept nodes others lists changed P node list down none [] each s = tt
+Stands-kept nodes others lists changed P node list down none (k ∷ ks) each s = absurd s
+Stands-kept nodes others lists changed P node list down (tree n c r) [] each s = absurd s
+Stands-kept nodes others lists changed P node list down (tree n c r) (k ∷ ks) each s =
+    let here = each k (contains-head k ks) in (
+      node k n here s.0,
+      subst (λ (js : List ℕ). Stands others changed c js) (sym (list k here)) (Stands-kept nodes others lists changed P node list down c (children_of lists k) (λ j found. down k j here found) s.1),
+      Stands-kept nodes others lists changed P node list down r ks (Each-tail P k ks each) s.2,
+    )
+
+-- each node is given other contents
+pub Stands-map_nodes : (nodes others : List Node) (lists : List (List ℕ)) (f : Node → Node)
+    → ((k : ℕ) (n : Node) → slice_get nodes k ≡ Some n → slice_get others k ≡ Some (f n))
+    → (ts : Trees) (ks : List ℕ) → Stands nodes lists ts ks → Stands others lists (map_nodes f ts) ks
+Stands-map_nodes nodes others lists f node none [] s = tt
+Stands-map_nodes nodes others lists f node none (k ∷ ks) s = absurd s
+Stands-map_nodes nodes others lists f node (tree n c r) [] s = absurd s
+Stands-map_nodes nodes others lists f node (tree n c r) (k ∷ ks) s =
+    (node k n s.0, Stands-map_nodes nodes others lists f node c (children_of lists k) s.1, Stands-map_nodes nodes others lists f node r ks s.2)
+
+-- one key leaves all lists
+pub Stands-without : (nodes : List Node) (lists : List (List ℕ)) → IsNamed nodes → (x : ℕ) (m : Node) → slice_get nodes x ≡ Some m
+    → (ts : Trees) (ks : List ℕ) → Stands nodes lists ts ks → Stands nodes (map (without_key x) lists) (without m.name ts) (without_key x ks)
+Stands-without nodes lists named x m at none [] s = tt
+Stands-without nodes lists named x m at none (k ∷ ks) s = absurd s
+Stands-without nodes lists named x m at (tree n c r) [] s = absurd s
+Stands-without nodes lists named x m at (tree n c r) (k ∷ ks) s =
+    let rest = Stands-without nodes lists named x m at r ks s.2 in
+    let below : Stands nodes (map (without_key x) lists) (without m.name c) (children_of (map (without_key x) lists) k) =
+    subst (λ (js : List ℕ). Stands nodes (map (without_key x) lists) (without m.name c) js) (sym (children_of-without lists x k)) (Stands-without nodes lists named x m at c (children_of lists k) s.1) in
+    let tells : name_eq n.name m.name ≡ eqb k x = same_name nodes named k x n m s.0 at in
+    elim (cases_Bool (eqb k x)) [
+      | inl e ↦ rw (tells, e) rest
+      | inr e ↦ rw (tells, e) (s.0, below, rest)
+    ]
+
+-- two lists of trees, one after the other
+pub Stands-followed_by : (nodes : List Node) (lists : List (List ℕ)) (ts us : Trees) (ks js : List ℕ) → Stands nodes lists ts ks → Stands nodes lists us js → Stands nodes lists (followed_by ts us) (ks ++ js)
+Stands-followed_by nodes lists none us [] js s t = t
+Stands-followed_by nodes lists none us (k ∷ ks) js s t = absurd s
+Stands-followed_by nodes lists (tree n c r) us [] js s t = absurd s
+Stands-followed_by nodes lists (tree n c r) us (k ∷ ks) js s t = (s.0, s.1, Stands-followed_by nodes lists r us ks js s.2 t)
+
+-- a tree put into a list
+pub Stands-put_last : (nodes : List Node) (lists : List (List ℕ)) (new : Trees) (x : ℕ) → Stands nodes lists new (x ∷ [])
+    → (ts : Trees) (ks : List ℕ) → Stands nodes lists ts ks → Stands nodes lists (put_before None new ts) (ks ++ x ∷ [])
+Stands-put_last nodes lists new x alone none [] s = alone
+Stands-put_last nodes lists new x alone none (k ∷ ks) s = absurd s
+Stands-put_last nodes lists new x alone (tree n c r) [] s = absurd s
+Stands-put_last nodes lists new x alone (tree n c r) (k ∷ ks) s = (s.0, s.1, Stands-put_last nodes lists new x alone r ks s.2)
+
+pub Stands-put_before : (nodes : List Node) (lists : List (List ℕ)) → IsNamed nodes → (new : Trees) (x : ℕ) → Stands nodes lists new (x ∷ [])
+    → (b : ℕ) (m : Node) → slice_get nodes b ≡ Some m
+    → (ts : Trees) (ks : List ℕ) → Stands nodes lists ts ks → Stands nodes lists (put_before (Some m.name) new ts) (put_key_before ks x b)
+Stands-put_before nodes lists named new x alone b m at none [] s = alone
+Stands-put_before nodes lists named new x alone b m at none (k ∷ ks) s = absurd s
+Stands-put_before nodes lists named new x alone b m at (tree n c r) [] s = absurd s
+Stands-put_before nodes lists named new x alone b m at (tree n c r) (k ∷ ks) s =
+    let rest = Stands-put_before nodes lists named new x alone b m at r ks s.2 in
+    let tells : name_eq n.name m.name ≡ eqb k b = same_name nodes named k b n m s.0 at in
+    elim (cases_Bool (eqb k b)) [
+      | inl e ↦ rw (tells, e) (Stands-followed_by nodes lists new (tree n c r) (x ∷ []) (k ∷ ks) alone s)
+      | inr e ↦ rw (tells, e) (s.0, s.1, rest)
+    ]
+
+abbrev pub name_of_key : List Node → ℕ → NodeName
+name_of_key nodes k = (node_at nodes k).name
+
+-- before the one given, or behind all
+pub Stands-insert : (nodes : List Node) (lists : List (List ℕ)) → IsNamed nodes → (new : Trees) (x : ℕ) → Stands nodes lists new (x ∷ [])
+    → (before : Option ℕ) → ((b : ℕ) → before ≡ Some b → b < length nodes)
+    → (ts : Trees) (ks : List ℕ) → Stands nodes lists ts ks → Stands nodes lists (put_before (option_map (name_of_key nodes) before) new ts) (insert_before ks x before)
+Stands-insert nodes lists named new x alone None within ts ks s = Stands-put_last nodes lists new x alone ts ks s
+Stands-insert nodes lists named new x alone (Some b) within ts ks s =
+    Stands-put_before nodes lists named new x alone b (node_at nodes b) (slice_get-get_or nodes b _ (within b refl)) ts ks s
+
+-- a tree put among the children of a node
+pub Stands-put_below : (nodes : List Node) (lists changed : List (List ℕ)) → IsNamed nodes → (new : Trees) (x : ℕ) → Stands nodes changed new (x ∷ [])
+    → (before : Option ℕ) → ((b : ℕ) → before ≡ Some b → b < length nodes)
+    → (p : ℕ) (m : Node) → slice_get nodes p ≡ Some m
+    → children_of changed p ≡ insert_before (children_of lists p) x before
+    → ((k : ℕ) → k ≢ p → children_of changed k ≡ children_of lists k)
+    → (ts : Trees) (ks : List ℕ) → Stands nodes lists ts ks → Stands nodes changed (put_below m.name (option_map (name_of_key nodes) before) new ts) ks
+Stands-put_below nodes lists changed named new x alone before within p m at here there none [] s = tt
+Stands-put_below nodes lists changed named new x alone before within p m at here there none (k ∷ ks) s = absurd s
+Stands-put_below nodes lists changed named new x alone before within p m at here there (tree n c r) [] s = absurd s
+Stands-put_below nodes lists changed named new x alone before within p m at here there (tree n c r) (k ∷ ks) s =
+    let rest = Stands-put_below nodes lists changed named new x alone before within p m at here there r ks s.2 in
+    let below = Stands-put_below nodes lists changed named new x alone before within p m at here there c (children_of lists k) s.1 in
+    let given = option_map (name_of_key nodes) before in
+    let more : Trees = put_below m.name given new c in
+    let tells : name_eq n.name m.name ≡ eqb k p = same_name nodes named k p n m s.0 at in
+    elim (eqb_tells k p) [
+      | inl h ↦
+          let list : children_of changed k ≡ insert_before (children_of lists k) x before =
+          subst (λ (j : ℕ). children_of changed j ≡ insert_before (children_of lists j) x before) (sym h.1) here in
+          rw (tells, h.0) (s.0, subst (λ (js : List ℕ). Stands nodes changed (put_before given new more) js) (sym list) (Stands-insert nodes changed named new x alone before within more (children_of lists k) below), rest)
+      | inr h ↦
+          rw (tells, h.0) (s.0, subst (λ (js : List ℕ). Stands nodes changed more js) (sym (there k h.1)) below, rest)
+    ]
+
+-- a tree of its own among the others
+pub Stands-put_root : (nodes : List Node) (lists : List (List ℕ)) (new : Trees) (x : ℕ) → Stands nodes lists new (x ∷ [])
+    → (ts : Trees) (ks : List ℕ) → Stands nodes lists ts ks → Stands nodes lists (put_root (name_of_key nodes x) new ts) (put_key nodes x ks)
+Stands-put_root nodes lists new x alone none [] s = alone
+Stands-put_root nodes lists new x alone none (k ∷ ks) s = absurd s
+Stands-put_root nodes lists new x alone (tree n c r) [] s = absurd s
+Stands-put_root nodes lists new x alone (tree n c r) (k ∷ ks) s =
+    let rest = Stands-put_root nodes lists new x alone r ks s.2 in
+    let at : name_of_key nodes k ≡ n.name = ap (λ (y : Node). y.name) (get_or_from_slice_get nodes k n _ s.0) in
+    let same : name_before (name_of_key nodes x) n.name ≡ name_before (name_of_key nodes x) (name_of_key nodes k) = ap (name_before (name_of_key nodes x)) (sym at) in
+    elim (cases_Bool (name_before (name_of_key nodes x) (name_of_key nodes k))) [
+      | inl e ↦ rw (same, e) (Stands-followed_by nodes lists new (tree n c r) (x ∷ []) (k ∷ ks) alone s)
+      | inr e ↦ rw (same, e) (s.0, s.1, rest)
+    ]

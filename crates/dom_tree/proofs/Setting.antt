@@ -1,0 +1,125 @@
+-- What a change of one node's contents does to a `Forest`.
+use Rattle.std.proofs.Common.{◌≡◌, ◌≢◌, ◌⊎◌, inl, inr, ℕ, zero, suc, ◌<◌, true, false, cond, eqb, List, [], ◌∷◌, length, set, Some, refl, sym, ap, subst, ◌∙◌, arith}
+use Rattle.std.specs.Prelude.{slice_get}
+use Rattle.std.specs.Option.{option_map}
+use Rattle.std.proofs.lemmas.Bool.{cases_Bool}
+use Rattle.std.proofs.lemmas.Bool.Decides.{eqb_tells}
+use Rattle.std.proofs.lemmas.List.{length-map, length-set}
+use Rattle.std.proofs.lemmas.Option.{same_Some, none-some, slice_get-map, get_or_from_slice_get}
+use Rattle.dom_base.specs.declared.Owner.{Owner}
+use Rattle.dom_model.specs.Names.{name_eq}
+use Rattle.dom_model.specs.Tree.{Node}
+use Rattle.dom_model.specs.TreeChanges.{change_node}
+use Rattle.dom_tree.specs.declared.data.Stored.{Stored}
+use Rattle.dom_tree.specs.Rows.{trees_of}
+use Rattle.dom_tree.specs.Forest.{NamedTrees, IsKept, stored_names, nodes_with, nodes_of, name_at, node_from, count_of}
+use Rattle.dom_model.proofs.OwnerLaws.{name_eq-same}
+use Rattle.dom_tree.proofs.Rows.{same_name}
+use Rattle.dom_tree.proofs.Changes.{IsWhole, trees_of-map}
+use Rattle.dom_tree.proofs.Kept.{seen, IsWhole-kept, name_at-same}
+
+-- a list that is set at an index, read there
+slice_get-set_same : {X : Type 0} (xs : List X) (k : ℕ) (x y : X) → slice_get xs k ≡ Some x → slice_get (set xs k y) k ≡ Some y
+slice_get-set_same [] k x y e = absurd (none-some x e)
+slice_get-set_same (z ∷ xs) zero x y e = refl
+slice_get-set_same (z ∷ xs) (suc k) x y e = slice_get-set_same xs k x y e
+
+-- and read elsewhere
+slice_get-set_other : {X : Type 0} (xs : List X) (i k : ℕ) (y : X) → k ≢ i → slice_get (set xs i y) k ≡ slice_get xs k
+slice_get-set_other [] i k y other = refl
+slice_get-set_other (z ∷ xs) zero zero y other = absurd (other refl)
+slice_get-set_other (z ∷ xs) zero (suc k) y other = refl
+slice_get-set_other (z ∷ xs) (suc i) zero y other = refl
+slice_get-set_other (z ∷ xs) (suc i) (suc k) y other = slice_get-set_other xs i k y (λ e. other (ap suc e))
+
+-- a node that is stored anew under its name
+pub stored_names-set : (ps : List Stored) (x : ℕ) (s t : Stored) → slice_get ps x ≡ Some s → t.name ≡ s.name → stored_names (set ps x t) ≡ stored_names ps
+stored_names-set [] x s t at same = refl
+stored_names-set (u ∷ ps) zero s t at same = ap (λ n. n ∷ stored_names ps) (same ∙ ap (λ (v : Stored). v.name) (sym (same_Some u s at)))
+stored_names-set (u ∷ ps) (suc x) s t at same = ap (λ ns. u.name ∷ ns) (stored_names-set ps x s t at same)
+
+-- what holds of all nodes still holds
+pub IsKept-set : {ps : List Stored} {lists : List (List ℕ)} {keys : Owner → List ℕ} → IsKept ps lists keys → (x : ℕ) (s t : Stored) → slice_get ps x ≡ Some s → t.name ≡ s.name
+    → ((d : ℕ) → t.node.document ≡ Some d → d < length ps) → IsKept (set ps x t) lists keys
+IsKept-set {ps = ps} kept x s t at same document = record {
+  paired = length-set ps x t ∙ kept.paired;
+  forest = kept.forest;
+  few = let fits = kept.few in let same_length = length-set ps x t in omega arith;
+  found = λ y k e. ap (λ ns. slice_get ns k) names ∙ kept.found y k e;
+  kept = λ y k e. kept.kept y k (ap (λ ns. slice_get ns k) (sym names) ∙ e);
+  counted = λ o. kept.counted o ∙ ap (count_of o) (sym names);
+  limited = λ o. let few = kept.limited o in let same_count = ap (count_of o) names in omega arith;
+  documents = λ u k d at_k e. documents_at u k d at_k e (eqb_tells k x);
+}
+  where
+    names : stored_names (set ps x t) ≡ stored_names ps
+    names = stored_names-set ps x s t at same
+
+    documents_at : (u : Stored) (k d : ℕ) → slice_get (set ps x t) k ≡ Some u → u.node.document ≡ Some d → ((eqb k x ≡ true) × (k ≡ x)) ⊎ ((eqb k x ≡ false) × (k ≢ x)) → d < length (set ps x t)
+    documents_at u k d at_k e (inl h) =
+        let is : t ≡ u = same_Some t u (sym (slice_get-set_same ps x s t at) ∙ (ap (slice_get (set ps x t)) (sym h.1) ∙ at_k)) in
+        omega (arith, document d (ap (λ (v : Stored). v.node.document) is ∙ e), length-set ps x t)
+    documents_at u k d at_k e (inr h) = omega (arith, kept.documents u k d (sym (slice_get-set_other ps x k t h.1) ∙ at_k) e, length-set ps x t)
+
+-- the same, under the same node document
+pub IsKept-set_same : {ps : List Stored} {lists : List (List ℕ)} {keys : Owner → List ℕ} → IsKept ps lists keys → (x : ℕ) (s t : Stored) → slice_get ps x ≡ Some s → t.name ≡ s.name
+    → t.node.document ≡ s.node.document → IsKept (set ps x t) lists keys
+IsKept-set_same kept x s t at same document = IsKept-set kept x s t at same (λ d e. kept.documents s x d at (sym document ∙ e))
+
+-- what is seen of it
+pub set_names : {f : NamedTrees} {ps : List Stored} {lists : List (List ℕ)} {keys : Owner → List ℕ} → seen ps lists ≡ f → IsKept ps lists keys
+    → (x : ℕ) (s t : Stored) → slice_get ps x ≡ Some s → t.name ≡ s.name → stored_names (set ps x t) ≡ f.names
+set_names {ps = ps} is kept x s t at same = stored_names-set ps x s t at same ∙ ap (λ (g : NamedTrees). g.names) is
+
+-- a change of what is stored is that change of the node
+pub set_done : {f : NamedTrees} {ps : List Stored} {lists : List (List ℕ)} {keys : Owner → List ℕ} → seen ps lists ≡ f → IsKept ps lists keys
+    → (x : ℕ) (s t : Stored) (h : Node → Node) → slice_get ps x ≡ Some s → t.name ≡ s.name → ((y : Node) → (h y).name ≡ y.name) → node_from f.names t.name t.node ≡ h (node_from f.names s.name s.node)
+    → seen (set ps x t) lists ≡ record f { trees = change_node h (name_at f.names x) f.trees }
+set_done {f = f} {ps = ps} {lists = lists} {keys = keys} is kept x s t h at same keeps changed =
+    subst (λ (g : NamedTrees). seen (set ps x t) lists ≡ record g { trees = change_node h (name_at g.names x) g.trees }) is
+    (ap (λ ns. record { names = ns; trees = trees_of (nodes_with ns (set ps x t)) lists }) names
+    ∙ ap (λ ts. record { names = stored_names ps; trees = ts })
+    (trees_of-map (nodes_of ps) others lists (λ n. cond (name_eq n.name (name_at (stored_names ps) x)) (h n) n) whole as_long keeps_all each))
+  where
+    names : stored_names (set ps x t) ≡ stored_names ps
+    names = stored_names-set ps x s t at same
+
+    others : List Node
+    others = nodes_with (stored_names ps) (set ps x t)
+
+    whole : IsWhole (nodes_of ps) lists
+    whole = IsWhole-kept kept
+
+    as_long : length others ≡ length (nodes_of ps)
+    as_long = length-map (set ps x t) _ ∙ (length-set ps x t ∙ sym (length-map ps _))
+
+    keeps_all : (y : Node) → (cond (name_eq y.name (name_at (stored_names ps) x)) (h y) y).name ≡ y.name
+    keeps_all y = elim (cases_Bool (name_eq y.name (name_at (stored_names ps) x))) [
+      | inl e ↦ rw e (keeps y)
+      | inr e ↦ rw e refl
+    ]
+
+    here : slice_get (nodes_of ps) x ≡ Some (node_from (stored_names ps) s.name s.node)
+    here = slice_get-map (λ u. node_from (stored_names ps) u.name u.node) ps x ∙ ap (option_map (λ u. node_from (stored_names ps) u.name u.node)) at
+
+    new_here : slice_get others x ≡ Some (h (node_from (stored_names ps) s.name s.node))
+    new_here = slice_get-map (λ u. node_from (stored_names ps) u.name u.node) (set ps x t) x
+        ∙ (ap (option_map (λ u. node_from (stored_names ps) u.name u.node)) (slice_get-set_same ps x s t at)
+        ∙ ap Some (subst (λ (g : NamedTrees). node_from g.names t.name t.node ≡ h (node_from g.names s.name s.node)) (sym is) changed))
+
+    own_name : s.name ≡ name_at (stored_names ps) x
+    own_name = ap (λ (y : Node). y.name) (sym (get_or_from_slice_get (nodes_of ps) x (node_from (stored_names ps) s.name s.node) _ here)) ∙ sym (name_at-same (stored_names ps) ps x)
+
+    each : (k : ℕ) (y : Node) → slice_get (nodes_of ps) k ≡ Some y → slice_get others k ≡ Some (cond (name_eq y.name (name_at (stored_names ps) x)) (h y) y)
+    each k y at_k = elim (eqb_tells k x) [
+      | inl e ↦
+          let is_y : y ≡ node_from (stored_names ps) s.name s.node = same_Some y _ (sym at_k ∙ (ap (slice_get (nodes_of ps)) e.1 ∙ here)) in
+          let named : name_eq y.name (name_at (stored_names ps) x) ≡ true = ap (λ (z : Node). name_eq z.name (name_at (stored_names ps) x)) is_y ∙ (ap (name_eq s.name) (sym own_name) ∙ name_eq-same s.name) in
+          ap (slice_get others) e.1 ∙ (new_here ∙ (ap (λ z. Some (h z)) (sym is_y) ∙ ap (λ b. Some (cond b (h y) y)) (sym named)))
+      | inr e ↦
+          let apart : name_eq y.name (name_at (stored_names ps) x) ≡ false =
+          ap (name_eq y.name) (sym own_name) ∙ (same_name (nodes_of ps) whole.named k x y (node_from (stored_names ps) s.name s.node) at_k here ∙ e.0) in
+          slice_get-map (λ u. node_from (stored_names ps) u.name u.node) (set ps x t) k
+          ∙ (ap (option_map (λ u. node_from (stored_names ps) u.name u.node)) (slice_get-set_other ps x k t e.1)
+          ∙ (sym (slice_get-map (λ u. node_from (stored_names ps) u.name u.node) ps k) ∙ (at_k ∙ ap (λ b. Some (cond b (h y) y)) (sym apart))))
+    ]

@@ -1,0 +1,342 @@
+-- Walks up a tree.
+use Rattle.std.proofs.Common.{◌≡◌, ◌⊎◌, inl, inr, ℕ, zero, suc, ◌-◌, ◌<◌, ◌≤◌, Bool, true, false, ◌||◌, eqb, List, [], ◌∷◌, map, length, Option, Some, None, refl, sym, ap, subst, ◌∙◌, arith, cond, true≢false}
+use Rattle.std.specs.Prelude.{unwrap_or, is_some}
+use Rattle.std.specs.Option.{option_map, option_map_or, option_and_then}
+use Rattle.std.proofs.lemmas.Bool.{eq-eqb, ne_eqb, eqb-true, cases_Bool, or_cases, or_left, or_right, or_from, or_parts, both_ways, false_from_ne_true}
+use Rattle.std.proofs.lemmas.Option.{same_Some, none-some}
+use Rattle.dom_base.specs.declared.Owner.{Owner}
+use Rattle.dom_base.specs.declared.NodeName.{NodeName}
+use Rattle.dom_model.specs.Names.{last_of, name_eq, items_before}
+use Rattle.dom_model.specs.Tree.{Node, root_of, is_inclusive_ancestor, index_of, children_of as children_in}
+use Rattle.node_arena.specs.Nodes.{contains, parent_of, children_of, ancestors_of, IsForest, IsOnce, last_from, head_of, next_in, next_of, prev_from, prev_in, prev_of}
+use Rattle.node_arena.proofs.Lists.{contains-head, length-IsOnce, contains-next_in}
+use Rattle.node_arena.proofs.Forests.{cases_Option, contains-parent, parent_within, parent_of_is, ancestors_of-child, ancestors_of-root}
+use Rattle.dom_tree.specs.declared.data.Stored.{Stored}
+use Rattle.dom_tree.specs.Rows.{trees_of}
+use Rattle.dom_tree.specs.Forest.{NamedTrees, IsKept, stored_names, nodes_of, name_at}
+use Rattle.dom_tree.proofs.Rows.{name_of_key}
+use Rattle.dom_tree.proofs.Changes.{IsWhole}
+use Rattle.dom_tree.proofs.Reading.{inclusive_ancestors-at, last_or-map, Tells, tells-children, siblings-root, siblings-child, children_in-at}
+use Rattle.dom_model.proofs.OwnerLaws.{name_eq-same}
+use Rattle.dom_tree.proofs.Kept.{seen, IsWhole-kept, name_at-same, above-at, within}
+
+-- the topmost of a node and those above it
+pub top_key : List (List ℕ) → ℕ → ℕ
+top_key lists x = unwrap_or (last_from None (x ∷ ancestors_of lists x)) x
+
+pub top_key-parent : (lists : List (List ℕ)) → IsForest lists → (x p : ℕ) → parent_of lists x ≡ Some p → top_key lists p ≡ top_key lists x
+unfolding top_key
+top_key-parent lists forest x p e = sym (ap (λ ys. unwrap_or (last_from (Some x) ys) x) (ancestors_of-child lists forest x p e) ∙ any (ancestors_of lists p) p)
+  where
+    any : (ys : List ℕ) (y : ℕ) → unwrap_or (last_from (Some y) ys) x ≡ unwrap_or (last_from (Some y) ys) p
+    any [] y = refl
+    any (z ∷ ys) y = any ys z
+
+pub top_key-root : (lists : List (List ℕ)) (x : ℕ) → parent_of lists x ≡ None → top_key lists x ≡ x
+unfolding top_key
+top_key-root lists x e = ap (λ ys. unwrap_or (last_from (Some x) ys) x) (ancestors_of-root lists x e)
+
+pub root_of-at : (nodes : List Node) (lists : List (List ℕ)) → IsWhole nodes lists → (x : ℕ) → x < length lists → root_of (trees_of nodes lists) (name_of_key nodes x) ≡ name_of_key nodes (top_key lists x)
+unfolding top_key
+root_of-at nodes lists whole x node =
+    ap (λ ys. unwrap_or (last_of ys) (name_of_key nodes x)) (inclusive_ancestors-at nodes lists whole x node)
+    ∙ (ap (λ o. unwrap_or o (name_of_key nodes x)) (last_or-map (name_of_key nodes) None (x ∷ ancestors_of lists x))
+    ∙ mapped (last_from None (x ∷ ancestors_of lists x)))
+  where
+    mapped : (o : Option ℕ) → unwrap_or (option_map (name_of_key nodes) o) (name_of_key nodes x) ≡ name_of_key nodes (unwrap_or o x)
+    mapped None = refl
+    mapped (Some k) = refl
+
+-- whether a key is the one given or above it; where none is given, it is not
+pub above_from : List (List ℕ) → ℕ → Option ℕ → Bool
+above_from lists a at = option_map_or (λ k. contains (k ∷ ancestors_of lists k) a) at false
+
+pub above_from-up : (lists : List (List ℕ)) → IsForest lists → (a k : ℕ) (up : Option ℕ) → (k ≡ a → ⊥) → up ≡ parent_of lists k → above_from lists a up ≡ above_from lists a (Some k)
+unfolding above_from
+above_from-up lists forest a k up other is =
+    ap (λ o. option_map_or (λ j. contains (j ∷ ancestors_of lists j) a) o false) is ∙ (by (cases_Option (parent_of lists k)) ∙ sym (ap (λ b. b || contains (ancestors_of lists k) a) (ne_eqb k a other)))
+  where
+    by : (parent_of lists k ≡ None) ⊎ ((p : ℕ) × (parent_of lists k ≡ Some p)) → option_map_or (λ j. contains (j ∷ ancestors_of lists j) a) (parent_of lists k) false ≡ contains (ancestors_of lists k) a
+    by (inl e) = ap (λ o. option_map_or (λ j. contains (j ∷ ancestors_of lists j) a) o false) e ∙ sym (ap (λ ys. contains ys a) (ancestors_of-root lists k e))
+    by (inr w) = ap (λ o. option_map_or (λ j. contains (j ∷ ancestors_of lists j) a) o false) w.1 ∙ sym (ap (λ ys. contains ys a) (ancestors_of-child lists forest k w.0 w.1))
+
+-- how many steps are left
+abbrev pub steps_up : List (List ℕ) → Option ℕ → ℕ
+steps_up lists at = option_map_or (λ k. suc (length (ancestors_of lists k))) at 0
+
+-- ---- the answers
+
+pub shows_root : {f : NamedTrees} {ps : List Stored} {lists : List (List ℕ)} {keys : Owner → List ℕ} → seen ps lists ≡ f → IsKept ps lists keys
+    → (x top : ℕ) → x < length f.names → parent_of lists top ≡ None → top_key lists top ≡ top_key lists x → name_at f.names top ≡ root_of f.trees (name_at f.names x)
+shows_root {f = f} {ps = ps} {lists = lists} {keys = keys} is kept x top node ends same =
+    let inside = within is kept x node in
+    subst (λ (g : NamedTrees). name_at g.names top ≡ root_of g.trees (name_at g.names x)) is
+    (name_at-same (stored_names ps) ps top
+    ∙ (ap (name_of_key (nodes_of ps)) (sym (top_key-root lists top ends) ∙ same)
+    ∙ (sym (root_of-at (nodes_of ps) lists (IsWhole-kept kept) x (omega (arith, kept.paired)))
+    ∙ ap (root_of (trees_of (nodes_of ps) lists)) (sym (name_at-same (stored_names ps) ps x)))))
+
+pub shows_above : {f : NamedTrees} {ps : List Stored} {lists : List (List ℕ)} {keys : Owner → List ℕ} → seen ps lists ≡ f → IsKept ps lists keys
+    → (a x : ℕ) → a < length f.names → x < length f.names → above_from lists a (Some x) ≡ is_inclusive_ancestor f.trees (name_at f.names a) (name_at f.names x)
+unfolding above_from
+shows_above {f = f} {ps = ps} {lists = lists} {keys = keys} is kept a x at_a at_x =
+    let inside_a = within is kept a at_a in
+    let inside_x = within is kept x at_x in
+    subst (λ (g : NamedTrees). contains (x ∷ ancestors_of lists x) a ≡ is_inclusive_ancestor g.trees (name_at g.names a) (name_at g.names x)) is
+    (sym (above-at (nodes_of ps) lists (IsWhole-kept kept) a x (omega (arith, kept.paired)) (omega (arith, kept.paired)))
+    ∙ (ap (λ y. is_inclusive_ancestor (trees_of (nodes_of ps) lists) y (name_of_key (nodes_of ps) x)) (sym (name_at-same (stored_names ps) ps a))
+    ∙ ap (is_inclusive_ancestor (trees_of (nodes_of ps) lists) (name_at (stored_names ps) a)) (sym (name_at-same (stored_names ps) ps x))))
+
+-- the test of a node above another one, in the lists
+pub asked_above : {f : NamedTrees} {ps : List Stored} {lists : List (List ℕ)} {keys : Owner → List ℕ} → seen ps lists ≡ f → IsKept ps lists keys
+    → (top x : ℕ) → top < length f.names → x < length f.names → is_inclusive_ancestor f.trees (name_at f.names top) (name_at f.names x) ≡ true → contains (x ∷ ancestors_of lists x) top ≡ true
+unfolding above_from
+asked_above {f = f} {ps = ps} {lists = lists} {keys = keys} is kept top x at_top at_x above = shows_above is kept top x at_top at_x ∙ above
+
+-- a node in the tree of another one
+pub record InTree (ps : List Stored) (lists : List (List ℕ)) (top x : ℕ) : Type 0 where
+  pub above : contains (x ∷ ancestors_of lists x) top ≡ true
+  pub top_is_node : top < length lists
+  pub whole : IsWhole (nodes_of ps) lists
+
+pub in_tree : {f : NamedTrees} {ps : List Stored} {lists : List (List ℕ)} {keys : Owner → List ℕ} → seen ps lists ≡ f → IsKept ps lists keys
+    → (top x : ℕ) → top < length f.names → x < length f.names → is_inclusive_ancestor f.trees (name_at f.names top) (name_at f.names x) ≡ true → InTree ps lists top x
+in_tree is kept top x at_top at_x above = record {
+  above = asked_above is kept top x at_top at_x above;
+  top_is_node = let inside = within is kept top at_top in omega (arith, kept.paired);
+  whole = IsWhole-kept kept;
+}
+
+pub above_from-none : (lists : List (List ℕ)) (a : ℕ) → above_from lists a None ≡ false
+unfolding above_from
+above_from-none lists a = refl
+
+pub above_from-here : (lists : List (List ℕ)) (a k : ℕ) → k ≡ a → above_from lists a (Some k) ≡ true
+unfolding above_from
+above_from-here lists a k e = ap (λ b. b || contains (ancestors_of lists k) a) (eq-eqb k a e)
+
+-- a list without a first key
+pub no_children : (ks : List ℕ) (r : Option ℕ) → r ≡ head_of ks → is_some r ≡ false → ks ≡ []
+no_children [] r is lacks = refl
+no_children (k ∷ ks) r is lacks = absurd (true≢false (ap is_some (sym is) ∙ lacks))
+
+-- a node without children is above none but itself
+pub above_from-leaf : (lists : List (List ℕ)) → IsForest lists → (a x : ℕ) → children_of lists a ≡ [] → (x ≡ a → ⊥) → above_from lists a (Some x) ≡ false
+unfolding above_from
+above_from-leaf lists forest a x leaf other = or_from (eqb x a) _ (ne_eqb x a other) (apart (length (ancestors_of lists x)) x (omega arith))
+  where
+    apart : (d k : ℕ) → length (ancestors_of lists k) ≤ d → contains (ancestors_of lists k) a ≡ false
+    apart zero k deep = elim (cases_Option (parent_of lists k)) [
+      | inl e ↦ ap (λ ys. contains ys a) (ancestors_of-root lists k e)
+      | inr w ↦ absurd (omega (arith, ap (length {A = ℕ}) (ancestors_of-child lists forest k w.0 w.1)))
+    ]
+    apart (suc d) k deep = elim (cases_Option (parent_of lists k)) [
+      | inl e ↦ ap (λ ys. contains ys a) (ancestors_of-root lists k e)
+      | inr w ↦
+          let up = ancestors_of-child lists forest k w.0 w.1 in
+          let child = contains-parent lists k w.0 w.1 in
+          ap (λ ys. contains ys a) up
+          ∙ or_from (eqb w.0 a) _ (ne_eqb w.0 a (λ e. true≢false (sym child ∙ ap (λ ks. contains ks k) (ap (children_of lists) e ∙ leaf))))
+          (apart d w.0 (omega (arith, ap (length {A = ℕ}) up)))
+    ]
+
+pub steps_fall : (lists : List (List ℕ)) → IsForest lists → (k : ℕ) (up : Option ℕ) → up ≡ parent_of lists k → steps_up lists up < steps_up lists (Some k)
+steps_fall lists forest k up is = rw is (by (cases_Option (parent_of lists k)))
+  where
+    by : (parent_of lists k ≡ None) ⊎ ((p : ℕ) × (parent_of lists k ≡ Some p)) → steps_up lists (parent_of lists k) < suc (length (ancestors_of lists k))
+    by (inl e) = rw e (omega arith)
+    by (inr w) = rw w.1 (omega (arith, ap (length {A = ℕ}) (ancestors_of-child lists forest k w.0 w.1)))
+
+pub none_left : {X : Type 0} (o : Option X) → ((x : X) → o ≡ Some x → ⊥) → o ≡ None
+none_left None never = refl
+none_left (Some x) never = absurd (never x refl)
+
+-- ---- places among siblings
+
+abbrev pub place_in : List ℕ → ℕ → ℕ
+place_in [] k = 0
+place_in (x ∷ xs) k = cond (eqb x k) 0 (suc (place_in xs k))
+
+place_in-within : (xs : List ℕ) (k : ℕ) → contains xs k ≡ true → place_in xs k < length xs
+place_in-within [] k found = absurd (true≢false (sym found))
+place_in-within (x ∷ xs) k found = elim (cases_Bool (eqb x k)) [
+  | inl e ↦ rw e (omega arith)
+  | inr e ↦ rw e (omega (arith, place_in-within xs k (rw e at found)))
+]
+
+-- what stands just before k has the place before
+prev_place : (before : Option ℕ) (xs : List ℕ) (k s : ℕ) → IsOnce xs → contains xs k ≡ true → prev_from before xs k ≡ Some s
+    → ((place_in xs k ≡ 0) × (before ≡ Some s)) ⊎ ((contains xs s ≡ true) × (place_in xs k ≡ suc (place_in xs s)))
+prev_place before [] k s once found e = absurd (true≢false (sym found))
+prev_place before (x ∷ xs) k s once found e = elim (cases_Bool (eqb x k)) [
+  | inl h ↦ rw h (inl (refl, rw h at e))
+  | inr h ↦ rw h (elim (prev_place (Some x) xs k s once.1 (rw h at found) (rw h at e)) [
+    | inl w ↦
+        let same : x ≡ s = same_Some x s w.1 in
+        inr (or_left (eqb x s) _ (eq-eqb x s same), rw (eq-eqb x s same, w.0) refl)
+    | inr w ↦
+        let apart : eqb x s ≡ false = false_from_ne_true _ (λ same. both_ways _ once.0 (ap (contains xs) (eqb-true x s same) ∙ w.0)) in
+        inr (or_right (eqb x s) _ w.0, rw (apart, w.1) refl)
+  ])
+]
+
+pub no_prev : (x : ℕ) (xs : List ℕ) (k : ℕ) → contains xs k ≡ true → prev_from (Some x) xs k ≡ None → ⊥
+no_prev x [] k found e = true≢false (sym found)
+no_prev x (y ∷ xs) k found e = elim (cases_Bool (eqb y k)) [
+  | inl h ↦ none-some x (sym (rw h at e))
+  | inr h ↦ no_prev y xs k (rw h at found) (rw h at e)
+]
+
+first_place : (xs : List ℕ) (k : ℕ) → contains xs k ≡ true → prev_from None xs k ≡ None → place_in xs k ≡ 0
+first_place [] k found e = absurd (true≢false (sym found))
+first_place (x ∷ xs) k found e = elim (cases_Bool (eqb x k)) [
+  | inl h ↦ rw h refl
+  | inr h ↦ absurd (no_prev x xs k (rw h at found) (rw h at e))
+]
+
+-- the number of siblings before a node
+pub place : List (List ℕ) → ℕ → ℕ
+place lists k = option_map_or (λ p. place_in (children_of lists p) k) (parent_of lists k) 0
+
+-- and before the one after the node given; 0 where none is
+pub places_left : List (List ℕ) → Option ℕ → ℕ
+places_left lists at = option_map_or (λ k. suc (place lists k)) at 0
+
+pub places_left-prev : (lists : List (List ℕ)) → IsForest lists → (k : ℕ) (r : Option ℕ) → r ≡ prev_of lists k → places_left lists r ≡ place lists k
+unfolding places_left place
+places_left-prev lists forest k r is = rw is (by (cases_Option (parent_of lists k)))
+  where
+    found_prev : (p : ℕ) → parent_of lists k ≡ Some p → (o : Option ℕ) → prev_in (children_of lists p) k ≡ o → option_map_or (λ j. suc (option_map_or (λ q. place_in (children_of lists q) j) (parent_of lists j) 0)) o 0 ≡ place_in (children_of lists p) k
+    found_prev p e None h = sym (first_place (children_of lists p) k (contains-parent lists k p e) h)
+    found_prev p e (Some s) h = elim (prev_place None (children_of lists p) k s (forest.once p) (contains-parent lists k p e) h) [
+      | inl w ↦ absurd (none-some s w.1)
+      | inr w ↦ ap (λ o. suc (option_map_or (λ q. place_in (children_of lists q) s) o 0)) (parent_of_is lists forest.one_list p s w.0) ∙ sym w.1
+    ]
+
+    by : (parent_of lists k ≡ None) ⊎ ((p : ℕ) × (parent_of lists k ≡ Some p)) → option_map_or (λ j. suc (option_map_or (λ q. place_in (children_of lists q) j) (parent_of lists j) 0)) (prev_of lists k) 0 ≡ option_map_or (λ p. place_in (children_of lists p) k) (parent_of lists k) 0
+    by (inl e) = rw e refl
+    by (inr w) = ap (λ o. option_map_or (λ j. suc (option_map_or (λ q. place_in (children_of lists q) j) (parent_of lists j) 0)) (option_and_then (λ p. prev_in (children_of lists p) k) o) 0) w.1
+        ∙ (found_prev w.0 w.1 (prev_in (children_of lists w.0) k) refl ∙ sym (ap (λ o. option_map_or (λ p. place_in (children_of lists p) k) o 0) w.1))
+
+-- a node has fewer children than there are nodes
+pub few_children : (lists : List (List ℕ)) → IsForest lists → (p : ℕ) → p < length lists → length (children_of lists p) < length lists
+few_children lists forest p node =
+    omega (
+      arith,
+      length-IsOnce (length lists) (p ∷ children_of lists p) (apart, forest.once p) (λ k found. elim (or_cases (eqb p k) _ found) [
+        | inl h ↦ subst (λ (j : ℕ). j < length lists) (eqb-true p k h) node
+        | inr h ↦ forest.nodes p k h
+      ]),
+    )
+  where
+    apart : contains (children_of lists p) p ≡ false
+    apart = false_from_ne_true _ (λ found. both_ways _ (forest.acyclic p) (ap (λ ys. contains ys p) (ancestors_of-child lists forest p p (parent_of_is lists forest.one_list p p found)) ∙ contains-head p (ancestors_of lists p)))
+
+pub place-within : (lists : List (List ℕ)) → IsForest lists → (k : ℕ) → k < length lists → place lists k < length lists
+unfolding place
+place-within lists forest k node = by (cases_Option (parent_of lists k))
+  where
+    by : (parent_of lists k ≡ None) ⊎ ((p : ℕ) × (parent_of lists k ≡ Some p)) → option_map_or (λ p. place_in (children_of lists p) k) (parent_of lists k) 0 < length lists
+    by (inl e) = rw e (omega arith)
+    by (inr w) =
+        let child = contains-parent lists k w.0 w.1 in
+        rw w.1 (omega (arith, place_in-within (children_of lists w.0) k child, few_children lists forest w.0 (parent_within lists w.0 k child)))
+
+pub length-items_before : (f : ℕ → NodeName) (x : ℕ) (ks : List ℕ) → Tells f x ks → contains ks x ≡ true → length (items_before name_eq (f x) (map f ks)) ≡ place_in ks x
+length-items_before f x [] tells found = refl
+length-items_before f x (k ∷ ks) tells found =
+    let here = tells k (contains-head k ks) in
+    elim (cases_Bool (eqb k x)) [
+      | inl e ↦ rw (here, e) refl
+      | inr e ↦ rw (here, e) (ap suc (length-items_before f x ks (λ j found_j. tells j (or_right (eqb k j) (contains ks j) found_j)) (rw e at found)))
+    ]
+
+pub index_of-at : (nodes : List Node) (lists : List (List ℕ)) → IsWhole nodes lists → (x : ℕ) → x < length lists → index_of (trees_of nodes lists) (name_of_key nodes x) ≡ place lists x
+unfolding place
+index_of-at nodes lists whole x node = by (cases_Option (parent_of lists x))
+  where
+    by : (parent_of lists x ≡ None) ⊎ ((p : ℕ) × (parent_of lists x ≡ Some p)) → index_of (trees_of nodes lists) (name_of_key nodes x) ≡ option_map_or (λ p. place_in (children_of lists p) x) (parent_of lists x) 0
+    by (inl e) = ap (λ ys. length (items_before name_eq (name_of_key nodes x) ys)) (siblings-root nodes lists whole x node e) ∙ rw (name_eq-same (name_of_key nodes x), e) refl
+    by (inr w) = ap (λ ys. length (items_before name_eq (name_of_key nodes x) ys)) (siblings-child nodes lists whole x w.0 node w.1)
+        ∙ (length-items_before (name_of_key nodes) x (children_of lists w.0) (tells-children nodes lists whole x w.0 node) (contains-parent lists x w.0 w.1)
+        ∙ sym (ap (λ o. option_map_or (λ p. place_in (children_of lists p) x) o 0) w.1))
+
+pub shows_index : {f : NamedTrees} {ps : List Stored} {lists : List (List ℕ)} {keys : Owner → List ℕ} → seen ps lists ≡ f → IsKept ps lists keys
+    → (x : ℕ) → x < length f.names → place lists x ≡ index_of f.trees (name_at f.names x)
+shows_index {f = f} {ps = ps} {lists = lists} {keys = keys} is kept x node =
+    let inside = within is kept x node in
+    subst (λ (g : NamedTrees). place lists x ≡ index_of g.trees (name_at g.names x)) is
+    (sym (index_of-at (nodes_of ps) lists (IsWhole-kept kept) x (omega (arith, kept.paired)))
+    ∙ ap (index_of (trees_of (nodes_of ps) lists)) (sym (name_at-same (stored_names ps) ps x)))
+
+-- what is left after a sibling is one less than what is left with it
+pub places_left-none : (lists : List (List ℕ)) → places_left lists None ≡ 0
+unfolding places_left
+places_left-none lists = refl
+
+pub places_left-some : (lists : List (List ℕ)) (k : ℕ) → places_left lists (Some k) ≡ suc (place lists k)
+unfolding places_left
+places_left-some lists k = refl
+
+-- ---- counting the children of a node
+
+-- the number of children from the one given on
+pub children_left : List ℕ → Option ℕ → ℕ
+children_left xs at = option_map_or (λ k. length xs - place_in xs k) at 0
+
+pub children_left-none : (xs : List ℕ) → children_left xs None ≡ 0
+unfolding children_left
+children_left-none xs = refl
+
+pub children_left-head : (xs : List ℕ) (r : Option ℕ) → r ≡ head_of xs → children_left xs r ≡ length xs
+unfolding children_left
+children_left-head [] r is = rw is refl
+children_left-head (x ∷ xs) r is = rw (is, eq-eqb x x refl) (omega arith)
+
+next_place : (xs : List ℕ) (k : ℕ) → IsOnce xs → contains xs k ≡ true → suc (children_left xs (next_in xs k)) ≡ length xs - place_in xs k
+unfolding children_left
+next_place [] k once found = absurd (true≢false (sym found))
+next_place (x ∷ xs) k once found = elim (cases_Bool (eqb x k)) [
+  | inl h ↦ rw h (by xs once)
+  | inr h ↦ rw h (more (next_in xs k) refl (next_place xs k once.1 (rw h at found)))
+]
+  where
+    by : (ys : List ℕ) → IsOnce (x ∷ ys) → suc (option_map_or (λ j. suc (length ys) - place_in (x ∷ ys) j) (head_of ys) 0) ≡ suc (length ys) - 0
+    by [] once' = omega arith
+    by (y ∷ ys) once' =
+        let parts = or_parts (eqb y x) (contains ys x) once'.0 in
+        let apart : eqb x y ≡ false = ne_eqb x y (λ e. both_ways _ parts.0 (eq-eqb y x (sym e))) in
+        rw (apart, eq-eqb y y refl) (omega arith)
+
+    more : (o : Option ℕ) → next_in xs k ≡ o → suc (option_map_or (λ j. length xs - place_in xs j) o 0) ≡ length xs - place_in xs k
+        → suc (option_map_or (λ j. suc (length xs) - place_in (x ∷ xs) j) o 0) ≡ suc (length xs) - suc (place_in xs k)
+    more None e ih = omega arith
+    more (Some s) e ih =
+        let apart : eqb x s ≡ false = false_from_ne_true _ (λ same. both_ways _ once.0 (ap (contains xs) (eqb-true x s same) ∙ contains-next_in xs k s e)) in
+        rw apart (omega arith)
+
+pub children_left-next : (lists : List (List ℕ)) → IsForest lists → (p k : ℕ) (r : Option ℕ) → contains (children_of lists p) k ≡ true → r ≡ next_of lists k
+    → suc (children_left (children_of lists p) r) ≡ children_left (children_of lists p) (Some k)
+unfolding children_left
+children_left-next lists forest p k r child is =
+    let e : r ≡ next_in (children_of lists p) k = is ∙ ap (option_and_then (λ q. next_in (children_of lists q) k)) (parent_of_is lists forest.one_list p k child) in
+    ap (λ o. suc (option_map_or (λ j. length (children_of lists p) - place_in (children_of lists p) j) o 0)) e ∙ next_place (children_of lists p) k (forest.once p) child
+
+pub among-next : (lists : List (List ℕ)) → IsForest lists → (p k s : ℕ) (r : Option ℕ) → contains (children_of lists p) k ≡ true → r ≡ next_of lists k → r ≡ Some s → contains (children_of lists p) s ≡ true
+among-next lists forest p k s r child is e =
+    contains-next_in (children_of lists p) k s (sym (is ∙ ap (option_and_then (λ q. next_in (children_of lists q) k)) (parent_of_is lists forest.one_list p k child)) ∙ e)
+
+pub shows_children : {f : NamedTrees} {ps : List Stored} {lists : List (List ℕ)} {keys : Owner → List ℕ} → seen ps lists ≡ f → IsKept ps lists keys
+    → (x : ℕ) → x < length f.names → children_in f.trees (name_at f.names x) ≡ map (name_at f.names) (children_of lists x)
+shows_children {f = f} {ps = ps} {lists = lists} {keys = keys} is kept x node =
+    let inside = within is kept x node in
+    subst (λ (g : NamedTrees). children_in g.trees (name_at g.names x) ≡ map (name_at g.names) (children_of lists x)) is
+    (ap (children_in (trees_of (nodes_of ps) lists)) (name_at-same (stored_names ps) ps x)
+    ∙ (children_in-at (nodes_of ps) lists (IsWhole-kept kept) x (omega (arith, kept.paired)) ∙ all (children_of lists x)))
+  where
+    all : (ks : List ℕ) → map (name_of_key (nodes_of ps)) ks ≡ map (name_at (stored_names ps)) ks
+    all [] = refl
+    all (k ∷ ks) =
+        let here = name_at-same (stored_names ps) ps k in
+        let rest = all ks in
+        cc

@@ -1,0 +1,40 @@
+use Rattle.std.proofs.Common.{rules, ℕ, ◌^◌, ◌<◌, ap, sym, ◌∙◌, arith, subst, length}
+use Rattle.std.proofs.lemmas.List.{length-map}
+use Rattle.dom_model.specs.TreeChanges.{with_node}
+use Rattle.dom_tree.specs.Table.{keys_of}
+use Rattle.dom_tree.specs.Forest.{NamedTrees, next_name, node_from}
+use Rattle.dom_tree.proofs.Kept.{kept_with}
+use Rattle.dom_tree.proofs.Adding.{Adds, adds_from, IsKept-keys, IsKept-add, trees_of-add}
+use Rattle.dom_tree.proofs.forest.Forest.add.Goals as goal
+
+pub invariant_of-self-in_err-key : goal.invariant_of-self-in_err-key
+invariant_of-self-in_err-key c =
+    IsKept-keys c.add.new.self.payloads c.add.new.self.children (keys_of c.self.inside.keys) (keys_of c.reserve.new.self)
+    (kept_with c.self.inside.arena c.add.new.self _ c.self.invariant (ap (λ a. a.payloads) c.in_err-key.ensures.err) c.add.ensures.sound)
+    c.reserve.ensures.keys
+
+pub overflow_cast-name : goal.overflow_cast-name
+overflow_cast-name c =
+    let counted = ap (length {A = ℕ}) c.of-number.ensures ∙ c.self.invariant.counted c.args.owner in
+    omega (arith, counted, c.self.invariant.limited c.args.owner)
+
+-- the node that is added
+adds : (c : goal.After-push) → Adds c.self.inside.arena.payloads c.self.inside.arena.children (keys_of c.self.inside.keys) (keys_of c.push.new.self) c.args.owner
+    (record { name = record { owner = c.args.owner; number = length c.of-number.result.now }; node = c.args.node })
+adds c = adds_from c.self.inside.arena.payloads c.self.inside.arena.children (keys_of c.self.inside.keys) (keys_of c.reserve.new.self) (keys_of c.push.new.self)
+    c.args.owner (length c.of-number.result.now) c.in_ok-key.key c.args.node c.self.invariant
+    (ap (length {A = ℕ}) c.of-number.ensures)
+    c.if-number.false
+    (λ k e. subst (λ (n : ℕ). k < n) (ap (λ (f : NamedTrees). length f.names) (sym c.self.view_is) ∙ length-map c.self.inside.arena.payloads (λ s. s.name)) (c.requires.document_is_node k e))
+    c.in_ok-key.ensures.key
+    (let bound : c.in_ok-key.key < 2 ^ 64 = search rules in bound)
+    c.reserve.ensures.keys
+    c.push.ensures
+
+pub invariant_of-self-2 : goal.invariant_of-self-2
+invariant_of-self-2 c = IsKept-add _ _ _ _ _ _ (adds c) c.add.new.self c.add.ensures.sound (ap (λ a. a.payloads) c.in_ok-key.ensures.ok)
+
+pub returns-clause-trees : goal.returns-clause-trees
+returns-clause-trees c =
+    trees_of-add _ _ _ _ _ _ (adds c) c.add.new.self c.add.ensures.sound c.in_ok-key.ensures.ok
+    ∙ ap (λ f. with_node (node_from f.names (next_name c.args.owner f.names) c.args.node) f.trees) c.self.view_is

@@ -1,0 +1,9 @@
+use Rattle.dom_model.specs.Names.{last_of}
+use Rattle.dom_model.specs.Tree.{children_of as children_in}
+use Rattle.node_arena.specs.Nodes.{children_of, last_of as last_key}
+use Rattle.dom_tree.proofs.Reading.{last_in-at}
+use Rattle.dom_tree.proofs.Kept.{shows}
+use Rattle.dom_tree.proofs.forest.Forest.last.Goals as goal
+
+pub returns-clause-value : goal.returns-clause-value
+returns-clause-value c = shows c.self.view_is c.self.invariant (λ ts x. last_of (children_in ts x)) (λ lists x. last_key (children_of lists x)) last_in-at c.args.key c.last.result c.requires c.last.ensures.value

@@ -1,0 +1,8 @@
+use Rattle.dom_model.specs.Tree.{next_sibling}
+use Rattle.node_arena.specs.Nodes.{next_of}
+use Rattle.dom_tree.proofs.Reading.{next_in-at}
+use Rattle.dom_tree.proofs.Kept.{shows}
+use Rattle.dom_tree.proofs.forest.Forest.next.Goals as goal
+
+pub returns-clause-value : goal.returns-clause-value
+returns-clause-value c = shows c.self.view_is c.self.invariant next_sibling next_of next_in-at c.args.key c.next.result c.requires c.next.ensures.value

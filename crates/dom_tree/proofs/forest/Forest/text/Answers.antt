@@ -1,0 +1,6 @@
+use Rattle.std.proofs.Common.{ap, sym, ◌∙◌}
+use Rattle.dom_tree.proofs.Kept.{shows_node}
+use Rattle.dom_tree.proofs.forest.Forest.text.Goals as goal
+
+pub returns : goal.returns
+returns c = c.as_slice.ensures.value ∙ ap (λ n. n.text) (sym (shows_node c.self.view_is c.self.invariant c.args.key _ c.requires c.payload.ensures.value))

@@ -1,0 +1,5 @@
+pub mod Table
+pub mod Rows
+pub mod Forest
+pub mod Owners
+pub mod EachNode

@@ -1,0 +1,19 @@
+-- The keys of each owner's nodes, as their table holds them.
+use Rattle.std.specs.Prelude.{ℕ, ◌<◌, List, [], MatchOption}
+use Rattle.std.specs.HashMap.{get}
+use Rattle.std.specs.Vec.{vec_len, vec_capacity}
+use Rattle.std.specs.Option.{option_map_or}
+use Rattle.dom_base.specs.declared.Owner.{Owner}
+use Rattle.dom_base.specs.declared.Owner.TheVariants.{Page, Component}
+use Rattle.dom_base.specs.contracts.OwnerPartialEq.TheImpl as OwnerImpl
+use Rattle.dom_tree.specs.declared.table.KeyTable.{KeyTable}
+
+-- an owner's keys, in the order of their nodes' numbers
+abbrev pub keys_of : KeyTable → Owner → List ℕ
+keys_of t Page = t.page.items
+keys_of t (Component k) = option_map_or (λ v. v.items) (get OwnerImpl.ghosts.eq t.components (Component k)) []
+
+-- there is room for one key more of an owner
+abbrev pub HasRoom : KeyTable → Owner → Type 0
+HasRoom t Page = vec_len t.page < vec_capacity t.page
+HasRoom t (Component k) = MatchOption (get OwnerImpl.ghosts.eq t.components (Component k)) ⊥ (λ v. vec_len v < vec_capacity v)

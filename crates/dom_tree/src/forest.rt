@@ -1,0 +1,116 @@
+//! The nodes of all owners, and the trees in which they stand.
+ghost use Rattle.std.specs.Prelude.{◌≡◌, ℕ, ◌<◌, ◌↔◌, ◌++◌, ◌∷◌, [], length, true, count_by, Some, is_some, slice_get, IfOk, IfErr, OnOk, OnErr, ◌⊎◌};
+ghost use Rattle.std.specs.Option.{ForSome};
+ghost use Rattle.dom_base.specs.declared.NodeName.{NodeName as Name};
+ghost use Rattle.dom_model.specs.Names.{name_eq, is_in};
+ghost use Rattle.dom_model.specs.Tree.{none, nodes, has_node, inclusive_descendants, is_inclusive_ancestor};
+ghost use Rattle.dom_tree.specs.Owners.{AreInOrder};
+ghost use Rattle.dom_model.specs.TreeChanges.{with_node};
+ghost use Rattle.dom_tree.specs.Forest.{name_at, next_name, count_of, node_from};
+
+mod contents;
+mod links;
+mod order;
+mod validity;
+
+use crate::data::{NodeData, Stored};
+use crate::table::KeyTable;
+use dom_base::{Fault, MAX_NODES, NodeName, Owner, Refusal};
+use node_arena::{Arena, Key};
+use std::alloc::Global;
+use std::marker::Model;
+
+/// The nodes of all owners, and the trees in which they stand. Nodes are never taken away.
+#[derive(Drop)]
+pub struct Forest {
+    arena: Arena<Stored>,
+    keys: KeyTable,
+    alloc: Global,
+}
+
+impl Model for Forest {
+    ghost use Rattle.dom_tree.specs.Forest.{NamedTrees, named_trees_code, stored_names, nodes_of, IsKept};
+    ghost use Rattle.dom_tree.specs.Rows.{trees_of};
+    ghost use Rattle.dom_tree.specs.Table.{keys_of};
+
+    ghost Value = { NamedTrees };
+
+    ghost coded = { named_trees_code };
+
+    ghost view = { λ f. record { names = stored_names f.arena.payloads; trees = trees_of (nodes_of f.arena.payloads) f.arena.children } };
+
+    ghost invariant = { λ f. IsKept f.arena.payloads f.arena.children (keys_of f.keys) };
+}
+
+impl Forest {
+    /// A forest without nodes, which takes no memory yet. It and its nodes will take theirs from `alloc`.
+    pub fn new(alloc: Global) -> Self
+        ensures { result ≡ record { names = []; trees = none } }
+    {
+        Forest {
+            arena: Arena::new(alloc),
+            keys: KeyTable::new(alloc),
+            alloc,
+        }
+    }
+
+    /// Makes a node with the next number of an owner, in a tree of its own, and gives its key (own rule). It is
+    /// refused with `Limit` where the owner has a million nodes, and with `Memory` where memory is refused; then the
+    /// forest is as it was.
+    pub fn add(&mut self, owner: Owner, node: NodeData) -> Result<Key, Fault>
+        requires document_is_node { ForSome node.document (λ d. d < length self.old.names) }
+        ensures key { IfOk result (λ key. key ≡ length self.old.names) }
+        ensures names { OnOk result (self.new.names ≡ self.old.names ++ next_name owner self.old.names ∷ []) }
+        ensures trees { OnOk result (self.new.trees ≡ with_node (node_from self.old.names (next_name owner self.old.names) node) self.old.trees) }
+
+        // An owner's nodes are at most 1,000,000. Nothing else but memory stops one more.
+        ensures limit { (result ≡ Err (Fault.Refused Refusal.Limit)) ↔ (count_of owner self.old.names ≡ MAX_NODES) }
+        ensures other { IfErr result (λ fault. (fault ≡ Fault.Refused Refusal.Limit) ⊎ (fault ≡ Fault.Memory)) }
+        ensures err { OnErr result (self.new ≡ self.old) }
+    {
+        let number = self.keys.of(owner).len();
+        if number == MAX_NODES as usize {
+            return Err(Fault::Refused(Refusal::Limit));
+        }
+        self.keys.reserve(owner)?;
+        let name = NodeName {
+            owner,
+            number: number as u32,
+        };
+        let key = self.arena.add(Stored { name, node })?;
+        self.keys.push(owner, key);
+        Ok(key)
+    }
+
+    /// The key of the node of this name, if there is one (own rule). It is found by its number in its owner's list.
+    pub fn find(&self, name: NodeName) -> Option<Key>
+        ensures found { ForSome result (λ k. slice_get self.now.names k ≡ Some name) }
+        ensures kept { (k : ℕ) → slice_get self.now.names k ≡ Some name → result ≡ Some k }
+        ensures present { is_some result ≡ has_node self.now.trees name }
+        ensures node { ForSome result (λ k. k < length self.now.names) }
+    {
+        self.keys.find(name)
+    }
+
+    /// Holds of every forest (own rule): names tell the nodes apart, each node stands once in the trees, no others
+    /// stand there, what is below a node is what it is above, and the roots stand in the order of their names.
+    pub fn nodes_stand_once(&self)
+        ensures distinct { (j k : ℕ) → j < length self.now.names → k < length self.now.names → name_at self.now.names j ≡ name_at self.now.names k → j ≡ k }
+        ensures once { (k : ℕ) → k < length self.now.names → count_by (λ n. name_eq n.name (name_at self.now.names k)) (nodes self.now.trees) ≡ 1 }
+        ensures only { (x : Name) → has_node self.now.trees x ≡ true → (k : ℕ) × (slice_get self.now.names k ≡ Some x) }
+        ensures present { (k : ℕ) → k < length self.now.names → has_node self.now.trees (name_at self.now.names k) ≡ true }
+        ensures below { (j k : ℕ) → j < length self.now.names → k < length self.now.names → is_in name_eq (name_at self.now.names k) (inclusive_descendants self.now.trees (name_at self.now.names j)) ≡ is_inclusive_ancestor self.now.trees (name_at self.now.names j) (name_at self.now.names k) }
+        ensures order { AreInOrder self.now.trees }
+    {
+        let _ = &self.arena;
+    }
+
+    /// The name of a node: its owner, and its number among the owner's nodes (own rule).
+    pub fn name(&self, key: Key) -> NodeName
+        requires { key < length self.now.names }
+        ensures value { slice_get self.now.names key ≡ Some result }
+        ensures at { name_at self.now.names key ≡ result }
+    {
+        self.arena.payload(key).name
+    }
+}

@@ -1,0 +1,18 @@
+//! The trees of all owners (DOM Standard, 1.1 Trees): nodes with a kind, attributes and data, how they stand, and
+//! which insertions and replacements are refused.
+//!
+//! A forest is seen as the names of its nodes, by their keys, and as a list of trees, in the order of their roots'
+//! names. Each read and each change is one of those lists of trees. Every call that is passed a key asks that it is
+//! the key of a node of that forest.
+#![tactic(auto)]
+
+mod data;
+mod forest;
+mod owners;
+mod table;
+#[cfg(test)]
+mod tests;
+
+pub use data::NodeData;
+pub use forest::Forest;
+pub use owners::{changes_add_up, changes_are_own, reads_are_own};
