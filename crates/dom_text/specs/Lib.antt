@@ -1,3 +1,4 @@
+-- The text of the line protocol.
 pub mod Words
 pub mod Lines
 pub mod Tokens
