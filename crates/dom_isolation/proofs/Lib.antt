@@ -39,5 +39,6 @@ pub mod KindCommands
 pub mod Acceptance
 pub mod ShadowRoots
 pub mod NodeKinds
+pub mod Insides
 pub mod Reached
 pub mod ReachedFacts

@@ -149,7 +149,7 @@ subtree-absent (tree n c r) x h =
     ∙ ap (λ t. or_else t (subtree r x)) (subtree-absent c x (omega arith)) ∙ subtree-absent r x (omega arith))
 
 -- of the first list of trees that is there
-times-or_else : (a b : Trees) (y : NodeName) → times_in (or_else a b) y ≤ times_in a y + times_in b y
+pub times-or_else : (a b : Trees) (y : NodeName) → times_in (or_else a b) y ≤ times_in a y + times_in b y
 times-or_else none b y = omega arith
 times-or_else (tree n c r) b y = omega arith
 
