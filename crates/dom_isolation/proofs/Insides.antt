@@ -345,3 +345,25 @@ second-none (x ∷ xs) y h e = cc
 -- and so is its child
 pub child-there : (ts : Trees) (x y : NodeName) → parent_of ts x ≡ Some y → 1 ≤ times_in ts x
 child-there ts x y e = by_times (times_in ts x) (λ z. absurd (second-none (inclusive_ancestors ts x) y (ancestors-absent ts x z) e)) (λ z. z)
+
+-- A node that is counted is a node: a name behind other nodes
+pub in-later : (x : NodeName) (ns ms : List Node) → is_in name_eq x (names_of ms) ≡ true → is_in name_eq x (names_of (ns ++ ms)) ≡ true
+in-later x [] ms h = h
+in-later x (n ∷ ns) ms h = or-second (name_eq x n.name) (is_in name_eq x (names_of (ns ++ ms))) (in-later x ns ms h)
+
+-- a name in front of other nodes
+in-front : (x : NodeName) (ns ms : List Node) → is_in name_eq x (names_of ns) ≡ true → is_in name_eq x (names_of (ns ++ ms)) ≡ true
+in-front x [] ms h = absurd (true≢false (sym h))
+in-front x (n ∷ ns) ms h =
+    by_cases (name_eq x n.name) (λ e. or-first (name_eq x n.name) (is_in name_eq x (names_of (ns ++ ms))) e)
+    (λ e. or-second (name_eq x n.name) (is_in name_eq x (names_of (ns ++ ms))) (in-front x ns ms (or-later (name_eq x n.name) (is_in name_eq x (names_of ns)) e h)))
+
+-- by its count
+pub times-has_node : (ts : Trees) (x : NodeName) → 1 ≤ times_in ts x → has_node ts x ≡ true
+times-has_node none x h = absurd (omega arith)
+times-has_node (tree n c r) x h =
+    let others = is_in name_eq x (names_of (nodes c ++ nodes r)) in
+    by_cases (name_eq x n.name) (λ e. or-first (name_eq x n.name) others e)
+    (λ e. let g = times-elsewhere n c r x (name_eq-sym n.name x ∙ e) in
+    or-second (name_eq x n.name) others
+    (by_times (times_in c x) (λ z. in-later x (nodes c) (nodes r) (times-has_node r x (omega arith))) (λ z. in-front x (nodes c) (nodes r) (times-has_node c x z))))

@@ -256,7 +256,7 @@ not_listed x [] h = refl
 not_listed x (n ∷ ns) h = rw (name_eq-sym x n.name ∙ h.0) (not_listed x ns h.1)
 
 -- the same, by how often it is there
-has_node-times : (ts : Trees) (x : NodeName) → has_node ts x ≡ true → 1 ≤ times_in ts x
+pub has_node-times : (ts : Trees) (x : NodeName) → has_node ts x ≡ true → 1 ≤ times_in ts x
 has_node-times ts x h =
     by_times (times_in ts x)
     (λ z. let none_named = nodes-then (λ n. name_eq n.name x ≡ true → ⊥) (λ n. name_eq n.name x ≡ false) (λ n f. by_cases (name_eq n.name x) (λ e. absurd (f e)) (λ e. e)) ts (absent-any (λ n. ⊥) ts x z) in

@@ -40,5 +40,6 @@ pub mod Acceptance
 pub mod ShadowRoots
 pub mod NodeKinds
 pub mod Insides
+pub mod TableSteps
 pub mod Reached
 pub mod ReachedFacts

@@ -13,6 +13,7 @@ use Rattle.dom_model.proofs.PartLaws.{owner-part_of}
 use Rattle.dom_isolation.specs.Laws.{ShadowRootsAreRoots, NoOtherShadowRoots, AttachedAreThere, HostsAreTheirs}
 use Rattle.dom_isolation.specs.Worlds.{IsShadowOf, MayBeShadow, times_among}
 use Rattle.dom_isolation.proofs.ComponentEvents.{host-page}
+use Rattle.dom_isolation.proofs.Insides.{in-later}
 use Rattle.dom_isolation.proofs.NodeKinds.{node-read, name-node_in, fragment-no_shadow}
 use Rattle.dom_isolation.proofs.Owners.{hosted-there, there-hosted}
 use Rattle.dom_isolation.proofs.ShadowRoots.{kind-root}
@@ -20,11 +21,6 @@ use Rattle.dom_isolation.proofs.Tests.{by_cases, or-first, or-second, or-later}
 use Rattle.dom_isolation.proofs.TreeChangeLaws.{HasRoot}
 use Rattle.dom_isolation.proofs.Trees.{IsUnique, unique-rest, times-elsewhere, root-there, name_eq-sym, ancestors-absent}
 use Rattle.dom_isolation.proofs.WorldSteps.{own-part}
-
--- a name behind other nodes
-in-later : (x : NodeName) (ns ms : List Node) → is_in name_eq x (names_of ms) ≡ true → is_in name_eq x (names_of (ns ++ ms)) ≡ true
-in-later x [] ms h = h
-in-later x (n ∷ ns) ms h = or-second (name_eq x n.name) (is_in name_eq x (names_of (ns ++ ms))) (in-later x ns ms h)
 
 -- and so a node of the trees
 root-has_node : (ts : Trees) (x : NodeName) → HasRoot ts x → has_node ts x ≡ true

@@ -1,5 +1,6 @@
 -- What holds of every world that the document machine reaches, and the isolation laws.
 pub mod Worlds
+pub mod Tables
 pub mod Laws
 pub mod Offering
 pub mod Texts
