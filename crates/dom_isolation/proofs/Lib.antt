@@ -41,5 +41,6 @@ pub mod ShadowRoots
 pub mod NodeKinds
 pub mod Insides
 pub mod TableSteps
+pub mod PlanPlaces
 pub mod Reached
 pub mod ReachedFacts
