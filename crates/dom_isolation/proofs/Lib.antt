@@ -42,5 +42,6 @@ pub mod NodeKinds
 pub mod Insides
 pub mod TableSteps
 pub mod PlanPlaces
+pub mod PlanTexts
 pub mod Reached
 pub mod ReachedFacts

@@ -104,7 +104,7 @@ pub record Leads (spot : Option NodeName) (p : Part) (steps : List Step) : Type 
   pub changed : Changed spot p (after p steps)
 
 -- steps after steps
-made-append : (p : Part) (xs ys : List Step) → MadeIn p xs → MadeIn (after p xs) ys → MadeIn p (xs ++ ys)
+pub made-append : (p : Part) (xs ys : List Step) → MadeIn p xs → MadeIn (after p xs) ys → MadeIn p (xs ++ ys)
 made-append p [] ys h g = g
 made-append p (x ∷ xs) ys h g = (h.0, made-append (part_step p x) xs ys h.1 g)
 
