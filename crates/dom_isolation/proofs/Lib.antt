@@ -43,5 +43,6 @@ pub mod Insides
 pub mod TableSteps
 pub mod PlanPlaces
 pub mod PlanTexts
+pub mod TableCommands
 pub mod Reached
 pub mod ReachedFacts

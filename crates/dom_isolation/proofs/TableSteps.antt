@@ -241,7 +241,7 @@ tables-told p c h =
     }
 
 -- Iterators at a removal: they move to nodes of their root's tree.
-all-descend : (ts : Trees) (x : NodeName) → AllByRecursion (IsNodeIn ts) (inclusive_descendants ts x)
+pub all-descend : (ts : Trees) (x : NodeName) → AllByRecursion (IsNodeIn ts) (inclusive_descendants ts x)
 all-descend ts x =
     all-map (IsNodeIn ts) (λ (n : Node). n.name) (nodes (subtree ts x))
     (all-then (λ (n : Node). 1 ≤ times_in (subtree ts x) n.name) (λ n. IsNodeIn ts n.name) (λ n h. times-has_node ts n.name (let s = times-subtree ts x n.name in omega arith)) (nodes (subtree ts x)) (nodes-there (subtree ts x)))
