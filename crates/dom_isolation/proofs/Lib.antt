@@ -44,5 +44,6 @@ pub mod TableSteps
 pub mod PlanPlaces
 pub mod PlanTexts
 pub mod TableCommands
+pub mod TableWorlds
 pub mod Reached
 pub mod ReachedFacts

@@ -219,7 +219,7 @@ pub more-pending : (j k : ℕ) → j ≤ k → (ks : List ℕ) → AllByRecursio
 more-pending j k e ks h = all-then (λ i. i < j) (λ i. i < k) (λ i o. omega arith) ks h
 
 -- a number of a queue
-queue-below : {X : Type 0} (xs : List X) (k : ℕ) → is_some (slice_get xs k) ≡ true → k < length xs
+pub queue-below : {X : Type 0} (xs : List X) (k : ℕ) → is_some (slice_get xs k) ≡ true → k < length xs
 queue-below [] k h = absurd (true≢false (sym h))
 queue-below (x ∷ xs) zero h = omega arith
 queue-below (x ∷ xs) (suc k) h = let g = queue-below xs k h in omega arith

@@ -220,7 +220,7 @@ all-appended k (j ∷ new) old h g =
     all-appended k new (append_once nat_eq old j) h.1 (either_way (AllByRecursion (λ j. j < k)) (is_in nat_eq j old) old (old ++ j ∷ []) g (all-append (λ j. j < k) old (j ∷ []) g (h.0, tt)))
 
 -- queues that get records
-queues-set : {X : Type 0} (f : List X → ℕ → X) (ks : List ℕ) (xs : List X) → length (fold (λ queues k. slice_set queues k (f queues k)) xs ks) ≡ length xs
+pub queues-set : {X : Type 0} (f : List X → ℕ → X) (ks : List ℕ) (xs : List X) → length (fold (λ queues k. slice_set queues k (f queues k)) xs ks) ≡ length xs
 queues-set f [] xs = refl
 queues-set f (k ∷ ks) xs = queues-set f ks (slice_set xs k (f xs k)) ∙ length-set xs k (f xs k)
 
