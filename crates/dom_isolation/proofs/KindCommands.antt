@@ -285,13 +285,13 @@ once-push xs x y h u =
     (λ e. let zero_more : times_among (x ∷ []) y ≡ 0 + 0 = ap (λ k. k + 0) (cond-false (name_eq x y) 1 0 e) in omega arith)
 
 -- what an accepted `attach` knows of its element
-record IsFree (p : Part) (x : NodeName) : Type 0 where
-  there : 1 ≤ times_in p.trees x
-  element : is_element (kind_of p.trees x) ≡ true
-  free : is_in name_eq x p.attached ≡ false
+pub record IsFree (p : Part) (x : NodeName) : Type 0 where
+  pub there : 1 ≤ times_in p.trees x
+  pub element : is_element (kind_of p.trees x) ≡ true
+  pub free : is_in name_eq x p.attached ≡ false
 
 -- its element is there, and is no host yet
-attach-free : (p : Part) (x : Spelled) → part_refusal p (Command.attach x) ≡ None → IsFree p (named p x)
+pub attach-free : (p : Part) (x : Spelled) → part_refusal p (Command.attach x) ≡ None → IsFree p (named p x)
 attach-free p x h =
     let a = part-accepted p (Command.attach x) h in
     let own = next-test (is_in name_eq (named p x) p.attached || not (may_be_host (node_in p.trees (named p x)).element)) NotSupported ((nat_lt MAX_COMPONENTS (length p.attached + 1), Limit) ∷ []) a.own in

@@ -47,3 +47,4 @@ pub mod TableCommands
 pub mod TableWorlds
 pub mod Reached
 pub mod ReachedFacts
+pub mod TableLines

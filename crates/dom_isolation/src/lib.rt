@@ -7,6 +7,7 @@ ghost use Rattle.dom_model.specs.Command.{Command, Line};
 ghost use Rattle.dom_model.specs.World.{World};
 ghost use Rattle.dom_model.specs.Isolation.{ForeignIsRefused, PagePartAgrees, PageSeesItsTrace, SamePage};
 ghost use Rattle.dom_isolation.specs.Laws.{VisitIsUnseen, FoldSkipsComponents, PageVisitsAgree, OutwardVisitsAgree, PageDispatchAgrees, ComponentDispatchAgrees, NotificationIsUnseen, TurnEndingAgrees, OtherEndingIsUnseen, PageLineAgrees, OtherLineAgrees, FinishAgrees, PageRunAgrees, TraceGoesOn, IsReached, IsQuiet, FirstIsReached, StepKeepsReached, EndingKeepsReached, FinishKeepsReached, ScriptsReach, QuietScriptsReach, ShadowRootsAreRoots, NoOtherShadowRoots, AttachedAreThere, HostsAreTheirs, AssignedArePage};
+ghost use Rattle.dom_isolation.specs.Wholes.{FirstIsWhole, StepKeepsWhole, EndingKeepsWhole, FinishKeepsWhole, ScriptsStayWhole};
 ghost use Rattle.dom_isolation.specs.Offering.{offering};
 ghost use Rattle.dom_isolation.specs.Texts.{ReadsPrefix, DecodeReadsPrefix, OfferingReadsPrefix, TraceHasPageLines, OutputHasPageLines, PageViewIsItsOutput, PageLinesAgree, PageLinesAgreeSoFar, PageTextAgrees, SamePageText, ForeignLineIsRefused};
 ghost use Rattle.dom_isolation.specs.Words.{ReadsPlainWords, DecodeReadsPlainWords, OfferingReadsPlainWords, OutputHasItsLines, PickedLinesAgree};
@@ -55,6 +56,17 @@ pub fn reached_worlds()
     ensures there { AttachedAreThere }
     ensures hosts { HostsAreTheirs }
     ensures assigned { AssignedArePage }
+{}
+
+/// Of every world that the machine reaches the tables name what is there: hosts, the ends of ranges, iterators, walkers,
+/// registrations, listeners and signalled slots are at nodes of their owners, observers have their record queues, and each
+/// owner that is there has its first node.
+pub fn whole_worlds()
+    ensures first { FirstIsWhole }
+    ensures kept { StepKeepsWhole }
+    ensures ending { EndingKeepsWhole }
+    ensures finish { FinishKeepsWhole }
+    ensures script { (read : List ℕ → Line) → ScriptsStayWhole read }
 {}
 
 /// After every script in which no component listener stops or cancels the page's part is the page machine's state after
