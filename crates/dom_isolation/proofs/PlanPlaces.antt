@@ -3,10 +3,11 @@ use Rattle.std.proofs.Common.{◌≡◌, ◌≤◌, ◌<◌, ℕ, ◌+◌, ◌-�
 use Rattle.std.specs.Prelude.{if◌then◌else◌, ⊤, ◌==◌, min}
 use Rattle.std.specs.List.{AllByRecursion}
 use Rattle.std.specs.Option.{option_map_or}
+use Rattle.std.proofs.lemmas.Bool.{cond-true, cond-false}
 use Rattle.dom_base.specs.declared.NodeName.{NodeName}
-use Rattle.dom_model.specs.Names.{Word, DomString, name_eq, is_in, is_empty}
-use Rattle.dom_model.specs.Tree.{Trees, Node, node_in, kind_of, is_text, is_document, is_fragment, has_data, subtree, children_of, parent_of, previous_sibling, next_sibling, index_of, length_of, attribute_value, descendants, inclusive_descendants}
-use Rattle.dom_model.specs.TreeChanges.{map_nodes, with_name, with_document, with_data_replaced, with_attribute}
+use Rattle.dom_model.specs.Names.{Word, DomString, name_eq, is_in, is_empty, first_of}
+use Rattle.dom_model.specs.Tree.{Trees, none, tree, on_top, inclusive_ancestors, Node, node_in, kind_of, is_text, is_document, is_fragment, has_data, subtree, children_of, parent_of, previous_sibling, next_sibling, index_of, length_of, attribute_value, descendants, inclusive_descendants}
+use Rattle.dom_model.specs.TreeChanges.{without, map_nodes, with_name, with_document, with_data_replaced, with_attribute}
 use Rattle.dom_model.specs.Output.{Change, child_list, attributes, character_data}
 use Rattle.dom_model.specs.Part.{Part, next_name}
 use Rattle.dom_model.specs.Steps.{Step, make, make_room, place, take_out, set_document, set_attribute, replace_data, split_at, join_at, set_range, queue_record, part_step, leave, after}
@@ -16,7 +17,8 @@ use Rattle.dom_model.proofs.StepLaws.{owner-part_step}
 use Rattle.dom_isolation.specs.Worlds.{times_in, IsPart}
 use Rattle.dom_isolation.proofs.Lists.{all-append, all-then, all-from}
 use Rattle.dom_isolation.proofs.Tests.{by_cases, either_way}
-use Rattle.dom_isolation.proofs.Trees.{by_times, times-subtree, name_eq-true}
+use Rattle.dom_isolation.proofs.TreeChangeLaws.{HasRoot, root-first, root-second, root-put_root_new, root-subtree, root-map_nodes}
+use Rattle.dom_isolation.proofs.Trees.{by_times, times-subtree, name_eq-true, name_eq-sym, times-elsewhere, ancestors-absent, ancestors-present}
 use Rattle.dom_isolation.proofs.PartSteps.{KeepsNames, some-keeps, attribute-keeps, part-step, next-absent}
 use Rattle.dom_isolation.proofs.NodeKinds.{count-grows}
 use Rattle.dom_isolation.proofs.TableSteps.{There, Fits, MadeIn, stays-step}
@@ -183,6 +185,51 @@ pub may-still : (parent : NodeName) (p q : Part) (x : NodeName) → Changed (Som
 may-still parent p q x c m =
     record { there = still c x m.there; owner = m.owner ∙ sym c.owner; below = still c parent m.below; apart = c.apart x parent m.there m.apart m.apart }
 
+-- A node that was removed is a root: one without a parent is one already.
+no_parent-root : (ts : Trees) (x : NodeName) → 1 ≤ times_in ts x → parent_of ts x ≡ None → HasRoot ts x
+no_parent-root none x h e = absurd (omega arith)
+no_parent-root (tree n c r) x h e =
+    let top = on_top (inclusive_ancestors c x) n.name (inclusive_ancestors r x) in
+    by_cases (name_eq n.name x) (λ k. root-first n c r x (name_eq-sym x n.name ∙ k))
+    (λ k. let g = times-elsewhere n c r x k in
+    let is = cond-false (name_eq n.name x) (x ∷ []) top k in
+    by_times (times_in c x)
+    (λ z. root-second n c r x (no_parent-root r x (omega arith) (sym (ap (λ path. first_of (drop 1 path)) (is ∙ ap (λ path. on_top path n.name (inclusive_ancestors r x)) (ancestors-absent c x z))) ∙ e)))
+    (λ z. let at = ancestors-present c x z in
+    absurd (longer at.0 n.name (sym (ap (λ path. first_of (drop 1 path)) (is ∙ ap (λ path. on_top path n.name (inclusive_ancestors r x)) at.1)) ∙ e))))
+  where
+    longer : (path : List NodeName) (y : NodeName) → first_of (path ++ y ∷ []) ≡ None → ⊥
+    longer [] y e = cc
+    longer (x ∷ path) y e = cc
+
+-- the step of a removal
+pub taken-step : (p : Part) (x parent : NodeName) → parent_of p.trees x ≡ Some parent → part_step p (take_out x) ≡ leave p x parent
+taken-step p x parent e = ap (λ o. option_map_or (leave p x) o p) e
+
+-- records change no trees
+pub telling-trees : (how : Observing) (c : Change NodeName) (p : Part) → (after p (telling how c)).trees ≡ p.trees
+telling-trees observed c p = refl
+telling-trees suppressed c p = refl
+
+-- one that leaves its parent becomes one
+pub root-removing : (how : Observing) (x : NodeName) (p : Part) → There p x → HasRoot (after p (removing how x p)).trees x
+root-removing how x p t = from (parent_of p.trees x) refl
+  where
+    from : (o : Option NodeName) → parent_of p.trees x ≡ o → HasRoot (after p (option_map_or (removing_from how x p.trees) o [])).trees x
+    from None e = no_parent-root p.trees x t e
+    from (Some parent) e =
+        subst (λ ts. HasRoot ts x) (sym (telling-trees how (removal_record p.trees parent x) (part_step p (take_out x)) ∙ ap (λ (q : Part). q.trees) (taken-step p x parent e)))
+        (root-put_root_new x (subtree p.trees x) (without x p.trees) x (root-subtree p.trees x t))
+
+-- and stays one under another node document
+root-adopting : (d x : NodeName) (p : Part) → There p x → HasRoot (after p (adopting d x p)).trees x
+root-adopting d x p t =
+    let q = after p (removing observed x p) in
+    let rooted = root-removing observed x p t in
+    subst (λ (r : Part). HasRoot r.trees x) (sym (after-append p (removing observed x p) (changing_document d x q)))
+    (either_way (λ steps. HasRoot (after q steps).trees x) (not (has_document q.trees d x)) (set_document x d ∷ []) []
+    (root-map_nodes (λ n. if is_in name_eq n.name (inclusive_descendants q.trees x) then with_document d n else n) (λ n. (some-keeps (λ (n : Node). is_in name_eq n.name (inclusive_descendants q.trees x)) (with_document d) (λ n. (refl, refl)) n).0) q.trees x rooted) rooted)
+
 -- a node is adopted and placed
 leads-placing : (parent : NodeName) (before : Option NodeName) (p : Part) (x : NodeName) → IsPart p → MayGo parent p x → Leads (Some parent) p (placing parent before x p)
 leads-placing parent before p x i m =
@@ -190,7 +237,7 @@ leads-placing parent before p x i m =
     let q = after p (adopting d x p) in
     let first = leads-eased (Some parent) p (adopting d x p) (leads-adopting d x p i m.owner) in
     let n = may-still parent p q x first.changed m in
-    leads-then (Some parent) p (adopting d x p) (place x parent before ∷ []) first (leads-one q (place x parent before) first.changed.part (n.below, n.apart))
+    leads-then (Some parent) p (adopting d x p) (place x parent before ∷ []) first (leads-one q (place x parent before) first.changed.part (n.below, n.apart, root-adopting d x p m.there))
 
 -- Insertions.
 leads-emptying : (node : NodeName) (children : List NodeName) (p : Part) → IsPart p → Leads None p (emptying node children p)

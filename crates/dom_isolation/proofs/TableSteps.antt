@@ -20,7 +20,7 @@ use Rattle.dom_isolation.specs.Tables.{IsNodeIn, HasEnds, EndsIn, IsIteratorIn, 
 use Rattle.dom_isolation.proofs.Lists.{all-distinct, all-append, all-then, all-filter, all-from, all-flat_map, all-map}
 use Rattle.dom_isolation.proofs.Tests.{by_cases, either_way}
 use Rattle.dom_isolation.proofs.Trees.{by_times, times-subtree, nodes-there, name_eq-true}
-use Rattle.dom_isolation.proofs.TreeChangeLaws.{times-with_node, times-map_nodes}
+use Rattle.dom_isolation.proofs.TreeChangeLaws.{times-with_node, times-map_nodes, HasRoot}
 use Rattle.dom_isolation.proofs.PartSteps.{KeepsNames, some-keeps, attribute-keeps, part-step}
 use Rattle.dom_isolation.proofs.KindCommands.{has_node-times}
 use Rattle.dom_isolation.proofs.Insides.{inside, times-taken_out_all, times-placed_all, parent-there, child-there, times-has_node}
@@ -30,9 +30,9 @@ abbrev pub There : Part → NodeName → Type 0
 There p x = 1 ≤ times_in p.trees x
 
 -- What a step may name in the part in which it is made: a node is placed below another one that does not stand in its
--- tree, and boundaries are moved to nodes that are there.
+-- tree, and is a root before; and boundaries are moved to nodes that are there.
 abbrev pub Fits : Part → Step → Type 0
-Fits p (place x parent before) = There p parent × (inside p.trees x parent ≡ 0)
+Fits p (place x parent before) = There p parent × (inside p.trees x parent ≡ 0) × HasRoot p.trees x
 Fits p (set_document x d) = x.owner ≡ p.owner
 Fits p (split_at x offset new parent index) = There p new
 Fits p (join_at first size next parent index) = There p first

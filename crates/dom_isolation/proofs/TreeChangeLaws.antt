@@ -225,15 +225,15 @@ abbrev pub HasRoot : Trees → NodeName → Type 0
 HasRoot ts x = is_in name_eq x (names_of (roots ts)) ≡ true
 
 -- of a first root and others, one that is there is the first or one of the others
-root-cases : {P : Type 0} (n : Node) (c r : Trees) (x : NodeName) → HasRoot (tree n c r) x → (name_eq x n.name ≡ true → P) → (HasRoot r x → P) → P
+pub root-cases : {P : Type 0} (n : Node) (c r : Trees) (x : NodeName) → HasRoot (tree n c r) x → (name_eq x n.name ≡ true → P) → (HasRoot r x → P) → P
 root-cases n c r x h f g = by_cases (name_eq x n.name) f (λ e. g (or-later (name_eq x n.name) (is_in name_eq x (names_of (roots r))) e h))
 
 -- the first root
-root-first : (n : Node) (c r : Trees) (x : NodeName) → name_eq x n.name ≡ true → HasRoot (tree n c r) x
+pub root-first : (n : Node) (c r : Trees) (x : NodeName) → name_eq x n.name ≡ true → HasRoot (tree n c r) x
 root-first n c r x e = or-first (name_eq x n.name) (is_in name_eq x (names_of (roots r))) e
 
 -- a root behind it
-root-second : (n : Node) (c r : Trees) (x : NodeName) → HasRoot r x → HasRoot (tree n c r) x
+pub root-second : (n : Node) (c r : Trees) (x : NodeName) → HasRoot r x → HasRoot (tree n c r) x
 root-second n c r x e = or-second (name_eq x n.name) (is_in name_eq x (names_of (roots r))) e
 
 -- a root of the first list
@@ -263,11 +263,11 @@ root-where_new test new (tree n c r) x h =
     (λ e. subst (λ t. HasRoot t x) (sym (where-later test new n c r e)) (root-second n c (put_where test new r) x (root-where_new test new r x h)))
 
 -- a root that was there
-root-put_root_old : (y : NodeName) (new ts : Trees) (x : NodeName) → HasRoot ts x → HasRoot (put_root y new ts) x
+pub root-put_root_old : (y : NodeName) (new ts : Trees) (x : NodeName) → HasRoot ts x → HasRoot (put_root y new ts) x
 root-put_root_old y new ts x h = subst (λ t. HasRoot t x) (sym (put_root-where y new ts)) (root-where_old (name_before y) new ts x h)
 
 -- a root that was put in
-root-put_root_new : (y : NodeName) (new ts : Trees) (x : NodeName) → HasRoot new x → HasRoot (put_root y new ts) x
+pub root-put_root_new : (y : NodeName) (new ts : Trees) (x : NodeName) → HasRoot new x → HasRoot (put_root y new ts) x
 root-put_root_new y new ts x h = subst (λ t. HasRoot t x) (sym (put_root-where y new ts)) (root-where_new (name_before y) new ts x h)
 
 -- beside a new node
@@ -275,7 +275,7 @@ pub root-with_node : (n : Node) (ts : Trees) (x : NodeName) → HasRoot ts x →
 root-with_node n ts x h = root-put_root_old n.name (tree n none none) ts x h
 
 -- without another tree
-root-without : (ts : Trees) (y x : NodeName) → name_eq y x ≡ false → HasRoot ts x → HasRoot (without y ts) x
+pub root-without : (ts : Trees) (y x : NodeName) → name_eq y x ≡ false → HasRoot ts x → HasRoot (without y ts) x
 root-without none y x d h = h
 root-without (tree n c r) y x d h =
     by_cases (name_eq n.name y)
@@ -290,7 +290,7 @@ root-or_else_left none b x h = absurd (true≢false (sym h))
 root-or_else_left (tree n c r) b x h = h
 
 -- the root of a node's tree is the node
-root-subtree : (ts : Trees) (x : NodeName) → 1 ≤ times_in ts x → HasRoot (subtree ts x) x
+pub root-subtree : (ts : Trees) (x : NodeName) → 1 ≤ times_in ts x → HasRoot (subtree ts x) x
 root-subtree none x h = absurd (omega arith)
 root-subtree (tree n c r) x h =
     by_cases (name_eq n.name x) (λ e. subst (λ t. HasRoot t x) (sym (subtree-here n c r x e)) (root-first n c none x (name_eq-sym x n.name ∙ e)))
