@@ -20,11 +20,11 @@ inside none a z = 0
 inside (tree n c r) a z = (if name_eq n.name a then times_in (tree n c none) z else inside c a z) + inside r a z
 
 -- at the first root, and elsewhere
-inside-here : (n : Node) (c r : Trees) (a z : NodeName) → name_eq n.name a ≡ true → inside (tree n c r) a z ≡ times_in (tree n c none) z + inside r a z
+pub inside-here : (n : Node) (c r : Trees) (a z : NodeName) → name_eq n.name a ≡ true → inside (tree n c r) a z ≡ times_in (tree n c none) z + inside r a z
 inside-here n c r a z e = ap (λ k. k + inside r a z) (cond-true (name_eq n.name a) (times_in (tree n c none) z) (inside c a z) e)
 
 -- at another root
-inside-elsewhere : (n : Node) (c r : Trees) (a z : NodeName) → name_eq n.name a ≡ false → inside (tree n c r) a z ≡ inside c a z + inside r a z
+pub inside-elsewhere : (n : Node) (c r : Trees) (a z : NodeName) → name_eq n.name a ≡ false → inside (tree n c r) a z ≡ inside c a z + inside r a z
 inside-elsewhere n c r a z e = ap (λ k. k + inside r a z) (cond-false (name_eq n.name a) (times_in (tree n c none) z) (inside c a z) e)
 
 -- there are no more than in all
@@ -75,11 +75,11 @@ inside-where test new (tree n c r) a z =
     (λ e. let s = ap (λ t. inside t a z) (where-later test new n c r e) in let h = inside-where test new r a z in omega arith)
 
 -- by the order of names
-inside-put_root : (y : NodeName) (new ts : Trees) (a z : NodeName) → inside (put_root y new ts) a z ≡ inside new a z + inside ts a z
+pub inside-put_root : (y : NodeName) (new ts : Trees) (a z : NodeName) → inside (put_root y new ts) a z ≡ inside new a z + inside ts a z
 inside-put_root y new ts a z = ap (λ t. inside t a z) (put_root-where y new ts) ∙ inside-where (Rattle.dom_model.specs.Names.name_before y) new ts a z
 
 -- before the node given
-inside-put_before : (before : Option NodeName) (new ts : Trees) (a z : NodeName) → inside (put_before before new ts) a z ≡ inside new a z + inside ts a z
+pub inside-put_before : (before : Option NodeName) (new ts : Trees) (a z : NodeName) → inside (put_before before new ts) a z ≡ inside new a z + inside ts a z
 inside-put_before before new ts a z = ap (λ t. inside t a z) (put_before-where before new ts) ∙ inside-where (Rattle.dom_model.specs.TreeChanges.is_given before) new ts a z
 
 -- of the first list that is there
@@ -88,7 +88,7 @@ inside-or_else none us a z = omega arith
 inside-or_else (tree n c r) us a z = omega arith
 
 -- what is taken out and what is left hold no more than all
-inside-without : (ts : Trees) (y a z : NodeName) → inside (without y ts) a z + inside (subtree ts y) a z ≤ inside ts a z
+pub inside-without : (ts : Trees) (y a z : NodeName) → inside (without y ts) a z + inside (subtree ts y) a z ≤ inside ts a z
 inside-without none y a z = omega arith
 inside-without (tree n c r) y a z =
     by_cases (name_eq n.name y)
@@ -167,7 +167,7 @@ inside-map_nodes f h (tree n c r) a z =
     (λ e. let i = inside-elsewhere n c r a z e in let j = inside-elsewhere (f n) (map_nodes f c) (map_nodes f r) a z (ap (λ y. name_eq y a) g ∙ e) in omega arith)
 
 -- No node is lost.
-without-absent : (ts : Trees) (y : NodeName) → times_in ts y ≡ 0 → without y ts ≡ ts
+pub without-absent : (ts : Trees) (y : NodeName) → times_in ts y ≡ 0 → without y ts ≡ ts
 without-absent none y h = refl
 without-absent (tree n c r) y h =
     by_cases (name_eq n.name y) (λ e. absurd (let g = times-here n c r y e in omega arith))
@@ -175,12 +175,12 @@ without-absent (tree n c r) y h =
     without-elsewhere n c r y e ∙ ap (λ t. tree n t (without y r)) (without-absent c y (omega arith)) ∙ ap (tree n c) (without-absent r y (omega arith)))
 
 -- these trees, or none
-or_else-none : (ts : Trees) → or_else ts none ≡ ts
+pub or_else-none : (ts : Trees) → or_else ts none ≡ ts
 or_else-none none = refl
 or_else-none (tree n c r) = refl
 
 -- what is taken out and what is left are all
-times-parted : (ts : Trees) (y x : NodeName) → IsUnique ts → times_in (without y ts) x + times_in (subtree ts y) x ≡ times_in ts x
+pub times-parted : (ts : Trees) (y x : NodeName) → IsUnique ts → times_in (without y ts) x + times_in (subtree ts y) x ≡ times_in ts x
 times-parted none y x u = refl
 times-parted (tree n c r) y x u =
     let once = u y in
@@ -203,7 +203,7 @@ pub times-taken_out_all : (ts : Trees) (y x : NodeName) → IsUnique ts → time
 times-taken_out_all ts y x u = let p = times-put_root y (subtree ts y) (without y ts) x in let w = times-parted ts y x u in omega arith
 
 -- all that is put below a node
-times-put_below_all : (parent : NodeName) (before : Option NodeName) (new ts : Trees) (x : NodeName) → times_in ts parent ≡ 1 → times_in (put_below parent before new ts) x ≡ times_in new x + times_in ts x
+pub times-put_below_all : (parent : NodeName) (before : Option NodeName) (new ts : Trees) (x : NodeName) → times_in ts parent ≡ 1 → times_in (put_below parent before new ts) x ≡ times_in new x + times_in ts x
 times-put_below_all parent before new none x h = absurd (omega arith)
 times-put_below_all parent before new (tree n c r) x h =
     by_cases (name_eq n.name parent)

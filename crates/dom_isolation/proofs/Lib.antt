@@ -40,6 +40,7 @@ pub mod Acceptance
 pub mod ShadowRoots
 pub mod NodeKinds
 pub mod Insides
+pub mod Descents
 pub mod TableSteps
 pub mod PlanPlaces
 pub mod PlanTexts
