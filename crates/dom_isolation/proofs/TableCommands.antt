@@ -31,16 +31,17 @@ use Rattle.dom_model.specs.Validity.{first_refusal, has_parent, may_be_parent, p
 use Rattle.dom_isolation.specs.Worlds.{times_in, IsPart}
 use Rattle.dom_isolation.specs.Tables.{IsNodeIn, HasEnds, EndsIn, IsIteratorIn, IsWalkerIn, IsRegistrationIn, IsListenerIn, HasTables}
 use Rattle.dom_isolation.proofs.Acceptance.{or-none, next-test, part-accepted}
-use Rattle.dom_isolation.proofs.Insides.{inside-no_ancestor, times-has_node, parent-there}
+use Rattle.dom_isolation.proofs.Descents.{inside-ancestor}
+use Rattle.dom_isolation.proofs.Insides.{inside-itself, inside-no_ancestor, times-has_node, parent-there}
 use Rattle.dom_isolation.proofs.KindCommands.{has_node-times}
 use Rattle.dom_isolation.proofs.Lists.{all-append, all-then, all-filter, all-map}
 use Rattle.dom_isolation.proofs.PageCommands.{owner-named}
 use Rattle.dom_isolation.proofs.PlanPlaces.{Leads, MayGo, leads-one, leads-removing, leads-adopting, leads-inserting}
 use Rattle.dom_isolation.proofs.PlanTexts.{range-ends, leads-replacing, leads-setting_attribute, leads-unsetting_attribute, leads-replacing_data, leads-splitting, leads-normalizing, leads-setting_text, leads-extracting, leads-deleting, leads-inserting_into_range}
 use Rattle.dom_isolation.proofs.ShadowRoots.{not_taken}
-use Rattle.dom_isolation.proofs.TableSteps.{There, MadeIn, IfSome, first-all, last-all, before-all, after-all, all-descend, all-set, iterator-moved}
+use Rattle.dom_isolation.proofs.TableSteps.{StandsIn, all-stand, There, MadeIn, IfSome, first-all, last-all, before-all, after-all, all-descend, all-set, iterator-moved}
 use Rattle.dom_isolation.proofs.Tests.{by_cases, either_way}
-use Rattle.dom_isolation.proofs.Trees.{ancestors-there}
+use Rattle.dom_isolation.proofs.Trees.{IsUnique, ancestors-there}
 
 -- the tables after an effect, or its steps
 abbrev pub Holds : Part → Effect → Type 0
@@ -121,22 +122,25 @@ ends-collapsed ts true r h = record { start = h.start; end = h.start }
 ends-collapsed ts false r h = record { start = h.end; end = h.end }
 
 -- Iterators and walkers move to nodes that are there.
-iterator-next : (ts : Trees) (i : Iterator) → IsIteratorIn ts i → IfSome (IsNodeIn ts) (iterator_next_node ts i)
-iterator-next ts i h =
-    let behind = after-all (IsNodeIn ts) i.reference (inclusive_descendants ts i.root) (all-descend ts i.root) in
-    first-all (IsNodeIn ts) (filter (accepts ts i.filter) (nodes_ahead ts i))
-    (all-filter (IsNodeIn ts) (accepts ts i.filter) (nodes_ahead ts i) (either_way (AllByRecursion (IsNodeIn ts)) i.before (i.reference ∷ items_after name_eq i.reference (inclusive_descendants ts i.root)) (items_after name_eq i.reference (inclusive_descendants ts i.root)) (h.reference, behind) behind))
+iterator-next : (ts : Trees) (i : Iterator) → IsUnique ts → IsIteratorIn ts i → IfSome (StandsIn ts i.root) (iterator_next_node ts i)
+iterator-next ts i u h =
+    let P = StandsIn ts i.root in
+    let items = items_after name_eq i.reference (inclusive_descendants ts i.root) in
+    let behind = after-all P i.reference (inclusive_descendants ts i.root) (all-stand ts i.root u) in
+    first-all P (filter (accepts ts i.filter) (nodes_ahead ts i))
+    (all-filter P (accepts ts i.filter) (nodes_ahead ts i) (either_way (AllByRecursion P) i.before (i.reference ∷ items) items ((h.reference, h.within), behind) behind))
 
 -- backwards
-iterator-previous : (ts : Trees) (i : Iterator) → IsIteratorIn ts i → IfSome (IsNodeIn ts) (iterator_previous_node ts i)
-iterator-previous ts i h =
-    let front = before-all (IsNodeIn ts) i.reference (inclusive_descendants ts i.root) (all-descend ts i.root) in
+iterator-previous : (ts : Trees) (i : Iterator) → IsUnique ts → IsIteratorIn ts i → IfSome (StandsIn ts i.root) (iterator_previous_node ts i)
+iterator-previous ts i u h =
+    let P = StandsIn ts i.root in
     let items = items_before name_eq i.reference (inclusive_descendants ts i.root) in
-    last-all (IsNodeIn ts) (filter (accepts ts i.filter) (nodes_passed ts i))
-    (all-filter (IsNodeIn ts) (accepts ts i.filter) (nodes_passed ts i) (either_way (AllByRecursion (IsNodeIn ts)) i.before items (items ++ i.reference ∷ []) front (all-append (IsNodeIn ts) items (i.reference ∷ []) front (h.reference, tt))))
+    let front = before-all P i.reference (inclusive_descendants ts i.root) (all-stand ts i.root u) in
+    last-all P (filter (accepts ts i.filter) (nodes_passed ts i))
+    (all-filter P (accepts ts i.filter) (nodes_passed ts i) (either_way (AllByRecursion P) i.before items (items ++ i.reference ∷ []) front (all-append P items (i.reference ∷ []) front ((h.reference, h.within), tt))))
 
 -- an iterator that moves
-tables-iterator : (p : Part) (k : ℕ) (before : Bool) (i : Iterator) (o : Option NodeName) → HasTables p → IsIteratorIn p.trees i → IfSome (IsNodeIn p.trees) o → Holds p (moves_iterator p k before i o)
+tables-iterator : (p : Part) (k : ℕ) (before : Bool) (i : Iterator) (o : Option NodeName) → HasTables p → IsIteratorIn p.trees i → IfSome (StandsIn p.trees i.root) o → Holds p (moves_iterator p k before i o)
 tables-iterator p k before i o h g m =
     record { hosts = h.hosts; ranges = h.ranges; iterators = all-set (IsIteratorIn p.trees) p.iterators k _ h.iterators (iterator-moved p.trees i before o g m); walkers = h.walkers; registrations = h.registrations; pending = h.pending; listeners = h.listeners }
 
@@ -316,13 +320,13 @@ holds-effect p i h f (Command.insert_node k x) r =
 holds-effect p i h f (Command.iterator_new x w) r =
     let a = part-accepted p (Command.iterator_new x w) r in
     let t = times-has_node p.trees (named p x) (exists-first p x true true a.exist) in
-    record { hosts = h.hosts; ranges = h.ranges; iterators = all-append (IsIteratorIn p.trees) p.iterators (new_iterator (named p x) w ∷ []) h.iterators (record { root = t; reference = t }, tt); walkers = h.walkers; registrations = h.registrations; pending = h.pending; listeners = h.listeners }
+    record { hosts = h.hosts; ranges = h.ranges; iterators = all-append (IsIteratorIn p.trees) p.iterators (new_iterator (named p x) w ∷ []) h.iterators (record { root = t; reference = t; within = inside-ancestor p.trees (named p x) (named p x) i.unique (inside-itself p.trees (named p x) (has_node-times p.trees (named p x) t)) }, tt); walkers = h.walkers; registrations = h.registrations; pending = h.pending; listeners = h.listeners }
 holds-effect p i h f (Command.walker_new x w) r =
     let a = part-accepted p (Command.walker_new x w) r in
     let t = times-has_node p.trees (named p x) (exists-first p x true true a.exist) in
     record { hosts = h.hosts; ranges = h.ranges; iterators = h.iterators; walkers = all-append (IsWalkerIn p.trees) p.walkers (new_walker (named p x) w ∷ []) h.walkers (record { root = t; current = t }, tt); registrations = h.registrations; pending = h.pending; listeners = h.listeners }
-holds-effect p i h f (Command.iterator_next k) r = some-holds (IsIteratorIn p.trees) p (slice_get p.iterators k) (λ i. moves_iterator p k false i (iterator_next_node p.trees i)) (answers p nothing) (all-get (IsIteratorIn p.trees) p.iterators k h.iterators) (λ j g. tables-iterator p k false j (iterator_next_node p.trees j) h g (iterator-next p.trees j g)) h
-holds-effect p i h f (Command.iterator_previous k) r = some-holds (IsIteratorIn p.trees) p (slice_get p.iterators k) (λ i. moves_iterator p k true i (iterator_previous_node p.trees i)) (answers p nothing) (all-get (IsIteratorIn p.trees) p.iterators k h.iterators) (λ j g. tables-iterator p k true j (iterator_previous_node p.trees j) h g (iterator-previous p.trees j g)) h
+holds-effect p i h f (Command.iterator_next k) r = some-holds (IsIteratorIn p.trees) p (slice_get p.iterators k) (λ i. moves_iterator p k false i (iterator_next_node p.trees i)) (answers p nothing) (all-get (IsIteratorIn p.trees) p.iterators k h.iterators) (λ j g. tables-iterator p k false j (iterator_next_node p.trees j) h g (iterator-next p.trees j i.unique g)) h
+holds-effect p i h f (Command.iterator_previous k) r = some-holds (IsIteratorIn p.trees) p (slice_get p.iterators k) (λ i. moves_iterator p k true i (iterator_previous_node p.trees i)) (answers p nothing) (all-get (IsIteratorIn p.trees) p.iterators k h.iterators) (λ j g. tables-iterator p k true j (iterator_previous_node p.trees j) h g (iterator-previous p.trees j i.unique g)) h
 holds-effect p i h f (Command.iterator_at k) r = some-holds (IsIteratorIn p.trees) p (slice_get p.iterators k) (λ (i : Iterator). answers p (reference i.reference i.before)) (answers p nothing) (all-get (IsIteratorIn p.trees) p.iterators k h.iterators) (λ j g. h) h
 holds-effect p i h f (Command.walk k m) r = some-holds (IsWalkerIn p.trees) p (slice_get p.walkers k) (λ w. sets_walker p k w (walker_move p.trees w m) (node_or_null (walker_move p.trees w m))) (answers p nothing) (all-get (IsWalkerIn p.trees) p.walkers k h.walkers) (λ w g. tables-walker p k w (walker_move p.trees w m) _ h g (walker-moved p.trees w m)) h
 holds-effect p i h f (Command.walker_at k) r = some-holds (IsWalkerIn p.trees) p (slice_get p.walkers k) (λ (w : Walker). answers p (a_node w.current)) (answers p nothing) (all-get (IsWalkerIn p.trees) p.walkers k h.walkers) (λ j g. h) h

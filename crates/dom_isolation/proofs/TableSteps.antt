@@ -1,13 +1,14 @@
 -- A step that loses no node keeps the tables of its part, where what it names is there.
 use Rattle.std.proofs.Common.{zero, suc, ◌≡◌, ◌≤◌, ◌<◌, ℕ, Bool, true, false, not, ◌&&◌, ◌||◌, List, [], ◌∷◌, ◌++◌, map, filter, flat_map, fold, length, Option, Some, None, option_map, refl, sym, ap, ◌∙◌, arith, true≢false, subst}
-use Rattle.std.specs.Prelude.{if◌then◌else◌, ⊤, slice_set, nat_eq, nat_lt, nat_le, ◌+◌, ◌-◌}
+use Rattle.std.specs.Prelude.{if◌then◌else◌, IsTrue, ⊤, slice_set, nat_eq, nat_lt, nat_le, ◌+◌, ◌-◌}
 use Rattle.std.specs.List.{AllByRecursion, last_or}
 use Rattle.std.specs.Option.{option_map_or}
+use Rattle.std.proofs.lemmas.Bool.{cond-true, cond-false, not-true}
 use Rattle.std.proofs.lemmas.List.{length-set}
 use Rattle.dom_base.specs.declared.NodeName.{NodeName}
 use Rattle.dom_model.specs.Names.{Word, DomString, name_eq, is_in, first_of, last_of, items_after, items_before, append_once}
 use Rattle.dom_model.specs.Tree.{Trees, none, tree, Node, nodes, names_of, roots, has_node, subtree, parent_of, index_of, inclusive_descendants, inclusive_ancestors, is_inclusive_ancestor}
-use Rattle.dom_model.specs.TreeChanges.{map_nodes, with_name, with_document, with_data_replaced, with_attribute, with_node, taken_out, placed}
+use Rattle.dom_model.specs.TreeChanges.{without, map_nodes, with_name, with_document, with_data_replaced, with_attribute, with_node, taken_out, placed}
 use Rattle.dom_model.specs.Place.{Boundary}
 use Rattle.dom_model.specs.Ranges.{Range, at, from_to, map_ends, boundary_eq, after_insert, after_removal, after_replace_data, after_split, after_join}
 use Rattle.dom_model.specs.Traversal.{Iterator, Walker, moved_to, adjusted_iterator}
@@ -18,12 +19,13 @@ use Rattle.dom_model.specs.Steps.{Step, make, make_room, place, take_out, set_do
 use Rattle.dom_isolation.specs.Worlds.{times_in, IsPart}
 use Rattle.dom_isolation.specs.Tables.{IsNodeIn, HasEnds, EndsIn, IsIteratorIn, IsWalkerIn, IsSourceIn, IsRegistrationIn, IsListenerIn, HasTables}
 use Rattle.dom_isolation.proofs.Lists.{all-distinct, all-append, all-then, all-filter, all-from, all-flat_map, all-map}
-use Rattle.dom_isolation.proofs.Tests.{by_cases, either_way}
-use Rattle.dom_isolation.proofs.Trees.{by_times, times-subtree, nodes-there, name_eq-true}
-use Rattle.dom_isolation.proofs.TreeChangeLaws.{times-with_node, times-map_nodes, HasRoot}
+use Rattle.dom_isolation.proofs.Tests.{by_cases, either_way, or-second, or-neither}
+use Rattle.dom_isolation.proofs.Trees.{IsUnique, by_times, times-subtree, nodes-there, name_eq-true, root-there}
+use Rattle.dom_isolation.proofs.TreeChangeLaws.{times-with_node, times-map_nodes, HasRoot, root-subtree}
 use Rattle.dom_isolation.proofs.PartSteps.{KeepsNames, some-keeps, attribute-keeps, part-step}
 use Rattle.dom_isolation.proofs.KindCommands.{has_node-times}
-use Rattle.dom_isolation.proofs.Insides.{inside, times-taken_out_all, times-placed_all, parent-there, child-there, times-has_node}
+use Rattle.dom_isolation.proofs.Descents.{ancestor-inside, inside-ancestor, inside-placed_all, inside-with_node_all, inside-subtree, inside-left, inside-comparable, before-apart, descend-begins}
+use Rattle.dom_isolation.proofs.Insides.{inside, inside-itself, inside-absent, inside-nested, inside-no_ancestor, inside-put_root, inside-map_nodes, times-inside, times-taken_out_all, times-placed_all, parent-there, child-there, times-has_node}
 
 -- A node is there, by its count.
 abbrev pub There : Part → NodeName → Type 0
@@ -77,6 +79,40 @@ grows-times ts us h y k = times-has_node us y (let a = h y in let b = has_node-t
 pub grows-step : (p : Part) (s : Step) → IsPart p → Fits p s → Grows p.trees (part_step p s).trees
 grows-step p s i h = grows-times p.trees (part_step p s).trees (stays-step p s i h)
 
+-- Inclusive ancestors stay such.
+abbrev pub Stays : Trees → Trees → Type 0
+Stays ts us = (a z : NodeName) → IsTrue (is_inclusive_ancestor ts a z) → IsTrue (is_inclusive_ancestor us a z)
+
+-- by the counts
+stays-inside : (ts us : Trees) → IsUnique us → ((a z : NodeName) → inside ts a z ≤ inside us a z) → Stays ts us
+stays-inside ts us u h a z k = inside-ancestor us a z u (let b = ancestor-inside ts a z k in let c = h a z in omega arith)
+
+-- a step by which no node leaves its parent
+abbrev TakesNone : Step → Type 0
+TakesNone (take_out x) = ⊥
+TakesNone s = ⊤
+
+-- nodes with other contents
+mapped-inside : (f : Node → Node) → KeepsNames f → (ts : Trees) (a z : NodeName) → inside ts a z ≤ inside (map_nodes f ts) a z
+mapped-inside f h ts a z = let same = inside-map_nodes f (λ n. (h n).0) ts a z in omega arith
+
+-- under such a step
+inside-step : (p : Part) (s : Step) → IsPart p → Fits p s → TakesNone s → (a z : NodeName) → inside p.trees a z ≤ inside (part_step p s).trees a z
+inside-step p (make n) i h t a z = inside-with_node_all (with_name (next_name p) n) p.trees a z
+inside-step p (place x parent before) i h t a z = inside-placed_all p.trees x parent before a z i.unique h.0 h.1 h.2
+inside-step p (take_out x) i h t a z = absurd t
+inside-step p (set_document x d) i h t a z =
+    mapped-inside (λ n. if is_in name_eq n.name (inclusive_descendants p.trees x) then with_document d n else n) (some-keeps (λ (n : Node). is_in name_eq n.name (inclusive_descendants p.trees x)) (with_document d) (λ n. (refl, refl))) p.trees a z
+inside-step p (set_attribute x b v) i h t a z =
+    mapped-inside (λ n. if name_eq n.name x then with_attribute b v n else n) (some-keeps (λ (n : Node). name_eq n.name x) (with_attribute b v) (attribute-keeps b v)) p.trees a z
+inside-step p (replace_data x offset count new) i h t a z =
+    mapped-inside (λ n. if name_eq n.name x then with_data_replaced offset count new n else n) (some-keeps (λ (n : Node). name_eq n.name x) (with_data_replaced offset count new) (λ n. (refl, refl))) p.trees a z
+inside-step p s i h t a z = omega arith
+
+-- ancestors stay
+ancestors-step : (p : Part) (s : Step) → IsPart p → Fits p s → TakesNone s → Stays p.trees (part_step p s).trees
+ancestors-step p s i h t = stays-inside p.trees (part_step p s).trees (part-step p s i).unique (inside-step p s i h t)
+
 -- What tables name stays.
 module _ (ts us : Trees) (g : Grows ts us) where
   -- ends of ranges
@@ -85,8 +121,8 @@ module _ (ts us : Trees) (g : Grows ts us) where
   ends-grow (Some r) h = record { start = g r.start.node h.start; end = g r.end.node h.end }
 
   -- iterators
-  iterator-grows : (i : Iterator) → IsIteratorIn ts i → IsIteratorIn us i
-  iterator-grows i h = record { root = g i.root h.root; reference = g i.reference h.reference }
+  iterator-grows : Stays ts us → (i : Iterator) → IsIteratorIn ts i → IsIteratorIn us i
+  iterator-grows k i h = record { root = g i.root h.root; reference = g i.reference h.reference; within = k i.root i.reference h.within }
 
   -- walkers
   walker-grows : (w : Walker) → IsWalkerIn ts w → IsWalkerIn us w
@@ -103,13 +139,13 @@ module _ (ts us : Trees) (g : Grows ts us) where
   registration-grows k r h = record { node = g r.node h.node; observer = h.observer; source = source-grows r.source h.source }
 
 -- A part with other trees, and another count.
-pub tables-trees : (p : Part) (us : Trees) (count : ℕ) → Grows p.trees us → HasTables p → HasTables (record p { trees = us; node_count = count })
-tables-trees p us count g h =
+tables-trees : (p : Part) (us : Trees) (count : ℕ) → Grows p.trees us → Stays p.trees us → HasTables p → HasTables (record p { trees = us; node_count = count })
+tables-trees p us count g k h =
     let ts = p.trees in
     record {
       hosts = all-then (IsNodeIn ts) (IsNodeIn us) g p.attached h.hosts;
       ranges = all-then (EndsIn ts) (EndsIn us) (ends-grow ts us g) p.ranges h.ranges;
-      iterators = all-then (IsIteratorIn ts) (IsIteratorIn us) (iterator-grows ts us g) p.iterators h.iterators;
+      iterators = all-then (IsIteratorIn ts) (IsIteratorIn us) (iterator-grows ts us g k) p.iterators h.iterators;
       walkers = all-then (IsWalkerIn ts) (IsWalkerIn us) (walker-grows ts us g) p.walkers h.walkers;
       registrations = all-then (IsRegistrationIn ts (length p.record_queues)) (IsRegistrationIn us (length p.record_queues)) (registration-grows ts us g (length p.record_queues)) p.registrations h.registrations;
       pending = h.pending;
@@ -275,55 +311,149 @@ pub after-all : (P : NodeName → Type 0) (x : NodeName) (xs : List NodeName) �
 after-all P x [] h = tt
 after-all P x (y ∷ xs) h = either_way (AllByRecursion P) (name_eq x y) xs (items_after name_eq x xs) h.1 (after-all P x xs h.1)
 
--- an iterator that moves to a node that is there
-pub iterator-moved : (ts : Trees) (i : Iterator) (before : Bool) (o : Option NodeName) → IsIteratorIn ts i → IfSome (IsNodeIn ts) o → IsIteratorIn ts (moved_to i before o)
-iterator-moved ts i before None h g = h
-iterator-moved ts i before (Some x) h g = record { root = h.root; reference = g }
+-- A node that stands in the tree of another one.
+abbrev pub StandsIn : Trees → NodeName → NodeName → Type 0
+StandsIn ts a y = IsNodeIn ts y × IsTrue (is_inclusive_ancestor ts a y)
 
--- before the removal of a node
-iterator-adjusted : (ts : Trees) (x : NodeName) (i : Iterator) → IsIteratorIn ts i → IsIteratorIn ts (adjusted_iterator ts x i)
-iterator-adjusted ts x i h =
-    let all = inclusive_descendants ts i.root in
+-- an iterator that moves to a node of its root's tree
+pub iterator-moved : (ts : Trees) (i : Iterator) (before : Bool) (o : Option NodeName) → IsIteratorIn ts i → IfSome (StandsIn ts i.root) o → IsIteratorIn ts (moved_to i before o)
+iterator-moved ts i before None h g = h
+iterator-moved ts i before (Some x) h g = record { root = h.root; reference = g.0; within = g.1 }
+
+-- a moved iterator has its root
+moved-root : (ts : Trees) (i : Iterator) (o b : Option NodeName) → IfSome (StandsIn ts i.root) b → IfSome (StandsIn ts (moved_to i false o).root) b
+moved-root ts i None b h = h
+moved-root ts i (Some x) b h = h
+
+-- the nodes of a tree stand in it
+pub all-stand : (ts : Trees) (x : NodeName) → IsUnique ts → AllByRecursion (StandsIn ts x) (inclusive_descendants ts x)
+all-stand ts x u =
+    all-map (StandsIn ts x) (λ (n : Node). n.name) (nodes (subtree ts x))
+    (all-then (λ (n : Node). 1 ≤ times_in (subtree ts x) n.name) (λ n. StandsIn ts x n.name)
+    (λ n h. (times-has_node ts n.name (let s = times-subtree ts x n.name in omega arith), inside-ancestor ts x n.name u (let s = times-inside ts x n.name in omega arith))) (nodes (subtree ts x)) (nodes-there (subtree ts x)))
+
+-- Where a node leaves: what stood in a tree and not in its own still stands there.
+left-stands : (ts : Trees) (x a y : NodeName) → IsUnique ts → IsUnique (taken_out x ts) → IsNodeIn (taken_out x ts) y → inside ts x y ≡ 0 → 1 ≤ inside ts a y → StandsIn (taken_out x ts) a y
+left-stands ts x a y u v n h g =
+    (n, inside-ancestor (taken_out x ts) a y v (let l = inside-left ts x a y u h in let p = inside-put_root x (subtree ts x) (without x ts) a y in omega arith))
+
+-- the items that pass a test, with it
+pub all-kept : {X : Type 0} (P : X → Type 0) (test : X → Bool) (xs : List X) → AllByRecursion P xs → AllByRecursion (λ x. P x × (test x ≡ true)) (filter test xs)
+all-kept P test [] h = tt
+all-kept {X = X} P test (x ∷ xs) h =
+    let Q : X → Type 0 = λ x. P x × (test x ≡ true) in
+    by_cases (test x) (λ e. subst (AllByRecursion Q) (sym (cond-true (test x) (x ∷ filter test xs) (filter test xs) e)) ((h.0, e), all-kept P test xs h.1))
+    (λ e. subst (AllByRecursion Q) (sym (cond-false (test x) (x ∷ filter test xs) (filter test xs) e)) (all-kept P test xs h.1))
+
+-- an iterator at the last of some nodes, where there is one
+moved-last : (Q : Iterator → Type 0) (i : Iterator) (y : NodeName) (xs : List NodeName) → Q (record i { reference = y; before = false }) → AllByRecursion (λ x. Q (record i { reference = x; before = false })) xs → Q (moved_to i false (last_or (Some y) xs))
+moved-last Q i y [] h g = h
+moved-last Q i y (x ∷ xs) h g = moved-last Q i x xs g.0 g.1
+
+-- at the last of nodes of which one is there
+moved-front : (Q : Iterator → Type 0) (i : Iterator) (xs : List NodeName) (y : NodeName) (ys : List NodeName) → xs ≡ y ∷ ys → AllByRecursion (λ x. Q (record i { reference = x; before = false })) xs → Q (moved_to i false (last_of xs))
+moved-front Q i xs y ys e h =
+    let both = subst (AllByRecursion (λ x. Q (record i { reference = x; before = false }))) e h in
+    subst (λ zs. Q (moved_to i false (last_of zs))) (sym e) (moved-last Q i y ys both.0 both.1)
+
+-- the iterator where it is not adjusted
+adjusted-not : (ts : Trees) (x : NodeName) (i : Iterator) → (is_inclusive_ancestor ts x i.root || not (is_inclusive_ancestor ts x i.reference)) ≡ true → adjusted_iterator ts x i ≡ i
+adjusted-not ts x i e = cond-true (is_inclusive_ancestor ts x i.root || not (is_inclusive_ancestor ts x i.reference)) i _ e
+
+-- by whether the node is above the root, or the reference not in its tree
+test-true : (a b : Bool) → a ≡ true → (a || b) ≡ true
+test-true true b e = refl
+test-true false b e = absurd (true≢false (sym e))
+
+-- the nodes in the tree of a node, read alone
+inside-alone : (ts : Trees) (x y : NodeName) → IsUnique ts → inside ts x y ≤ times_in (subtree ts x) y
+inside-alone ts x y u =
+    by_times (times_in ts x) (λ z. let a = inside-absent ts x y z in omega arith) (λ z. inside-nested ts x x y u (root-there (subtree ts x) x (root-subtree ts x z)))
+
+-- an iterator before the removal of a node, as it is after it
+iterator-left : (ts : Trees) (x : NodeName) (i : Iterator) → IsUnique ts → IsUnique (taken_out x ts) → Grows ts (taken_out x ts) → IsIteratorIn ts i → IsIteratorIn (taken_out x ts) (adjusted_iterator ts x i)
+iterator-left ts x i u v g h =
+    let us = taken_out x ts in
+    let root = i.root in
+    let P = IsIteratorIn us in
     let here = λ (y : NodeName). is_inclusive_ancestor ts x y in
+    let all = inclusive_descendants ts root in
+    let held = ancestor-inside ts root i.reference h.within in
+    let there : NodeName → Type 0 = StandsIn us root in
+    let put = λ (a z : NodeName). inside-put_root x (subtree ts x) (without x ts) a z in
+    by_cases (here root)
+    (λ e. subst P (sym (adjusted-not ts x i (test-true (here root) (not (here i.reference)) e)))
+    (record { root = g root h.root; reference = g i.reference h.reference; within = inside-ancestor us root i.reference v
+        (let a = ancestor-inside ts x root e in
+        let n : 1 ≤ times_in (subtree ts x) root = let s = inside-alone ts x root u in omega arith in
+        let k = inside-subtree ts x root i.reference u n in let q = put root i.reference in omega arith) }))
+    (λ e. by_cases (here i.reference)
+    (λ k. let above = inside-no_ancestor ts x root u e in
+    let mine = ancestor-inside ts x i.reference k in
+    let below = inside-comparable ts root x i.reference u held mine above in
+    let at = descend-begins ts root (has_node-times ts root h.root) in
+    let other : name_eq x root ≡ false = by_cases (name_eq x root) (λ z. absurd (let same = name_eq-true x root z in let t = inside-itself ts root (has_node-times ts root h.root) in let w = ap (λ y. inside ts y root) same in omega arith)) (λ z. z) in
+    let front = items_before name_eq x all in
+    let begins : front ≡ root ∷ items_before name_eq x at.0 = ap (items_before name_eq x) at.1 ∙ cond-false (name_eq x root) [] (root ∷ items_before name_eq x at.0) other in
+    let front-all : AllByRecursion there front =
+        all-then (λ y. (1 ≤ times_in (subtree ts root) y) × (inside (subtree ts root) x y ≡ 0)) there
+        (λ y m. let m0 = m.0 in let m1 = m.1 in
+        let n : IsNodeIn ts y = times-has_node ts y (let s = times-subtree ts root y in omega arith) in
+        left-stands ts x root y u v (g y n) (let s = inside-subtree ts root x y u below in omega arith) (let s = times-inside ts root y in omega arith))
+        front (before-apart (subtree ts root) x (λ y. let s = times-subtree ts root y in let o = u y in omega arith)) in
     let behind = first_of (filter (λ y. not (here y)) (items_after name_eq x all)) in
-    let front = last_of (items_before name_eq x all) in
-    let P = IsIteratorIn ts in
-    let front-there = last-all (IsNodeIn ts) (items_before name_eq x all) (before-all (IsNodeIn ts) x all (all-descend ts i.root)) in
-    let behind-there = first-all (IsNodeIn ts) (filter (λ y. not (here y)) (items_after name_eq x all)) (all-filter (IsNodeIn ts) (λ y. not (here y)) (items_after name_eq x all) (after-all (IsNodeIn ts) x all (all-descend ts i.root))) in
-    let back = iterator-moved ts i false front h front-there in
-    either_way P (here i.root || not (here i.reference)) i (if i.before then moved_to (moved_to i false front) true behind else moved_to i false front) h
-    (either_way P i.before (moved_to (moved_to i false front) true behind) (moved_to i false front) (iterator-moved ts (moved_to i false front) true behind back behind-there) back)
+    let behind-there : IfSome there behind =
+        first-all there (filter (λ y. not (here y)) (items_after name_eq x all))
+        (all-then (λ y. StandsIn ts root y × (not (here y) ≡ true)) there
+        (λ y m. let m0 : StandsIn ts root y = m.0 in left-stands ts x root y u v (g y m0.0) (inside-no_ancestor ts x y u (not-true (here y) m.1)) (ancestor-inside ts root y m0.1))
+        (filter (λ y. not (here y)) (items_after name_eq x all)) (all-kept (StandsIn ts root) (λ y. not (here y)) (items_after name_eq x all) (after-all (StandsIn ts root) x all (all-stand ts root u)))) in
+    let back : P (moved_to i false (last_of front)) =
+        moved-front P i front root (items_before name_eq x at.0) begins
+        (all-then there (λ y. P (record i { reference = y; before = false })) (λ y m. record { root = g root h.root; reference = m.0; within = m.1 }) front front-all) in
+    let no_test : (here root || not (here i.reference)) ≡ false = or-neither (here root) (not (here i.reference)) e (ap not k) in
+    subst P (sym (cond-false (here root || not (here i.reference)) i (if i.before then moved_to (moved_to i false (last_of front)) true behind else moved_to i false (last_of front)) no_test))
+    (either_way P i.before (moved_to (moved_to i false (last_of front)) true behind) (moved_to i false (last_of front))
+    (iterator-moved us (moved_to i false (last_of front)) true behind back (moved-root us i (last_of front) behind behind-there)) back))
+    (λ k. subst P (sym (adjusted-not ts x i (or-second (here root) (not (here i.reference)) (ap not k))))
+    (let stands = left-stands ts x root i.reference u v (g i.reference h.reference) (inside-no_ancestor ts x i.reference u k) held in
+    record { root = g root h.root; reference = stands.0; within = stands.1 })))
 
 -- A node leaves its parent.
-tables-left : (p : Part) (x parent : NodeName) → parent_of p.trees x ≡ Some parent → Grows p.trees (taken_out x p.trees) → HasTables p → HasTables (leave p x parent)
-tables-left p x parent e g h =
+tables-left : (p : Part) (x parent : NodeName) → IsPart p → parent_of p.trees x ≡ Some parent → Grows p.trees (taken_out x p.trees) → HasTables p → HasTables (leave p x parent)
+tables-left p x parent i e g h =
     let ts = p.trees in
     let us = taken_out x ts in
     let k = length p.record_queues in
     let move = after_removal name_eq (is_inclusive_ancestor ts x) parent (index_of ts x) in
     let moved : AllByRecursion (EndsIn ts) (map (option_map (map_ends move)) p.ranges) = ranges-moved ts move (moves-removal ts (is_inclusive_ancestor ts x) parent (index_of ts x) (times-has_node ts parent (parent-there ts x parent e))) p.ranges h.ranges in
-    let iterators = all-map (IsIteratorIn ts) (adjusted_iterator ts x) p.iterators (all-then (IsIteratorIn ts) (λ i. IsIteratorIn ts (adjusted_iterator ts x i)) (iterator-adjusted ts x) p.iterators h.iterators) in
+    let v : IsUnique us = λ y. let o = i.unique y in let t = times-taken_out_all ts x y i.unique in omega arith in
     let registered = all-append (IsRegistrationIn ts k) p.registrations (transients_for name_eq x (inclusive_ancestors ts parent) p.registrations) h.registrations
         (all-transients ts k x (inclusive_ancestors ts parent) p.registrations (times-has_node ts x (child-there ts x parent e)) h.registrations) in
-    let left : Part = record (with_ends move p) { iterators = map (adjusted_iterator ts x) p.iterators; registrations = p.registrations ++ transients_for name_eq x (inclusive_ancestors ts parent) p.registrations } in
-    let there : HasTables left = record { hosts = h.hosts; ranges = moved; iterators = iterators; walkers = h.walkers; registrations = registered; pending = h.pending; listeners = h.listeners } in
-    tables-trees left us p.node_count g there
+    record {
+      hosts = all-then (IsNodeIn ts) (IsNodeIn us) g p.attached h.hosts;
+      ranges = all-then (EndsIn ts) (EndsIn us) (ends-grow ts us g) (map (option_map (map_ends move)) p.ranges) moved;
+      iterators = all-map (IsIteratorIn us) (adjusted_iterator ts x) p.iterators (all-then (IsIteratorIn ts) (λ j. IsIteratorIn us (adjusted_iterator ts x j)) (λ j. iterator-left ts x j i.unique v g) p.iterators h.iterators);
+      walkers = all-then (IsWalkerIn ts) (IsWalkerIn us) (walker-grows ts us g) p.walkers h.walkers;
+      registrations = all-then (IsRegistrationIn ts k) (IsRegistrationIn us k) (registration-grows ts us g k) (p.registrations ++ transients_for name_eq x (inclusive_ancestors ts parent) p.registrations) registered;
+      pending = h.pending;
+      listeners = all-then (IsListenerIn ts) (IsListenerIn us) (λ l. g l.node) p.listeners h.listeners;
+    }
 
 -- Every step that fits keeps the tables.
 pub tables-step : (p : Part) (s : Step) → IsPart p → Fits p s → HasTables p → HasTables (part_step p s)
-tables-step p (make n) i f h = tables-trees p (part_step p (make n)).trees (suc p.node_count) (grows-step p (make n) i f) h
+tables-step p (make n) i f h = tables-trees p (part_step p (make n)).trees (suc p.node_count) (grows-step p (make n) i f) (ancestors-step p (make n) i f tt) h
 tables-step p (make_room parent index count) i f h = tables-ends p (after_insert name_eq parent index count) (moves-insert p.trees parent index count) h
-tables-step p (place x parent before) i f h = tables-trees p (part_step p (place x parent before)).trees p.node_count (grows-step p (place x parent before) i f) h
+tables-step p (place x parent before) i f h = tables-trees p (part_step p (place x parent before)).trees p.node_count (grows-step p (place x parent before) i f) (ancestors-step p (place x parent before) i f tt) h
 tables-step p (take_out x) i f h = from (parent_of p.trees x) refl
   where
     from : (o : Option NodeName) → parent_of p.trees x ≡ o → HasTables (option_map_or (leave p x) o p)
     from None e = h
-    from (Some parent) e = tables-left p x parent e (grows-times p.trees (taken_out x p.trees) (λ y. let a = times-taken_out_all p.trees x y i.unique in omega arith)) h
-tables-step p (set_document x d) i f h = tables-trees p (part_step p (set_document x d)).trees p.node_count (grows-step p (set_document x d) i f) h
-tables-step p (set_attribute x a v) i f h = tables-trees p (part_step p (set_attribute x a v)).trees p.node_count (grows-step p (set_attribute x a v) i f) h
+    from (Some parent) e = tables-left p x parent i e (grows-times p.trees (taken_out x p.trees) (λ y. let a = times-taken_out_all p.trees x y i.unique in omega arith)) h
+tables-step p (set_document x d) i f h = tables-trees p (part_step p (set_document x d)).trees p.node_count (grows-step p (set_document x d) i f) (ancestors-step p (set_document x d) i f tt) h
+tables-step p (set_attribute x a v) i f h = tables-trees p (part_step p (set_attribute x a v)).trees p.node_count (grows-step p (set_attribute x a v) i f) (ancestors-step p (set_attribute x a v) i f tt) h
 tables-step p (replace_data x offset count new) i f h =
     let us = (part_step p (replace_data x offset count new)).trees in
-    tables-ends (record p { trees = us }) (after_replace_data name_eq x offset count (length new)) (moves-data us x offset count (length new)) (tables-trees p us p.node_count (grows-step p (replace_data x offset count new) i f) h)
+    tables-ends (record p { trees = us }) (after_replace_data name_eq x offset count (length new)) (moves-data us x offset count (length new)) (tables-trees p us p.node_count (grows-step p (replace_data x offset count new) i f) (ancestors-step p (replace_data x offset count new) i f tt) h)
 tables-step p (split_at x offset new parent index) i f h = tables-ends p (after_split name_eq x offset new parent index) (moves-split p.trees x offset new parent index (times-has_node p.trees new f)) h
 tables-step p (join_at first size next parent index) i f h = tables-ends p (after_join name_eq first size next parent index) (moves-join p.trees first size next parent index (times-has_node p.trees first f)) h
 tables-step p (set_range k r) i f h =

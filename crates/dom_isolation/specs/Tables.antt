@@ -4,7 +4,7 @@ use Rattle.std.specs.Prelude.{◌<◌, ℕ, IsTrue, List, length, Option, Some, 
 use Rattle.std.specs.List.{AllByRecursion}
 use Rattle.dom_base.specs.declared.Owner.{Owner}
 use Rattle.dom_base.specs.declared.NodeName.{NodeName}
-use Rattle.dom_model.specs.Tree.{Trees, has_node}
+use Rattle.dom_model.specs.Tree.{Trees, has_node, is_inclusive_ancestor}
 use Rattle.dom_model.specs.Listeners.{Listener}
 use Rattle.dom_model.specs.Observers.{Registration, Source, asked_for, copied_from, copied_from_transient}
 use Rattle.dom_model.specs.Part.{Part, first_node}
@@ -27,10 +27,11 @@ abbrev pub EndsIn : Trees → Option (Range NodeName) → Type 0
 EndsIn ts None = ⊤
 EndsIn ts (Some r) = HasEnds ts r
 
--- An iterator's root and reference are nodes.
+-- An iterator's root and reference are nodes, and the reference is an inclusive descendant of the root.
 pub record IsIteratorIn (ts : Trees) (i : Iterator) : Type 0 where
   pub root : IsNodeIn ts i.root
   pub reference : IsNodeIn ts i.reference
+  pub within : IsTrue (is_inclusive_ancestor ts i.root i.reference)
 
 -- A walker's root and current node are nodes.
 pub record IsWalkerIn (ts : Trees) (w : Walker) : Type 0 where
