@@ -210,14 +210,14 @@ kinds-effect w o (tables p lines v) base m h =
 kinds-effect w o (changes steps v) base m h = holds-world_after kind-steps o steps w h m
 
 -- Attaching: the nodes of the element's name are elements.
-absent-any : (P : Node → Type 0) (ts : Trees) (x : NodeName) → times_in ts x ≡ 0 → AllNodes (λ n. name_eq n.name x ≡ true → P n) ts
+pub absent-any : (P : Node → Type 0) (ts : Trees) (x : NodeName) → times_in ts x ≡ 0 → AllNodes (λ n. name_eq n.name x ≡ true → P n) ts
 absent-any P none x h = tt
 absent-any P (tree n c r) x h =
     let more = times-more n c r x in
     ((λ e. absurd (let g = times-here n c r x e in omega arith)), absent-any P c x (omega arith), absent-any P r x (omega arith))
 
 -- all nodes of a name are the one that is found
-all-found : (ts : Trees) (x : NodeName) (m : Node) → times_in ts x ≤ 1 → find (λ n. name_eq n.name x) (nodes ts) ≡ Some m → AllNodes (λ n. name_eq n.name x ≡ true → n ≡ m) ts
+pub all-found : (ts : Trees) (x : NodeName) (m : Node) → times_in ts x ≤ 1 → find (λ n. name_eq n.name x) (nodes ts) ≡ Some m → AllNodes (λ n. name_eq n.name x ≡ true → n ≡ m) ts
 all-found none x m u e = tt
 all-found (tree n c r) x m u e =
     by_cases (name_eq n.name x)

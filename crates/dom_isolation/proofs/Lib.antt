@@ -46,6 +46,7 @@ pub mod PlanPlaces
 pub mod PlanTexts
 pub mod TableCommands
 pub mod TableWorlds
+pub mod Kids
 pub mod Reached
 pub mod ReachedFacts
 pub mod TableLines

@@ -186,7 +186,7 @@ may-still parent p q x c m =
     record { there = still c x m.there; owner = m.owner ∙ sym c.owner; below = still c parent m.below; apart = c.apart x parent m.there m.apart m.apart }
 
 -- A node that was removed is a root: one without a parent is one already.
-no_parent-root : (ts : Trees) (x : NodeName) → 1 ≤ times_in ts x → parent_of ts x ≡ None → HasRoot ts x
+pub no_parent-root : (ts : Trees) (x : NodeName) → 1 ≤ times_in ts x → parent_of ts x ≡ None → HasRoot ts x
 no_parent-root none x h e = absurd (omega arith)
 no_parent-root (tree n c r) x h e =
     let top = on_top (inclusive_ancestors c x) n.name (inclusive_ancestors r x) in
