@@ -47,6 +47,7 @@ pub mod PlanTexts
 pub mod TableCommands
 pub mod TableWorlds
 pub mod Kids
+pub mod Bounds
 pub mod Reached
 pub mod ReachedFacts
 pub mod TableLines
