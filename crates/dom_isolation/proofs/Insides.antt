@@ -12,7 +12,7 @@ use Rattle.dom_isolation.specs.Worlds.{times_in}
 use Rattle.dom_isolation.proofs.Lists.{all-then, all-append}
 use Rattle.dom_isolation.proofs.Tests.{by_cases, or-first, or-second, or-later}
 use Rattle.dom_isolation.proofs.Trees.{IsUnique, by_times, times-here, times-elsewhere, times-more, times-parts, times-subtree, times-or_else, subtree-absent, name_eq-sym, name_eq-true, ancestors-absent, ancestors-present, ancestors-there}
-use Rattle.dom_isolation.proofs.TreeChangeLaws.{put_where, where-here, where-later, put_before-where, put_root-where, without-here, without-elsewhere, subtree-here, subtree-elsewhere, put_below-here, put_below-elsewhere, put_below-absent, times-put_root, times-put_before, times-without, times-followed, times-map_nodes, times-below}
+use Rattle.dom_isolation.proofs.TreeChangeLaws.{put_where, where-here, where-later, put_before-where, put_root-where, without-here, without-elsewhere, subtree-here, subtree-elsewhere, put_below-here, put_below-elsewhere, put_below-absent, HasRoot, root-first, root-second, times-put_root, times-put_before, times-without, times-followed, times-map_nodes, times-below}
 
 -- how often z stands in the trees of nodes named a
 abbrev pub inside : Trees → NodeName → NodeName → ℕ
@@ -367,3 +367,20 @@ times-has_node (tree n c r) x h =
     (λ e. let g = times-elsewhere n c r x (name_eq-sym n.name x ∙ e) in
     or-second (name_eq x n.name) others
     (by_times (times_in c x) (λ z. in-later x (nodes c) (nodes r) (times-has_node r x (omega arith))) (λ z. in-front x (nodes c) (nodes r) (times-has_node c x z))))
+
+-- A node without a parent is a root.
+pub no_parent-root : (ts : Trees) (x : NodeName) → 1 ≤ times_in ts x → parent_of ts x ≡ None → HasRoot ts x
+no_parent-root none x h e = absurd (omega arith)
+no_parent-root (tree n c r) x h e =
+    let top = on_top (inclusive_ancestors c x) n.name (inclusive_ancestors r x) in
+    by_cases (name_eq n.name x) (λ k. root-first n c r x (name_eq-sym x n.name ∙ k))
+    (λ k. let g = times-elsewhere n c r x k in
+    let is = cond-false (name_eq n.name x) (x ∷ []) top k in
+    by_times (times_in c x)
+    (λ z. root-second n c r x (no_parent-root r x (omega arith) (sym (ap (λ path. first_of (drop 1 path)) (is ∙ ap (λ path. on_top path n.name (inclusive_ancestors r x)) (ancestors-absent c x z))) ∙ e)))
+    (λ z. let at = ancestors-present c x z in
+    absurd (longer at.0 n.name (sym (ap (λ path. first_of (drop 1 path)) (is ∙ ap (λ path. on_top path n.name (inclusive_ancestors r x)) at.1)) ∙ e))))
+  where
+    longer : (path : List NodeName) (y : NodeName) → first_of (path ++ y ∷ []) ≡ None → ⊥
+    longer [] y e = cc
+    longer (x ∷ path) y e = cc

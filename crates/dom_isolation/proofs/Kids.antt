@@ -10,10 +10,9 @@ use Rattle.dom_model.specs.Tree.{Trees, none, tree, Node, nodes, names_of, roots
 use Rattle.dom_model.specs.TreeChanges.{followed_by, without, put_before, put_below, put_root, taken_out, placed, with_node, map_nodes}
 use Rattle.dom_model.proofs.OwnerLaws.{name_eq-same}
 use Rattle.dom_isolation.specs.Worlds.{times_in, AllNodes}
-use Rattle.dom_isolation.proofs.Insides.{inside, times-inside, times-parted, times-taken_out_all, times-placed_all, without-absent, or_else-none, parent-there}
+use Rattle.dom_isolation.proofs.Insides.{inside, times-inside, times-parted, times-taken_out_all, times-placed_all, without-absent, or_else-none, parent-there, no_parent-root}
 use Rattle.dom_isolation.proofs.KindCommands.{all-found}
 use Rattle.dom_isolation.proofs.NodeKinds.{name-node_in}
-use Rattle.dom_isolation.proofs.PlanPlaces.{no_parent-root}
 use Rattle.dom_isolation.proofs.ShadowRoots.{found-absent, found-there}
 use Rattle.dom_isolation.proofs.Tests.{by_cases, or-later}
 use Rattle.dom_isolation.proofs.TreeChangeLaws.{put_where, where-here, where-later, put_before-where, put_root-where, HasRoot, root-first, without-here, without-elsewhere, subtree-here, subtree-elsewhere, put_below-here, put_below-elsewhere, put_below-absent, nodes-with_node, nodes-taken_out, nodes-placed, nodes-listed}

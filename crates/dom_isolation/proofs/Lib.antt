@@ -42,11 +42,11 @@ pub mod NodeKinds
 pub mod Insides
 pub mod Descents
 pub mod TableSteps
+pub mod Kids
 pub mod PlanPlaces
 pub mod PlanTexts
 pub mod TableCommands
 pub mod TableWorlds
-pub mod Kids
 pub mod Bounds
 pub mod Reached
 pub mod ReachedFacts

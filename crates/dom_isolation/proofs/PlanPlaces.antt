@@ -15,6 +15,7 @@ use Rattle.dom_model.specs.Changes.{Plan, ◌and_then◌, in_turn, doing, steps_
 use Rattle.dom_model.specs.TextChanges.{replacing_data, replacing_all_data}
 use Rattle.dom_model.proofs.StepLaws.{owner-part_step}
 use Rattle.dom_isolation.specs.Worlds.{times_in, IsPart}
+use Rattle.dom_isolation.proofs.Kids.{node-taken_out, node-placed, node-with_node, node-map_nodes}
 use Rattle.dom_isolation.proofs.Lists.{all-append, all-then, all-from}
 use Rattle.dom_isolation.proofs.Tests.{by_cases, either_way}
 use Rattle.dom_isolation.proofs.TreeChangeLaws.{HasRoot, root-first, root-second, root-put_root_new, root-subtree, root-map_nodes}
@@ -22,7 +23,7 @@ use Rattle.dom_isolation.proofs.Trees.{by_times, times-subtree, name_eq-true, na
 use Rattle.dom_isolation.proofs.PartSteps.{KeepsNames, some-keeps, attribute-keeps, part-step, next-absent}
 use Rattle.dom_isolation.proofs.NodeKinds.{count-grows}
 use Rattle.dom_isolation.proofs.TableSteps.{There, Fits, MadeIn, stays-step}
-use Rattle.dom_isolation.proofs.Insides.{inside, inside-times, inside-taken_out, inside-placed, inside-with_node, inside-map_nodes, inside-nested, times-inside, children-inside}
+use Rattle.dom_isolation.proofs.Insides.{inside, inside-times, inside-taken_out, inside-placed, inside-with_node, inside-map_nodes, inside-nested, times-inside, children-inside, no_parent-root}
 
 -- Nodes of the tree of a do not come from a place outside of it.
 abbrev pub ApartFrom : Option NodeName → Part → NodeName → Type 0
@@ -37,6 +38,7 @@ pub record Changed (spot : Option NodeName) (p q : Part) : Type 0 where
   pub count : p.node_count ≤ q.node_count
   pub there : (y : NodeName) → times_in p.trees y ≤ times_in q.trees y
   pub apart : (a z : NodeName) → There p a → ApartFrom spot p a → inside p.trees a z ≡ 0 → inside q.trees a z ≡ 0
+  pub kinds : (y : NodeName) → There p y → kind_of q.trees y ≡ kind_of p.trees y
 
 -- what is apart from the place stays so
 stays-apart : (spot : Option NodeName) (p q : Part) → Changed spot p q → (a : NodeName) → There p a → ApartFrom spot p a → ApartFrom spot q a
@@ -49,7 +51,7 @@ still c a h = let t = c.there a in omega arith
 
 -- no change, and one change after another
 pub changed-same : (spot : Option NodeName) (p : Part) → IsPart p → Changed spot p p
-changed-same spot p i = record { owner = refl; part = i; count = omega arith; there = λ y. omega arith; apart = λ a z t h k. k }
+changed-same spot p i = record { owner = refl; part = i; count = omega arith; there = λ y. omega arith; apart = λ a z t h k. k; kinds = λ y t. refl }
 
 -- one after another
 pub changed-then : (spot : Option NodeName) (p q r : Part) → Changed spot p q → Changed spot q r → Changed spot p r
@@ -60,11 +62,12 @@ changed-then spot p q r c d =
       count = let a = c.count in let b = d.count in omega arith;
       there = λ y. let a = c.there y in let b = d.there y in omega arith;
       apart = λ a z t h k. d.apart a z (still c a t) (stays-apart spot p q c a t h) (c.apart a z t h k);
+      kinds = λ y t. d.kinds y (still c y t) ∙ c.kinds y t;
     }
 
 -- a change that places nothing
 pub changed-eased : (spot : Option NodeName) (p q : Part) → Changed None p q → Changed spot p q
-changed-eased spot p q c = record { owner = c.owner; part = c.part; count = c.count; there = c.there; apart = λ a z t h k. c.apart a z t tt k }
+changed-eased spot p q c = record { owner = c.owner; part = c.part; count = c.count; there = c.there; apart = λ a z t h k. c.apart a z t tt k; kinds = c.kinds }
 
 -- where a step places something
 abbrev pub spot_of : Step → Option NodeName
@@ -95,10 +98,34 @@ apart-step p (replace_data x offset count new) i a z t h e =
     mapped-apart (λ n. if name_eq n.name x then with_data_replaced offset count new n else n) (some-keeps (λ (n : Node). name_eq n.name x) (with_data_replaced offset count new) (λ n. (refl, refl))) p.trees a z e
 apart-step p s i a z t h e = e
 
+-- kinds stay
+mapped-kind : (f : Node → Node) → KeepsNames f → (ts : Trees) (y : NodeName) → 1 ≤ times_in ts y → kind_of (map_nodes f ts) y ≡ kind_of ts y
+mapped-kind f h ts y t = ap (λ (n : Node). n.kind) (node-map_nodes f (λ n. (h n).0) ts y t) ∙ (h (node_in ts y)).1
+
+-- under a step
+kind-step : (p : Part) (s : Step) → IsPart p → Fits p s → (y : NodeName) → There p y → kind_of (part_step p s).trees y ≡ kind_of p.trees y
+kind-step p (make n) i h y t =
+    by_cases (name_eq (next_name p) y)
+    (λ k. absurd (let b = next-absent p i in let same = ap (times_in p.trees) (name_eq-true (next_name p) y k) in omega arith))
+    (λ k. ap (λ (n : Node). n.kind) (node-with_node (with_name (next_name p) n) p.trees y i.unique t k))
+kind-step p (place x parent before) i h y t = ap (λ (n : Node). n.kind) (node-placed p.trees x parent before y i.unique h.0 h.1 t)
+kind-step p (take_out x) i h y t = from (parent_of p.trees x)
+  where
+    from : (o : Option NodeName) → kind_of (option_map_or (leave p x) o p).trees y ≡ kind_of p.trees y
+    from None = refl
+    from (Some parent) = ap (λ (n : Node). n.kind) (node-taken_out p.trees x y i.unique t)
+kind-step p (set_document x d) i h y t =
+    mapped-kind (λ n. if is_in name_eq n.name (inclusive_descendants p.trees x) then with_document d n else n) (some-keeps (λ (n : Node). is_in name_eq n.name (inclusive_descendants p.trees x)) (with_document d) (λ n. (refl, refl))) p.trees y t
+kind-step p (set_attribute x b v) i h y t =
+    mapped-kind (λ n. if name_eq n.name x then with_attribute b v n else n) (some-keeps (λ (n : Node). name_eq n.name x) (with_attribute b v) (attribute-keeps b v)) p.trees y t
+kind-step p (replace_data x offset count new) i h y t =
+    mapped-kind (λ n. if name_eq n.name x then with_data_replaced offset count new n else n) (some-keeps (λ (n : Node). name_eq n.name x) (with_data_replaced offset count new) (λ n. (refl, refl))) p.trees y t
+kind-step p s i h y t = refl
+
 -- is such a change
 pub changed-step : (p : Part) (s : Step) → IsPart p → Fits p s → Changed (spot_of s) p (part_step p s)
 changed-step p s i f =
-    record { owner = owner-part_step p s; part = part-step p s i; count = count-grows p s; there = stays-step p s i f; apart = apart-step p s i }
+    record { owner = owner-part_step p s; part = part-step p s i; count = count-grows p s; there = stays-step p s i f; apart = apart-step p s i; kinds = kind-step p s i f }
 
 -- Steps that fit, and what they change.
 pub record Leads (spot : Option NodeName) (p : Part) (steps : List Step) : Type 0 where
@@ -185,24 +212,7 @@ pub may-still : (parent : NodeName) (p q : Part) (x : NodeName) → Changed (Som
 may-still parent p q x c m =
     record { there = still c x m.there; owner = m.owner ∙ sym c.owner; below = still c parent m.below; apart = c.apart x parent m.there m.apart m.apart }
 
--- A node that was removed is a root: one without a parent is one already.
-pub no_parent-root : (ts : Trees) (x : NodeName) → 1 ≤ times_in ts x → parent_of ts x ≡ None → HasRoot ts x
-no_parent-root none x h e = absurd (omega arith)
-no_parent-root (tree n c r) x h e =
-    let top = on_top (inclusive_ancestors c x) n.name (inclusive_ancestors r x) in
-    by_cases (name_eq n.name x) (λ k. root-first n c r x (name_eq-sym x n.name ∙ k))
-    (λ k. let g = times-elsewhere n c r x k in
-    let is = cond-false (name_eq n.name x) (x ∷ []) top k in
-    by_times (times_in c x)
-    (λ z. root-second n c r x (no_parent-root r x (omega arith) (sym (ap (λ path. first_of (drop 1 path)) (is ∙ ap (λ path. on_top path n.name (inclusive_ancestors r x)) (ancestors-absent c x z))) ∙ e)))
-    (λ z. let at = ancestors-present c x z in
-    absurd (longer at.0 n.name (sym (ap (λ path. first_of (drop 1 path)) (is ∙ ap (λ path. on_top path n.name (inclusive_ancestors r x)) at.1)) ∙ e))))
-  where
-    longer : (path : List NodeName) (y : NodeName) → first_of (path ++ y ∷ []) ≡ None → ⊥
-    longer [] y e = cc
-    longer (x ∷ path) y e = cc
-
--- the step of a removal
+-- A node that was removed is a root.
 pub taken-step : (p : Part) (x parent : NodeName) → parent_of p.trees x ≡ Some parent → part_step p (take_out x) ≡ leave p x parent
 taken-step p x parent e = ap (λ o. option_map_or (leave p x) o p) e
 

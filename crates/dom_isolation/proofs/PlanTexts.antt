@@ -243,6 +243,7 @@ changed-inner into new p q r absent c d =
       count = let a = c.count in let b = d.count in omega arith;
       there = λ y. let a = c.there y in let b = d.there y in omega arith;
       apart = λ a z t h k. d.apart a z (still c a t) (c.apart a new t h (let b = inside-times p.trees a new in omega arith)) (c.apart a z t h k);
+      kinds = λ y t. d.kinds y (still c y t) ∙ c.kinds y t;
     }
 
 -- a new node below another one
