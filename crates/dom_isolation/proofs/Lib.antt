@@ -50,4 +50,5 @@ pub mod TableWorlds
 pub mod Bounds
 pub mod Reached
 pub mod ReachedFacts
+pub mod PlanBounds
 pub mod TableLines

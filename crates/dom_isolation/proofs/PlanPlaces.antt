@@ -232,7 +232,7 @@ root-removing how x p t = from (parent_of p.trees x) refl
         (root-put_root_new x (subtree p.trees x) (without x p.trees) x (root-subtree p.trees x t))
 
 -- and stays one under another node document
-root-adopting : (d x : NodeName) (p : Part) → There p x → HasRoot (after p (adopting d x p)).trees x
+pub root-adopting : (d x : NodeName) (p : Part) → There p x → HasRoot (after p (adopting d x p)).trees x
 root-adopting d x p t =
     let q = after p (removing observed x p) in
     let rooted = root-removing observed x p t in
@@ -241,7 +241,7 @@ root-adopting d x p t =
     (root-map_nodes (λ n. if is_in name_eq n.name (inclusive_descendants q.trees x) then with_document d n else n) (λ n. (some-keeps (λ (n : Node). is_in name_eq n.name (inclusive_descendants q.trees x)) (with_document d) (λ n. (refl, refl)) n).0) q.trees x rooted) rooted)
 
 -- a node is adopted and placed
-leads-placing : (parent : NodeName) (before : Option NodeName) (p : Part) (x : NodeName) → IsPart p → MayGo parent p x → Leads (Some parent) p (placing parent before x p)
+pub leads-placing : (parent : NodeName) (before : Option NodeName) (p : Part) (x : NodeName) → IsPart p → MayGo parent p x → Leads (Some parent) p (placing parent before x p)
 leads-placing parent before p x i m =
     let d = document_below p.trees parent in
     let q = after p (adopting d x p) in
@@ -257,12 +257,12 @@ leads-emptying node children p i =
     (leads-one (after p (in_turn (removing suppressed) children p)) (queue_record (child_list node [] children None None)) first.changed.part tt)
 
 -- offsets that grow
-leads-making_room : (parent : NodeName) (before : Option NodeName) (count : ℕ) (p : Part) → IsPart p → Leads None p (making_room parent before count p)
+pub leads-making_room : (parent : NodeName) (before : Option NodeName) (count : ℕ) (p : Part) → IsPart p → Leads None p (making_room parent before count p)
 leads-making_room parent None count p i = leads-nothing None p i
 leads-making_room parent (Some child) count p i = leads-one p (make_room parent (index_of p.trees child) count) i tt
 
 -- the children of a node may go where it may
-children-may : (parent : NodeName) (p : Part) (x : NodeName) → IsPart p → MayGo parent p x → AllByRecursion (MayGo parent p) (children_of p.trees x)
+pub children-may : (parent : NodeName) (p : Part) (x : NodeName) → IsPart p → MayGo parent p x → AllByRecursion (MayGo parent p) (children_of p.trees x)
 children-may parent p x i m =
     let ts = p.trees in
     all-then (λ y. 1 ≤ times_in (subtree ts x) y) (MayGo parent p)
@@ -275,7 +275,7 @@ children-may parent p x i m =
     }) (children_of ts x) (children-inside ts x)
 
 -- the nodes that an insertion places
-placed-may : (parent : NodeName) (p : Part) (x : NodeName) → IsPart p → MayGo parent p x → AllByRecursion (MayGo parent p) (placed_nodes p.trees x)
+pub placed-may : (parent : NodeName) (p : Part) (x : NodeName) → IsPart p → MayGo parent p x → AllByRecursion (MayGo parent p) (placed_nodes p.trees x)
 placed-may parent p x i m = either_way (AllByRecursion (MayGo parent p)) (is_fragment (kind_of p.trees x)) (children_of p.trees x) (x ∷ []) (children-may parent p x i m) (m, tt)
 
 -- the fragment, if it is one, is emptied
@@ -283,7 +283,7 @@ abbrev pub emptied_of : Part → NodeName → Plan
 emptied_of p node = if is_fragment (kind_of p.trees node) then emptying node (placed_nodes p.trees node) else steps_of []
 
 -- what comes before the placing
-leads-emptied : (node : NodeName) (p : Part) → IsPart p → Leads None p (emptied_of p node p)
+pub leads-emptied : (node : NodeName) (p : Part) → IsPart p → Leads None p (emptied_of p node p)
 leads-emptied node p i = from (is_fragment (kind_of p.trees node))
   where
     from : (b : Bool) → Leads None p ((if b then emptying node (placed_nodes p.trees node) else steps_of []) p)

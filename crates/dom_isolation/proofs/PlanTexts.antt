@@ -103,7 +103,7 @@ new-may p n parent i t =
     }
 
 -- Splits.
-leads-tail : (x : NodeName) (offset : ℕ) (new : NodeName) (o : Option NodeName) (q : Part) → IsPart q → There q new → ((parent : NodeName) → o ≡ Some parent → MayGo parent q new) → Leads o q (placing_tail x offset new o q)
+pub leads-tail : (x : NodeName) (offset : ℕ) (new : NodeName) (o : Option NodeName) (q : Part) → IsPart q → There q new → ((parent : NodeName) → o ≡ Some parent → MayGo parent q new) → Leads o q (placing_tail x offset new o q)
 leads-tail x offset new None q i t m = leads-nothing None q i
 leads-tail x offset new (Some parent) q i t m =
     let spot = Some parent in
@@ -133,7 +133,7 @@ leads-joins ts x parent size (y ∷ ys) p i t =
     leads-then None p (s ∷ []) (joins ts x parent (size + length_of ts y) ys) first (leads-joins ts x parent (size + length_of ts y) ys (part_step p s) first.changed.part (still first.changed x t))
 
 -- removals
-leads-removals : (how : Observing) (xs : List NodeName) (p : Part) → IsPart p → Leads None p (in_turn (removing how) xs p)
+pub leads-removals : (how : Observing) (xs : List NodeName) (p : Part) → IsPart p → Leads None p (in_turn (removing how) xs p)
 leads-removals how xs p i = leads-each None (λ q (y : NodeName). ⊤) (removing how) (λ q y j t. leads-removing how y q j) (λ q r y c t. tt) xs p i (all-from (λ y. ⊤) (λ y. tt) xs)
 
 -- Texts that are joined
@@ -190,7 +190,7 @@ leads-replaced x p made told old added a m t =
     (λ q c. leads-eased spot q told (t q c.part))
 
 -- a record, if so
-leads-only_if : (b : Bool) (s : Step) (q : Part) → Leads None q (s ∷ []) → IsPart q → Leads None q (only_if b s)
+pub leads-only_if : (b : Bool) (s : Step) (q : Part) → Leads None q (s ∷ []) → IsPart q → Leads None q (only_if b s)
 leads-only_if b s q a i = leads-if None q b (s ∷ []) [] a (leads-nothing None q i)
 
 -- children that give way to a Text
@@ -323,7 +323,7 @@ or-there p None x h g = g
 or-there p (Some y) x h g = h
 
 -- a parent, if there is one
-parent-if : (p : Part) (x : NodeName) → IfSome (There p) (parent_of p.trees x)
+pub parent-if : (p : Part) (x : NodeName) → IfSome (There p) (parent_of p.trees x)
 parent-if p x = from (parent_of p.trees x) refl
   where
     from : (o : Option NodeName) → parent_of p.trees x ≡ o → IfSome (There p) o

@@ -30,7 +30,7 @@ root-has_node (tree n c r) x h =
     (λ e. or-second (name_eq x n.name) (is_in name_eq x (names_of (nodes c ++ nodes r))) (in-later x (nodes c) (nodes r) (root-has_node r x (or-later (name_eq x n.name) (is_in name_eq x (names_of (roots r))) e h))))
 
 -- a root is its only ancestor
-root-alone : (ts : Trees) → IsUnique ts → (x : NodeName) → HasRoot ts x → inclusive_ancestors ts x ≡ x ∷ []
+pub root-alone : (ts : Trees) → IsUnique ts → (x : NodeName) → HasRoot ts x → inclusive_ancestors ts x ≡ x ∷ []
 root-alone none u x h = absurd (true≢false (sym h))
 root-alone (tree n c r) u x h =
     by_cases (name_eq n.name x) (λ e. cond-true (name_eq n.name x) (x ∷ []) (on_top (inclusive_ancestors c x) n.name (inclusive_ancestors r x)) e)
