@@ -74,7 +74,7 @@ pub room-more : (d e : NodeName → ℕ) (p : Part) → ((y : NodeName) → d y 
 room-more d e p m h = record { bounds = ranges-more (reach d p) (reach e p) (λ y. let a = m y in omega arith) p.ranges h.bounds; leaves = h.leaves }
 
 -- Nodes that stay as long.
-length-like : (ts us : Trees) (y : NodeName) → IsUnique ts → IsUnique us → kind_of us y ≡ kind_of ts y → (node_in us y).text ≡ (node_in ts y).text → kids us y ≡ kids ts y → length_of us y ≡ length_of ts y
+pub length-like : (ts us : Trees) (y : NodeName) → IsUnique ts → IsUnique us → kind_of us y ≡ kind_of ts y → (node_in us y).text ≡ (node_in ts y).text → kids us y ≡ kids ts y → length_of us y ≡ length_of ts y
 length-like ts us y u v k t c =
     by_cases (has_data (kind_of ts y))
     (λ e. length-data us y (ap has_data k ∙ e) ∙ ap length t ∙ sym (length-data ts y e))
@@ -228,7 +228,7 @@ room-take e p x i h = from (parent_of p.trees x) refl
     from (Some parent) g = room-left e p x parent g i h
 
 -- Data.
-length-replaced : (offset count : ℕ) (new old : DomString) → length (replaced offset count new old) ≡ min offset (length old) + length new + ((length old - offset) - count)
+pub length-replaced : (offset count : ℕ) (new old : DomString) → length (replaced offset count new old) ≡ min offset (length old) + length new + ((length old - offset) - count)
 length-replaced offset count new old =
     let a = length-append (take offset old ++ new) (drop count (drop offset old)) in
     let b = length-append (take offset old) new in

@@ -51,4 +51,5 @@ pub mod Bounds
 pub mod Reached
 pub mod ReachedFacts
 pub mod PlanBounds
+pub mod TextBounds
 pub mod TableLines

@@ -67,17 +67,15 @@ room-removals e how (x ∷ xs) p i h =
     room-then e p (removing how x p) (in_turn (removing how) xs q) (room-removals e how xs q (leads-removing how x p i).changed.part (room-removing e how x p i h))
 
 -- What is known of a node below which others are placed.
-pub IsOpen : Part → NodeName → Type 0
+abbrev pub IsOpen : Part → NodeName → Type 0
 IsOpen p x = has_data (kind_of p.trees x) ≡ false
 
 -- it stays so
 pub open-still : {spot : Option NodeName} {p q : Part} → Changed spot p q → (x : NodeName) → There p x → IsOpen p x → IsOpen q x
-unfolding IsOpen
 open-still c x t k = ap has_data (c.kinds x t) ∙ k
 
 -- a node is adopted and placed: it takes its room
 room-placing : (d e : NodeName → ℕ) (parent : NodeName) (before : Option NodeName) (p : Part) (x : NodeName) → IsPart p → MayGo parent p x → IsOpen p parent → ((y : NodeName) → d y ≤ e y + one_at parent y) → HasRoom d p → HasRoom e (after p (placing parent before x p))
-unfolding IsOpen
 room-placing d e parent before p x i m k more h =
     let doc = document_below p.trees parent in
     let q = after p (adopting doc x p) in
@@ -88,7 +86,6 @@ room-placing d e parent before p x i m k more h =
 
 -- all that are to be placed
 room-each : (parent : NodeName) (before : Option NodeName) (xs : List NodeName) (p : Part) → IsPart p → AllByRecursion (MayGo parent p) xs → IsOpen p parent → HasRoom (at_node parent (length xs)) p → There p parent → HasRoom nowhere (after p (in_turn (placing parent before) xs p))
-unfolding IsOpen
 room-each parent before [] p i m k h t = room-more (at_node parent 0) nowhere p (λ y. either_way (λ (n : ℕ). n ≤ 0) (name_eq parent y) 0 0 (omega arith) (omega arith)) h
 room-each parent before (x ∷ xs) p i m k h t =
     let first = leads-placing parent before p x i m.0 in
@@ -178,12 +175,11 @@ room-replacing_data x offset count new p i k h =
     room-replace nowhere q x offset (min count (length old - offset)) new k (omega arith) (leads-one p (queue_record told) i tt).changed.part (room-record nowhere p told h)
 
 -- Texts stay where no data are replaced.
-pub SameTexts : Part → Part → Type 0
+abbrev pub SameTexts : Part → Part → Type 0
 SameTexts p q = (y : NodeName) → There p y → (node_in q.trees y).text ≡ (node_in p.trees y).text
 
 -- of removals
 texts-removing : (how : Observing) (x : NodeName) (p : Part) → IsPart p → SameTexts p (after p (removing how x p))
-unfolding SameTexts
 texts-removing how x p i y t = from (parent_of p.trees x) refl
   where
     from : (o : Option NodeName) → parent_of p.trees x ≡ o → (node_in (after p (option_map_or (removing_from how x p.trees) o [])).trees y).text ≡ (node_in p.trees y).text
@@ -194,12 +190,10 @@ texts-removing how x p i y t = from (parent_of p.trees x) refl
 
 -- of one after another
 texts-then : (p : Part) (xs ys : List Step) → ((y : NodeName) → There p y → There (after p xs) y) → SameTexts p (after p xs) → SameTexts (after p xs) (after (after p xs) ys) → SameTexts p (after p (xs ++ ys))
-unfolding SameTexts
 texts-then p xs ys s a b y t = ap (λ (q : Part). (node_in q.trees y).text) (after-append p xs ys) ∙ b y (s y t) ∙ a y t
 
 -- of an adoption
 texts-adopting : (d x : NodeName) (p : Part) → IsPart p → SameTexts p (after p (adopting d x p))
-unfolding SameTexts
 texts-adopting d x p i =
     let first = leads-removing observed x p i in
     let q = after p (removing observed x p) in
@@ -209,7 +203,7 @@ texts-adopting d x p i =
     ∙ either_way (λ (m : Node). m.text ≡ (node_in q.trees y).text) (is_in name_eq (node_in q.trees y).name (inclusive_descendants q.trees x)) (with_document d (node_in q.trees y)) (node_in q.trees y) refl refl) refl)
 
 -- Roots that are placed: one child more for each. Each of a list is another.
-pub Distinct : List NodeName → Type 0
+abbrev pub Distinct : List NodeName → Type 0
 Distinct [] = ⊤
 Distinct (x ∷ xs) = AllByRecursion (λ y. name_eq x y ≡ false) xs × Distinct xs
 
@@ -267,7 +261,6 @@ roots-root_placed parent before p x i h y e r =
 
 -- all of them
 kids-roots_placed : (parent : NodeName) (before : Option NodeName) (xs : List NodeName) (p : Part) → IsPart p → AllByRecursion (MayGo parent p) xs → AllByRecursion (HasRoot p.trees) xs → Distinct xs → kids (after p (in_turn (placing parent before) xs p)).trees parent ≡ kids p.trees parent + length xs
-unfolding Distinct
 kids-roots_placed parent before [] p i m r d = omega arith
 kids-roots_placed parent before (x ∷ xs) p i m r d =
     let steps = placing parent before x p in
@@ -313,7 +306,6 @@ kids-inserted how node parent before p i m roots distinct same =
 
 -- of a root that is no fragment
 pub kids-plain : (how : Observing) (node parent : NodeName) (before : Option NodeName) (p : Part) → IsPart p → MayGo parent p node → HasRoot p.trees node → is_fragment (kind_of p.trees node) ≡ false → kids (after p (inserting how node parent before p)).trees parent ≡ kids p.trees parent + 1
-unfolding Distinct
 kids-plain how node parent before p i m h k =
     let moved = placed_nodes p.trees node in
     let alone : moved ≡ node ∷ [] = cond-false (is_fragment (kind_of p.trees node)) (children_of p.trees node) (node ∷ []) k in
@@ -324,7 +316,6 @@ kids-plain how node parent before p i m h k =
 
 -- Texts, through insertions.
 texts-placing : (parent : NodeName) (before : Option NodeName) (p : Part) (x : NodeName) → IsPart p → MayGo parent p x → SameTexts p (after p (placing parent before x p))
-unfolding SameTexts
 texts-placing parent before p x i m =
     let doc = document_below p.trees parent in
     let steps = adopting doc x p in
@@ -336,7 +327,6 @@ texts-placing parent before p x i m =
 
 -- of all that are placed
 texts-each : (parent : NodeName) (before : Option NodeName) (xs : List NodeName) (p : Part) → IsPart p → AllByRecursion (MayGo parent p) xs → SameTexts p (after p (in_turn (placing parent before) xs p))
-unfolding SameTexts
 texts-each parent before [] p i m = λ y t. refl
 texts-each parent before (x ∷ xs) p i m =
     let steps = placing parent before x p in
@@ -347,7 +337,6 @@ texts-each parent before (x ∷ xs) p i m =
 
 -- of removals
 texts-removals : (how : Observing) (xs : List NodeName) (p : Part) → IsPart p → SameTexts p (after p (in_turn (removing how) xs p))
-unfolding SameTexts
 texts-removals how [] p i = λ y t. refl
 texts-removals how (x ∷ xs) p i =
     let first = leads-removing how x p i in
@@ -355,7 +344,6 @@ texts-removals how (x ∷ xs) p i =
 
 -- of an insertion
 pub texts-inserting : (how : Observing) (node parent : NodeName) (before : Option NodeName) (p : Part) → IsPart p → MayGo parent p node → SameTexts p (after p (inserting how node parent before p))
-unfolding SameTexts
 texts-inserting how node parent before p i m =
     let spot = Some parent in
     let moved = placed_nodes p.trees node in

@@ -125,7 +125,7 @@ leads-splitting x offset p i =
     (λ q c. leads-eased spot q (replacing_data x offset (length old.text - offset) [] q) (leads-replacing_data x offset (length old.text - offset) [] q c.part))
 
 -- Joined Texts.
-leads-joins : (ts : Trees) (x parent : NodeName) (size : ℕ) (ys : List NodeName) (p : Part) → IsPart p → There p x → Leads None p (joins ts x parent size ys)
+pub leads-joins : (ts : Trees) (x parent : NodeName) (size : ℕ) (ys : List NodeName) (p : Part) → IsPart p → There p x → Leads None p (joins ts x parent size ys)
 leads-joins ts x parent size [] p i t = leads-nothing None p i
 leads-joins ts x parent size (y ∷ ys) p i t =
     let s = join_at x size y parent (index_of ts y) in
@@ -146,7 +146,7 @@ leads-joining x parent nexts p i t =
     (λ q c. leads-removals observed nexts q c.part)
 
 -- a Text that is normalized
-leads-normalizing_text : (p : Part) (x : NodeName) → IsPart p → There p x → Leads None p (normalizing_text x p)
+pub leads-normalizing_text : (p : Part) (x : NodeName) → IsPart p → There p x → Leads None p (normalizing_text x p)
 leads-normalizing_text p x i t =
     leads-if None p (length_of p.trees x == 0) (removing observed x p) (option_map_or (λ parent. if is_empty (texts_after p.trees x) then [] else joining x parent (texts_after p.trees x) p) (parent_of p.trees x) [])
     (leads-removing observed x p i) (from (parent_of p.trees x))
