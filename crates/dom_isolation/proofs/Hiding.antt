@@ -58,7 +58,7 @@ find-all P t (x ∷ xs) y h e =
     (λ a. find-all P t xs y h.1 (sym (cond-false (t x) (Some x) (find t xs) a) ∙ e))
 
 -- a slot that is found is there
-slot_in-there : (ts : Trees) (n : Node) (s : NodeName) → slot_in ts n ≡ Some s → 1 ≤ times_in ts s
+pub slot_in-there : (ts : Trees) (n : Node) (s : NodeName) → slot_in ts n ≡ Some s → 1 ≤ times_in ts s
 slot_in-there ts n s h = by_name (slottable_name n) refl
   where
     by_found : (name : DomString) (o : Option Node) → find (has_slot_name name) (nodes ts) ≡ o → option_map (λ (m : Node). m.name) o ≡ Some s → 1 ≤ times_in ts s

@@ -53,3 +53,4 @@ pub mod ReachedFacts
 pub mod PlanBounds
 pub mod TextBounds
 pub mod TableLines
+pub mod FollowPaths

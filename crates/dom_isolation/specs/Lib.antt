@@ -3,6 +3,7 @@ pub mod Worlds
 pub mod Tables
 pub mod Laws
 pub mod Wholes
+pub mod Follows
 pub mod Offering
 pub mod Texts
 pub mod Words
