@@ -52,5 +52,6 @@ pub mod Reached
 pub mod ReachedFacts
 pub mod PlanBounds
 pub mod TextBounds
+pub mod Childs
 pub mod TableLines
 pub mod FollowPaths

@@ -236,3 +236,88 @@ room-joining x parent p i t k e h =
     taken test (y ∷ xs) =
         by_cases (test y) (λ e. subst (AllByRecursion (λ z. test z ≡ true)) (sym (Rattle.dom_isolation.proofs.Lists.take_while-yes test y xs e)) (e, taken test xs))
         (λ e. subst (AllByRecursion (λ z. test z ≡ true)) (sym (Rattle.dom_isolation.proofs.Lists.take_while-no test y xs e)) tt)
+
+-- A plan for each item, each of which keeps room and what the others need.
+pub room-turns : {A : Type 0} (P : Part → A → Type 0) (f : A → Plan) →
+    ((p : Part) (x : A) → IsPart p → P p x → Leads None p (f x p)) → ((p : Part) (x : A) → IsPart p → P p x → HasRoom nowhere p → HasRoom nowhere (after p (f x p))) → ((p q : Part) (x : A) → Changed None p q → P p x → P q x) →
+    (xs : List A) (p : Part) → IsPart p → AllByRecursion (P p) xs → HasRoom nowhere p → HasRoom nowhere (after p (in_turn f xs p))
+room-turns P f l h k [] p i g r = r
+room-turns P f l h k (x ∷ xs) p i g r =
+    let first = l p x i g.0 in
+    let q = after p (f x p) in
+    room-then nowhere p (f x p) (in_turn f xs q) (room-turns P f l h k xs q first.changed.part (all-then (P p) (P q) (λ y. k p q y first.changed) xs g.1) (h p x i g.0 r))
+
+-- a Text that is there
+abbrev TextIn : Part → NodeName → Type 0
+TextIn p x = There p x × (is_text (kind_of p.trees x) ≡ true)
+
+-- a Text that is normalized
+room-normalizing_text : (p : Part) (x : NodeName) → IsPart p → TextIn p x → HasRoom nowhere p → HasRoom nowhere (after p (normalizing_text x p))
+room-normalizing_text p x i t h =
+    either_way (λ steps. HasRoom nowhere (after p steps)) (length_of p.trees x == 0) (removing observed x p) (option_map_or (λ parent. if is_empty (texts_after p.trees x) then [] else joining x parent (texts_after p.trees x) p) (parent_of p.trees x) [])
+    (room-removing nowhere observed x p i h) (from (parent_of p.trees x) refl)
+  where
+    from : (a : Option NodeName) → parent_of p.trees x ≡ a → HasRoom nowhere (after p (option_map_or (λ parent. if is_empty (texts_after p.trees x) then [] else joining x parent (texts_after p.trees x) p) a []))
+    from None e = h
+    from (Some parent) e = either_way (λ steps. HasRoom nowhere (after p steps)) (is_empty (texts_after p.trees x)) [] (joining x parent (texts_after p.trees x) p) h (room-joining x parent p i t.0 (text-data (kind_of p.trees x) t.1) e h)
+
+-- the first left out
+rest-of : (P : NodeName → Type 0) (xs : List NodeName) → AllByRecursion P xs → AllByRecursion P (drop 1 xs)
+rest-of P [] h = tt
+rest-of P (x ∷ xs) h = h.1
+
+-- all Texts below a node
+pub room-normalizing : (x : NodeName) (p : Part) → IsPart p → HasRoom nowhere p → HasRoom nowhere (after p (normalizing x p))
+room-normalizing x p i h =
+    let is = λ (y : NodeName). is_text (kind_of p.trees y) in
+    let texts = filter is (descendants p.trees x) in
+    room-turns TextIn normalizing_text (λ q y j t. leads-normalizing_text q y j t.0) room-normalizing_text (λ q r y c t. (still c y t.0, ap is_text (c.kinds y t.0) ∙ t.1)) texts p i
+    (all-kept (There p) is (descendants p.trees x) (rest-of (There p) (inclusive_descendants p.trees x) (descend-there p.trees x))) h
+
+-- Text content.
+room-replaced : (x : NodeName) (p : Part) (made told : List Step) (old added : List NodeName) → Leads (Some x) p made → AllByRecursion (MayGo x (after p made)) added → There p x → IsOpen p x → HasRoom nowhere (after p made) → ((q : Part) → HasRoom nowhere q → HasRoom nowhere (after q told)) →
+    HasRoom nowhere (after p ((steps_of made and_then in_turn (removing suppressed) old and_then in_turn (λ y. inserting suppressed y x None) added and_then steps_of told) p))
+room-replaced x p made told old added a m t k h g =
+    let spot = Some x in
+    let q = after p made in
+    let gone = in_turn (removing suppressed) old q in
+    let b = leads-removals suppressed old q a.changed.part in
+    let r = after p (made ++ gone) in
+    let same : r ≡ after q gone = after-append p made gone in
+    let c : Changed spot q r = subst (Changed spot q) (sym same) (leads-eased spot q gone b).changed in
+    let there = still a.changed x t in
+    let room_r : HasRoom nowhere r = room-then nowhere p made gone (room-removals nowhere suppressed old q a.changed.part h) in
+    let put = room-each_in x added r c.part (all-then (MayGo x q) (MayGo x r) (λ y. may-still x q r y c) added m) (still c x there) (open-still c x there (open-still a.changed x t k)) room_r in
+    let all = (made ++ gone) ++ in_turn (λ y. inserting suppressed y x None) added r in
+    room-then nowhere p all told (g (after p all) (room-then nowhere p (made ++ gone) (in_turn (λ y. inserting suppressed y x None) added r) put))
+  where
+    room-each_in : (x : NodeName) (ys : List NodeName) (q : Part) → IsPart q → AllByRecursion (MayGo x q) ys → There q x → IsOpen q x → HasRoom nowhere q → HasRoom nowhere (after q (in_turn (λ y. inserting suppressed y x None) ys q))
+    room-each_in x [] q i m t k h = h
+    room-each_in x (y ∷ ys) q i m t k h =
+        let first = leads-inserting suppressed y x None q i m.0 in
+        let r = after q (inserting suppressed y x None q) in
+        room-then nowhere q (inserting suppressed y x None q) (in_turn (λ y. inserting suppressed y x None) ys r)
+        (room-each_in x ys r first.changed.part (all-then (MayGo x q) (MayGo x r) (λ z. may-still x q r z first.changed) ys m.1) (still first.changed x t) (open-still first.changed x t k) (room-inserting suppressed y x None q i m.0 k h))
+
+-- children that give way to a Text
+room-replacing_children : (x : NodeName) (new : DomString) (p : Part) → IsPart p → There p x → IsOpen p x → HasRoom nowhere p → HasRoom nowhere (after p (replacing_children x new p))
+room-replacing_children x new p i t k h =
+    let old = children_of p.trees x in
+    let added : List NodeName = if is_empty new then [] else next_name p ∷ [] in
+    let node = λ (y : NodeName). new_text_node y (Some (document_below p.trees x)) new in
+    let record_of = child_list x added old None None in
+    let told = only_if (not (is_empty old && is_empty new)) (queue_record record_of) in
+    let m = from node (is_empty new) in
+    room-replaced x p (map (λ y. make (node y)) added) told old added m.0 m.1 t k m.2
+    (λ q g. either_way (λ steps. HasRoom nowhere (after q steps)) (not (is_empty old && is_empty new)) (queue_record record_of ∷ []) [] (room-record nowhere q record_of g) g)
+  where
+    from : (node : NodeName → Node) (b : Bool) → let added : List NodeName = if b then [] else next_name p ∷ [] in Leads (Some x) p (map (λ y. make (node y)) added) × AllByRecursion (MayGo x (after p (map (λ y. make (node y)) added))) added × HasRoom nowhere (after p (map (λ y. make (node y)) added))
+    from node true = (leads-nothing (Some x) p i, tt, h)
+    from node false = (leads-eased (Some x) p (make (node (next_name p)) ∷ []) (leads-one p (make (node (next_name p))) i tt), (new-may p (node (next_name p)) x i t, tt), room-make nowhere p (node (next_name p)) i h)
+
+-- text content
+pub room-setting_text : (x : NodeName) (new : DomString) (p : Part) → IsPart p → There p x → HasRoom nowhere p → HasRoom nowhere (after p (setting_text x new p))
+room-setting_text x new p i t h =
+    Rattle.dom_isolation.proofs.Tests.which_way (λ steps. HasRoom nowhere (after p steps)) (has_data (kind_of p.trees x)) (replacing_all_data x new p) (if is_document (kind_of p.trees x) then [] else replacing_children x new p)
+    (λ e. room-replacing_data x 0 (length_of p.trees x) new p i e h)
+    (λ e. either_way (λ steps. HasRoom nowhere (after p steps)) (is_document (kind_of p.trees x)) [] (replacing_children x new p) h (room-replacing_children x new p i t e h))
