@@ -54,4 +54,5 @@ pub mod PlanBounds
 pub mod TextBounds
 pub mod Childs
 pub mod TableLines
+pub mod BoundLines
 pub mod FollowPaths

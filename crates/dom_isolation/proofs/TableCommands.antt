@@ -56,23 +56,23 @@ tested-apart ts parent node is_lost others h =
     (next-test (is_inclusive_ancestor ts node parent) Hierarchy (drop 2 tests) a.1).0
 
 -- of an insertion
-insertion-apart : (ts : Trees) (parent node : NodeName) (child : Option NodeName) → insertion_refusal ts parent node child ≡ None → is_inclusive_ancestor ts node parent ≡ false
+pub insertion-apart : (ts : Trees) (parent node : NodeName) (child : Option NodeName) → insertion_refusal ts parent node child ≡ None → is_inclusive_ancestor ts node parent ≡ false
 insertion-apart ts parent node child h = tested-apart ts parent node (option_map_or (λ c. not (has_parent ts parent c)) child false) (child_nodes ts parent) h
 
 -- of a replacement
-replacement-apart : (ts : Trees) (parent node child : NodeName) → replacement_refusal ts parent node child ≡ None → is_inclusive_ancestor ts node parent ≡ false
+pub replacement-apart : (ts : Trees) (parent node child : NodeName) → replacement_refusal ts parent node child ≡ None → is_inclusive_ancestor ts node parent ≡ false
 replacement-apart ts parent node child h = tested-apart ts parent node (not (has_parent ts parent child)) (filter (λ (n : Node). not (name_eq n.name child)) (child_nodes ts parent)) h
 
 -- so it may go there
-named-may : (p : Part) (x : Spelled) (parent : NodeName) → IsPart p → There p (named p x) → There p parent → is_inclusive_ancestor p.trees (named p x) parent ≡ false → MayGo parent p (named p x)
+pub named-may : (p : Part) (x : Spelled) (parent : NodeName) → IsPart p → There p (named p x) → There p parent → is_inclusive_ancestor p.trees (named p x) parent ≡ false → MayGo parent p (named p x)
 named-may p x parent i t b h = record { there = t; owner = owner-named p x; below = b; apart = inside-no_ancestor p.trees (named p x) parent i.unique h }
 
 -- Nodes that a command names are there.
-exists-first : (p : Part) (x : Spelled) (rest thing : Bool) → ((has_node p.trees (named p x) && rest) && thing) ≡ true → There p (named p x)
+pub exists-first : (p : Part) (x : Spelled) (rest thing : Bool) → ((has_node p.trees (named p x) && rest) && thing) ≡ true → There p (named p x)
 exists-first p x rest thing h = has_node-times p.trees (named p x) (and_parts (has_node p.trees (named p x)) rest (and_parts (has_node p.trees (named p x) && rest) thing h).0).0
 
 -- the second one
-exists-second : (p : Part) (x y : Spelled) (rest thing : Bool) → ((has_node p.trees (named p x) && (has_node p.trees (named p y) && rest)) && thing) ≡ true → There p (named p y)
+pub exists-second : (p : Part) (x y : Spelled) (rest thing : Bool) → ((has_node p.trees (named p x) && (has_node p.trees (named p y) && rest)) && thing) ≡ true → There p (named p y)
 exists-second p x y rest thing h =
     let more = has_node p.trees (named p y) && rest in
     has_node-times p.trees (named p y) (and_parts (has_node p.trees (named p y)) rest (and_parts (has_node p.trees (named p x)) more (and_parts (has_node p.trees (named p x) && more) thing h).0).1).0

@@ -229,7 +229,7 @@ frame-world_step o w (queue_record c) h g f = frame-notify (is_taken (part_of w 
 frame-world_step o w s h g f = frame-stepped o w s h g f
 
 -- names and hosts
-ground-world_step : (o : Owner) (w : World) (s : Step) → Ground w → Ground (world_step o w s)
+pub ground-world_step : (o : Owner) (w : World) (s : Step) → Ground w → Ground (world_step o w s)
 ground-world_step o w (place x parent before) g =
     let now = stepped o w (place x parent before) in ground-each_signal (signals w now x parent true) now (ground-stepped o w (place x parent before) g)
 ground-world_step o w (take_out x) g = ground-removal w (stepped o w (take_out x)) x (parent_of (part_of w o).trees x) (ground-stepped o w (take_out x) g)
