@@ -279,7 +279,7 @@ kids-map_nodes f h (tree n c r) y =
     rooted-map (tree n c r) = let h = rooted-map r in omega arith
 
 -- A child among the children of its parent, and its index.
-root-below : (ts : Trees) (x parent : NodeName) → IsUnique ts → parent_of ts x ≡ Some parent → HasRoot (trees_below (subtree ts parent)) x
+pub root-below : (ts : Trees) (x parent : NodeName) → IsUnique ts → parent_of ts x ≡ Some parent → HasRoot (trees_below (subtree ts parent)) x
 root-below none x parent u h = cc
 root-below (tree n c r) x parent u h =
     let once = u x in

@@ -55,4 +55,5 @@ pub mod TextBounds
 pub mod Childs
 pub mod TableLines
 pub mod BoundLines
+pub mod Contained
 pub mod FollowPaths

@@ -366,7 +366,7 @@ test-true true b e = refl
 test-true false b e = absurd (true≢false (sym e))
 
 -- the nodes in the tree of a node, read alone
-inside-alone : (ts : Trees) (x y : NodeName) → IsUnique ts → inside ts x y ≤ times_in (subtree ts x) y
+pub inside-alone : (ts : Trees) (x y : NodeName) → IsUnique ts → inside ts x y ≤ times_in (subtree ts x) y
 inside-alone ts x y u =
     by_times (times_in ts x) (λ z. let a = inside-absent ts x y z in omega arith) (λ z. inside-nested ts x x y u (root-there (subtree ts x) x (root-subtree ts x z)))
 
