@@ -56,4 +56,5 @@ pub mod Childs
 pub mod TableLines
 pub mod BoundLines
 pub mod Contained
+pub mod RangeBounds
 pub mod FollowPaths

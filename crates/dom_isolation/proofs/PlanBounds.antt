@@ -216,7 +216,7 @@ root-stays : (how : Observing) (x : NodeName) (p : Part) → IsPart p → HasRoo
 root-stays how x p i h = ap (λ o. option_map_or (removing_from how x p.trees) o []) (root-parent p x i h)
 
 -- the trees with another node document
-documented : (d x : NodeName) (q : Part) (P : Trees → Type 0) → P q.trees → P (part_step q (set_document x d)).trees → P (after q (changing_document d x q)).trees
+pub documented : (d x : NodeName) (q : Part) (P : Trees → Type 0) → P q.trees → P (part_step q (set_document x d)).trees → P (after q (changing_document d x q)).trees
 documented d x q P a b = either_way (λ steps. P (after q steps).trees) (not (has_document q.trees d x)) (set_document x d ∷ []) [] b a
 
 -- the adoption of a root leaves children and roots

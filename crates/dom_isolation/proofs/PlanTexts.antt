@@ -220,11 +220,11 @@ pub record OldIn (count : ℕ) (p : Part) (x : NodeName) : Type 0 where
   pub alone : (z : NodeName) → count ≤ z.number → inside p.trees x z ≡ 0
 
 -- below a newer node it may go
-old-may : (count : ℕ) (p : Part) (x into : NodeName) → IsPart p → OldIn count p x → There p into → count ≤ into.number → MayGo into p x
+pub old-may : (count : ℕ) (p : Part) (x into : NodeName) → IsPart p → OldIn count p x → There p into → count ≤ into.number → MayGo into p x
 old-may count p x into i o t c = record { there = o.there; owner = i.owned x o.there; below = t; apart = o.alone into c }
 
 -- it stays such where others are placed below a newer node
-old-still : (count : ℕ) (into : NodeName) (p q : Part) → count ≤ into.number → Changed (Some into) p q → (x : NodeName) → OldIn count p x → OldIn count q x
+pub old-still : (count : ℕ) (into : NodeName) (p q : Part) → count ≤ into.number → Changed (Some into) p q → (x : NodeName) → OldIn count p x → OldIn count q x
 old-still count into p q h c x o = record { there = still c x o.there; alone = λ z k. c.apart x z o.there (o.alone into h) (o.alone z k) }
 
 -- of all pieces
@@ -235,7 +235,7 @@ whole-then P Q f (cut x from to rest) h = (f x h.0, whole-then P Q f rest h.1)
 whole-then P Q f (clone x inner rest) h = (f x h.0, whole-then P Q f inner h.1, whole-then P Q f rest h.2)
 
 -- what is placed below a new node that itself went below another one
-changed-inner : (into new : NodeName) (p q r : Part) → times_in p.trees new ≡ 0 → Changed (Some into) p q → Changed (Some new) q r → Changed (Some into) p r
+pub changed-inner : (into new : NodeName) (p q r : Part) → times_in p.trees new ≡ 0 → Changed (Some into) p q → Changed (Some new) q r → Changed (Some into) p r
 changed-inner into new p q r absent c d =
     record {
       owner = d.owner ∙ c.owner;
@@ -247,7 +247,7 @@ changed-inner into new p q r absent c d =
     }
 
 -- a new node below another one
-leads-making_below : (into : NodeName) (n : Node) (p : Part) → n.name ≡ next_name p → IsPart p → There p into → Leads (Some into) p (making_below into n p)
+pub leads-making_below : (into : NodeName) (n : Node) (p : Part) → n.name ≡ next_name p → IsPart p → There p into → Leads (Some into) p (making_below into n p)
 leads-making_below into n p e i t =
     let spot = Some into in
     let first = leads-one p (make n) i tt in
@@ -255,7 +255,7 @@ leads-making_below into n p e i t =
     (leads-inserting observed n.name into None (part_step p (make n)) first.changed.part (subst (MayGo into (part_step p (make n))) (sym e) (new-may p n into i t)))
 
 -- pieces that are taken into a newer node
-leads-taking : (count : ℕ) (pieces : Pieces) (into : NodeName) (p : Part) → IsPart p → count ≤ p.node_count → There p into → count ≤ into.number → AllWhole (OldIn count p) pieces → Leads (Some into) p (taking into pieces p)
+pub leads-taking : (count : ℕ) (pieces : Pieces) (into : NodeName) (p : Part) → IsPart p → count ≤ p.node_count → There p into → count ≤ into.number → AllWhole (OldIn count p) pieces → Leads (Some into) p (taking into pieces p)
 leads-taking count nothing into p i k t h o = leads-nothing (Some into) p i
 leads-taking count (whole x rest) into p i k t h o =
     leads-plan (Some into) (inserting observed x into None) (taking into rest) p (leads-inserting observed x into None p i (old-may count p x into i o.0 t h))
@@ -293,12 +293,12 @@ leads-taking count (clone x inner rest) into p i k t h o =
         }
 
 -- nodes that are there are old
-old-there : (p : Part) → IsPart p → (x : NodeName) → There p x → OldIn p.node_count p x
+pub old-there : (p : Part) → IsPart p → (x : NodeName) → There p x → OldIn p.node_count p x
 old-there p i x t =
     record { there = t; alone = λ z h. let a = inside-times p.trees x z in by_times (times_in p.trees z) (λ e. omega arith) (λ e. absurd (let b = i.numbered z e in omega arith)) }
 
 -- the pieces of trees that are there
-among-there : (P : NodeName → Type 0) (ts : Trees) (range : Range NodeName) (us : Trees) → ((y : NodeName) → 1 ≤ times_in us y → P y) → AllWhole P (pieces_among ts range us)
+pub among-there : (P : NodeName → Type 0) (ts : Trees) (range : Range NodeName) (us : Trees) → ((y : NodeName) → 1 ≤ times_in us y → P y) → AllWhole P (pieces_among ts range us)
 among-there P ts range none h = tt
 among-there P ts range (tree n c r) h =
     let others = among-there P ts range r (λ y k. h y (let m = times-more n c r y in omega arith)) in
@@ -309,7 +309,7 @@ among-there P ts range (tree n c r) h =
     (either_way (AllWhole P) (has_data n.kind) (cut n.name (cut_start range n.name) (cut_end ts range n.name) (pieces_among ts range r)) (clone n.name (pieces_among ts range c) (pieces_among ts range r)) (here, others) (here, inner, others)))
 
 -- the pieces of a range
-pieces-there : (p : Part) (range : Range NodeName) → There p range.start.node → AllWhole (There p) (pieces_of p.trees range)
+pub pieces-there : (p : Part) (range : Range NodeName) → There p range.start.node → AllWhole (There p) (pieces_of p.trees range)
 pieces-there p range t =
     let ts = p.trees in
     let below = trees_below (subtree ts (common_ancestor ts range)) in
@@ -358,7 +358,7 @@ leads-extracting k range p i t =
     old-eased p q c x o = record { there = still c x o.there; alone = λ z h. c.apart x z o.there tt (o.alone z h) }
 
 -- Deletion.
-leads-cutting : (ts : Trees) (range : Range NodeName) (x : NodeName) (p : Part) → IsPart p → Leads None p (cutting_data ts range x p)
+pub leads-cutting : (ts : Trees) (range : Range NodeName) (x : NodeName) (p : Part) → IsPart p → Leads None p (cutting_data ts range x p)
 leads-cutting ts range x p i = from (has_data (kind_of ts x))
   where
     from : (b : Bool) → Leads None p ((if b then replacing_data x (cut_start range x) (cut_end ts range x - cut_start range x) [] else steps_of []) p)
@@ -366,7 +366,7 @@ leads-cutting ts range x p i = from (has_data (kind_of ts x))
     from false = leads-nothing None p i
 
 -- the contents of a range
-leads-contents : (ts : Trees) (range : Range NodeName) (p : Part) → IsPart p → Leads None p (deleting_contents ts range p)
+pub leads-contents : (ts : Trees) (range : Range NodeName) (p : Part) → IsPart p → Leads None p (deleting_contents ts range p)
 leads-contents ts range p i = from (is_in_one_data ts range)
   where
     from : (b : Bool) → Leads None p ((if b then cutting_data ts range range.start.node else (cutting_data ts range range.start.node and_then in_turn (removing observed) (outermost_contained ts range) and_then cutting_data ts range range.end.node)) p)
