@@ -118,7 +118,7 @@ accepted-offset : (p : Part) (x : NodeName) (i : ℕ) → first_refusal ((past_e
 accepted-offset p x i h = let low = ltb-false (length_of p.trees x) i (next-test (past_end p x i) IndexSize [] h).0 in omega arith
 
 -- what changes no range and no tree
-room-same : (p q : Part) → q.trees ≡ p.trees → q.ranges ≡ p.ranges → HasRoom nowhere p → HasRoom nowhere q
+pub room-same : (p q : Part) → q.trees ≡ p.trees → q.ranges ≡ p.ranges → HasRoom nowhere p → HasRoom nowhere q
 room-same p q t r h =
     record {
       bounds = subst (AllByRecursion (RangeUnder (reach nowhere q))) (sym r) (subst (λ ts. AllByRecursion (RangeUnder (λ y. length_of ts y + 0)) p.ranges) (sym t) h.bounds);

@@ -57,4 +57,5 @@ pub mod TableLines
 pub mod BoundLines
 pub mod Contained
 pub mod RangeBounds
+pub mod BoundWorlds
 pub mod FollowPaths

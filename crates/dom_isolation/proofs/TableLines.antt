@@ -247,7 +247,7 @@ whole-of : {only_log : Bool} (w : World) → IsReached only_log w → Frame w �
 whole-of w r f = record { tables = f.tables; first = first-there w r f.first; signalled = f.signalled }
 
 -- whatever the listeners do
-any-reached : {only_log : Bool} (w : World) → IsReached only_log w → IsReached false w
+pub any-reached : {only_log : Bool} (w : World) → IsReached only_log w → IsReached false w
 any-reached w r = record { world = r.world; kinds = r.kinds; owners = r.owners; logs = λ e. absurd (true≢false (sym e)) }
 
 -- the first world

@@ -72,7 +72,7 @@ owner-stepped : (w : World) (o : Owner) (s : Step) → (part_step (part_of w o) 
 owner-stepped w o s = owner-part_step (part_of w o) s ∙ owner-part_of w o
 
 -- names and hosts
-ground-stepped : (o : Owner) (w : World) (s : Step) → Ground w → Ground (stepped o w s)
+pub ground-stepped : (o : Owner) (w : World) (s : Step) → Ground w → Ground (stepped o w s)
 ground-stepped o w s g = ground-with_part w (part_step (part_of w o) s) o (owner-stepped w o s) (part-step (part_of w o) s (g.parts o)) (rest-step (part_of w o) s).0 g
 
 -- nodes

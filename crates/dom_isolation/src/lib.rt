@@ -9,6 +9,7 @@ ghost use Rattle.dom_model.specs.Isolation.{ForeignIsRefused, PagePartAgrees, Pa
 ghost use Rattle.dom_isolation.specs.Laws.{VisitIsUnseen, FoldSkipsComponents, PageVisitsAgree, OutwardVisitsAgree, PageDispatchAgrees, ComponentDispatchAgrees, NotificationIsUnseen, TurnEndingAgrees, OtherEndingIsUnseen, PageLineAgrees, OtherLineAgrees, FinishAgrees, PageRunAgrees, TraceGoesOn, IsReached, IsQuiet, FirstIsReached, StepKeepsReached, EndingKeepsReached, FinishKeepsReached, ScriptsReach, QuietScriptsReach, ShadowRootsAreRoots, NoOtherShadowRoots, AttachedAreThere, HostsAreTheirs, AssignedArePage};
 ghost use Rattle.dom_isolation.specs.Wholes.{FirstIsWhole, StepKeepsWhole, EndingKeepsWhole, FinishKeepsWhole, ScriptsStayWhole};
 ghost use Rattle.dom_isolation.specs.Follows.{PathFollowsParents};
+ghost use Rattle.dom_isolation.specs.Bounds.{FirstIsBounded, OtherStepsKeepBounds, EndingKeepsBounds, FinishKeepsBounds};
 ghost use Rattle.dom_isolation.specs.Offering.{offering};
 ghost use Rattle.dom_isolation.specs.Texts.{ReadsPrefix, DecodeReadsPrefix, OfferingReadsPrefix, TraceHasPageLines, OutputHasPageLines, PageViewIsItsOutput, PageLinesAgree, PageLinesAgreeSoFar, PageTextAgrees, SamePageText, ForeignLineIsRefused};
 ghost use Rattle.dom_isolation.specs.Words.{ReadsPlainWords, DecodeReadsPlainWords, OfferingReadsPlainWords, OutputHasItsLines, PickedLinesAgree};
@@ -68,6 +69,15 @@ pub fn whole_worlds()
     ensures ending { EndingKeepsWhole }
     ensures finish { FinishKeepsWhole }
     ensures script { (read : List ℕ → Line) → ScriptsStayWhole read }
+{}
+
+/// The ends of ranges are within their nodes: in the first world, and after each line but those that take the contents of a
+/// range (`extract`, `delete`) or insert into one (`insert-node`), of which that is not shown yet.
+pub fn ranges_stay_bounded()
+    ensures first { FirstIsBounded }
+    ensures other_lines { OtherStepsKeepBounds }
+    ensures ending { EndingKeepsBounds }
+    ensures finish { FinishKeepsBounds }
 {}
 
 /// The whole path of an event begins at its target, goes from each node to its event parent, through slots and shadow roots, and
