@@ -240,7 +240,7 @@ spared-first ts r u t =
         (take (suc m) (names_of (roots below))) (roots-taken 0 below m ub)
 
 -- what stands in the tree of a node, and is another one, stands below it
-below-rest : (ts : Trees) (a z : NodeName) → name_eq a z ≡ false → times_in (subtree ts a) z ≤ times_in (trees_below (subtree ts a)) z
+pub below-rest : (ts : Trees) (a z : NodeName) → name_eq a z ≡ false → times_in (subtree ts a) z ≤ times_in (trees_below (subtree ts a)) z
 below-rest none a z d = omega arith
 below-rest (tree n c r) a z d =
     by_cases (name_eq n.name a)

@@ -100,7 +100,7 @@ ancestors-run ts u x (y ∷ path) h =
     (up, ancestors-run ts u y path (ap (drop 1) both))
 
 -- a node without a parent is its root
-root-itself : (ts : Trees) (y : NodeName) → IsUnique ts → 1 ≤ times_in ts y → parent_of ts y ≡ None → root_of ts y ≡ y
+pub root-itself : (ts : Trees) (y : NodeName) → IsUnique ts → 1 ≤ times_in ts y → parent_of ts y ≡ None → root_of ts y ≡ y
 root-itself ts y u t h = ap (λ p. unwrap_or (last_of p) y) (root-alone ts u y (no_parent-root ts y t h))
 
 -- The host of a component is the node at which it is.

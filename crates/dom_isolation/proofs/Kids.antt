@@ -49,7 +49,7 @@ length-roots none = refl
 length-roots (tree n c r) = let h = length-roots r in omega arith
 
 -- the children of a node, read alone
-kids-below : (ts : Trees) (y : NodeName) → IsUnique ts → rooted (trees_below (subtree ts y)) ≡ kids ts y
+pub kids-below : (ts : Trees) (y : NodeName) → IsUnique ts → rooted (trees_below (subtree ts y)) ≡ kids ts y
 kids-below none y u = refl
 kids-below (tree n c r) y u =
     let once = u y in

@@ -59,3 +59,4 @@ pub mod Contained
 pub mod RangeBounds
 pub mod BoundWorlds
 pub mod FollowPaths
+pub mod RangeEnds

@@ -137,7 +137,7 @@ room-splitting x offset p i t k h =
     (λ r c g. room-replacing_data x offset (length old.text - offset) [] r c.part (ap has_data (c.kinds x t) ∙ k) g)
 
 -- Data that are replaced.
-replaced-here : (p : Part) (x : NodeName) (offset count : ℕ) (new : DomString) → There p x → node_in (part_step p (replace_data x offset count new)).trees x ≡ with_data_replaced offset count new (node_in p.trees x)
+pub replaced-here : (p : Part) (x : NodeName) (offset count : ℕ) (new : DomString) → There p x → node_in (part_step p (replace_data x offset count new)).trees x ≡ with_data_replaced offset count new (node_in p.trees x)
 replaced-here p x offset count new t =
     let f : Node → Node = λ n. if name_eq n.name x then with_data_replaced offset count new n else n in
     node-map_nodes f (λ n. (some-keeps (λ (n : Node). name_eq n.name x) (with_data_replaced offset count new) (λ n. (refl, refl)) n).0) p.trees x t
