@@ -340,7 +340,7 @@ read-same ts us y h m a =
         (λ f. listed ns k h.1 (sym (cond-false (name_eq n.name y) (Some n) (find (λ (n : Node). name_eq n.name y) ns) f) ∙ e) t)
 
 -- the one that is read is all of them
-read-all : (ts : Trees) (y : NodeName) → IsUnique ts → 1 ≤ times_in ts y → AllNodes (λ n. name_eq n.name y ≡ true → n ≡ node_in ts y) ts
+pub read-all : (ts : Trees) (y : NodeName) → IsUnique ts → 1 ≤ times_in ts y → AllNodes (λ n. name_eq n.name y ≡ true → n ≡ node_in ts y) ts
 read-all ts y u h =
     let at = found-there ts y h in
     let found : at.0 ≡ node_in ts y = sym (ap (λ (o : Option Node). unwrap_or o (no_node y)) at.1) in

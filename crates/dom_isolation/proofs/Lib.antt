@@ -60,3 +60,4 @@ pub mod RangeBounds
 pub mod BoundWorlds
 pub mod FollowPaths
 pub mod RangeEnds
+pub mod RangePlans

@@ -232,7 +232,7 @@ taken-then : (xs : List NodeName) (y : NodeName) (p : Part) (one two : List Step
 taken-then xs y p one two h = subst (λ (q : Part). HasRoom nowhere q × AreChildren xs y q) (sym (after-append p one two)) h
 
 -- pieces stay fit
-fits-still : {spot : Option NodeName} (xs : List NodeName) (y : NodeName) (p q : Part) → Changed spot p q → (pieces : Pieces) → AreFit (Misses xs y) (IsData p) (IsOpenIn p) pieces → AreFit (Misses xs y) (IsData q) (IsOpenIn q) pieces
+pub fits-still : {spot : Option NodeName} (xs : List NodeName) (y : NodeName) (p q : Part) → Changed spot p q → (pieces : Pieces) → AreFit (Misses xs y) (IsData p) (IsOpenIn p) pieces → AreFit (Misses xs y) (IsData q) (IsOpenIn q) pieces
 fits-still xs y p q c pieces h =
     fit-then (Misses xs y) (IsData p) (IsOpenIn p) (Misses xs y) (IsData q) (IsOpenIn q) (λ x m. m) (λ x d. (still c x d.0, ap has_data (c.kinds x d.0) ∙ d.1)) (λ x d. (still c x d.0, open-still c x d.0 d.1)) pieces h
 
