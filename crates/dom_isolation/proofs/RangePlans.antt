@@ -46,6 +46,10 @@ pub record IsProper (p : Part) (r : Range NodeName) : Type 0 where
 self-above : (ts : Trees) (x : NodeName) → 1 ≤ times_in ts x → is_inclusive_ancestor ts x x ≡ true
 self-above ts x t = let at = ancestors-present ts x t in ap (is_in name_eq x) at.1 ∙ or-first (name_eq x x) (is_in name_eq x at.0) (name_eq-same x)
 
+-- a number is not zero and more
+zero_one : (k : ℕ) → k ≡ 0 → 1 ≤ k → ⊥
+zero_one k a b = absurd (omega arith)
+
 -- a start node above the end node is open, unless both are one Text
 start-open : (p : Part) (r : Range NodeName) → IsPart p → HasRoom nowhere p → is_in_one_data p.trees r ≡ false → is_inclusive_ancestor p.trees r.start.node r.end.node ≡ true → IsOpen p r.start.node
 start-open p r i h e above =
@@ -54,9 +58,6 @@ start-open p r i h e above =
     (λ d. true≢false (sym (ap (λ b. b && has_data (kind_of p.trees r.start.node)) d ∙ k) ∙ e))
     (λ d. let a = above-kids p r.start.node r.end.node i above d in let z = h.leaves r.start.node k in zero_one (kids p.trees r.start.node) z a)))
     (λ k. k)
-  where
-    zero_one : (k : ℕ) → k ≡ 0 → 1 ≤ k → ⊥
-    zero_one k a b = absurd (omega arith)
 
 -- Data that are cut: up to the offset they stay.
 data-left : (p : Part) (x : NodeName) (offset count : ℕ) → has_data (kind_of p.trees x) ≡ true → offset ≤ length_of p.trees x → offset ≤ length_of (after p (replacing_data x offset count [] p)).trees x
@@ -217,3 +218,97 @@ fit-pieces p xs y r i t s =
     (which_way P (is_in_one_data ts r) (cut r.start.node r.start.offset r.end.offset nothing) (pieces_among ts r below)
     (λ e. ((t, (and_parts (name_eq r.start.node r.end.node) (has_data (kind_of ts r.start.node)) e).1), tt))
     (λ e. fit-among p xs y r s below (below-read (λ n. n ≡ node_in ts n.name) (subtree ts a) (nodes-subtree (λ n. n ≡ node_in ts n.name) ts a (all-read ts i.unique))) (λ z m. let b = times-below (subtree ts a) z in let c = times-subtree ts a z in omega arith)))
+
+-- pieces that were there before a new node are old
+pieces-old : (p q : Part) → Changed None p q → IsPart p → (pieces : Pieces) → Rattle.dom_isolation.proofs.Plans.AllWhole (There p) pieces → Rattle.dom_isolation.proofs.Plans.AllWhole (OldIn p.node_count q) pieces
+pieces-old p q c i pieces h =
+    whole-then (There p) (OldIn p.node_count q) (λ x t. let o = old-there p i x t in record { there = still c x t; alone = λ z k. c.apart x z t tt (o.alone z k) }) pieces h
+
+-- a Text in a part with a new node
+length-made : (p : Part) (n : Node) (x : NodeName) → IsPart p → has_data (kind_of p.trees x) ≡ true → length_of (part_step p (make n)).trees x ≡ length_of p.trees x
+length-made p n x i k =
+    let t = bounds.data-there p.trees x k in
+    let same = node-with_node (with_name (next_name p) n) p.trees x i.unique t (next-not p i x t) in
+    length-data (part_step p (make n)).trees x (ap (λ (m : Node). has_data m.kind) same ∙ k) ∙ ap (λ (m : Node). length m.text) same ∙ sym (length-data p.trees x k)
+
+-- and where that went below another one
+length-below : (p : Part) (n : Node) (into x : NodeName) → n.name ≡ next_name p → IsPart p → There p into → has_data (kind_of p.trees x) ≡ true → length_of (after p (making_below into n p)).trees x ≡ length_of p.trees x
+length-below p n into x e i t k =
+    let q = part_step p (make n) in
+    let first = leads-one p (make n) i tt in
+    let there = bounds.data-there p.trees x k in
+    let may : MayGo into q n.name = subst (MayGo into q) (sym e) (new-may p n into i t) in
+    let put = leads-inserting observed n.name into None q first.changed.part may in
+    let texts = texts-inserting observed n.name into None q first.changed.part may x (still first.changed x there) in
+    let kq : has_data (kind_of q.trees x) ≡ true = ap has_data (first.changed.kinds x there) ∙ k in
+    length-data (after q (inserting observed n.name into None q)).trees x (ap has_data (put.changed.kinds x (still first.changed x there)) ∙ kq) ∙ ap (λ (s : DomString). length s) texts ∙ sym (length-data q.trees x kq) ∙ length-made p n x i k
+
+-- an extraction
+pub room-extracting : (k : ℕ) (r : Range NodeName) (p : Part) → IsPart p → IsProper p r → HasRoom nowhere p → HasRoom nowhere (after p (extracting k r p))
+room-extracting k r p i g h =
+    let steps = taking into (pieces_of p.trees r) q in
+    let done = by_cases (is_inclusive_ancestor p.trees r.start.node r.end.node)
+        (λ e. by_cases (has_data (kind_of p.trees r.start.node)) (λ d. in_data e d) (λ d. in_trees (λ f. d)))
+        (λ e. in_trees (λ f. absurd (true≢false (sym f ∙ e)))) in
+    room-then nowhere p (make fragment ∷ steps) (set_range k (both_at (new_place p.trees r)) ∷ []) (room-last p (after q steps) k (new_place p.trees r) done.1 done.0)
+  where
+    into : NodeName
+    into = next_name p
+    fragment : Node
+    fragment = new_fragment_node (next_name p) (own_document p.trees r.start.node)
+    q : Part
+    q = part_step p (make (new_fragment_node (next_name p) (own_document p.trees r.start.node)))
+    first : Changed None p (part_step p (make (new_fragment_node (next_name p) (own_document p.trees r.start.node))))
+    first = (leads-one p (make (new_fragment_node (next_name p) (own_document p.trees r.start.node))) i tt).changed
+    opened : IsOpen (part_step p (make (new_fragment_node (next_name p) (own_document p.trees r.start.node)))) (next_name p)
+    opened = ap (λ (n : Node). has_data n.kind) (node-new (with_name (next_name p) (new_fragment_node (next_name p) (own_document p.trees r.start.node))) p.trees (next-absent p i))
+    in_trees : (is_inclusive_ancestor p.trees r.start.node r.end.node ≡ true → IsOpen p r.start.node) → let q = part_step p (make (new_fragment_node (next_name p) (own_document p.trees r.start.node))) in HasRoom nowhere (after q (taking (next_name p) (pieces_of p.trees r) q)) × ((new_place p.trees r).offset ≤ length_of (after q (taking (next_name p) (pieces_of p.trees r) q)).trees (new_place p.trees r).node)
+    in_trees op =
+        let n = new_fragment_node (next_name p) (own_document p.trees r.start.node) in
+        let q = part_step p (make n) in
+        let c = (leads-one p (make n) i tt).changed in
+        let pieces = pieces_of p.trees r in
+        let room = room-place_new p r i h g.start g.end g.one_tree g.within op in
+        let b = new_place p.trees r in
+        let kc = room.children in
+        let kids_q : AreChildren room.held b.node q = (all-then (λ x. IsChild x b.node p) (λ x. IsChild x b.node q) (λ x m. child-make x b.node n p m) room.held kc.0, still c b.node kc.1) in
+        let old = pieces-old p q c i pieces (pieces-there p r g.start) in
+        let fit = fits-still room.held b.node p q c pieces (fit-pieces p room.held b.node r i g.start room.spared) in
+        let le : p.node_count ≤ (next_name p).number = omega arith in
+        let taken = room-taking room.held b.node p.node_count pieces (next_name p) q c.part c.count (new-there p n) opened le old fit (room-make nowhere p n i h) kids_q in
+        let l = leads-taking p.node_count pieces (next_name p) q c.part c.count (new-there p n) le old in
+        let end = after q (taking (next_name p) pieces q) in
+        (taken.0, room-at p end r b room l.changed.part (ap has_data (l.changed.kinds b.node (still c b.node kc.1) ∙ c.kinds b.node kc.1) ∙ room.opened) taken.1)
+    in_data : is_inclusive_ancestor p.trees r.start.node r.end.node ≡ true → has_data (kind_of p.trees r.start.node) ≡ true → let q = part_step p (make (new_fragment_node (next_name p) (own_document p.trees r.start.node))) in HasRoom nowhere (after q (taking (next_name p) (pieces_of p.trees r) q)) × ((new_place p.trees r).offset ≤ length_of (after q (taking (next_name p) (pieces_of p.trees r) q)).trees (new_place p.trees r).node)
+    in_data e d =
+        let ts = p.trees in
+        let x = r.start.node in
+        let n = new_fragment_node (next_name p) (own_document p.trees r.start.node) in
+        let q = part_step p (make n) in
+        let c = (leads-one p (make n) i tt).changed in
+        let le : p.node_count ≤ (next_name p).number = omega arith in
+        let place : new_place ts r ≡ r.start = cond-true (is_inclusive_ancestor ts x r.end.node) r.start _ e in
+        let same : name_eq x r.end.node ≡ true = by_cases (name_eq x r.end.node) (λ s. s) (λ s. absurd (let a = above-kids p x r.end.node i e s in let z = h.leaves x d in zero_one (kids p.trees x) z a)) in
+        let one : is_in_one_data ts r ≡ true = ap (λ b. b && has_data (kind_of ts x)) same ∙ d in
+        let small = cut x r.start.offset r.end.offset nothing in
+        let is : pieces_of ts r ≡ (if is_collapsed name_eq r then nothing else small) = ap (λ (s : Pieces). if is_collapsed name_eq r then nothing else s) (cond-true (is_in_one_data ts r) small _ one) in
+        let kq : has_data (kind_of q.trees x) ≡ true = ap has_data (c.kinds x g.start) ∙ d in
+        let lq = length-made p n x i d in
+        let w = g.within in
+        let m = clone_part (next_name q) r.start.offset r.end.offset (node_in q.trees x) in
+        let below = making_below (next_name p) m q in
+        let s = after q below in
+        let lm = leads-making_below (next_name p) m q refl c.part (new-there p n) in
+        let ls = length-below q m (next_name p) x refl c.part (new-there p n) kq in
+        let ks : has_data (kind_of s.trees x) ≡ true = ap has_data (lm.changed.kinds x (still c x g.start)) ∙ kq in
+        let count = r.end.offset - r.start.offset in
+        let left = data-left s x r.start.offset count ks (omega arith) in
+        let two = replacing_data x r.start.offset count [] s in
+        let old = pieces-old p q c i small (g.start, tt) in
+        let taken = room-taking [] x p.node_count small (next_name p) q c.part c.count (new-there p n) opened le old ((still c x g.start, kq), tt) (room-make nowhere p n i h) (tt, still c x g.start) in
+        let whole_steps = after-append q (below ++ two) [] ∙ after-append q below two in
+        subst (λ pieces. HasRoom nowhere (after q (taking (next_name p) pieces q)) × ((new_place ts r).offset ≤ length_of (after q (taking (next_name p) pieces q)).trees (new_place ts r).node)) (sym is)
+        (subst (λ (b : Boundary NodeName). HasRoom nowhere (after q (taking (next_name p) (if is_collapsed name_eq r then nothing else small) q)) × (b.offset ≤ length_of (after q (taking (next_name p) (if is_collapsed name_eq r then nothing else small) q)).trees b.node)) (sym place)
+        (either_way (λ pieces. HasRoom nowhere (after q (taking (next_name p) pieces q)) × (r.start.offset ≤ length_of (after q (taking (next_name p) pieces q)).trees x)) (is_collapsed name_eq r) nothing small
+        (room-make nowhere p n i h, omega arith)
+        (taken.0, subst (λ (v : Part). r.start.offset ≤ length_of v.trees x) (sym whole_steps) left)))
