@@ -82,7 +82,7 @@ room-range : (p : Part) (k : ℕ) (r : Option (Range NodeName)) → HasRoom nowh
 room-range p k r h u = record { bounds = all-set (RangeUnder (reach nowhere p)) p.ranges k r h.bounds u; leaves = h.leaves }
 
 -- a range that is looked up
-under-at : (p : Part) (k : ℕ) → HasRoom nowhere p → RangeUnder (reach nowhere p) (range_at p k)
+pub under-at : (p : Part) (k : ℕ) → HasRoom nowhere p → RangeUnder (reach nowhere p) (range_at p k)
 under-at p k h = each p.ranges k h.bounds
   where
     each : (rs : List (Option (Range NodeName))) (k : ℕ) → AllByRecursion (RangeUnder (reach nowhere p)) rs → RangeUnder (reach nowhere p) (option_flatten (slice_get rs k))
@@ -95,10 +95,6 @@ under-at p k h = each p.ranges k h.bounds
 under-mapped : (c : NodeName → ℕ) (f : Range NodeName → Range NodeName) → ((r : Range NodeName) → Under c r.start → Under c r.end → Under c (f r).start × Under c (f r).end) → (o : Option (Range NodeName)) → RangeUnder c o → RangeUnder c (option_map f o)
 under-mapped c f g None h = tt
 under-mapped c f g (Some r) h = g r h.0 h.1
-
--- both ends
-BothUnder : (NodeName → ℕ) → Range NodeName → Type 0
-BothUnder c r = Under c r.start × Under c r.end
 
 -- another start
 under-start : (c : NodeName → ℕ) (ts : Trees) (b : Boundary NodeName) → Under c b → (r : Range NodeName) → Under c r.start → Under c r.end → Under c (with_start ts b r).start × Under c (with_start ts b r).end
@@ -143,7 +139,7 @@ range-room p k f h g = from (range_at p k) refl
     from None e = subst (λ o. HasRoom nowhere (after p (option_map_or f o []))) (sym e) h
     from (Some range) e = subst (λ o. HasRoom nowhere (after p (option_map_or f o []))) (sym e) (g range e)
 
--- What remains to be shown of the commands that take or fill the contents of a range.
+-- What is shown elsewhere of the commands that take or fill the contents of a range.
 abbrev pub ForRanges : Part → Command → Type 0
 ForRanges p (Command.extract k) = HasRoom nowhere p → Roomy p (effect p (Command.extract k))
 ForRanges p (Command.delete k) = HasRoom nowhere p → Roomy p (effect p (Command.delete k))

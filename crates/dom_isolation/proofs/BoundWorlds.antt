@@ -1,4 +1,5 @@
--- Lines keep the ends of ranges within their nodes, but for those that take or fill a range's contents.
+-- Lines keep the ends of ranges within their nodes, but for those that insert into a range or take the contents of one whose
+-- ends are in different trees.
 use Rattle.std.proofs.Common.{zero, suc, ◌≡◌, ◌≢◌, ◌≤◌, ℕ, ◌+◌, Bool, true, false, List, [], ◌∷◌, ◌++◌, filter, fold, length, Option, Some, None, option_map, refl, sym, ap, ◌∙◌, arith, true≢false, subst}
 use Rattle.std.specs.Prelude.{IsTrue, is_some, ⊤}
 use Rattle.std.specs.List.{AllByRecursion}
@@ -16,8 +17,10 @@ use Rattle.dom_model.specs.DocumentMachine.{first_world, part_with_root, refusal
 use Rattle.dom_model.specs.Effects.{Effect, tables, changes, effect}
 use Rattle.dom_model.specs.Listeners.{Visit, Dispatching, begun, visited}
 use Rattle.dom_model.specs.Names.{name_eq, max_depth}
-use Rattle.dom_model.specs.Part.{Part, first_node}
+use Rattle.dom_model.specs.Part.{Part, first_node, range_at}
 use Rattle.dom_model.specs.Paths.{views}
+use Rattle.dom_model.specs.Extract.{extracting}
+use Rattle.dom_model.specs.RangeOps.{deleting}
 use Rattle.dom_model.specs.Ranges.{Range}
 use Rattle.dom_model.specs.Runs.{Run, quiet, run_each, unless_refused}
 use Rattle.dom_model.specs.Slots.{signals, with_signal}
@@ -29,17 +32,19 @@ use Rattle.dom_model.specs.WorldSteps.{world_step, world_after, stepped, with_re
 use Rattle.dom_model.proofs.OwnerLaws.{owner_eq-true, owner_eq-false}
 use Rattle.dom_model.proofs.PartLaws.{owner-part_of}
 use Rattle.dom_model.proofs.StepLaws.{owner-part_step, part_of-stepped-other}
-use Rattle.dom_isolation.specs.Bounds.{EndsWithin, HasBounds, IsBounded, LeavesContents, IsOtherLine, FirstIsBounded, OtherStepsKeepBounds, EndingKeepsBounds, FinishKeepsBounds}
+use Rattle.dom_isolation.specs.Bounds.{EndsWithin, HasBounds, IsBounded, HasOneTree, LeavesBounds, IsOtherLine, FirstIsBounded, OtherStepsKeepBounds, EndingKeepsBounds, FinishKeepsBounds}
 use Rattle.dom_isolation.specs.Laws.{IsReached}
 use Rattle.dom_isolation.specs.Tables.{IsNodeIn, HasTables, IsWhole}
 use Rattle.dom_isolation.specs.Worlds.{times_in, IsPart, IsThere}
 use Rattle.dom_isolation.proofs.Acceptance.{accepted-facts}
-use Rattle.dom_isolation.proofs.BoundLines.{Roomy, ForRanges, room-effect, room-same}
+use Rattle.dom_isolation.proofs.BoundLines.{Roomy, ForRanges, room-effect, room-same, range-room, under-at}
 use Rattle.dom_isolation.proofs.Bounds.{RangeUnder, reach, nowhere, HasRoom, room-document}
 use Rattle.dom_isolation.proofs.Kids.{kids, length-children}
 use Rattle.dom_isolation.proofs.LineBegins.{part_of-opening}
 use Rattle.dom_isolation.proofs.Lists.{all-then}
 use Rattle.dom_isolation.proofs.Reached.{ending-keeps_reached, step-keeps_reached, finish-keeps_reached}
+use Rattle.dom_isolation.proofs.PlanTexts.{range-ends}
+use Rattle.dom_isolation.proofs.RangePlans.{IsProper, room-extracting, room-deleting}
 use Rattle.dom_isolation.proofs.TableCommands.{Holds, holds-effect}
 use Rattle.dom_isolation.proofs.TableEffects.{KeepsBase, base-effect}
 use Rattle.dom_isolation.proofs.TableLines.{ending-keeps_whole, any-reached}
@@ -205,15 +210,22 @@ record Facts (w : World) (o : Owner) : Type 0 where
   tables : HasTables (part_of w o)
   first : IsNodeIn (part_of w o).trees (first_node (part_of w o))
 
--- a command that leaves the contents of ranges
-for-others : (p : Part) (c : Command) → LeavesContents c → ForRanges p c
-for-others p (Command.extract k) l = absurd l
-for-others p (Command.delete k) l = absurd l
-for-others p (Command.insert_node k x) l = absurd l
-for-others p c l = tt
+-- a range whose ends are in one tree
+proper : (p : Part) (k : ℕ) → HasTables p → HasRoom nowhere p → HasOneTree p k → (r : Range NodeName) → range_at p k ≡ Some r → IsProper p r
+proper p k t h m r e =
+    let ends = range-ends p k t r e in
+    let under : RangeUnder (reach nowhere p) (Some r) = subst (RangeUnder (reach nowhere p)) e (under-at p k h) in
+    record { start = ends.0; end = ends.1; one_tree = m r e; within = let a = under.0 in omega arith }
+
+-- what is left to show of commands for ranges' contents
+for-others : (p : Part) → IsPart p → HasTables p → (c : Command) → LeavesBounds p c → ForRanges p c
+for-others p i t (Command.extract k) l = λ h. range-room p k (λ r. extracting k r p) h (λ r e. room-extracting k r p i (proper p k t h l r e) h)
+for-others p i t (Command.delete k) l = λ h. range-room p k (λ r. deleting k r p) h (λ r e. room-deleting k r p i (proper p k t h l r e) h)
+for-others p i t (Command.insert_node k x) l = absurd l
+for-others p i t c l = tt
 
 -- any such command
-rooms-perform : (w : World) (o : Owner) (c : Command) → LeavesContents c → Facts w o → is_command_of o c ≡ true → part_refusal (part_of w o) c ≡ None → AllRooms w → AllRooms (perform w o c).0
+rooms-perform : (w : World) (o : Owner) (c : Command) → LeavesBounds (part_of w o) c → Facts w o → is_command_of o c ≡ true → part_refusal (part_of w o) c ≡ None → AllRooms w → AllRooms (perform w o c).0
 rooms-perform w o (Command.attach x) l k g r h = rooms-attach_of w o x g h
 rooms-perform w o (Command.connected x) l k g r h = h
 rooms-perform w o (Command.assigned x) l k g r h = h
@@ -222,20 +234,20 @@ rooms-perform w o (Command.micro label) l k g r h = h
 rooms-perform w o Command.end_turn l k g r h = rooms-ending_turn w h
 rooms-perform w o c l k g r h =
     let p = part_of w o in
-    rooms-effect w o (effect p c) k.ground (base-effect p c) (holds-effect p (k.ground.parts o) k.tables k.first c r) (room-effect p (k.ground.parts o) (h o) c r (for-others p c l)) h
+    rooms-effect w o (effect p c) k.ground (base-effect p c) (holds-effect p (k.ground.parts o) k.tables k.first c r) (room-effect p (k.ground.parts o) (h o) c r (for-others p (k.ground.parts o) k.tables c l)) h
 
 -- with the turn that it opens
 facts-opening : (w : World) (o : Owner) → Facts w o → Facts (opening_turn w o) o
 facts-opening w o k = either_way (λ v. Facts v o) (is_some w.turn) w (record w { turn = Some o }) k (record { ground = record { parts = k.ground.parts; no_hosts = k.ground.no_hosts }; tables = k.tables; first = k.first })
 
 -- `.` apart
-rooms-accepted : (w : World) (o : Owner) (c : Command) → LeavesContents c → Facts w o → is_command_of o c ≡ true → part_refusal (part_of w o) c ≡ None → AllRooms w → AllRooms (accepted w o c).0
+rooms-accepted : (w : World) (o : Owner) (c : Command) → LeavesBounds (part_of w o) c → Facts w o → is_command_of o c ≡ true → part_refusal (part_of w o) c ≡ None → AllRooms w → AllRooms (accepted w o c).0
 rooms-accepted w o Command.end_turn l k g r h = rooms-ending_turn w h
 rooms-accepted w o c l k g r h =
-    rooms-perform (opening_turn w o) o c l (facts-opening w o k) g (ap (λ p. part_refusal p c) (part_of-opening w o o) ∙ r) (either_way AllRooms (is_some w.turn) w (record w { turn = Some o }) h h)
+    rooms-perform (opening_turn w o) o c (subst (λ p. LeavesBounds p c) (sym (part_of-opening w o o)) l) (facts-opening w o k) g (ap (λ p. part_refusal p c) (part_of-opening w o o) ∙ r) (either_way AllRooms (is_some w.turn) w (record w { turn = Some o }) h h)
 
 -- refused or accepted
-rooms-command : {only_log : Bool} (w : World) (o : Owner) (c : Command) → LeavesContents c → IsReached only_log w → IsWhole w → AllRooms w → AllRooms (run_command o c w).0
+rooms-command : {only_log : Bool} (w : World) (o : Owner) (c : Command) → LeavesBounds (part_of w o) c → IsReached only_log w → IsWhole w → AllRooms w → AllRooms (run_command o c w).0
 rooms-command w o c l r i h = from (refusal w o c) refl
   where
     from : (a : Option Refusal) → refusal w o c ≡ a → AllRooms (unless_refused o (refusal w o c) w (accepted w o c)).0
@@ -246,7 +258,7 @@ rooms-command w o c l r i h = from (refusal w o c) refl
         (rooms-accepted w o c l (record { ground = record { parts = r.world.parts; no_hosts = r.world.no_hosts }; tables = i.tables o; first = i.first o a.there }) a.grammar a.part h)
 
 -- a line
-rooms-line : {only_log : Bool} (w : World) (l : Line) → IsOtherLine l → IsReached only_log w → IsWhole w → AllRooms w → AllRooms (step w l).0
+rooms-line : {only_log : Bool} (w : World) (l : Line) → IsOtherLine w l → IsReached only_log w → IsWhole w → AllRooms w → AllRooms (step w l).0
 rooms-line w no_owner l r i h = h
 rooms-line w (no_command o) l r i h = rooms-ending_other w o h
 rooms-line {only_log = b} w (command o c) l r i h = rooms-command (ending_other_turn w o).0 o c l (ending-keeps_reached b w o r) (ending-keeps_whole b w o r i) (rooms-ending_other w o h)

@@ -1,12 +1,13 @@
--- The ends of ranges are within their nodes: after each line but those that take or fill a range's contents.
-use Rattle.std.specs.Prelude.{◌≡◌, ◌≤◌, Bool, IsTrue, List, [], Option, Some, None, ⊤}
+-- The ends of ranges are within their nodes: after each line but those that insert into a range, or take the contents of one
+-- whose ends are in different trees.
+use Rattle.std.specs.Prelude.{ℕ, ◌≡◌, ◌≤◌, Bool, IsTrue, List, [], Option, Some, None, ⊤}
 use Rattle.std.specs.List.{AllByRecursion}
 use Rattle.dom_base.specs.declared.NodeName.{NodeName}
 use Rattle.dom_base.specs.declared.Owner.{Owner}
 use Rattle.dom_model.specs.Command.{Command, Line, no_owner, no_command, command}
 use Rattle.dom_model.specs.DocumentMachine.{first_world, step, finish}
-use Rattle.dom_model.specs.Part.{Part}
-use Rattle.dom_model.specs.Place.{Boundary}
+use Rattle.dom_model.specs.Part.{Part, range_at}
+use Rattle.dom_model.specs.Place.{Boundary, same_root}
 use Rattle.dom_model.specs.Ranges.{Range}
 use Rattle.dom_model.specs.Tree.{Trees, kind_of, has_data, children_of, length_of}
 use Rattle.dom_model.specs.Turns.{ending_other_turn}
@@ -32,18 +33,22 @@ pub record HasBounds (p : Part) : Type 0 where
 abbrev pub IsBounded : World → Type 0
 IsBounded w = (o : Owner) → HasBounds (part_of w o)
 
--- a command that neither takes the contents of a range nor inserts into one
-abbrev pub LeavesContents : Command → Type 0
-LeavesContents (Command.extract k) = ⊥
-LeavesContents (Command.delete k) = ⊥
-LeavesContents (Command.insert_node k x) = ⊥
-LeavesContents c = ⊤
+-- the ends of a range that is there are in one tree (DOM Standard, 5.3: a range's ends have the same root)
+abbrev pub HasOneTree : Part → ℕ → Type 0
+HasOneTree p k = (r : Range NodeName) → range_at p k ≡ Some r → IsTrue (same_root p.trees r.start.node r.end.node)
 
--- a line with such a command, or with none
-abbrev pub IsOtherLine : Line → Type 0
-IsOtherLine no_owner = ⊤
-IsOtherLine (no_command o) = ⊤
-IsOtherLine (command o c) = LeavesContents c
+-- a command that inserts into no range, and takes the contents of a range only where its ends are in one tree
+abbrev pub LeavesBounds : Part → Command → Type 0
+LeavesBounds p (Command.extract k) = HasOneTree p k
+LeavesBounds p (Command.delete k) = HasOneTree p k
+LeavesBounds p (Command.insert_node k x) = ⊥
+LeavesBounds p c = ⊤
+
+-- a line with such a command, or with none: in the world in which the command is run
+abbrev pub IsOtherLine : World → Line → Type 0
+IsOtherLine w no_owner = ⊤
+IsOtherLine w (no_command o) = ⊤
+IsOtherLine w (command o c) = LeavesBounds (part_of (ending_other_turn w o).0 o) c
 
 -- The first world is bounded, and each such line keeps that.
 abbrev pub FirstIsBounded : Type 0
@@ -51,7 +56,7 @@ FirstIsBounded = IsBounded first_world
 
 -- each such line
 abbrev pub OtherStepsKeepBounds : Type 0
-OtherStepsKeepBounds = (only_log : Bool) (w : World) (l : Line) → IsReached only_log w → IsWhole w → IsBounded w → IsOtherLine l → IsBounded (step w l).0
+OtherStepsKeepBounds = (only_log : Bool) (w : World) (l : Line) → IsReached only_log w → IsWhole w → IsBounded w → IsOtherLine w l → IsBounded (step w l).0
 
 -- the ending of another component's turn
 abbrev pub EndingKeepsBounds : Type 0

@@ -71,8 +71,8 @@ pub fn whole_worlds()
     ensures script { (read : List ℕ → Line) → ScriptsStayWhole read }
 {}
 
-/// The ends of ranges are within their nodes: in the first world, and after each line but those that take the contents of a
-/// range (`extract`, `delete`) or insert into one (`insert-node`), of which that is not shown yet.
+/// The ends of ranges are within their nodes: in the first world, and after each line but those with `insert-node`, and those with
+/// `extract` or `delete` of a range whose ends are in different trees. Of these lines it is not shown yet.
 pub fn ranges_stay_bounded()
     ensures first { FirstIsBounded }
     ensures other_lines { OtherStepsKeepBounds }
