@@ -1,49 +1,37 @@
 -- Commands and lines keep the ends of ranges within their nodes.
-use Rattle.std.proofs.Common.{zero, suc, ◌≡◌, ◌≢◌, ◌≤◌, ◌<◌, ℕ, ◌+◌, Bool, true, false, not, ◌&&◌, ◌||◌, List, [], ◌∷◌, ◌++◌, map, filter, fold, drop, length, Option, Some, None, option_map, refl, sym, ap, ◌∙◌, arith, true≢false, subst}
-use Rattle.std.specs.Prelude.{if◌then◌else◌, ⊤, IsTrue, is_some, slice_get, slice_set, nat_lt, ◌==◌}
+use Rattle.std.proofs.Common.{zero, suc, ◌≡◌, ℕ, ◌+◌, Bool, true, false, not, ◌&&◌, List, [], ◌∷◌, filter, drop, Option, Some, None, option_map, refl, sym, arith, true≢false, subst}
+use Rattle.std.specs.Prelude.{⊤, slice_get}
 use Rattle.std.specs.List.{AllByRecursion}
-use Rattle.std.specs.Option.{option_map_or, option_flatten, option_or}
-use Rattle.std.proofs.lemmas.Bool.{cond-true, cond-false, and_parts, not-false, ltb-false}
+use Rattle.std.specs.Option.{option_map_or, option_flatten}
+use Rattle.std.proofs.lemmas.Bool.{and_parts, not-false, ltb-false}
 use Rattle.dom_base.specs.declared.Kind.{Kind}
 use Rattle.dom_base.specs.declared.Kind.TheVariants.{Document, Fragment, Shadow, Element, Text, Comment}
 use Rattle.dom_base.specs.declared.NodeName.{NodeName}
-use Rattle.dom_base.specs.declared.Owner.{Owner}
-use Rattle.dom_base.specs.declared.Owner.TheVariants.{Page, Component}
-use Rattle.dom_base.specs.declared.Refusal.TheVariants.{Hierarchy, IndexSize, Limit}
+use Rattle.dom_base.specs.declared.Refusal.TheVariants.{Hierarchy, IndexSize}
 use Rattle.dom_model.specs.Changes.{observed}
-use Rattle.dom_model.specs.Command.{Command, Spelled}
-use Rattle.dom_model.specs.CommandNames.{named, nodes_fit, has_range}
-use Rattle.dom_model.specs.CommandRefusals.{part_refusal, past_end, past_limit, of_range}
-use Rattle.dom_model.specs.DocumentMachine.{effect_in}
+use Rattle.dom_model.specs.Command.{Command}
+use Rattle.dom_model.specs.CommandNames.{named}
+use Rattle.dom_model.specs.CommandRefusals.{part_refusal, past_end, of_range}
 use Rattle.dom_model.specs.Effects.{Effect, tables, changes, effect, answers, moves_iterator, sets_walker, node_or_null, with_range, collapsed_to, new_node, new_document_of}
 use Rattle.dom_model.specs.Extract.{both_at}
-use Rattle.dom_model.specs.Names.{name_eq, owner_eq, max_depth}
+use Rattle.dom_model.specs.Names.{name_eq}
 use Rattle.dom_model.specs.Output.{Value, nothing, a_node, a_string, boundaries, reference}
 use Rattle.dom_model.specs.Part.{Part, first_node, range_at}
 use Rattle.dom_model.specs.Place.{Boundary, same_root, is_before}
 use Rattle.dom_model.specs.RangeOps.{range_text_of}
 use Rattle.dom_model.specs.Ranges.{Range, at, from_to, with_start, with_end}
-use Rattle.dom_model.specs.Slots.{signals, with_signal}
-use Rattle.dom_model.specs.Steps.{Step, make, place, take_out, set_document, set_attribute, queue_record, part_step, after, is_taken}
+use Rattle.dom_model.specs.Steps.{Step, after}
 use Rattle.dom_model.specs.Traversal.{Iterator, Walker, iterator_next_node, iterator_previous_node, walker_move}
 use Rattle.dom_model.specs.Tree.{Trees, Node, node_in, kind_of, has_data, is_text, child_nodes, is_inclusive_ancestor, length_of, parent_of}
 use Rattle.dom_model.specs.Validity.{first_refusal, has_parent, may_be_parent, placing_tests, insertion_refusal, replacement_refusal}
-use Rattle.dom_model.specs.World.{World, part_of, with_part, components_below, shadow_root_of}
-use Rattle.dom_model.specs.WorldSteps.{world_step, world_after, stepped, with_signals, with_removal_signals, with_notify_if, with_shadow_document}
-use Rattle.dom_model.proofs.PartLaws.{owner-part_of}
-use Rattle.dom_model.proofs.StepLaws.{owner-part_step, part_of-stepped-other, part_of-with_signals, part_of-with_removal_signals, part_of-with_notify_if}
-use Rattle.dom_isolation.specs.Worlds.{times_in, IsPart}
-use Rattle.dom_isolation.specs.Tables.{HasTables}
+use Rattle.dom_isolation.specs.Worlds.{IsPart}
 use Rattle.dom_isolation.proofs.Acceptance.{next-test, part-accepted}
-use Rattle.dom_isolation.proofs.Bounds.{Under, RangeUnder, reach, nowhere, HasRoom, room-make, room-document}
+use Rattle.dom_isolation.proofs.Bounds.{Under, RangeUnder, reach, nowhere, HasRoom, room-make}
 use Rattle.dom_isolation.proofs.Lists.{all-append}
-use Rattle.dom_isolation.proofs.PageCommands.{owner-named}
-use Rattle.dom_isolation.proofs.PlanBounds.{IsOpen, room-removing, room-adopting, room-inserting, room-replacing, room-setting_attribute, room-unsetting_attribute, room-replacing_data}
+use Rattle.dom_isolation.proofs.PlanBounds.{room-removing, room-adopting, room-inserting, room-replacing, room-setting_attribute, room-unsetting_attribute, room-replacing_data}
 use Rattle.dom_isolation.proofs.TableCommands.{named-may, insertion-apart, replacement-apart, exists-first, exists-second}
-use Rattle.dom_isolation.proofs.TableSteps.{There, Fits, MadeIn, all-set}
-use Rattle.dom_isolation.proofs.TableWorlds.{Ground, each-part, ground-world_step, part-own_step}
-use Rattle.dom_isolation.proofs.TableEffects.{KeepsBase}
-use Rattle.dom_isolation.proofs.Tests.{by_cases, either_way}
+use Rattle.dom_isolation.proofs.TableSteps.{all-set}
+use Rattle.dom_isolation.proofs.Tests.{either_way}
 use Rattle.dom_isolation.proofs.TextBounds.{text-data, room-splitting, room-normalizing, room-setting_text}
 
 -- what an effect leaves

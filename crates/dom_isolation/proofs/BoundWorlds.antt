@@ -1,8 +1,7 @@
 -- Lines keep the ends of ranges within their nodes, but for those that insert into a range or take the contents of one whose
 -- ends are in different trees.
-use Rattle.std.proofs.Common.{zero, suc, ◌≡◌, ◌≢◌, ◌≤◌, ℕ, ◌+◌, Bool, true, false, List, [], ◌∷◌, ◌++◌, filter, fold, length, Option, Some, None, option_map, refl, sym, ap, ◌∙◌, arith, true≢false, subst}
-use Rattle.std.specs.Prelude.{IsTrue, is_some, ⊤}
-use Rattle.std.specs.List.{AllByRecursion}
+use Rattle.std.proofs.Common.{◌≡◌, ◌≢◌, ℕ, Bool, true, false, List, [], ◌∷◌, ◌++◌, filter, fold, length, Option, Some, None, option_map, refl, sym, ap, ◌∙◌, arith, true≢false, subst}
+use Rattle.std.specs.Prelude.{is_some}
 use Rattle.dom_base.specs.declared.Kind.{Kind}
 use Rattle.dom_base.specs.declared.Kind.TheVariants.{Document, Shadow}
 use Rattle.dom_base.specs.declared.NodeName.{NodeName}
@@ -25,7 +24,7 @@ use Rattle.dom_model.specs.Ranges.{Range}
 use Rattle.dom_model.specs.Runs.{Run, quiet, run_each, unless_refused}
 use Rattle.dom_model.specs.Slots.{signals, with_signal}
 use Rattle.dom_model.specs.Steps.{Step, place, take_out, set_document, set_attribute, queue_record, part_step, after, is_taken}
-use Rattle.dom_model.specs.Tree.{Trees, Node, node_in, kind_of, has_data, children_of, length_of, parent_of}
+use Rattle.dom_model.specs.Tree.{node_in, has_data, children_of, parent_of}
 use Rattle.dom_model.specs.Turns.{slotchange, firing_slotchange, is_owned_by, without_signals, notified, running_task, ending_turn, has_other_turn, ending_other_turn, opening_turn}
 use Rattle.dom_model.specs.World.{World, Task, micro_task, notify_task, part_of, with_part, component_made, components_below, shadow_root_of}
 use Rattle.dom_model.specs.WorldSteps.{world_step, world_after, stepped, with_removal_signals, with_notify_if, with_shadow_document}
@@ -35,7 +34,7 @@ use Rattle.dom_model.proofs.StepLaws.{owner-part_step, part_of-stepped-other}
 use Rattle.dom_isolation.specs.Bounds.{EndsWithin, HasBounds, IsBounded, HasOneTree, LeavesBounds, IsOtherLine, FirstIsBounded, OtherStepsKeepBounds, EndingKeepsBounds, FinishKeepsBounds}
 use Rattle.dom_isolation.specs.Laws.{IsReached}
 use Rattle.dom_isolation.specs.Tables.{IsNodeIn, HasTables, IsWhole}
-use Rattle.dom_isolation.specs.Worlds.{times_in, IsPart, IsThere}
+use Rattle.dom_isolation.specs.Worlds.{IsPart}
 use Rattle.dom_isolation.proofs.Acceptance.{accepted-facts}
 use Rattle.dom_isolation.proofs.BoundLines.{Roomy, ForRanges, room-effect, room-same, range-room, under-at}
 use Rattle.dom_isolation.proofs.Bounds.{RangeUnder, reach, nowhere, HasRoom, room-document}
@@ -75,6 +74,7 @@ bounds-of p i h =
     within : (r : Option (Range NodeName)) → RangeUnder (reach nowhere p) r → EndsWithin p.trees r
     within None g = tt
     within (Some r) g = let a = g.0 in let b = g.1 in (omega arith, omega arith)
+
     no_items : (xs : List NodeName) → length xs ≡ 0 → xs ≡ []
     no_items [] e = refl
     no_items (x ∷ xs) e = absurd (omega arith)

@@ -1,27 +1,26 @@
 -- Steps keep the ends of ranges within their nodes, up to a given room that nodes are about to get.
-use Rattle.std.proofs.Common.{zero, suc, ◌≡◌, ◌≤◌, ◌<◌, ℕ, ◌+◌, ◌-◌, Bool, true, false, not, ◌&&◌, ◌||◌, List, [], ◌∷◌, ◌++◌, map, length, take, drop, Option, Some, None, option_map, refl, sym, ap, ◌∙◌, arith, true≢false, subst, length-append, length-take, length-drop}
+use Rattle.std.proofs.Common.{suc, ◌≡◌, ◌≤◌, ℕ, ◌+◌, ◌-◌, Bool, true, false, not, ◌&&◌, ◌||◌, List, ◌++◌, map, length, take, drop, Option, Some, None, option_map, refl, sym, ap, ◌∙◌, arith, true≢false, subst, length-append, length-take, length-drop}
 use Rattle.std.specs.Prelude.{if◌then◌else◌, ⊤, slice_set, nat_eq, nat_lt, nat_le, min}
 use Rattle.std.specs.List.{AllByRecursion}
 use Rattle.std.specs.Option.{option_map_or}
-use Rattle.std.proofs.lemmas.Bool.{cond-true, cond-false, and_parts, or_parts, not-true, not-false, ltb-true, ltb-false, leb-true, leb-false, eqb-true}
+use Rattle.std.proofs.lemmas.Bool.{cond-true, cond-false, and_parts, or_parts, not-false, ltb-false, leb-true, leb-false}
 use Rattle.dom_base.specs.declared.NodeName.{NodeName}
 use Rattle.dom_model.specs.Names.{Word, DomString, name_eq, is_in}
 use Rattle.dom_model.specs.Tree.{Trees, Node, node_in, no_node, kind_of, has_data, parent_of, index_of, length_of, inclusive_descendants, is_inclusive_ancestor}
-use Rattle.dom_model.specs.TreeChanges.{map_nodes, replaced, taken_out, placed, with_node, with_name, with_document, with_data_replaced, with_attribute}
+use Rattle.dom_model.specs.TreeChanges.{map_nodes, replaced, taken_out, placed, with_name, with_document, with_data_replaced, with_attribute}
 use Rattle.dom_model.specs.Place.{Boundary}
-use Rattle.dom_model.specs.Ranges.{Range, at, from_to, map_ends, boundary_eq, after_insert, after_removal, after_replace_data, after_split, after_join}
+use Rattle.dom_model.specs.Ranges.{Range, at, map_ends, boundary_eq, after_insert, after_removal, after_replace_data, after_split, after_join}
 use Rattle.dom_model.specs.Output.{Change}
 use Rattle.dom_model.specs.Part.{Part, next_name}
-use Rattle.dom_model.specs.Steps.{Step, make, make_room, place, take_out, set_document, set_attribute, replace_data, split_at, join_at, set_range, queue_record, part_step, leave, with_ends}
+use Rattle.dom_model.specs.Steps.{make, make_room, place, take_out, set_document, set_attribute, replace_data, split_at, join_at, set_range, queue_record, part_step, leave}
 use Rattle.dom_isolation.specs.Worlds.{times_in, IsPart}
 use Rattle.dom_isolation.proofs.Insides.{inside, times-taken_out_all}
 use Rattle.dom_isolation.proofs.Kids.{kids, kids-absent, one_at, kids-taken_out, kids-placed, kids-with_node, kids-map_nodes, index-below, node-taken_out, node-placed, node-with_node, node-map_nodes, length-data, length-kids, length-absent}
 use Rattle.dom_isolation.proofs.Lists.{all-then, all-map}
 use Rattle.dom_isolation.proofs.PartSteps.{KeepsNames, some-keeps, attribute-keeps, part-step}
-use Rattle.dom_isolation.proofs.PlanPlaces.{taken-step}
 use Rattle.dom_isolation.proofs.PlanTexts.{next-not}
 use Rattle.dom_isolation.proofs.ShadowRoots.{found-absent}
-use Rattle.dom_isolation.proofs.TableSteps.{There, Fits, all-set, stays-step}
+use Rattle.dom_isolation.proofs.TableSteps.{There, Fits, all-set}
 use Rattle.dom_isolation.proofs.Tests.{by_cases, either_way, which_way}
 use Rattle.dom_isolation.proofs.Trees.{IsUnique, by_times, name_eq-true, name_eq-sym}
 

@@ -1,6 +1,6 @@
 -- Which node is a child of which, counted, through the elementary changes.
-use Rattle.std.proofs.Common.{◌≡◌, ℕ, ◌+◌, ◌≤◌, Bool, true, false, List, [], ◌∷◌, ◌++◌, length, Option, Some, None, refl, sym, ap, ◌∙◌, arith, true≢false, subst, drop}
-use Rattle.std.specs.Prelude.{if◌then◌else◌, ◌||◌, IsTrue}
+use Rattle.std.proofs.Common.{◌≡◌, ℕ, ◌+◌, ◌≤◌, Bool, true, false, List, [], ◌∷◌, ◌++◌, length, Option, Some, refl, sym, ap, ◌∙◌, arith, true≢false, subst, drop}
+use Rattle.std.specs.Prelude.{if◌then◌else◌}
 use Rattle.std.specs.List.{AllByRecursion}
 use Rattle.std.proofs.lemmas.Bool.{cond-true, cond-false}
 use Rattle.dom_base.specs.declared.NodeName.{NodeName}
@@ -9,13 +9,13 @@ use Rattle.dom_model.specs.Tree.{Trees, none, tree, Node, names_of, roots, subtr
 use Rattle.dom_model.specs.TreeChanges.{followed_by, without, put_before, put_below, put_root, taken_out, placed, with_node, map_nodes}
 use Rattle.dom_model.proofs.OwnerLaws.{name_eq-same}
 use Rattle.dom_isolation.specs.Worlds.{times_in, times_among}
-use Rattle.dom_isolation.proofs.Insides.{inside, times-inside, times-parted, without-absent, or_else-none, no_parent-root}
+use Rattle.dom_isolation.proofs.Insides.{inside, times-inside, times-parted, without-absent, or_else-none}
 use Rattle.dom_isolation.proofs.Kids.{rooted, kids}
 use Rattle.dom_isolation.proofs.ReachedFacts.{root-alone}
 use Rattle.dom_isolation.proofs.Lists.{all-then}
 use Rattle.dom_isolation.proofs.Tests.{by_cases, or-later}
 use Rattle.dom_isolation.proofs.TreeChangeLaws.{put_where, where-here, where-later, put_before-where, put_root-where, HasRoot, root-first, root-second, without-here, without-elsewhere, subtree-here, subtree-elsewhere, put_below-here, put_below-elsewhere, put_below-absent}
-use Rattle.dom_isolation.proofs.Trees.{IsUnique, by_times, times-here, times-elsewhere, times-more, times-parts, subtree-absent, name_eq-sym, name_eq-true, root-there, ancestors-absent, ancestors-present}
+use Rattle.dom_isolation.proofs.Trees.{IsUnique, by_times, times-here, times-elsewhere, times-more, subtree-absent, name_eq-sym, name_eq-true, ancestors-absent, ancestors-present}
 
 -- how often a name is a root's
 abbrev pub root_times : Trees → NodeName → ℕ
@@ -130,29 +130,35 @@ childs-put_below parent before new (tree n c r) x y h =
     let all = ap (λ t. childs t x y) (s ∙ ap (λ t. tree n (put_before before new t) (put_below parent before new r)) dc ∙ ap (tree n (put_before before new c)) dr) in
     let tops = ap (λ t. root_times t x) (s ∙ ap (λ t. tree n (put_before before new t) (put_below parent before new r)) dc ∙ ap (tree n (put_before before new c)) dr) in
     let b = childs-put_before before new c x y in let b0 = b.0 in let b1 = b.1 in
-    let same = name_eq-true n.name parent e in
-    (by_cases (name_eq n.name y)
-    (λ k. let i = childs-here n c r x y k in let j = childs-here n (put_before before new c) r x y k in
-    let l : (if name_eq parent y then root_times new x else 0) ≡ root_times new x = cond-true (name_eq parent y) (root_times new x) 0 (sym (ap (λ z. name_eq z y) same) ∙ k) in omega arith)
-    (λ k. let i = childs-elsewhere n c r x y k in let j = childs-elsewhere n (put_before before new c) r x y k in
-    let l : (if name_eq parent y then root_times new x else 0) ≡ 0 = cond-false (name_eq parent y) (root_times new x) 0 (sym (ap (λ z. name_eq z y) same) ∙ k) in omega arith), tops))
+    let same = name_eq-true n.name parent e in (
+      by_cases (name_eq n.name y)
+          (λ k. let i = childs-here n c r x y k in let j = childs-here n (put_before before new c) r x y k in
+          let l : (if name_eq parent y then root_times new x else 0) ≡ root_times new x = cond-true (name_eq parent y) (root_times new x) 0 (sym (ap (λ z. name_eq z y) same) ∙ k) in omega arith)
+          (λ k. let i = childs-elsewhere n c r x y k in let j = childs-elsewhere n (put_before before new c) r x y k in
+          let l : (if name_eq parent y then root_times new x else 0) ≡ 0 = cond-false (name_eq parent y) (root_times new x) 0 (sym (ap (λ z. name_eq z y) same) ∙ k) in omega arith),
+      tops,
+    ))
     (λ e. let s = put_below-elsewhere parent before new n c r e in
     let g = times-elsewhere n c r parent e in
     by_times (times_in c parent)
     (λ t. let dc = put_below-absent parent before new c t in
     let b = childs-put_below parent before new r x y (omega arith) in let b0 = b.0 in let b1 = b.1 in
     let all = ap (λ t. childs t x y) (s ∙ ap (λ t. tree n t (put_below parent before new r)) dc) in
-    let tops = ap (λ t. root_times t x) (s ∙ ap (λ t. tree n t (put_below parent before new r)) dc) in
-    (by_cases (name_eq n.name y)
-    (λ k. let i = childs-here n c r x y k in let j = childs-here n c (put_below parent before new r) x y k in omega arith)
-    (λ k. let i = childs-elsewhere n c r x y k in let j = childs-elsewhere n c (put_below parent before new r) x y k in omega arith), (omega arith)))
+    let tops = ap (λ t. root_times t x) (s ∙ ap (λ t. tree n t (put_below parent before new r)) dc) in (
+      by_cases (name_eq n.name y)
+          (λ k. let i = childs-here n c r x y k in let j = childs-here n c (put_below parent before new r) x y k in omega arith)
+          (λ k. let i = childs-elsewhere n c r x y k in let j = childs-elsewhere n c (put_below parent before new r) x y k in omega arith),
+      (omega arith),
+    ))
     (λ t. let dr = put_below-absent parent before new r (omega arith) in
     let b = childs-put_below parent before new c x y (omega arith) in let b0 = b.0 in let b1 = b.1 in
     let all = ap (λ t. childs t x y) (s ∙ ap (tree n (put_below parent before new c)) dr) in
-    let tops = ap (λ t. root_times t x) (s ∙ ap (tree n (put_below parent before new c)) dr) in
-    (by_cases (name_eq n.name y)
-    (λ k. let i = childs-here n c r x y k in let j = childs-here n (put_below parent before new c) r x y k in omega arith)
-    (λ k. let i = childs-elsewhere n c r x y k in let j = childs-elsewhere n (put_below parent before new c) r x y k in omega arith), (omega arith))))
+    let tops = ap (λ t. root_times t x) (s ∙ ap (tree n (put_below parent before new c)) dr) in (
+      by_cases (name_eq n.name y)
+          (λ k. let i = childs-here n c r x y k in let j = childs-here n (put_below parent before new c) r x y k in omega arith)
+          (λ k. let i = childs-elsewhere n c r x y k in let j = childs-elsewhere n (put_below parent before new c) r x y k in omega arith),
+      (omega arith),
+    )))
 
 -- other children stay where a node is placed
 pub childs-placed : (ts : Trees) (z parent : NodeName) (before : Option NodeName) (x y : NodeName) → IsUnique ts → 1 ≤ times_in ts parent → inside ts z parent ≡ 0 → name_eq z x ≡ false → childs ts x y ≤ childs (placed z parent before ts) x y
@@ -227,6 +233,7 @@ childs-parent (tree n c r) x y u h =
     deeper : (path : List NodeName) (m y : NodeName) → first_of path ≡ Some y → first_of (path ++ m ∷ []) ≡ Some y
     deeper [] m y e = cc
     deeper (q ∷ path) m y e = e
+
     counted-root : (us : Trees) (x : NodeName) → 1 ≤ root_times us x → HasRoot us x
     counted-root none x h = absurd (omega arith)
     counted-root (tree n c r) x h =
@@ -247,9 +254,11 @@ children-childs (tree n c r) y =
   where
     roots-counted : (us : Trees) → AllByRecursion (λ x. 1 ≤ root_times us x) (names_of (roots us))
     roots-counted none = tt
-    roots-counted (tree n c r) =
-        ((let o : root_times (tree n c r) n.name ≡ 1 + root_times r n.name = ap (λ k. k + root_times r n.name) (cond-true (name_eq n.name n.name) 1 0 (name_eq-same n.name)) in omega arith),
-        all-then (λ x. 1 ≤ root_times r x) (λ x. 1 ≤ root_times (tree n c r) x) (λ x h. omega arith) (names_of (roots r)) (roots-counted r))
+    roots-counted (tree n c r) = (
+      (let o : root_times (tree n c r) n.name ≡ 1 + root_times r n.name = ap (λ k. k + root_times r n.name) (cond-true (name_eq n.name n.name) 1 0 (name_eq-same n.name)) in omega arith),
+      all-then (λ x. 1 ≤ root_times r x) (λ x. 1 ≤ root_times (tree n c r) x) (λ x h. omega arith) (names_of (roots r)) (roots-counted r),
+    )
+
     either : (a b : Trees) → AllByRecursion (λ x. 1 ≤ childs (tree n c r) x y) (names_of (roots (trees_below a))) → AllByRecursion (λ x. 1 ≤ childs (tree n c r) x y) (names_of (roots (trees_below b))) → AllByRecursion (λ x. 1 ≤ childs (tree n c r) x y) (names_of (roots (trees_below (or_else a b))))
     either none b h g = g
     either (tree m d q) b h g = h

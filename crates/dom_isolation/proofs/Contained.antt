@@ -1,13 +1,13 @@
 -- What stands before the start of a range is not contained in it: the first children of its start node, or those up to a node
 -- above it.
-use Rattle.std.proofs.Common.{zero, suc, ◌≡◌, ◌≤◌, ◌<◌, ℕ, ◌+◌, ◌*◌, Bool, true, false, not, ◌&&◌, ◌||◌, eqb, List, [], ◌∷◌, ◌++◌, map, take, length, Option, Some, None, option_map, unwrap_or, refl, sym, ap, ◌∙◌, arith, true≢false, subst}
-use Rattle.std.specs.Prelude.{if◌then◌else◌, nat_lt, ◌==◌}
+use Rattle.std.proofs.Common.{zero, suc, ◌≡◌, ◌≤◌, ◌<◌, ℕ, ◌+◌, ◌*◌, Bool, true, false, ◌&&◌, ◌||◌, eqb, List, [], ◌∷◌, ◌++◌, map, take, Some, None, option_map, unwrap_or, refl, sym, ap, ◌∙◌, arith, true≢false, subst}
+use Rattle.std.specs.Prelude.{nat_lt, ◌==◌}
 use Rattle.std.specs.List.{AllByRecursion}
 use Rattle.std.specs.Option.{option_or}
 use Rattle.std.proofs.lemmas.Bool.{cond-true, cond-false, ltb-true, eqb-true, false_from_ne_true, eq-eqb}
 use Rattle.dom_base.specs.declared.NodeName.{NodeName}
 use Rattle.dom_model.specs.Names.{name_eq, is_in, items_before}
-use Rattle.dom_model.specs.Place.{Boundary, place_from, place_of, list_before, boundary_place, is_before}
+use Rattle.dom_model.specs.Place.{place_from, list_before, boundary_place, is_before}
 use Rattle.dom_model.specs.Ranges.{Range, at, is_contained}
 use Rattle.dom_model.specs.Tree.{Trees, none, tree, Node, names_of, roots, subtree, or_else, trees_below, children_of, parent_of, is_inclusive_ancestor, length_of}
 use Rattle.dom_model.proofs.OwnerLaws.{name_eq-same}
@@ -15,11 +15,11 @@ use Rattle.dom_isolation.specs.Worlds.{times_in}
 use Rattle.dom_isolation.proofs.Descents.{ancestor-inside}
 use Rattle.dom_isolation.proofs.Insides.{parent-there, or_else-none}
 use Rattle.dom_isolation.proofs.Kids.{root-below}
-use Rattle.dom_isolation.proofs.Lists.{all-then, all-append}
+use Rattle.dom_isolation.proofs.Lists.{all-then}
 use Rattle.dom_isolation.proofs.TableSteps.{inside-alone}
 use Rattle.dom_isolation.proofs.Tests.{by_cases, or-later}
 use Rattle.dom_isolation.proofs.TreeChangeLaws.{HasRoot, subtree-here, subtree-elsewhere, times-below}
-use Rattle.dom_isolation.proofs.Trees.{IsUnique, by_times, times-here, times-elsewhere, times-more, times-parts, times-subtree, subtree-absent, name_eq-sym, name_eq-true, root-there}
+use Rattle.dom_isolation.proofs.Trees.{IsUnique, by_times, times-here, times-elsewhere, times-more, times-subtree, subtree-absent, name_eq-sym, name_eq-true, root-there}
 
 -- Places. A name without a node has none.
 place-absent : (k : ℕ) (ts : Trees) (x : NodeName) → times_in ts x ≡ 0 → place_from k ts x ≡ None
@@ -119,9 +119,10 @@ first-root k n c r bound =
 roots-taken : (k : ℕ) (us : Trees) (m : ℕ) → IsUnique us → AllByRecursion (IsRootAt k us m) (take (suc m) (names_of (roots us)))
 roots-taken k none m u = tt
 roots-taken k (tree n c r) zero u = (first-root k n c r 0, tt)
-roots-taken k (tree n c r) (suc m) u =
-    (first-root k n c r (suc m),
-    all-then (IsRootAt (k + 1) r m) (IsRootAt k (tree n c r) (suc m)) (later-root k n c r m u) (take (suc m) (names_of (roots r))) (roots-taken (k + 1) r m (λ y. let o = u y in let g = times-more n c r y in omega arith)))
+roots-taken k (tree n c r) (suc m) u = (
+  first-root k n c r (suc m),
+  all-then (IsRootAt (k + 1) r m) (IsRootAt k (tree n c r) (suc m)) (later-root k n c r m u) (take (suc m) (names_of (roots r))) (roots-taken (k + 1) r m (λ y. let o = u y in let g = times-more n c r y in omega arith)),
+)
 
 -- the roots up to one
 roots-up_to : (k : ℕ) (us : Trees) (a : NodeName) → IsUnique us → HasRoot us a → (j : ℕ) × (place_from k us a ≡ Some ((k + j) ∷ [])) × AllByRecursion (IsRootAt k us j) (items_before name_eq a (names_of (roots us)) ++ a ∷ [])
@@ -130,19 +131,23 @@ roots-up_to k (tree n c r) a u h =
     let rest = names_of (roots r) in
     by_cases (name_eq a n.name)
     (λ e. let same = name_eq-true a n.name e in
-    let number : k ≡ k + 0 = omega arith in
-    (0, place-here k n c r a (name_eq-sym n.name a ∙ e) ∙ ap (λ i. Some (i ∷ [])) number,
-    subst (λ xs. AllByRecursion (IsRootAt k (tree n c r) 0) (xs ++ a ∷ [])) (sym (cond-true (name_eq a n.name) [] (n.name ∷ items_before name_eq a rest) e)) (subst (IsRootAt k (tree n c r) 0) (sym same) (first-root k n c r 0), tt)))
+    let number : k ≡ k + 0 = omega arith in (
+      0,
+      place-here k n c r a (name_eq-sym n.name a ∙ e) ∙ ap (λ i. Some (i ∷ [])) number,
+      subst (λ xs. AllByRecursion (IsRootAt k (tree n c r) 0) (xs ++ a ∷ [])) (sym (cond-true (name_eq a n.name) [] (n.name ∷ items_before name_eq a rest) e)) (subst (IsRootAt k (tree n c r) 0) (sym same) (first-root k n c r 0), tt),
+    ))
     (λ e. let later = or-later (name_eq a n.name) (is_in name_eq a rest) e h in
     let more = roots-up_to (k + 1) r a (λ y. let o = u y in let g = times-more n c r y in omega arith) later in
     let there = root-there r a later in
     let once = u a in
     let other = name_eq-sym n.name a ∙ e in
     let q = times-elsewhere n c r a other in
-    let number : (k + 1) + more.0 ≡ k + suc more.0 = omega arith in
-    (suc more.0, place-behind k n c r a other (omega arith) ∙ more.1 ∙ ap (λ i. Some (i ∷ [])) number,
-    subst (λ xs. AllByRecursion (IsRootAt k (tree n c r) (suc more.0)) (xs ++ a ∷ [])) (sym (cond-false (name_eq a n.name) [] (n.name ∷ items_before name_eq a rest) e))
-    (first-root k n c r (suc more.0), all-then (IsRootAt (k + 1) r more.0) (IsRootAt k (tree n c r) (suc more.0)) (later-root k n c r more.0 u) (items_before name_eq a rest ++ a ∷ []) more.2)))
+    let number : (k + 1) + more.0 ≡ k + suc more.0 = omega arith in (
+      suc more.0,
+      place-behind k n c r a other (omega arith) ∙ more.1 ∙ ap (λ i. Some (i ∷ [])) number,
+      subst (λ xs. AllByRecursion (IsRootAt k (tree n c r) (suc more.0)) (xs ++ a ∷ [])) (sym (cond-false (name_eq a n.name) [] (n.name ∷ items_before name_eq a rest) e))
+          (first-root k n c r (suc more.0), all-then (IsRootAt (k + 1) r more.0) (IsRootAt k (tree n c r) (suc more.0)) (later-root k n c r more.0 u) (items_before name_eq a rest ++ a ∷ []) more.2),
+    ))
 
 -- Orders of places.
 abbrev odd : ℕ → ℕ
@@ -283,9 +288,11 @@ spared-up_to ts r a q u e t above =
     behind i j rest h le =
         by_cases (i == j) (λ k. let same = eqb-true i j k in subst (λ m. list_before (odd j ∷ rest) (odd m ∷ 0 ∷ []) ≡ false) (sym same) (before-same (odd j) rest (0 ∷ []) h))
         (λ k. before-later (odd j) (odd i) rest (0 ∷ []) (by_cases (nat_lt i j) (λ l. let m = ltb-true i j l in omega arith) (λ l. absurd (let m = Rattle.std.proofs.lemmas.Bool.ltb-false i j l in true≢false (sym (eq-eqb i j (omega arith)) ∙ k)))))
+
     first_is : (xs : List ℕ) (o : ℕ) → list_before (map odd xs ++ o ∷ []) (0 ∷ []) ≡ false
     first_is [] o = before-zero o []
     first_is (x ∷ xs) o = before-zero (odd x) (map odd xs ++ o ∷ [])
+
     start-place : 1 ≤ times_in ts a → (j : ℕ) (path : List ℕ) → place_from 0 ts a ≡ Some (path ++ j ∷ []) → (rest : List ℕ) × (boundary_place ts r.start ≡ map odd path ++ (odd j ∷ rest)) × (list_before rest (0 ∷ []) ≡ false)
     start-place t j path h =
         let o = 2 * r.start.offset in

@@ -1,19 +1,19 @@
 -- Which node stands in whose tree stays where nothing leaves it; and where a node leaves, what was before it or behind its
 -- tree stays.
-use Rattle.std.proofs.Common.{◌≡◌, ℕ, ◌+◌, ◌≤◌, true, false, List, [], ◌∷◌, ◌++◌, Option, Some, None, refl, sym, ap, ◌∙◌, arith, true≢false, subst, drop}
-use Rattle.std.specs.Prelude.{if◌then◌else◌, ◌||◌, IsTrue}
+use Rattle.std.proofs.Common.{◌≡◌, ◌+◌, ◌≤◌, true, false, List, [], ◌∷◌, ◌++◌, Option, refl, sym, ap, ◌∙◌, arith, true≢false, subst}
+use Rattle.std.specs.Prelude.{◌||◌}
 use Rattle.std.specs.List.{AllByRecursion}
 use Rattle.std.proofs.lemmas.Bool.{cond-true, cond-false}
 use Rattle.dom_base.specs.declared.NodeName.{NodeName}
 use Rattle.dom_model.specs.Names.{name_eq, is_in, items_before}
 use Rattle.dom_model.specs.Tree.{Trees, none, tree, Node, nodes, names_of, roots, subtree, or_else, inclusive_ancestors, inclusive_descendants, is_inclusive_ancestor, on_top}
-use Rattle.dom_model.specs.TreeChanges.{without, put_before, put_below, taken_out, placed, with_node}
+use Rattle.dom_model.specs.TreeChanges.{without, put_before, put_below, placed, with_node}
 use Rattle.dom_model.proofs.OwnerLaws.{name_eq-same}
 use Rattle.dom_isolation.specs.Worlds.{times_in}
 use Rattle.dom_isolation.proofs.Lists.{all-then, all-append, all-from}
 use Rattle.dom_isolation.proofs.Tests.{by_cases, or-later}
 use Rattle.dom_isolation.proofs.Trees.{IsUnique, by_times, times-here, times-elsewhere, times-more, times-parts, times-subtree, subtree-absent, name_eq-sym, name_eq-true, root-there, nodes-there, ancestors-absent, ancestors-present}
-use Rattle.dom_isolation.proofs.TreeChangeLaws.{HasRoot, root-cases, without-here, without-elsewhere, subtree-here, subtree-elsewhere, put_below-here, put_below-elsewhere, put_below-absent, times-put_before, times-without}
+use Rattle.dom_isolation.proofs.TreeChangeLaws.{HasRoot, without-here, without-elsewhere, subtree-here, subtree-elsewhere, put_below-here, put_below-elsewhere, put_below-absent, times-put_before}
 use Rattle.dom_isolation.proofs.Insides.{inside, inside-here, inside-elsewhere, inside-times, inside-absent, times-inside, inside-put_root, inside-put_before, inside-without, inside-no_ancestor, without-absent, or_else-none, times-put_below_all, times-parted}
 
 -- By ancestors.
@@ -253,18 +253,20 @@ before-apart (tree n c r) x u =
       (let h0 = h.0 in let g = times-more n c r y in omega arith),
       (let h0 = h.0 in let h1 = h.1 in let once = u y in let p = times-parts n c r y in let m = times-more n c none y in let i = inside-elsewhere n c r x y other in let b = inside-times r x y in omega arith),
     ) in
-    subst (AllByRecursion T) (sym (cond-false (name_eq x n.name) [] (n.name ∷ rest) e)) (here,
-    by_cases (is_in name_eq x (names_of (nodes c)))
-    (λ k. subst (AllByRecursion T) (sym (before-front x (nodes c) (nodes r) k)) (all-then (λ y. (1 ≤ times_in c y) × (inside c x y ≡ 0)) T below (items_before name_eq x (names_of (nodes c))) (before-apart c x uc)))
-    (λ k. let gone : times_in c x ≡ 0 = by_times (times_in c x) (λ z. z) (λ z. absurd (true≢false (sym (Rattle.dom_isolation.proofs.Insides.times-has_node c x z) ∙ k))) in
-    subst (AllByRecursion T) (sym (before-back x (nodes c) (nodes r) k))
-    (all-append T (names_of (nodes c)) (items_before name_eq x (names_of (nodes r)))
-    (all-named T (nodes c) (all-then (λ (m : Node). 1 ≤ times_in c m.name) (λ m. T m.name) (λ m h. below m.name (h, inside-absent c x m.name gone)) (nodes c) (nodes-there c)))
-    (all-then (λ y. (1 ≤ times_in r y) × (inside r x y ≡ 0)) T
-    (λ y h. (
-      (let h0 = h.0 in let g = times-more n c r y in omega arith),
-      (let h1 = h.1 in let i = inside-elsewhere n c r x y other in let b = inside-absent c x y gone in omega arith),
-    )) (items_before name_eq x (names_of (nodes r))) (before-apart r x ur))))))
+    subst (AllByRecursion T) (sym (cond-false (name_eq x n.name) [] (n.name ∷ rest) e)) (
+      here,
+      by_cases (is_in name_eq x (names_of (nodes c)))
+          (λ k. subst (AllByRecursion T) (sym (before-front x (nodes c) (nodes r) k)) (all-then (λ y. (1 ≤ times_in c y) × (inside c x y ≡ 0)) T below (items_before name_eq x (names_of (nodes c))) (before-apart c x uc)))
+          (λ k. let gone : times_in c x ≡ 0 = by_times (times_in c x) (λ z. z) (λ z. absurd (true≢false (sym (Rattle.dom_isolation.proofs.Insides.times-has_node c x z) ∙ k))) in
+          subst (AllByRecursion T) (sym (before-back x (nodes c) (nodes r) k))
+          (all-append T (names_of (nodes c)) (items_before name_eq x (names_of (nodes r)))
+          (all-named T (nodes c) (all-then (λ (m : Node). 1 ≤ times_in c m.name) (λ m. T m.name) (λ m h. below m.name (h, inside-absent c x m.name gone)) (nodes c) (nodes-there c)))
+          (all-then (λ y. (1 ≤ times_in r y) × (inside r x y ≡ 0)) T
+          (λ y h. (
+            (let h0 = h.0 in let g = times-more n c r y in omega arith),
+            (let h1 = h.1 in let i = inside-elsewhere n c r x y other in let b = inside-absent c x y gone in omega arith),
+          )) (items_before name_eq x (names_of (nodes r))) (before-apart r x ur)))),
+    ))
 
 -- The nodes of a tree begin with its root.
 pub descend-begins : (ts : Trees) (a : NodeName) → 1 ≤ times_in ts a → (rest : List NodeName) × (inclusive_descendants ts a ≡ a ∷ rest)

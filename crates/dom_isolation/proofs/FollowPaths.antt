@@ -3,7 +3,7 @@ use Rattle.std.proofs.Common.{zero, suc, ◌≡◌, ◌≢◌, ◌≤◌, ◌<�
 use Rattle.std.specs.Prelude.{if◌then◌else◌, IsTrue, is_some, option_to_list, slice_get}
 use Rattle.std.specs.List.{AllByRecursion}
 use Rattle.std.specs.Option.{option_or, option_and_then}
-use Rattle.std.proofs.lemmas.Bool.{cond-true, cond-false, eqb-true}
+use Rattle.std.proofs.lemmas.Bool.{cond-true, cond-false}
 use Rattle.std.proofs.lemmas.List.Quantifiers.{position-Some}
 use Rattle.std.proofs.lemmas.Option.{slice_get-get_or}
 use Rattle.dom_base.specs.declared.Kind.{Kind}
@@ -14,10 +14,9 @@ use Rattle.dom_base.specs.declared.Owner.TheVariants.{Page, Component}
 use Rattle.dom_model.specs.Names.{name_eq, first_of, last_of}
 use Rattle.dom_model.specs.Paths.{with_slots, way_up, whole_path, event_parent, FollowsParents}
 use Rattle.dom_model.specs.Slots.{slot_in, slot_of}
-use Rattle.dom_model.specs.Tree.{Trees, none, tree, Node, is_shadow, inclusive_ancestors, on_top, parent_of, root_of}
-use Rattle.dom_model.specs.World.{World, part_of, trees_with, node_at, kind_at, root_at, parent_at, ancestors_at, component_at, component_made, host_of, host_above, host_chain, hosts_from, shadow_root_of, shadow_tree, some_if, is_in_shadow_tree}
+use Rattle.dom_model.specs.Tree.{Trees, none, tree, is_shadow, inclusive_ancestors, on_top, parent_of, root_of}
+use Rattle.dom_model.specs.World.{World, part_of, trees_with, node_at, kind_at, root_at, parent_at, ancestors_at, component_at, component_made, host_of, host_above, host_chain, shadow_root_of, shadow_tree, some_if, is_in_shadow_tree}
 use Rattle.dom_model.proofs.OwnerLaws.{name_eq-same, ne-owner_eq}
-use Rattle.dom_model.proofs.PartLaws.{owner-part_of}
 use Rattle.dom_model.proofs.StepLaws.{Component-IsNoPage}
 use Rattle.dom_isolation.specs.Follows.{PathFollowsParents}
 use Rattle.dom_isolation.specs.Laws.{IsReached}
@@ -25,8 +24,8 @@ use Rattle.dom_isolation.specs.Tables.{IsNodeAt, IsWhole}
 use Rattle.dom_isolation.specs.Worlds.{times_in, MayBeShadow, IsOf, IsWorld}
 use Rattle.dom_isolation.proofs.ComponentEvents.{host-page, under}
 use Rattle.dom_isolation.proofs.ComponentPaths.{IsUnder, chain-alone, no_host, whole_path-under}
-use Rattle.dom_isolation.proofs.Hiding.{owned-in, ancestors-owned, component-facts, IsInTree, slot-in_tree, slot_in-there, ancestors-in_tree, host_chain-page}
-use Rattle.dom_isolation.proofs.Insides.{parent-there, child-there, no_parent-root, times-has_node}
+use Rattle.dom_isolation.proofs.Hiding.{owned-in, ancestors-owned, IsInTree, slot-in_tree, slot_in-there, ancestors-in_tree, host_chain-page}
+use Rattle.dom_isolation.proofs.Insides.{parent-there, child-there, no_parent-root}
 use Rattle.dom_isolation.proofs.KindCommands.{has_node-times}
 use Rattle.dom_isolation.proofs.Lists.{all-then}
 use Rattle.dom_isolation.proofs.Owners.{node-there, there-hosted}
@@ -114,6 +113,7 @@ hosted-by w i x c h = by_owner x.owner refl
         let is : c ≡ Component (suc k) = cc in
         let read = slice_get-get_or hosts k x at.0 in
         ap (host_of w) is ∙ ap (λ hs. slice_get hs k) (sym same) ∙ read ∙ ap Some (sym (name_eq-true x _ at.1))
+
     by_owner : (o : Owner) → x.owner ≡ o → host_of w c ≡ Some x
     by_owner Page e = found (part_of w Page).attached (position (name_eq x) (part_of w Page).attached) refl (subst (λ o. option_map (component_made o) (position (name_eq x) (part_of w o).attached) ≡ Some c) e h) refl
     by_owner (Component k) e =
@@ -147,6 +147,7 @@ slot-facts w i x s h = from (parent_at w x) refl
           host = hosted-by w i p c f ∙ sym e;
           parent = ap is_some e;
         }
+
     from : (o : Option NodeName) → parent_at w x ≡ o → IsSlotOf w x s
     from None e = let none_at : slot_of w x ≡ None = ap (λ o. option_and_then (λ c. slot_in (shadow_tree w c) (node_at w x)) (option_and_then (component_at w) o)) e in cc
     from (Some p) e = at_parent p (component_at w p) e refl (sym (ap (λ o. option_and_then (λ c. slot_in (shadow_tree w c) (node_at w x)) (option_and_then (component_at w) o)) e) ∙ h)
@@ -243,6 +244,7 @@ module _ {only_log : Bool} (w : World) (r : IsReached only_log w) (composed : Bo
     where
       ways : (o : Option NodeName) → slot_of w y ≡ o → slot_ways y ≡ flat_map (ancestors_at w) (option_to_list o)
       ways o h = alone (flat_map (ancestors_at w) (option_to_list (slot_of w y))) ∙ ap (λ o. flat_map (ancestors_at w) (option_to_list o)) h
+
       from : (o : Option NodeName) → slot_of w y ≡ o → Runs up_from y (slot_ways y) (parent_at w y)
       from None h = subst (λ ys. Runs up_from y ys (parent_at w y)) (sym (ways None h)) (plain-up y (page-plain y e) ∙ ap (λ o. option_or o (parent_at w y)) h)
       from (Some s) h =
@@ -271,9 +273,11 @@ module _ {only_log : Bool} (w : World) (r : IsReached only_log w) (composed : Bo
       let ts = trees_with w x in
       let at = ancestors-present ts x t in
       let owned = subst (AllByRecursion (IsOf x.owner)) at.1 (ancestors-owned w r.world x) in
-      let run = parents-run x x at.0 owned (ancestors-run ts (r.world.parts x.owner).unique x at.0 at.1) in
-      (slot_ways x ++ flat_map (with_slots 1 w) at.0, ap (flat_map (with_slots 1 w)) at.1,
-      all-ways x at.0 (all-then (IsOf x.owner) (λ y. Runs up_from y (slot_ways y) (parent_at w y)) (λ y h. slot-way opens y (h ∙ e)) (x ∷ at.0) owned) run)
+      let run = parents-run x x at.0 owned (ancestors-run ts (r.world.parts x.owner).unique x at.0 at.1) in (
+        slot_ways x ++ flat_map (with_slots 1 w) at.0,
+        ap (flat_map (with_slots 1 w)) at.1,
+        all-ways x at.0 (all-then (IsOf x.owner) (λ y. Runs up_from y (slot_ways y) (parent_at w y)) (λ y h. slot-way opens y (h ∙ e)) (x ∷ at.0) owned) run,
+      )
 
   -- The way up from a component's node has no slots.
   no-slots : (ys : List NodeName) (o : Owner) → o ≢ Page → AllByRecursion (IsOf o) ys → flat_map (with_slots 1 w) ys ≡ ys
@@ -310,6 +314,7 @@ module _ {only_log : Bool} (w : World) (r : IsReached only_log w) (composed : Bo
       no_way : (b : Bool) (o : Option NodeName) → o ≡ None → (if b then o else None) ≡ None
       no_way true o h = h
       no_way false o h = refl
+
       unhosted : root_at w x ≡ shadow_root_of x.owner → host_of w x.owner ≡ None
       unhosted named = from (host_of w x.owner) refl
         where
@@ -317,6 +322,7 @@ module _ {only_log : Bool} (w : World) (r : IsReached only_log w) (composed : Bo
           from None e = e
           from (Some h) e =
               absurd (true≢false (sym (ap (λ b. is_some (some_if b h)) (ap (λ n. name_eq n (shadow_root_of x.owner)) named ∙ name_eq-same (shadow_root_of x.owner))) ∙ sym (ap (λ o. is_some (option_and_then (some_if (name_eq (root_at w x) (shadow_root_of x.owner))) o)) e) ∙ out))
+
       shadow-child : (y z : NodeName) → y.owner ≡ x.owner → is_shadow (kind_at w y) ≡ true → parent_at w y ≡ Some z → ⊥
       shadow-child y z g k up =
           let named = shadow-name y y.owner refl k in
@@ -349,6 +355,7 @@ above-host w x host h = from (host_of w x.owner) refl
     by_test : (b : Bool) (y : NodeName) → some_if b y ≡ Some host → Some y ≡ Some host
     by_test true y e = e
     by_test false y e = cc
+
     from : (o : Option NodeName) → host_of w x.owner ≡ o → host_of w x.owner ≡ Some host
     from None e = let none_at : host_above w x ≡ None = ap (option_and_then (some_if (name_eq (root_at w x) (shadow_root_of x.owner)))) e in let both : None ≡ Some host = sym none_at ∙ h in cc
     from (Some y) e = e ∙ by_test (name_eq (root_at w x) (shadow_root_of x.owner)) y (sym (ap (option_and_then (some_if (name_eq (root_at w x) (shadow_root_of x.owner)))) e) ∙ h)
@@ -372,11 +379,14 @@ page-follows w r x composed e t =
     chain : (c : Bool) → (if c then host_chain w x else x ∷ []) ≡ x ∷ []
     chain true = host_chain-page w x e
     chain false = refl
+
     outer : (c : Owner) → c ≢ Page → name_eq (shadow_root_of c) (root_at w x) ≡ false
     outer c f = ap (λ b. b && Rattle.std.proofs.Common.eqb 0 (root_at w x).number) (ne-owner_eq c (root_at w x).owner (λ g. f (g ∙ root-owned w r.world x ∙ e)))
+
     passes : (b t : Bool) → t ≡ false → (b || not t) ≡ true
     passes true t h = refl
     passes false t h = ap not h
+
     opens : (c : Owner) → c ≢ Page → (composed || not (name_eq (shadow_root_of c) (root_at w x))) ≡ true
     opens c f = passes composed (name_eq (shadow_root_of c) (root_at w x)) (outer c f)
 
@@ -391,6 +401,7 @@ component-follows w r h x composed f t =
     outer path at way e true =
         follows-path w true x (whole_path w x true) path (ap (flat_map (way_up w)) (chain-alone w x.owner x (no_host (host_above w x) e)) ∙ append-nil (way_up w x) ∙ way) (loose-up w r true x x f e path at)
     outer path at way e false = follows-path w false x (whole_path w x false) path (append-nil (way_up w x) ∙ way) (loose-up w r false x x f e path at)
+
     inner : (path : List NodeName) → ancestors_at w x ≡ x ∷ path → way_up w x ≡ x ∷ path → ((host : NodeName) × IsUnder w x host) → (composed : Bool) → (first_of (whole_path w x composed) ≡ Some x) × FollowsParents w composed x (whole_path w x composed)
     inner path at way u true =
         let host = u.0 in
@@ -418,6 +429,7 @@ path-follows_parents b w r h x composed t = by_owner x.owner refl
   where
     there : 1 ≤ times_in (trees_with w x) x
     there = has_node-times (trees_with w x) x t
+
     by_owner : (o : Owner) → x.owner ≡ o → (first_of (whole_path w x composed) ≡ Some x) × FollowsParents w composed x (whole_path w x composed)
     by_owner Page e = page-follows w r x composed e there
     by_owner (Component k) e = component-follows w r h x composed (λ g. Component-IsNoPage k (sym e ∙ g)) there

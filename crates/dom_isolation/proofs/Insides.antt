@@ -1,6 +1,6 @@
 -- Which nodes stand in the tree of another one, how elementary changes shrink that, and that they lose no node.
 use Rattle.std.proofs.Common.{◌≡◌, ℕ, ◌+◌, ◌≤◌, true, false, List, [], ◌∷◌, ◌++◌, Option, Some, None, refl, sym, ap, ◌∙◌, arith, true≢false, subst, drop}
-use Rattle.std.specs.Prelude.{if◌then◌else◌, ◌||◌, IsTrue}
+use Rattle.std.specs.Prelude.{if◌then◌else◌, ◌||◌}
 use Rattle.std.specs.List.{AllByRecursion}
 use Rattle.std.proofs.lemmas.Bool.{cond-true, cond-false}
 use Rattle.dom_base.specs.declared.NodeName.{NodeName}
@@ -9,10 +9,10 @@ use Rattle.dom_model.specs.Tree.{Trees, none, tree, Node, nodes, names_of, roots
 use Rattle.dom_model.specs.TreeChanges.{followed_by, without, put_before, put_below, put_root, taken_out, placed, with_node, map_nodes}
 use Rattle.dom_model.proofs.OwnerLaws.{name_eq-same}
 use Rattle.dom_isolation.specs.Worlds.{times_in}
-use Rattle.dom_isolation.proofs.Lists.{all-then, all-append}
+use Rattle.dom_isolation.proofs.Lists.{all-then}
 use Rattle.dom_isolation.proofs.Tests.{by_cases, or-first, or-second, or-later}
 use Rattle.dom_isolation.proofs.Trees.{IsUnique, by_times, times-here, times-elsewhere, times-more, times-parts, times-subtree, times-or_else, subtree-absent, name_eq-sym, name_eq-true, ancestors-absent, ancestors-present, ancestors-there}
-use Rattle.dom_isolation.proofs.TreeChangeLaws.{put_where, where-here, where-later, put_before-where, put_root-where, without-here, without-elsewhere, subtree-here, subtree-elsewhere, put_below-here, put_below-elsewhere, put_below-absent, HasRoot, root-first, root-second, times-put_root, times-put_before, times-without, times-followed, times-map_nodes, times-below}
+use Rattle.dom_isolation.proofs.TreeChangeLaws.{put_where, where-here, where-later, put_before-where, put_root-where, without-here, without-elsewhere, subtree-here, subtree-elsewhere, put_below-here, put_below-elsewhere, put_below-absent, HasRoot, root-first, root-second, times-put_root, times-put_before, times-without, times-map_nodes, times-below}
 
 -- how often z stands in the trees of nodes named a
 abbrev pub inside : Trees → NodeName → NodeName → ℕ

@@ -1,12 +1,12 @@
 -- How many children nodes have, and what the elementary changes do to that and to the nodes themselves.
-use Rattle.std.proofs.Common.{◌≡◌, ℕ, suc, ◌+◌, ◌≤◌, ◌<◌, Bool, true, false, not, List, [], ◌∷◌, ◌++◌, length, map, find, unwrap_or, Option, Some, None, option_map, refl, sym, ap, ◌∙◌, arith, true≢false, subst, drop}
-use Rattle.std.specs.Prelude.{if◌then◌else◌, ◌||◌, IsTrue}
+use Rattle.std.proofs.Common.{◌≡◌, ℕ, ◌+◌, ◌≤◌, ◌<◌, Bool, true, false, List, [], ◌∷◌, ◌++◌, length, map, find, unwrap_or, Option, Some, None, option_map, refl, sym, ap, ◌∙◌, arith, true≢false, subst, drop}
+use Rattle.std.specs.Prelude.{if◌then◌else◌}
 use Rattle.std.specs.List.{AllByRecursion}
 use Rattle.std.specs.Option.{option_map_or}
 use Rattle.std.proofs.lemmas.Bool.{cond-true, cond-false}
 use Rattle.dom_base.specs.declared.NodeName.{NodeName}
 use Rattle.dom_model.specs.Names.{name_eq, is_in, items_before, first_of}
-use Rattle.dom_model.specs.Tree.{Trees, none, tree, Node, nodes, names_of, roots, node_in, no_node, kind_of, has_data, subtree, or_else, trees_below, children_of, siblings, parent_of, index_of, length_of, inclusive_ancestors, on_top}
+use Rattle.dom_model.specs.Tree.{Trees, none, tree, Node, nodes, names_of, roots, node_in, no_node, kind_of, has_data, subtree, or_else, trees_below, children_of, parent_of, index_of, length_of, inclusive_ancestors, on_top}
 use Rattle.dom_model.specs.TreeChanges.{followed_by, without, put_before, put_below, put_root, taken_out, placed, with_node, map_nodes}
 use Rattle.dom_model.proofs.OwnerLaws.{name_eq-same}
 use Rattle.dom_isolation.specs.Worlds.{times_in, AllNodes}
@@ -16,7 +16,7 @@ use Rattle.dom_isolation.proofs.NodeKinds.{name-node_in}
 use Rattle.dom_isolation.proofs.ShadowRoots.{found-absent, found-there}
 use Rattle.dom_isolation.proofs.Tests.{by_cases, or-later}
 use Rattle.dom_isolation.proofs.TreeChangeLaws.{put_where, where-here, where-later, put_before-where, put_root-where, HasRoot, root-first, without-here, without-elsewhere, subtree-here, subtree-elsewhere, put_below-here, put_below-elsewhere, put_below-absent, nodes-with_node, nodes-taken_out, nodes-placed, nodes-listed}
-use Rattle.dom_isolation.proofs.Trees.{IsUnique, by_times, times-here, times-elsewhere, times-more, times-parts, subtree-absent, name_eq-sym, name_eq-true, root-there, ancestors-absent, ancestors-present}
+use Rattle.dom_isolation.proofs.Trees.{IsUnique, by_times, times-here, times-elsewhere, times-more, subtree-absent, name_eq-sym, name_eq-true, root-there, ancestors-absent, ancestors-present}
 
 -- how many roots there are
 abbrev pub rooted : Trees → ℕ
@@ -217,17 +217,21 @@ kids-taken (tree n c r) x parent y u h =
         let root = no_parent-root c x z alone in
         let a = rooted-without c x uc root in
         let b = kids-parted c x y uc root in
-        let o : one_at parent y ≡ one_at n.name y = ap (λ q. one_at q y) (sym same) in
-        (by_cases (name_eq n.name y)
-        (λ k. let i = kids-here n c r y k in let j = kids-here n (without x c) r y k in let l : one_at n.name y ≡ 1 = cond-true (name_eq n.name y) 1 0 k in omega arith)
-        (λ k. let i = kids-elsewhere n c r y k in let j = kids-elsewhere n (without x c) r y k in let l : one_at n.name y ≡ 0 = cond-false (name_eq n.name y) 1 0 k in omega arith), omega arith)
+        let o : one_at parent y ≡ one_at n.name y = ap (λ q. one_at q y) (sym same) in (
+          by_cases (name_eq n.name y)
+              (λ k. let i = kids-here n c r y k in let j = kids-here n (without x c) r y k in let l : one_at n.name y ≡ 1 = cond-true (name_eq n.name y) 1 0 k in omega arith)
+              (λ k. let i = kids-elsewhere n c r y k in let j = kids-elsewhere n (without x c) r y k in let l : one_at n.name y ≡ 0 = cond-false (name_eq n.name y) 1 0 k in omega arith),
+          omega arith,
+        )
     from f (q ∷ path) up h uc z w t v =
         let inner : parent_of c x ≡ Some parent = ap (λ p. first_of (drop 1 p)) h ∙ up in
         let b = f inner in
-        let b0 = b.0 in let b1 = b.1 in
-        (by_cases (name_eq n.name y)
-        (λ k. let i = kids-here n c r y k in let j = kids-here n (without x c) r y k in omega arith)
-        (λ k. let i = kids-elsewhere n c r y k in let j = kids-elsewhere n (without x c) r y k in omega arith), omega arith)
+        let b0 = b.0 in let b1 = b.1 in (
+          by_cases (name_eq n.name y)
+              (λ k. let i = kids-here n c r y k in let j = kids-here n (without x c) r y k in omega arith)
+              (λ k. let i = kids-elsewhere n c r y k in let j = kids-elsewhere n (without x c) r y k in omega arith),
+          omega arith,
+        )
 
 -- Elementary changes.
 pub kids-taken_out : (ts : Trees) (x parent y : NodeName) → IsUnique ts → parent_of ts x ≡ Some parent → kids (taken_out x ts) y + one_at parent y ≡ kids ts y
@@ -381,9 +385,11 @@ node-map_nodes f h ts y t =
     map-append : (xs ys : List Node) → map f (xs ++ ys) ≡ map f xs ++ map f ys
     map-append [] ys = refl
     map-append (x ∷ xs) ys = ap (λ zs. f x ∷ zs) (map-append xs ys)
+
     nodes-mapped : (ts : Trees) → nodes (map_nodes f ts) ≡ map f (nodes ts)
     nodes-mapped none = refl
     nodes-mapped (tree n c r) = ap (λ zs. f n ∷ zs) (ap (λ xs. xs ++ nodes (map_nodes f r)) (nodes-mapped c) ∙ ap (λ ys. map f (nodes c) ++ ys) (nodes-mapped r) ∙ sym (map-append (nodes c) (nodes r)))
+
     find-mapped : (ns : List Node) → find (λ (n : Node). name_eq n.name y) (map f ns) ≡ option_map f (find (λ (n : Node). name_eq n.name y) ns)
     find-mapped [] = refl
     find-mapped (n ∷ ns) =

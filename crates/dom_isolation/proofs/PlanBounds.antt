@@ -1,34 +1,30 @@
 -- Plans keep the ends of ranges within their nodes.
-use Rattle.std.proofs.Common.{zero, suc, ◌≡◌, ◌≤◌, ◌<◌, ℕ, ◌+◌, ◌-◌, Bool, true, false, not, ◌&&◌, List, [], ◌∷◌, ◌++◌, map, filter, flat_map, drop, fold, length, take_while, Option, Some, None, option_map, unwrap_or, refl, sym, ap, ◌∙◌, arith, true≢false, subst, length-append, length-drop}
-use Rattle.std.specs.Prelude.{if◌then◌else◌, ⊤, ◌==◌, min, slice_get}
+use Rattle.std.proofs.Common.{◌≡◌, ◌≤◌, ℕ, ◌+◌, ◌-◌, Bool, true, false, not, List, [], ◌∷◌, ◌++◌, drop, length, Option, Some, None, refl, sym, ap, ◌∙◌, arith, true≢false, subst}
+use Rattle.std.specs.Prelude.{if◌then◌else◌, ⊤, min}
 use Rattle.std.specs.List.{AllByRecursion}
-use Rattle.std.specs.Option.{option_map_or, option_and_then}
-use Rattle.std.proofs.lemmas.Bool.{cond-true, cond-false, and_parts}
+use Rattle.std.specs.Option.{option_map_or}
+use Rattle.std.proofs.lemmas.Bool.{cond-true, cond-false}
 use Rattle.dom_base.specs.declared.NodeName.{NodeName}
-use Rattle.dom_base.specs.declared.Kind.{Kind}
-use Rattle.dom_base.specs.declared.Kind.TheVariants.{Document, Fragment, Shadow, Element, Text, Comment}
 use Rattle.dom_model.specs.Names.{Word, DomString, name_eq, is_in, is_empty, items_after}
-use Rattle.dom_model.specs.Tree.{Trees, none, tree, Node, node_in, kind_of, is_text, is_document, is_fragment, has_data, subtree, trees_below, children_of, parent_of, siblings, next_sibling, previous_sibling, index_of, length_of, attribute_value, descendants, inclusive_descendants, inclusive_ancestors, names_of, roots}
-use Rattle.dom_model.specs.TreeChanges.{with_name, with_document, with_node, taken_out, placed}
+use Rattle.dom_model.specs.Tree.{Trees, Node, node_in, kind_of, is_fragment, has_data, children_of, parent_of, next_sibling, previous_sibling, index_of, attribute_value, inclusive_descendants, roots}
+use Rattle.dom_model.specs.TreeChanges.{with_document}
 use Rattle.dom_model.specs.Output.{Change, child_list, attributes, character_data}
-use Rattle.dom_model.specs.Part.{Part, next_name}
-use Rattle.dom_model.specs.Steps.{Step, make, make_room, place, take_out, set_document, set_attribute, replace_data, split_at, join_at, set_range, queue_record, part_step, leave, after}
-use Rattle.dom_model.specs.Changes.{Plan, ◌and_then◌, in_turn, doing, steps_of, only_if, Observing, observed, suppressed, telling, removal_record, removing, removing_from, has_document, changing_document, adopting, document_below, placed_nodes, emptying, making_room, placing, sibling_before, inserting_nodes, inserting, reference_for, pre_inserting, replacing, setting_attribute, unsetting_attribute}
-use Rattle.dom_model.specs.TextChanges.{replacing_data, new_text_node, replacing_all_data, placing_tail, splitting, texts_after, joins, joining, normalizing_text, normalizing, replacing_children, setting_text}
+use Rattle.dom_model.specs.Part.{Part}
+use Rattle.dom_model.specs.Steps.{Step, place, take_out, set_document, set_attribute, queue_record, part_step, after}
+use Rattle.dom_model.specs.Changes.{Plan, ◌and_then◌, in_turn, steps_of, Observing, observed, suppressed, telling, removal_record, removing, removing_from, has_document, changing_document, adopting, document_below, placed_nodes, emptying, making_room, placing, sibling_before, inserting_nodes, inserting, reference_for, replacing, setting_attribute, unsetting_attribute}
+use Rattle.dom_model.specs.TextChanges.{replacing_data}
 use Rattle.dom_model.proofs.OwnerLaws.{name_eq-same}
-use Rattle.dom_isolation.specs.Worlds.{times_in, times_among, IsPart}
-use Rattle.dom_isolation.proofs.Bounds.{Under, RangeUnder, reach, nowhere, at_node, HasRoom, room-more, room-make, room-place, room-document, room-attribute, room-record, room-set, room-made, room-take, room-replace, room-split, room-join, data-there}
-use Rattle.dom_isolation.proofs.Insides.{inside, parent-there, no_parent-root}
-use Rattle.dom_isolation.proofs.Kids.{kids, one_at, kids-taken_out, kids-placed, kids-with_node, kids-map_nodes, index-below, node-taken_out, node-placed, node-with_node, node-new, node-map_nodes, length-data, length-kids}
-use Rattle.dom_isolation.proofs.Lists.{all-append, all-then, all-from, all-filter, all-map}
-use Rattle.dom_isolation.proofs.PartSteps.{some-keeps, next-absent}
-use Rattle.dom_isolation.proofs.PlanPlaces.{ApartFrom, Changed, Leads, MayGo, may-still, still, taken-step, telling-trees, root-removing, root-adopting, after-append, emptied_of, leads-then, leads-eased, leads-nothing, leads-one, leads-each, leads-telling, leads-removing, leads-adopting, leads-placing, leads-emptied, leads-making_room, placed-may, leads-inserting}
-use Rattle.dom_isolation.proofs.PlanTexts.{next-not, new-there, new-may, descend-there, leads-removals, leads-replacing_data, leads-splitting}
+use Rattle.dom_isolation.specs.Worlds.{IsPart}
+use Rattle.dom_isolation.proofs.Bounds.{nowhere, at_node, HasRoom, room-more, room-place, room-document, room-attribute, room-record, room-made, room-take, room-replace}
+use Rattle.dom_isolation.proofs.Kids.{kids, one_at, kids-placed, kids-map_nodes, node-taken_out, node-placed, node-map_nodes}
+use Rattle.dom_isolation.proofs.Lists.{all-then}
+use Rattle.dom_isolation.proofs.PartSteps.{some-keeps}
+use Rattle.dom_isolation.proofs.PlanPlaces.{Changed, Leads, MayGo, may-still, still, taken-step, telling-trees, root-adopting, after-append, emptied_of, leads-then, leads-eased, leads-one, leads-each, leads-removing, leads-adopting, leads-placing, leads-emptied, leads-making_room, placed-may}
 use Rattle.dom_isolation.proofs.ReachedFacts.{root-alone}
-use Rattle.dom_isolation.proofs.TableSteps.{There, Fits, MadeIn}
+use Rattle.dom_isolation.proofs.TableSteps.{There}
 use Rattle.dom_isolation.proofs.Tests.{by_cases, either_way}
-use Rattle.dom_isolation.proofs.TreeChangeLaws.{HasRoot, put_where, where-here, where-later, put_root-where, root-with_node, root-taken_out, root-placed, root-map_nodes}
-use Rattle.dom_isolation.proofs.Trees.{IsUnique, by_times, times-here, times-elsewhere, times-more, times-subtree, name_eq-true, name_eq-sym, ancestors-present, all-both}
+use Rattle.dom_isolation.proofs.TreeChangeLaws.{HasRoot, root-placed, root-map_nodes}
+use Rattle.dom_isolation.proofs.Trees.{all-both}
 
 -- Steps after steps.
 pub room-then : (e : NodeName → ℕ) (p : Part) (xs ys : List Step) → HasRoom e (after (after p xs) ys) → HasRoom e (after p (xs ++ ys))
@@ -105,6 +101,7 @@ room-emptied e node p i h = from (is_fragment (kind_of p.trees node))
   where
     moved : List NodeName
     moved = placed_nodes p.trees node
+
     from : (b : Bool) → HasRoom e (after p ((if b then emptying node (placed_nodes p.trees node) else steps_of []) p))
     from true =
         let steps = in_turn (removing suppressed) (placed_nodes p.trees node) p in
@@ -269,7 +266,7 @@ kids-roots_placed parent before (x ∷ xs) p i m r d =
     let a = kids-root_placed parent before p x i m.0 r.0 parent in
     let o : one_at parent parent ≡ 1 = cond-true (name_eq parent parent) 1 0 (name_eq-same parent) in
     let b = kids-roots_placed parent before xs q c.part (all-then (MayGo parent p) (MayGo parent q) (λ y. may-still parent p q y c) xs m.1)
-        (all-then (λ y. HasRoot p.trees y × (name_eq x y ≡ false)) (HasRoot q.trees) (λ y h. let h1 = h.1 in roots-root_placed parent before p x i r.0 y h.1 h.0) xs (all-both (HasRoot p.trees) (λ y. name_eq x y ≡ false) xs r.1 d.0)) d.1 in
+    (all-then (λ y. HasRoot p.trees y × (name_eq x y ≡ false)) (HasRoot q.trees) (λ y h. let h1 = h.1 in roots-root_placed parent before p x i r.0 y h.1 h.0) xs (all-both (HasRoot p.trees) (λ y. name_eq x y ≡ false) xs r.1 d.0)) d.1 in
     let e = ap (λ (s : Part). kids s.trees parent) (after-append p steps (in_turn (placing parent before) xs q)) in omega arith
 
 -- An insertion, by what is placed: the children of its parent are that many more.
@@ -299,6 +296,7 @@ kids-inserted how node parent before p i m roots distinct same =
     unmoved : (before : Option NodeName) (count : ℕ) (q : Part) → (after q (making_room parent before count q)).trees ≡ q.trees
     unmoved None count q = refl
     unmoved (Some child) count q = refl
+
     from : (b : Bool) (moved : List NodeName) → is_empty moved ≡ b → (steps : List Step) → kids (after p steps).trees parent ≡ kids p.trees parent + length moved → kids (after p (if b then [] else steps)).trees parent ≡ kids p.trees parent + length moved
     from false moved e steps h = h
     from true [] e steps h = omega arith
@@ -368,6 +366,7 @@ texts-inserting how node parent before p i m =
     unmoved : (before : Option NodeName) (count : ℕ) (q : Part) → (after q (making_room parent before count q)).trees ≡ q.trees
     unmoved None count q = refl
     unmoved (Some child) count q = refl
+
     emptied : (b : Bool) (moved : List NodeName) → (y : NodeName) → There p y → (node_in (after p ((if b then emptying node moved else steps_of []) p)).trees y).text ≡ (node_in p.trees y).text
     emptied false moved y t = refl
     emptied true moved y t =

@@ -1,29 +1,27 @@
 -- The steps of plans fit where they are made: what is placed, is placed below a node that does not stand in its tree.
-use Rattle.std.proofs.Common.{◌≡◌, ◌≤◌, ◌<◌, ℕ, ◌+◌, ◌-◌, Bool, true, false, not, ◌&&◌, List, [], ◌∷◌, ◌++◌, map, filter, flat_map, drop, fold, length, Option, Some, None, option_map, refl, sym, ap, ◌∙◌, arith, true≢false, subst}
-use Rattle.std.specs.Prelude.{if◌then◌else◌, ⊤, ◌==◌, min}
+use Rattle.std.proofs.Common.{◌≡◌, ◌≤◌, ℕ, Bool, true, false, not, List, [], ◌∷◌, ◌++◌, length, Option, Some, None, refl, sym, ap, ◌∙◌, arith, subst}
+use Rattle.std.specs.Prelude.{if◌then◌else◌, ⊤}
 use Rattle.std.specs.List.{AllByRecursion}
 use Rattle.std.specs.Option.{option_map_or}
-use Rattle.std.proofs.lemmas.Bool.{cond-true, cond-false}
 use Rattle.dom_base.specs.declared.NodeName.{NodeName}
-use Rattle.dom_model.specs.Names.{Word, DomString, name_eq, is_in, is_empty, first_of}
-use Rattle.dom_model.specs.Tree.{Trees, none, tree, on_top, inclusive_ancestors, Node, node_in, kind_of, is_text, is_document, is_fragment, has_data, subtree, children_of, parent_of, previous_sibling, next_sibling, index_of, length_of, attribute_value, descendants, inclusive_descendants}
+use Rattle.dom_model.specs.Names.{name_eq, is_in, is_empty}
+use Rattle.dom_model.specs.Tree.{Trees, Node, node_in, kind_of, is_fragment, subtree, children_of, parent_of, index_of, inclusive_descendants}
 use Rattle.dom_model.specs.TreeChanges.{without, map_nodes, with_name, with_document, with_data_replaced, with_attribute}
-use Rattle.dom_model.specs.Output.{Change, child_list, attributes, character_data}
+use Rattle.dom_model.specs.Output.{Change, child_list}
 use Rattle.dom_model.specs.Part.{Part, next_name}
-use Rattle.dom_model.specs.Steps.{Step, make, make_room, place, take_out, set_document, set_attribute, replace_data, split_at, join_at, set_range, queue_record, part_step, leave, after}
-use Rattle.dom_model.specs.Changes.{Plan, ◌and_then◌, in_turn, doing, steps_of, only_if, Observing, observed, suppressed, telling, removal_record, removing, removing_from, has_document, changing_document, adopting, document_below, placed_nodes, emptying, making_room, placing, sibling_before, inserting_nodes, inserting, reference_for, pre_inserting, replacing, setting_attribute, unsetting_attribute}
-use Rattle.dom_model.specs.TextChanges.{replacing_data, replacing_all_data}
+use Rattle.dom_model.specs.Steps.{Step, make, make_room, place, take_out, set_document, set_attribute, replace_data, queue_record, part_step, leave, after}
+use Rattle.dom_model.specs.Changes.{Plan, in_turn, steps_of, Observing, observed, suppressed, telling, removal_record, removing, removing_from, has_document, changing_document, adopting, document_below, placed_nodes, emptying, making_room, placing, sibling_before, inserting_nodes, inserting}
 use Rattle.dom_model.proofs.StepLaws.{owner-part_step}
 use Rattle.dom_isolation.specs.Worlds.{times_in, IsPart}
 use Rattle.dom_isolation.proofs.Kids.{node-taken_out, node-placed, node-with_node, node-map_nodes}
-use Rattle.dom_isolation.proofs.Lists.{all-append, all-then, all-from}
+use Rattle.dom_isolation.proofs.Lists.{all-then, all-from}
 use Rattle.dom_isolation.proofs.Tests.{by_cases, either_way}
-use Rattle.dom_isolation.proofs.TreeChangeLaws.{HasRoot, root-first, root-second, root-put_root_new, root-subtree, root-map_nodes}
-use Rattle.dom_isolation.proofs.Trees.{by_times, times-subtree, name_eq-true, name_eq-sym, times-elsewhere, ancestors-absent, ancestors-present}
+use Rattle.dom_isolation.proofs.TreeChangeLaws.{HasRoot, root-put_root_new, root-subtree, root-map_nodes}
+use Rattle.dom_isolation.proofs.Trees.{times-subtree, name_eq-true}
 use Rattle.dom_isolation.proofs.PartSteps.{KeepsNames, some-keeps, attribute-keeps, part-step, next-absent}
 use Rattle.dom_isolation.proofs.NodeKinds.{count-grows}
 use Rattle.dom_isolation.proofs.TableSteps.{There, Fits, MadeIn, stays-step}
-use Rattle.dom_isolation.proofs.Insides.{inside, inside-times, inside-taken_out, inside-placed, inside-with_node, inside-map_nodes, inside-nested, times-inside, children-inside, no_parent-root}
+use Rattle.dom_isolation.proofs.Insides.{inside, inside-taken_out, inside-placed, inside-with_node, inside-map_nodes, inside-nested, times-inside, children-inside, no_parent-root}
 
 -- Nodes of the tree of a do not come from a place outside of it.
 abbrev pub ApartFrom : Option NodeName → Part → NodeName → Type 0

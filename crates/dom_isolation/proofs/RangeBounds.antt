@@ -1,38 +1,33 @@
 -- Extractions and deletions of ranges' contents keep the ends of ranges within their nodes.
-use Rattle.std.proofs.Common.{zero, suc, ◌≡◌, ◌≤◌, ◌<◌, ℕ, ◌+◌, ◌-◌, Bool, true, false, not, ◌&&◌, ◌||◌, List, [], ◌∷◌, ◌++◌, map, filter, find, take, drop, length, Option, Some, None, unwrap_or, refl, sym, ap, ◌∙◌, arith, true≢false, subst, length-append, length-take}
+use Rattle.std.proofs.Common.{◌≡◌, ◌≤◌, ℕ, ◌-◌, Bool, true, false, List, [], ◌∷◌, ◌++◌, length, Option, Some, None, refl, sym, ap, ◌∙◌, arith, true≢false, subst}
 use Rattle.std.specs.Prelude.{if◌then◌else◌, ⊤, min}
 use Rattle.std.specs.List.{AllByRecursion}
 use Rattle.std.specs.Option.{option_map_or}
-use Rattle.std.proofs.lemmas.Bool.{cond-true, cond-false, and_parts, not-true}
 use Rattle.dom_base.specs.declared.NodeName.{NodeName}
-use Rattle.dom_model.specs.Names.{DomString, name_eq, is_in, is_empty, last_of, items_before}
-use Rattle.dom_model.specs.Tree.{Trees, none, tree, Node, node_in, kind_of, is_fragment, has_data, subtree, trees_below, children_of, parent_of, index_of, length_of, inclusive_descendants, inclusive_ancestors, is_inclusive_ancestor, names_of, nodes}
+use Rattle.dom_model.specs.Names.{DomString, name_eq, is_in, is_empty}
+use Rattle.dom_model.specs.Tree.{Node, node_in, kind_of, is_fragment, has_data, children_of, parent_of, inclusive_descendants}
 use Rattle.dom_model.specs.TreeChanges.{with_name, with_document, with_data_replaced}
-use Rattle.dom_model.specs.Output.{Change, child_list, character_data}
+use Rattle.dom_model.specs.Output.{child_list}
 use Rattle.dom_model.specs.Part.{Part, next_name}
-use Rattle.dom_model.specs.Place.{Boundary}
-use Rattle.dom_model.specs.Ranges.{Range, at, is_collapsed, is_contained}
-use Rattle.dom_model.specs.Steps.{Step, make, place, take_out, set_document, replace_data, set_range, queue_record, part_step, after}
-use Rattle.dom_model.specs.Changes.{Plan, ◌and_then◌, in_turn, doing, steps_of, Observing, observed, suppressed, telling, removal_record, removing, removing_from, has_document, changing_document, adopting, document_below, placed_nodes, emptying, making_room, placing, sibling_before, inserting_nodes, inserting}
+use Rattle.dom_model.specs.Steps.{Step, make, place, take_out, queue_record, part_step, after}
+use Rattle.dom_model.specs.Changes.{in_turn, steps_of, Observing, observed, suppressed, telling, removal_record, removing, removing_from, changing_document, adopting, document_below, placed_nodes, emptying, making_room, placing, sibling_before, inserting_nodes, inserting}
 use Rattle.dom_model.specs.TextChanges.{replacing_data}
-use Rattle.dom_model.specs.Extract.{Pieces, nothing, whole, cut, clone, cut_start, cut_end, pieces_of, pieces_among, is_partly_contained, common_ancestor, is_in_one_data, clone_part, making_below, taking, new_fragment_node, own_document, new_place, behind_node, both_at, extracting}
-use Rattle.dom_model.specs.RangeOps.{cutting_data, outermost_contained, deleting_contents, deleting}
+use Rattle.dom_model.specs.Extract.{Pieces, nothing, whole, cut, clone, clone_part, making_below, taking}
 use Rattle.dom_model.proofs.OwnerLaws.{name_eq-same}
-use Rattle.dom_isolation.specs.Worlds.{times_in, times_among, IsPart, AllNodes}
-use Rattle.dom_isolation.proofs.Bounds.{nowhere, HasRoom, room-make, room-set}
-use Rattle.dom_isolation.proofs.Childs.{childs, childs-taken_out, childs-placed, childs-with_node, childs-map_nodes, childs-parent, children-childs, held-length}
-use Rattle.dom_isolation.proofs.Contained.{IsSpared, spared-first, spared-up_to}
+use Rattle.dom_isolation.specs.Worlds.{IsPart}
+use Rattle.dom_isolation.proofs.Bounds.{nowhere, HasRoom, room-make}
+use Rattle.dom_isolation.proofs.Childs.{childs, childs-taken_out, childs-placed, childs-with_node, childs-map_nodes, childs-parent, children-childs}
 use Rattle.dom_isolation.proofs.Insides.{inside, parent-there}
-use Rattle.dom_isolation.proofs.Kids.{kids, length-kids, node-new}
-use Rattle.dom_isolation.proofs.Lists.{all-append, all-then, all-from, all-filter, all-passed}
+use Rattle.dom_isolation.proofs.Kids.{node-new}
+use Rattle.dom_isolation.proofs.Lists.{all-then}
 use Rattle.dom_isolation.proofs.PartSteps.{some-keeps, next-absent}
-use Rattle.dom_isolation.proofs.PlanBounds.{room-then, room-plan, room-removals, room-inserting, room-replacing_data, IsOpen, open-still, documented}
-use Rattle.dom_isolation.proofs.PlanPlaces.{Changed, Leads, MayGo, may-still, still, taken-step, telling-trees, after-append, emptied_of, leads-then, leads-eased, leads-nothing, leads-one, leads-each, leads-removing, leads-adopting, leads-placing, leads-emptied, leads-making_room, placed-may, leads-inserting}
-use Rattle.dom_isolation.proofs.PlanTexts.{OldIn, old-may, old-still, whole-then, changed-inner, new-there, next-not, new-may, leads-making_below, leads-taking, leads-removals, leads-replacing_data}
+use Rattle.dom_isolation.proofs.PlanBounds.{room-inserting, room-replacing_data, IsOpen, open-still, documented}
+use Rattle.dom_isolation.proofs.PlanPlaces.{Changed, MayGo, may-still, still, taken-step, telling-trees, after-append, emptied_of, leads-then, leads-eased, leads-one, leads-removing, leads-adopting, leads-placing, leads-emptied, leads-making_room, placed-may, leads-inserting}
+use Rattle.dom_isolation.proofs.PlanTexts.{OldIn, old-may, old-still, whole-then, changed-inner, new-there, next-not, new-may, leads-making_below, leads-taking, leads-replacing_data}
 use Rattle.dom_isolation.proofs.Plans.{AllWhole}
-use Rattle.dom_isolation.proofs.TableSteps.{There, Fits, MadeIn}
-use Rattle.dom_isolation.proofs.Tests.{by_cases, either_way, which_way}
-use Rattle.dom_isolation.proofs.Trees.{IsUnique, by_times, name_eq-true, name_eq-sym, times-subtree, nodes-there}
+use Rattle.dom_isolation.proofs.TableSteps.{There}
+use Rattle.dom_isolation.proofs.Tests.{by_cases, either_way}
+use Rattle.dom_isolation.proofs.Trees.{name_eq-true}
 
 -- x is a child of y.
 abbrev pub IsChild : NodeName → NodeName → Part → Type 0
@@ -130,6 +125,7 @@ child-inserting x y how node parent before p i m a b h =
     unmoved : (before : Option NodeName) (count : ℕ) (q : Part) → IsChild x y q → IsChild x y (after q (making_room parent before count q))
     unmoved None count q g = g
     unmoved (Some child) count q g = g
+
     emptied : (t : Bool) (moved : List NodeName) → AllByRecursion (IsNot x) moved → IsChild x y (after p ((if t then emptying node moved else steps_of []) p))
     emptied false moved others = h
     emptied true moved others = child-then x y p (in_turn (removing suppressed) moved p) (queue_record (child_list node [] moved None None) ∷ []) (child-removals x y suppressed moved p i others h)

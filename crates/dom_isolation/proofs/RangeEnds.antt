@@ -1,20 +1,18 @@
 -- Where a range stands after its contents were taken is within its node, where both its ends are in one tree.
-use Rattle.std.proofs.Common.{zero, suc, ◌≡◌, ◌≤◌, ◌<◌, ℕ, ◌+◌, ◌-◌, Bool, true, false, not, ◌&&◌, ◌||◌, List, [], ◌∷◌, ◌++◌, filter, take, length, Option, Some, None, unwrap_or, refl, sym, ap, ◌∙◌, arith, true≢false, subst, length-append, length-take}
-use Rattle.std.specs.Prelude.{if◌then◌else◌, ⊤, min}
-use Rattle.std.specs.List.{AllByRecursion, last_or}
+use Rattle.std.proofs.Common.{zero, suc, ◌≡◌, ◌≤◌, ℕ, true, false, not, List, [], ◌∷◌, ◌++◌, filter, take, length, Option, Some, None, unwrap_or, refl, sym, ap, ◌∙◌, arith, true≢false, subst, length-append, length-take}
+use Rattle.std.specs.List.{AllByRecursion}
 use Rattle.std.specs.Option.{option_map_or}
-use Rattle.std.proofs.lemmas.Bool.{cond-true, cond-false, and_parts, not-true}
+use Rattle.std.proofs.lemmas.Bool.{cond-true, cond-false, not-true}
 use Rattle.dom_base.specs.declared.NodeName.{NodeName}
-use Rattle.dom_model.specs.Names.{DomString, name_eq, is_in, last_of, items_before}
+use Rattle.dom_model.specs.Names.{name_eq, is_in, last_of, items_before}
 use Rattle.dom_model.specs.Tree.{Trees, Node, node_in, kind_of, has_data, subtree, trees_below, children_of, parent_of, index_of, length_of, inclusive_ancestors, is_inclusive_ancestor, root_of, names_of, nodes}
 use Rattle.dom_model.specs.Part.{Part}
 use Rattle.dom_model.specs.Place.{Boundary, same_root}
-use Rattle.dom_model.specs.Ranges.{Range, at, is_contained}
-use Rattle.dom_model.specs.Steps.{Step, set_range, part_step, after}
+use Rattle.dom_model.specs.Ranges.{Range, at}
 use Rattle.dom_model.specs.Extract.{new_place, behind_node}
 use Rattle.dom_isolation.specs.Worlds.{times_in, times_among, IsPart}
-use Rattle.dom_isolation.proofs.Bounds.{Under, reach, nowhere, HasRoom, room-set}
-use Rattle.dom_isolation.proofs.Childs.{childs, children-childs, held-length}
+use Rattle.dom_isolation.proofs.Bounds.{nowhere, HasRoom}
+use Rattle.dom_isolation.proofs.Childs.{children-childs, held-length}
 use Rattle.dom_isolation.proofs.Contained.{IsSpared, spared-first, spared-up_to, below-rest}
 use Rattle.dom_isolation.proofs.Descents.{ancestor-inside}
 use Rattle.dom_isolation.proofs.FollowPaths.{root-itself}
@@ -23,7 +21,7 @@ use Rattle.dom_isolation.proofs.Kids.{kids, rooted, kids-below, root-below, inde
 use Rattle.dom_isolation.proofs.PlanBounds.{IsOpen}
 use Rattle.dom_isolation.proofs.RangeBounds.{IsChild, AreChildren}
 use Rattle.dom_isolation.proofs.TableSteps.{There, IfSome, last-all, before-all, inside-alone}
-use Rattle.dom_isolation.proofs.Lists.{all-append, all-then, all-passed, all-filter}
+use Rattle.dom_isolation.proofs.Lists.{all-append, all-then}
 use Rattle.dom_isolation.proofs.Tests.{by_cases, or-later}
 use Rattle.dom_isolation.proofs.TextBounds.{children-among, kids-open}
 use Rattle.dom_isolation.proofs.Trees.{IsUnique, name_eq-true, name_eq-sym, ancestors-root, ancestors-there, ancestors-present, times-here}
@@ -105,9 +103,10 @@ room-behind p r a y i h t e above =
 -- A node of the list of ancestors is an ancestor.
 listed-each : (xs : List NodeName) → AllByRecursion (λ a. is_in name_eq a xs ≡ true) xs
 listed-each [] = tt
-listed-each (x ∷ xs) =
-    (Rattle.dom_isolation.proofs.Tests.or-first (name_eq x x) (is_in name_eq x xs) (Rattle.dom_model.proofs.OwnerLaws.name_eq-same x),
-    all-then (λ a. is_in name_eq a xs ≡ true) (λ a. is_in name_eq a (x ∷ xs) ≡ true) (λ a h. Rattle.dom_isolation.proofs.Tests.or-second (name_eq a x) (is_in name_eq a xs) h) xs (listed-each xs))
+listed-each (x ∷ xs) = (
+  Rattle.dom_isolation.proofs.Tests.or-first (name_eq x x) (is_in name_eq x xs) (Rattle.dom_model.proofs.OwnerLaws.name_eq-same x),
+  all-then (λ a. is_in name_eq a xs ≡ true) (λ a. is_in name_eq a (x ∷ xs) ≡ true) (λ a h. Rattle.dom_isolation.proofs.Tests.or-second (name_eq a x) (is_in name_eq a xs) h) xs (listed-each xs),
+)
 
 -- the root of a node that is there is one
 root-above : (ts : Trees) (z : NodeName) → 1 ≤ times_in ts z → is_inclusive_ancestor ts (root_of ts z) z ≡ true
@@ -117,6 +116,7 @@ root-above ts z t =
   where
     self : (path : List NodeName) → inclusive_ancestors ts z ≡ z ∷ path → is_inclusive_ancestor ts z z ≡ true
     self path e = ap (is_in name_eq z) e ∙ Rattle.dom_isolation.proofs.Tests.or-first (name_eq z z) (is_in name_eq z path) (Rattle.dom_model.proofs.OwnerLaws.name_eq-same z)
+
     from : (o : Option NodeName) → IfSome (λ a. is_in name_eq a (inclusive_ancestors ts z) ≡ true) o → is_inclusive_ancestor ts z z ≡ true → is_inclusive_ancestor ts (unwrap_or o z) z ≡ true
     from None h s = s
     from (Some a) h s = h
@@ -143,8 +143,8 @@ room-outer p r i h t te one apart =
     let above = filter outside (inclusive_ancestors ts start) in
     let F : NodeName → Type 0 = λ a. (There p a × (root_of ts a ≡ root_of ts start)) × (is_inclusive_ancestor ts a start ≡ true) in
     let all : AllByRecursion F (inclusive_ancestors ts start) =
-        Rattle.dom_isolation.proofs.Trees.all-both (λ a. There p a × (root_of ts a ≡ root_of ts start)) (λ a. is_inclusive_ancestor ts a start ≡ true) (inclusive_ancestors ts start)
-        (Rattle.dom_isolation.proofs.Trees.all-both (There p) (λ a. root_of ts a ≡ root_of ts start) (inclusive_ancestors ts start) (ancestors-there ts start) (ancestors-root ts i.unique start)) (listed-each (inclusive_ancestors ts start)) in
+    Rattle.dom_isolation.proofs.Trees.all-both (λ a. There p a × (root_of ts a ≡ root_of ts start)) (λ a. is_inclusive_ancestor ts a start ≡ true) (inclusive_ancestors ts start)
+    (Rattle.dom_isolation.proofs.Trees.all-both (There p) (λ a. root_of ts a ≡ root_of ts start) (inclusive_ancestors ts start) (ancestors-there ts start) (ancestors-root ts i.unique start)) (listed-each (inclusive_ancestors ts start)) in
     let G : NodeName → Type 0 = λ a. F a × (outside a ≡ true) in
     let kept : AllByRecursion G above = Rattle.dom_isolation.proofs.TableSteps.all-kept F outside (inclusive_ancestors ts start) all in
     let own : G start = (((t, refl), self), ap not apart) in
@@ -154,6 +154,7 @@ room-outer p r i h t te one apart =
     self =
         let at = ancestors-present p.trees r.start.node t in
         ap (is_in name_eq r.start.node) at.1 ∙ Rattle.dom_isolation.proofs.Tests.or-first (name_eq r.start.node r.start.node) (is_in name_eq r.start.node at.0) (Rattle.dom_model.proofs.OwnerLaws.name_eq-same r.start.node)
+
     placed : (a : NodeName) → There p a → root_of p.trees a ≡ root_of p.trees r.start.node → is_inclusive_ancestor p.trees a r.start.node ≡ true → not (is_inclusive_ancestor p.trees a r.end.node) ≡ true → (o : Option NodeName) → parent_of p.trees a ≡ o → IsRoomAt p r (at (unwrap_or o a) (suc (index_of p.trees a)))
     placed a ta same up out None e =
         let ts = p.trees in
@@ -161,6 +162,7 @@ room-outer p r i h t te one apart =
         let end_root : root_of ts r.end.node ≡ a = sym (name_eq-true (root_of ts r.start.node) (root_of ts r.end.node) one) ∙ sym same ∙ root in
         absurd (true≢false (sym (ap (λ x. is_inclusive_ancestor ts x r.end.node) (sym end_root) ∙ root-above ts r.end.node te) ∙ not-true (is_inclusive_ancestor ts a r.end.node) out))
     placed a ta same up out (Some y) e = room-behind p r a y i h ta e up
+
     chosen : (o : Option NodeName) → IfSome (λ a. ((There p a × (root_of p.trees a ≡ root_of p.trees r.start.node)) × (is_inclusive_ancestor p.trees a r.start.node ≡ true)) × (not (is_inclusive_ancestor p.trees a r.end.node) ≡ true)) o →
         (((There p r.start.node × (root_of p.trees r.start.node ≡ root_of p.trees r.start.node)) × (is_inclusive_ancestor p.trees r.start.node r.start.node ≡ true)) × (not (is_inclusive_ancestor p.trees r.start.node r.end.node) ≡ true)) → IsRoomAt p r (behind_node p.trees (unwrap_or o r.start.node))
     chosen None k own = placed r.start.node own.0.0.0 own.0.0.1 own.0.1 own.1 (parent_of p.trees r.start.node) refl

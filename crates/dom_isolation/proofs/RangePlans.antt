@@ -1,16 +1,16 @@
 -- Deletions and extractions of a range whose ends are in one tree keep all ends of ranges within their nodes.
-use Rattle.std.proofs.Common.{zero, suc, ◌≡◌, ◌≤◌, ◌<◌, ℕ, ◌+◌, ◌-◌, Bool, true, false, not, ◌&&◌, ◌||◌, List, [], ◌∷◌, ◌++◌, length, Option, Some, None, refl, sym, ap, ◌∙◌, arith, true≢false, subst}
-use Rattle.std.specs.Prelude.{if◌then◌else◌, ⊤, min}
+use Rattle.std.proofs.Common.{◌≡◌, ◌≤◌, ℕ, ◌-◌, Bool, true, false, not, ◌&&◌, List, [], ◌∷◌, ◌++◌, length, Some, None, refl, sym, ap, ◌∙◌, arith, true≢false, subst}
+use Rattle.std.specs.Prelude.{if◌then◌else◌, min}
 use Rattle.std.specs.List.{AllByRecursion}
 use Rattle.std.proofs.lemmas.Bool.{cond-true, cond-false, and_parts}
 use Rattle.dom_base.specs.declared.NodeName.{NodeName}
 use Rattle.dom_model.specs.Names.{DomString, name_eq, is_in}
-use Rattle.dom_model.specs.Tree.{Trees, none, tree, Node, node_in, kind_of, has_data, subtree, trees_below, length_of, is_inclusive_ancestor, inclusive_ancestors, names_of, nodes}
-use Rattle.dom_model.specs.TreeChanges.{with_name, with_data_replaced}
+use Rattle.dom_model.specs.Tree.{Trees, none, tree, Node, node_in, kind_of, has_data, subtree, trees_below, length_of, is_inclusive_ancestor, names_of, nodes}
+use Rattle.dom_model.specs.TreeChanges.{with_name}
 use Rattle.dom_model.specs.Output.{character_data}
-use Rattle.dom_model.specs.Part.{Part, next_name, range_at}
+use Rattle.dom_model.specs.Part.{Part, next_name}
 use Rattle.dom_model.specs.Place.{Boundary, same_root}
-use Rattle.dom_model.specs.Ranges.{Range, at, is_collapsed, is_contained}
+use Rattle.dom_model.specs.Ranges.{Range, is_collapsed, is_contained}
 use Rattle.dom_model.specs.Steps.{Step, make, set_range, queue_record, part_step, after}
 use Rattle.dom_model.specs.Changes.{Plan, ◌and_then◌, in_turn, doing, steps_of, observed, removing, inserting}
 use Rattle.dom_model.specs.TextChanges.{replacing_data}
@@ -22,17 +22,17 @@ use Rattle.dom_isolation.proofs.Bounds.{Under, reach, nowhere, HasRoom, room-mak
 use Rattle.dom_isolation.proofs.Bounds as bounds
 use Rattle.dom_isolation.proofs.Contained.{IsSpared}
 use Rattle.dom_isolation.proofs.Kids.{kids, length-data, node-with_node, node-new, read-all}
-use Rattle.dom_isolation.proofs.Lists.{all-then, all-from, all-filter, all-passed}
+use Rattle.dom_isolation.proofs.Lists.{all-then, all-passed}
 use Rattle.dom_isolation.proofs.PartSteps.{next-absent}
-use Rattle.dom_isolation.proofs.PlanBounds.{room-then, room-removals, room-inserting, room-replacing_data, IsOpen, open-still, texts-inserting}
-use Rattle.dom_isolation.proofs.PlanPlaces.{Changed, Leads, MayGo, still, after-append, leads-one, leads-nothing, leads-inserting}
+use Rattle.dom_isolation.proofs.PlanBounds.{room-then, room-removals, room-replacing_data, IsOpen, texts-inserting}
+use Rattle.dom_isolation.proofs.PlanPlaces.{Changed, MayGo, still, after-append, leads-one, leads-nothing, leads-inserting}
 use Rattle.dom_isolation.proofs.PlanTexts.{OldIn, old-there, whole-then, new-there, next-not, new-may, leads-removals, leads-replacing_data, leads-making_below, pieces-there, leads-taking}
 use Rattle.dom_isolation.proofs.RangeBounds.{IsChild, IsNot, AreChildren, AreFit, Misses, IsData, IsOpenIn, fits-still, child-removals, child-replacing_data, child-make, room-taking}
-use Rattle.dom_isolation.proofs.RangeEnds.{IsRoomAt, room-at, above-kids, room-place_new}
+use Rattle.dom_isolation.proofs.RangeEnds.{room-at, above-kids, room-place_new}
 use Rattle.dom_isolation.proofs.TableSteps.{There}
 use Rattle.dom_isolation.proofs.Tests.{by_cases, either_way, which_way, or-first}
 use Rattle.dom_isolation.proofs.TextBounds.{replaced-here}
-use Rattle.dom_isolation.proofs.TreeChangeLaws.{nodes-subtree, nodes-then, times-below}
+use Rattle.dom_isolation.proofs.TreeChangeLaws.{nodes-subtree, times-below}
 use Rattle.dom_isolation.proofs.Trees.{IsUnique, ancestors-present, name_eq-true, times-here, times-more, times-subtree}
 
 -- What is asked of a range: its ends are nodes of one tree, and its start is within its node.
@@ -102,6 +102,7 @@ children-left xs y zs q i d c = (each xs d c.0, still (leads-removals observed z
     heads : (x : NodeName) (xs zs : List NodeName) → AllByRecursion (λ z. AllByRecursion (λ a. IsNot a z) (x ∷ xs)) zs → AllByRecursion (IsNot x) zs × AllByRecursion (λ z. AllByRecursion (λ a. IsNot a z) xs) zs
     heads x xs [] d = (tt, tt)
     heads x xs (z ∷ zs) d = let m = heads x xs zs d.1 in ((d.0.0, m.0), (d.0.1, m.1))
+
     each : (xs : List NodeName) → AllByRecursion (λ z. AllByRecursion (λ x. IsNot x z) xs) zs → AllByRecursion (λ x. IsChild x y q) xs → AllByRecursion (λ x. IsChild x y (after q (in_turn (removing observed) zs q))) xs
     each [] d h = tt
     each (x ∷ xs) d h = let m = heads x xs zs d in (child-removals x y observed zs q i m.0 h.0, each xs m.1 h.1)
@@ -128,10 +129,13 @@ room-deleting k r p i g h =
   where
     first_cut : Plan
     first_cut = cutting_data p.trees r r.start.node
+
     others : Plan
     others = cutting_data p.trees r r.start.node and_then in_turn (removing observed) (outermost_contained p.trees r) and_then cutting_data p.trees r r.end.node
+
     Done : List Step → Type 0
     Done steps = HasRoom nowhere (after p steps) × ((new_place p.trees r).offset ≤ length_of (after p steps).trees (new_place p.trees r).node)
+
     in_data : is_in_one_data p.trees r ≡ true → HasRoom nowhere (after p (deleting_contents p.trees r p)) × ((new_place p.trees r).offset ≤ length_of (after p (deleting_contents p.trees r p)).trees (new_place p.trees r).node)
     in_data e =
         let ts = p.trees in
@@ -142,9 +146,11 @@ room-deleting k r p i g h =
         let begins : cut_start r x ≡ r.start.offset = cond-true (name_eq x x) r.start.offset 0 (name_eq-same x) in
         let place : new_place ts r ≡ r.start = cond-true (is_inclusive_ancestor ts x r.end.node) r.start _ (ap (is_inclusive_ancestor ts x) (sym (name_eq-true x r.end.node both.0)) ∙ self-above ts x g.start) in
         let left = data-left p x (cut_start r x) count both.1 (let w = g.within in omega arith) in
-        subst (λ steps. HasRoom nowhere (after p steps) × ((new_place ts r).offset ≤ length_of (after p steps).trees (new_place ts r).node)) (sym plan)
-        (room-replacing_data x (cut_start r x) count [] p i both.1 h,
-        subst (λ (c : Boundary NodeName). c.offset ≤ length_of (after p (replacing_data x (cut_start r x) count [] p)).trees c.node) (sym place) (omega arith))
+        subst (λ steps. HasRoom nowhere (after p steps) × ((new_place ts r).offset ≤ length_of (after p steps).trees (new_place ts r).node)) (sym plan) (
+          room-replacing_data x (cut_start r x) count [] p i both.1 h,
+          subst (λ (c : Boundary NodeName). c.offset ≤ length_of (after p (replacing_data x (cut_start r x) count [] p)).trees c.node) (sym place) (omega arith),
+        )
+
     in_trees : is_in_one_data p.trees r ≡ false → HasRoom nowhere (after p (deleting_contents p.trees r p)) × ((new_place p.trees r).offset ≤ length_of (after p (deleting_contents p.trees r p)).trees (new_place p.trees r).node)
     in_trees e =
         let ts = p.trees in
@@ -160,13 +166,13 @@ room-deleting k r p i g h =
         let lq = leads-removals observed gone q a.part in
         let s = after q two in
         let missing = all-then (λ z. is_contained ts r z ≡ true) (λ z. AllByRecursion (λ x. IsNot x z) xs) (λ z c. contained-not ts r z c xs room.spared.children) gone
-            (all-passed (λ z. is_contained ts r z ≡ true) _ (λ z c. (and_parts (is_contained ts r z) _ c).0) (names_of (nodes ts))) in
+        (all-passed (λ z. is_contained ts r z ≡ true) _ (λ z c. (and_parts (is_contained ts r z) _ c).0) (names_of (nodes ts))) in
         let cs = children-left xs y gone q a.part missing a.children in
         let rs = room-removals nowhere observed gone q a.part a.room in
         let sr = after p (one ++ two) in
         let same : sr ≡ s = after-append p one two in
         let kinds : has_data (kind_of ts r.end.node) ≡ true → has_data (kind_of sr.trees r.end.node) ≡ true =
-            λ d. ap (λ (v : Part). has_data (kind_of v.trees r.end.node)) same ∙ ap has_data (lq.changed.kinds r.end.node (still a.changed r.end.node g.end) ∙ a.changed.kinds r.end.node g.end) ∙ d in
+        λ d. ap (λ (v : Part). has_data (kind_of v.trees r.end.node)) same ∙ ap has_data (lq.changed.kinds r.end.node (still a.changed r.end.node g.end) ∙ a.changed.kinds r.end.node g.end) ∙ d in
         let c = cut-end xs y ts r r.end.node sr (subst IsPart (sym same) lq.changed.part) (subst (HasRoom nowhere) (sym same) rs) (subst (AreChildren xs y) (sym same) cs) kinds in
         let three = cutting_data ts r r.end.node sr in
         let opened : IsOpen (after sr three) y = ap has_data (c.changed.kinds y (subst (λ (v : Part). There v y) (sym same) cs.1) ∙ ap (λ (v : Part). kind_of v.trees y) same ∙ lq.changed.kinds y (still a.changed y room.children.1) ∙ a.changed.kinds y room.children.1) ∙ room.opened in
@@ -183,6 +189,7 @@ all-read ts u = diagonal ts (there ts (λ y m. m)) (λ y t. read-all ts y u t)
     there none f = tt
     there (tree n c r) f =
         (f n.name (let g = times-here n c r n.name (name_eq-same n.name) in omega arith), there c (λ y m. f y (let g = times-more n c r y in omega arith)), there r (λ y m. f y (let g = times-more n c r y in omega arith)))
+
     diagonal : (us : Trees) → AllNodes (λ n. 1 ≤ times_in ts n.name) us → ((y : NodeName) → 1 ≤ times_in ts y → AllNodes (λ n. name_eq n.name y ≡ true → n ≡ node_in ts y) us) → AllNodes (λ n. n ≡ node_in ts n.name) us
     diagonal none h f = tt
     diagonal (tree n c r) h f = ((f n.name h.0).0 (name_eq-same n.name), diagonal c h.1 (λ y t. (f y t).1), diagonal r h.2 (λ y t. (f y t).2))
@@ -248,20 +255,25 @@ pub room-extracting : (k : ℕ) (r : Range NodeName) (p : Part) → IsPart p →
 room-extracting k r p i g h =
     let steps = taking into (pieces_of p.trees r) q in
     let done = by_cases (is_inclusive_ancestor p.trees r.start.node r.end.node)
-        (λ e. by_cases (has_data (kind_of p.trees r.start.node)) (λ d. in_data e d) (λ d. in_trees (λ f. d)))
-        (λ e. in_trees (λ f. absurd (true≢false (sym f ∙ e)))) in
+    (λ e. by_cases (has_data (kind_of p.trees r.start.node)) (λ d. in_data e d) (λ d. in_trees (λ f. d)))
+    (λ e. in_trees (λ f. absurd (true≢false (sym f ∙ e)))) in
     room-then nowhere p (make fragment ∷ steps) (set_range k (both_at (new_place p.trees r)) ∷ []) (room-last p (after q steps) k (new_place p.trees r) done.1 done.0)
   where
     into : NodeName
     into = next_name p
+
     fragment : Node
     fragment = new_fragment_node (next_name p) (own_document p.trees r.start.node)
+
     q : Part
     q = part_step p (make (new_fragment_node (next_name p) (own_document p.trees r.start.node)))
+
     first : Changed None p (part_step p (make (new_fragment_node (next_name p) (own_document p.trees r.start.node))))
     first = (leads-one p (make (new_fragment_node (next_name p) (own_document p.trees r.start.node))) i tt).changed
+
     opened : IsOpen (part_step p (make (new_fragment_node (next_name p) (own_document p.trees r.start.node)))) (next_name p)
     opened = ap (λ (n : Node). has_data n.kind) (node-new (with_name (next_name p) (new_fragment_node (next_name p) (own_document p.trees r.start.node))) p.trees (next-absent p i))
+
     in_trees : (is_inclusive_ancestor p.trees r.start.node r.end.node ≡ true → IsOpen p r.start.node) → let q = part_step p (make (new_fragment_node (next_name p) (own_document p.trees r.start.node))) in HasRoom nowhere (after q (taking (next_name p) (pieces_of p.trees r) q)) × ((new_place p.trees r).offset ≤ length_of (after q (taking (next_name p) (pieces_of p.trees r) q)).trees (new_place p.trees r).node)
     in_trees op =
         let n = new_fragment_node (next_name p) (own_document p.trees r.start.node) in
@@ -279,6 +291,7 @@ room-extracting k r p i g h =
         let l = leads-taking p.node_count pieces (next_name p) q c.part c.count (new-there p n) le old in
         let end = after q (taking (next_name p) pieces q) in
         (taken.0, room-at p end r b room l.changed.part (ap has_data (l.changed.kinds b.node (still c b.node kc.1) ∙ c.kinds b.node kc.1) ∙ room.opened) taken.1)
+
     in_data : is_inclusive_ancestor p.trees r.start.node r.end.node ≡ true → has_data (kind_of p.trees r.start.node) ≡ true → let q = part_step p (make (new_fragment_node (next_name p) (own_document p.trees r.start.node))) in HasRoom nowhere (after q (taking (next_name p) (pieces_of p.trees r) q)) × ((new_place p.trees r).offset ≤ length_of (after q (taking (next_name p) (pieces_of p.trees r) q)).trees (new_place p.trees r).node)
     in_data e d =
         let ts = p.trees in

@@ -6,7 +6,7 @@ use Rattle.std.proofs.lemmas.Bool.{cond-true, cond-false, false_from_ne_true, lt
 use Rattle.dom_base.specs.declared.Owner.TheVariants.{Page, Component}
 use Rattle.dom_base.specs.declared.NodeName.{NodeName}
 use Rattle.dom_model.specs.Names.{name_eq, is_in, first_of}
-use Rattle.dom_model.specs.Tree.{Trees, none, tree, Node, nodes, names_of, roots, has_node, inclusive_ancestors, on_top}
+use Rattle.dom_model.specs.Tree.{Trees, none, tree, nodes, names_of, roots, has_node, inclusive_ancestors, on_top}
 use Rattle.dom_model.specs.World.{part_of, is_there, host_of, component_made, shadow_root_of}
 use Rattle.dom_model.proofs.OwnerLaws.{name_eq-same}
 use Rattle.dom_model.proofs.PartLaws.{owner-part_of}

@@ -1,22 +1,22 @@
 -- What an accepted command does to the tables of its owner's part: they keep to what is there, and steps fit.
-use Rattle.std.proofs.Common.{zero, suc, ◌≡◌, ◌≤◌, ◌<◌, ℕ, ◌+◌, Bool, true, false, not, ◌&&◌, ◌||◌, List, [], ◌∷◌, ◌++◌, map, filter, find, drop, length, Option, Some, None, option_map, refl, sym, ap, ◌∙◌, arith, true≢false, subst, length-append}
+use Rattle.std.proofs.Common.{zero, suc, ◌≡◌, ◌≤◌, ◌<◌, ℕ, Bool, true, false, not, ◌&&◌, List, [], ◌∷◌, ◌++◌, map, filter, find, drop, length, Option, Some, None, option_map, refl, sym, ap, ◌∙◌, arith, true≢false, subst, length-append}
 use Rattle.std.specs.Prelude.{if◌then◌else◌, ⊤, slice_get, slice_set, is_some, nat_lt, ◌==◌, option_to_list}
 use Rattle.std.specs.List.{AllByRecursion, list_any, list_all}
 use Rattle.std.specs.Option.{option_map_or, option_flatten, option_or}
-use Rattle.std.proofs.lemmas.Bool.{cond-true, cond-false, and_parts, not-false}
+use Rattle.std.proofs.lemmas.Bool.{and_parts}
 use Rattle.std.proofs.lemmas.List.{length-set}
 use Rattle.dom_base.specs.declared.Move.{Move}
 use Rattle.dom_base.specs.declared.Move.TheVariants.{Parent, First, Last, Next, Previous, NextSibling, PreviousSibling}
 use Rattle.dom_base.specs.declared.NodeName.{NodeName}
 use Rattle.dom_base.specs.declared.Refusal.TheVariants.{Hierarchy}
 use Rattle.dom_model.specs.Changes.{observed}
-use Rattle.dom_model.specs.Command.{Command, Spelled, ObserveWords, ListenerWords, Filter}
-use Rattle.dom_model.specs.CommandNames.{named, nodes_exist, nodes_named, thing_exists, has_range}
+use Rattle.dom_model.specs.Command.{Command, Spelled, ObserveWords, ListenerWords}
+use Rattle.dom_model.specs.CommandNames.{named, has_range}
 use Rattle.dom_model.specs.CommandRefusals.{part_refusal, own_refusal, of_range, limit_on, made_by_insert_node}
-use Rattle.dom_model.specs.Effects.{Effect, tables, changes, effect, answers, moves_iterator, sets_walker, node_or_null, with_range, collapsed_to, new_iterator, new_walker, with_queue_emptied}
+use Rattle.dom_model.specs.Effects.{Effect, tables, changes, effect, answers, moves_iterator, sets_walker, node_or_null, with_range, collapsed_to, new_iterator, new_walker}
 use Rattle.dom_model.specs.Extract.{both_at}
 use Rattle.dom_model.specs.Listeners.{Listener, listened, is_listener}
-use Rattle.dom_model.specs.Names.{name_eq, is_in, first_of, last_of, items_before, items_after}
+use Rattle.dom_model.specs.Names.{name_eq, first_of, last_of, items_before, items_after}
 use Rattle.dom_model.specs.Observers.{Registration, asked_for, with_registration, with_options, is_asked_for, stems_from, options_of}
 use Rattle.dom_model.specs.Output.{Value, nothing, a_node, a_string, boundaries, reference}
 use Rattle.dom_model.specs.Part.{Part, first_node, range_at}
@@ -25,8 +25,8 @@ use Rattle.dom_model.specs.RangeOps.{cannot_take_node, insert_node_refusal, inse
 use Rattle.dom_model.specs.Ranges.{Range, at, from_to, with_start, with_end}
 use Rattle.dom_model.specs.Extract.{extracting}
 use Rattle.dom_model.specs.Steps.{Step}
-use Rattle.dom_model.specs.Traversal.{Iterator, Walker, iterator_next_node, iterator_previous_node, nodes_ahead, nodes_passed, accepts, walker_move, walker_step, walker_parent, walker_children, walker_nodes, walker_siblings}
-use Rattle.dom_model.specs.Tree.{Trees, Node, has_node, subtree, kind_of, ancestors, inclusive_ancestors, inclusive_descendants, is_inclusive_ancestor, parent_of, child_nodes, children_of, length_of}
+use Rattle.dom_model.specs.Traversal.{Iterator, Walker, iterator_next_node, iterator_previous_node, nodes_ahead, nodes_passed, accepts, walker_move, walker_step, walker_children, walker_nodes, walker_siblings}
+use Rattle.dom_model.specs.Tree.{Trees, Node, has_node, kind_of, ancestors, inclusive_ancestors, inclusive_descendants, is_inclusive_ancestor, parent_of, child_nodes, length_of}
 use Rattle.dom_model.specs.Validity.{first_refusal, has_parent, may_be_parent, placing_tests, insertion_refusal, replacement_refusal}
 use Rattle.dom_isolation.specs.Worlds.{times_in, IsPart}
 use Rattle.dom_isolation.specs.Tables.{IsNodeIn, HasEnds, EndsIn, IsIteratorIn, IsWalkerIn, IsRegistrationIn, IsListenerIn, HasTables}
@@ -36,11 +36,11 @@ use Rattle.dom_isolation.proofs.Insides.{inside-itself, inside-no_ancestor, time
 use Rattle.dom_isolation.proofs.KindCommands.{has_node-times}
 use Rattle.dom_isolation.proofs.Lists.{all-append, all-then, all-filter, all-map}
 use Rattle.dom_isolation.proofs.PageCommands.{owner-named}
-use Rattle.dom_isolation.proofs.PlanPlaces.{Leads, MayGo, leads-one, leads-removing, leads-adopting, leads-inserting}
+use Rattle.dom_isolation.proofs.PlanPlaces.{MayGo, leads-removing, leads-adopting, leads-inserting}
 use Rattle.dom_isolation.proofs.PlanTexts.{range-ends, leads-replacing, leads-setting_attribute, leads-unsetting_attribute, leads-replacing_data, leads-splitting, leads-normalizing, leads-setting_text, leads-extracting, leads-deleting, leads-inserting_into_range}
 use Rattle.dom_isolation.proofs.ShadowRoots.{not_taken}
 use Rattle.dom_isolation.proofs.TableSteps.{StandsIn, all-stand, There, MadeIn, IfSome, first-all, last-all, before-all, after-all, all-descend, all-set, iterator-moved}
-use Rattle.dom_isolation.proofs.Tests.{by_cases, either_way}
+use Rattle.dom_isolation.proofs.Tests.{either_way}
 use Rattle.dom_isolation.proofs.Trees.{IsUnique, ancestors-there}
 
 -- the tables after an effect, or its steps
@@ -243,9 +243,11 @@ parent-of_range p range t = from (start_reference p.trees range)
     of : (o : Option NodeName) → IfSome (There p) o → There p (Rattle.std.specs.Prelude.unwrap_or o range.start.node)
     of None h = t
     of (Some x) h = h
+
     up : (x : NodeName) (o : Option NodeName) → parent_of p.trees x ≡ o → IfSome (There p) o
     up x None e = tt
     up x (Some y) e = parent-there p.trees x y e
+
     from : (o : Option NodeName) → There p (Rattle.std.specs.Prelude.unwrap_or (Rattle.std.specs.Option.option_and_then (parent_of p.trees) o) range.start.node)
     from None = t
     from (Some x) = of (parent_of p.trees x) (up x (parent_of p.trees x) refl)

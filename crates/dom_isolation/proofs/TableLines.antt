@@ -1,8 +1,7 @@
 -- Every line keeps the tables of all parts.
-use Rattle.std.proofs.Common.{zero, suc, ◌≡◌, ◌≢◌, ◌≤◌, ◌<◌, ℕ, Bool, true, false, not, List, [], ◌∷◌, ◌++◌, map, filter, fold, length, Option, Some, None, option_map, refl, sym, ap, ◌∙◌, arith, true≢false, subst}
-use Rattle.std.specs.Prelude.{if◌then◌else◌, ⊤, IsTrue, is_some, slice_set, slice_get, unwrap_or}
+use Rattle.std.proofs.Common.{suc, ◌≡◌, Bool, true, false, not, List, [], ◌∷◌, ◌++◌, map, filter, fold, length, Option, Some, None, option_map, refl, sym, ap, ◌∙◌, arith, true≢false, subst}
+use Rattle.std.specs.Prelude.{is_some, unwrap_or}
 use Rattle.std.specs.List.{AllByRecursion}
-use Rattle.std.proofs.lemmas.Bool.{and_parts}
 use Rattle.dom_base.specs.declared.Action.{Action}
 use Rattle.dom_base.specs.declared.Action.TheVariants.{Log, Stop, StopNow, Cancel}
 use Rattle.dom_base.specs.declared.Kind.TheVariants.{Shadow}
@@ -25,29 +24,28 @@ use Rattle.dom_model.specs.Runs.{Run, quiet, run_each, unless_refused}
 use Rattle.dom_model.specs.Tree.{node_in}
 use Rattle.std.specs.Prelude.{◌&&◌, nat_eq}
 use Rattle.dom_model.specs.Turns.{slotchange, firing_slotchange, is_owned_by, without_signals, notified, running_task, ending_turn, has_other_turn, ending_other_turn, opening_turn}
-use Rattle.dom_model.specs.World.{World, Task, micro_task, notify_task, find_part, part_of, with_part, is_there, host_of, component_made, shadow_root_of}
-use Rattle.dom_model.proofs.OwnerLaws.{owner_eq-true, owner_eq-false}
-use Rattle.dom_model.proofs.PartLaws.{part_of-with_part, part_of-with_part-other, owner-part_of}
+use Rattle.dom_model.specs.World.{World, Task, micro_task, notify_task, find_part, part_of, with_part, component_made}
+use Rattle.dom_model.proofs.PartLaws.{part_of-with_part-other, owner-part_of}
 use Rattle.dom_model.proofs.StepLaws.{Component-IsNoPage}
 use Rattle.dom_isolation.specs.Laws.{IsReached}
 use Rattle.dom_isolation.specs.Tables.{IsNodeIn, IsRegistrationIn, IsListenerIn, HasTables, IsNodeAt, IsWhole}
 use Rattle.dom_isolation.specs.Wholes.{FirstIsWhole, StepKeepsWhole, EndingKeepsWhole, FinishKeepsWhole, ScriptsStayWhole}
 use Rattle.dom_isolation.specs.Worlds.{HasOwners, IsThere}
-use Rattle.dom_isolation.proofs.Acceptance.{part-accepted, accepted-facts}
+use Rattle.dom_isolation.proofs.Acceptance.{accepted-facts}
 use Rattle.dom_isolation.proofs.Insides.{times-has_node}
 use Rattle.dom_isolation.proofs.KindCommands.{attach-free}
 use Rattle.dom_isolation.proofs.LineBegins.{part_of-opening}
-use Rattle.dom_isolation.proofs.Lists.{all-append, all-filter, all-then, all-from}
+use Rattle.dom_isolation.proofs.Lists.{all-append, all-filter}
 use Rattle.dom_isolation.proofs.OwnerCommands.{peopled-opening}
 use Rattle.dom_isolation.proofs.OwnerSteps.{IsPeopled}
 use Rattle.dom_isolation.proofs.Owners.{there-hosted}
-use Rattle.dom_isolation.proofs.Reached.{first-is_reached, step-keeps_reached, ending-keeps_reached, finish-keeps_reached, scripts-reach}
+use Rattle.dom_isolation.proofs.Reached.{first-is_reached, step-keeps_reached, ending-keeps_reached, finish-keeps_reached}
 use Rattle.dom_isolation.proofs.ReachedFacts.{shadow_roots-are_roots}
-use Rattle.dom_isolation.proofs.TableCommands.{Holds, holds-effect, queue-below, more-registered, more-pending}
+use Rattle.dom_isolation.proofs.TableCommands.{Holds, holds-effect, queue-below, more-registered}
 use Rattle.dom_isolation.proofs.TableEffects.{KeepsBase, base-effect}
 use Rattle.dom_isolation.proofs.TableSteps.{Grows, queues-set}
-use Rattle.dom_isolation.proofs.TableWorlds.{AllGrow, Ground, Frame, each-part, frame-grown, frame-with_part, frame-world_after}
-use Rattle.dom_isolation.proofs.Tests.{by_cases, either_way}
+use Rattle.dom_isolation.proofs.TableWorlds.{Ground, Frame, frame-with_part, frame-world_after}
+use Rattle.dom_isolation.proofs.Tests.{either_way}
 
 -- Listeners are called, and some go: those that are left are as they were.
 after-action : (P : Listener NodeName → Type 0) (a : Action) (c : Bool) (d : Dispatching NodeName) → AllByRecursion P d.listeners → AllByRecursion P (after_action a c d).listeners

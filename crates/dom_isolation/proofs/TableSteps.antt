@@ -1,23 +1,23 @@
 -- A step that loses no node keeps the tables of its part, where what it names is there.
-use Rattle.std.proofs.Common.{zero, suc, ◌≡◌, ◌≤◌, ◌<◌, ℕ, Bool, true, false, not, ◌&&◌, ◌||◌, List, [], ◌∷◌, ◌++◌, map, filter, flat_map, fold, length, Option, Some, None, option_map, refl, sym, ap, ◌∙◌, arith, true≢false, subst}
+use Rattle.std.proofs.Common.{zero, suc, ◌≡◌, ◌≤◌, ◌<◌, ℕ, Bool, true, false, not, ◌&&◌, ◌||◌, List, [], ◌∷◌, ◌++◌, map, filter, fold, length, Option, Some, None, option_map, refl, sym, ap, ◌∙◌, arith, true≢false, subst}
 use Rattle.std.specs.Prelude.{if◌then◌else◌, IsTrue, ⊤, slice_set, nat_eq, nat_lt, nat_le, ◌+◌, ◌-◌}
 use Rattle.std.specs.List.{AllByRecursion, last_or}
 use Rattle.std.specs.Option.{option_map_or}
 use Rattle.std.proofs.lemmas.Bool.{cond-true, cond-false, not-true}
 use Rattle.std.proofs.lemmas.List.{length-set}
 use Rattle.dom_base.specs.declared.NodeName.{NodeName}
-use Rattle.dom_model.specs.Names.{Word, DomString, name_eq, is_in, first_of, last_of, items_after, items_before, append_once}
-use Rattle.dom_model.specs.Tree.{Trees, none, tree, Node, nodes, names_of, roots, has_node, subtree, parent_of, index_of, inclusive_descendants, inclusive_ancestors, is_inclusive_ancestor}
-use Rattle.dom_model.specs.TreeChanges.{without, map_nodes, with_name, with_document, with_data_replaced, with_attribute, with_node, taken_out, placed}
+use Rattle.dom_model.specs.Names.{name_eq, is_in, first_of, last_of, items_after, items_before, append_once}
+use Rattle.dom_model.specs.Tree.{Trees, Node, nodes, subtree, parent_of, index_of, inclusive_descendants, inclusive_ancestors, is_inclusive_ancestor}
+use Rattle.dom_model.specs.TreeChanges.{without, map_nodes, with_name, with_document, with_data_replaced, with_attribute, taken_out}
 use Rattle.dom_model.specs.Place.{Boundary}
-use Rattle.dom_model.specs.Ranges.{Range, at, from_to, map_ends, boundary_eq, after_insert, after_removal, after_replace_data, after_split, after_join}
+use Rattle.dom_model.specs.Ranges.{Range, at, map_ends, boundary_eq, after_insert, after_removal, after_replace_data, after_split, after_join}
 use Rattle.dom_model.specs.Traversal.{Iterator, Walker, moved_to, adjusted_iterator}
 use Rattle.dom_model.specs.Observers.{target_of, fits, fitting, interested, Registration, Source, asked_for, copied_from, copied_from_transient, transients_for, registrations_on, copied_source, is_transient}
 use Rattle.dom_model.specs.Output.{Change}
 use Rattle.dom_model.specs.Part.{Part, next_name, queue_of}
 use Rattle.dom_model.specs.Steps.{Step, make, make_room, place, take_out, set_document, set_attribute, replace_data, split_at, join_at, set_range, queue_record, part_step, leave, with_ends, told, interested_in, record_in, after}
 use Rattle.dom_isolation.specs.Worlds.{times_in, IsPart}
-use Rattle.dom_isolation.specs.Tables.{IsNodeIn, HasEnds, EndsIn, IsIteratorIn, IsWalkerIn, IsSourceIn, IsRegistrationIn, IsListenerIn, HasTables}
+use Rattle.dom_isolation.specs.Tables.{IsNodeIn, EndsIn, IsIteratorIn, IsWalkerIn, IsSourceIn, IsRegistrationIn, IsListenerIn, HasTables}
 use Rattle.dom_isolation.proofs.Lists.{all-distinct, all-append, all-then, all-filter, all-from, all-flat_map, all-map}
 use Rattle.dom_isolation.proofs.Tests.{by_cases, either_way, or-second, or-neither}
 use Rattle.dom_isolation.proofs.Trees.{IsUnique, by_times, times-subtree, nodes-there, name_eq-true, root-there}
@@ -383,10 +383,14 @@ iterator-left ts x i u v g h =
     let put = λ (a z : NodeName). inside-put_root x (subtree ts x) (without x ts) a z in
     by_cases (here root)
     (λ e. subst P (sym (adjusted-not ts x i (test-true (here root) (not (here i.reference)) e)))
-    (record { root = g root h.root; reference = g i.reference h.reference; within = inside-ancestor us root i.reference v
-        (let a = ancestor-inside ts x root e in
-        let n : 1 ≤ times_in (subtree ts x) root = let s = inside-alone ts x root u in omega arith in
-        let k = inside-subtree ts x root i.reference u n in let q = put root i.reference in omega arith) }))
+    (record {
+      root = g root h.root;
+      reference = g i.reference h.reference;
+      within = inside-ancestor us root i.reference v
+          (let a = ancestor-inside ts x root e in
+          let n : 1 ≤ times_in (subtree ts x) root = let s = inside-alone ts x root u in omega arith in
+          let k = inside-subtree ts x root i.reference u n in let q = put root i.reference in omega arith);
+    }))
     (λ e. by_cases (here i.reference)
     (λ k. let above = inside-no_ancestor ts x root u e in
     let mine = ancestor-inside ts x i.reference k in
@@ -396,20 +400,20 @@ iterator-left ts x i u v g h =
     let front = items_before name_eq x all in
     let begins : front ≡ root ∷ items_before name_eq x at.0 = ap (items_before name_eq x) at.1 ∙ cond-false (name_eq x root) [] (root ∷ items_before name_eq x at.0) other in
     let front-all : AllByRecursion there front =
-        all-then (λ y. (1 ≤ times_in (subtree ts root) y) × (inside (subtree ts root) x y ≡ 0)) there
-        (λ y m. let m0 = m.0 in let m1 = m.1 in
-        let n : IsNodeIn ts y = times-has_node ts y (let s = times-subtree ts root y in omega arith) in
-        left-stands ts x root y u v (g y n) (let s = inside-subtree ts root x y u below in omega arith) (let s = times-inside ts root y in omega arith))
-        front (before-apart (subtree ts root) x (λ y. let s = times-subtree ts root y in let o = u y in omega arith)) in
+    all-then (λ y. (1 ≤ times_in (subtree ts root) y) × (inside (subtree ts root) x y ≡ 0)) there
+    (λ y m. let m0 = m.0 in let m1 = m.1 in
+    let n : IsNodeIn ts y = times-has_node ts y (let s = times-subtree ts root y in omega arith) in
+    left-stands ts x root y u v (g y n) (let s = inside-subtree ts root x y u below in omega arith) (let s = times-inside ts root y in omega arith))
+    front (before-apart (subtree ts root) x (λ y. let s = times-subtree ts root y in let o = u y in omega arith)) in
     let behind = first_of (filter (λ y. not (here y)) (items_after name_eq x all)) in
     let behind-there : IfSome there behind =
-        first-all there (filter (λ y. not (here y)) (items_after name_eq x all))
-        (all-then (λ y. StandsIn ts root y × (not (here y) ≡ true)) there
-        (λ y m. let m0 : StandsIn ts root y = m.0 in left-stands ts x root y u v (g y m0.0) (inside-no_ancestor ts x y u (not-true (here y) m.1)) (ancestor-inside ts root y m0.1))
-        (filter (λ y. not (here y)) (items_after name_eq x all)) (all-kept (StandsIn ts root) (λ y. not (here y)) (items_after name_eq x all) (after-all (StandsIn ts root) x all (all-stand ts root u)))) in
+    first-all there (filter (λ y. not (here y)) (items_after name_eq x all))
+    (all-then (λ y. StandsIn ts root y × (not (here y) ≡ true)) there
+    (λ y m. let m0 : StandsIn ts root y = m.0 in left-stands ts x root y u v (g y m0.0) (inside-no_ancestor ts x y u (not-true (here y) m.1)) (ancestor-inside ts root y m0.1))
+    (filter (λ y. not (here y)) (items_after name_eq x all)) (all-kept (StandsIn ts root) (λ y. not (here y)) (items_after name_eq x all) (after-all (StandsIn ts root) x all (all-stand ts root u)))) in
     let back : P (moved_to i false (last_of front)) =
-        moved-front P i front root (items_before name_eq x at.0) begins
-        (all-then there (λ y. P (record i { reference = y; before = false })) (λ y m. record { root = g root h.root; reference = m.0; within = m.1 }) front front-all) in
+    moved-front P i front root (items_before name_eq x at.0) begins
+    (all-then there (λ y. P (record i { reference = y; before = false })) (λ y m. record { root = g root h.root; reference = m.0; within = m.1 }) front front-all) in
     let no_test : (here root || not (here i.reference)) ≡ false = or-neither (here root) (not (here i.reference)) e (ap not k) in
     subst P (sym (cond-false (here root || not (here i.reference)) i (if i.before then moved_to (moved_to i false (last_of front)) true behind else moved_to i false (last_of front)) no_test))
     (either_way P i.before (moved_to (moved_to i false (last_of front)) true behind) (moved_to i false (last_of front))
@@ -428,7 +432,7 @@ tables-left p x parent i e g h =
     let moved : AllByRecursion (EndsIn ts) (map (option_map (map_ends move)) p.ranges) = ranges-moved ts move (moves-removal ts (is_inclusive_ancestor ts x) parent (index_of ts x) (times-has_node ts parent (parent-there ts x parent e))) p.ranges h.ranges in
     let v : IsUnique us = λ y. let o = i.unique y in let t = times-taken_out_all ts x y i.unique in omega arith in
     let registered = all-append (IsRegistrationIn ts k) p.registrations (transients_for name_eq x (inclusive_ancestors ts parent) p.registrations) h.registrations
-        (all-transients ts k x (inclusive_ancestors ts parent) p.registrations (times-has_node ts x (child-there ts x parent e)) h.registrations) in
+    (all-transients ts k x (inclusive_ancestors ts parent) p.registrations (times-has_node ts x (child-there ts x parent e)) h.registrations) in
     record {
       hosts = all-then (IsNodeIn ts) (IsNodeIn us) g p.attached h.hosts;
       ranges = all-then (EndsIn ts) (EndsIn us) (ends-grow ts us g) (map (option_map (map_ends move)) p.ranges) moved;

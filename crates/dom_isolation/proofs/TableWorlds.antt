@@ -1,30 +1,29 @@
 -- Steps in the world keep the tables of all parts, and each signalled slot a node.
-use Rattle.std.proofs.Common.{zero, suc, ◌≡◌, ◌≢◌, ◌≤◌, ◌<◌, ℕ, ◌+◌, Bool, true, false, not, ◌&&◌, ◌||◌, List, [], ◌∷◌, ◌++◌, map, filter, filter_map, flat_map, find, fold, position, length, Option, Some, None, option_map, refl, sym, ap, ◌∙◌, arith, true≢false, subst}
-use Rattle.std.specs.Prelude.{if◌then◌else◌, ⊤, IsTrue, option_to_list, unwrap_or}
+use Rattle.std.proofs.Common.{◌≡◌, ◌≢◌, ◌≤◌, ℕ, Bool, true, false, ◌&&◌, List, [], ◌∷◌, ◌++◌, filter, filter_map, flat_map, find, fold, position, Option, Some, None, option_map, refl, sym, ap, ◌∙◌, arith, true≢false, subst}
+use Rattle.std.specs.Prelude.{if◌then◌else◌, option_to_list, unwrap_or}
 use Rattle.std.specs.List.{AllByRecursion, cons_option}
-use Rattle.std.specs.Option.{option_map_or, option_and_then}
+use Rattle.std.specs.Option.{option_and_then}
 use Rattle.std.proofs.lemmas.Bool.{and_parts}
 use Rattle.dom_base.specs.declared.NodeName.{NodeName}
 use Rattle.dom_base.specs.declared.Owner.{Owner}
 use Rattle.dom_base.specs.declared.Owner.TheVariants.{Page, Component}
-use Rattle.dom_model.specs.Names.{DomString, name_eq, owner_eq, node_of, max_depth, is_empty, is_in, append_once}
-use Rattle.dom_model.specs.Tree.{Trees, Node, nodes, names_of, node_in, no_node, subtree, inclusive_descendants, parent_of, is_element}
+use Rattle.dom_model.specs.Names.{DomString, name_eq, owner_eq, node_of, max_depth, is_empty, is_in}
+use Rattle.dom_model.specs.Tree.{Trees, Node, nodes, node_in, no_node, subtree, inclusive_descendants, parent_of, is_element}
 use Rattle.dom_model.specs.Part.{Part}
 use Rattle.dom_model.specs.Slots.{is_slot_element, slottable_name, slot_in, slot_of, has_slot_name, assigned, is_changed, is_bare_slot, own_slots, slots_among, other_slots, signals, with_signal}
-use Rattle.dom_model.specs.Steps.{Step, make, make_room, place, take_out, set_document, set_attribute, replace_data, split_at, join_at, set_range, queue_record, part_step, after, is_taken}
+use Rattle.dom_model.specs.Steps.{Step, place, take_out, set_document, set_attribute, queue_record, part_step, is_taken}
 use Rattle.dom_model.specs.World.{World, part_of, with_part, trees_with, node_at, root_at, parent_at, component_at, component_made, components_below, shadow_root_of, shadow_tree, is_in_shadow_tree}
 use Rattle.dom_model.specs.WorldSteps.{world_step, world_after, stepped, with_signals, with_removal_signals, with_notify_if, with_shadow_document}
 use Rattle.dom_model.proofs.OwnerLaws.{owner_eq-true, owner_eq-false}
 use Rattle.dom_model.proofs.PartLaws.{part_of-with_part, part_of-with_part-other, owner-part_of}
-use Rattle.dom_model.proofs.StepLaws.{owner-part_step, part_of-stepped, part_of-stepped-other, part_of-with_signals, part_of-with_removal_signals, part_of-with_notify_if, Component-IsNoPage, below-components, part_of-world_step}
+use Rattle.dom_model.proofs.StepLaws.{owner-part_step, part_of-stepped, part_of-with_signals, part_of-with_removal_signals, part_of-with_notify_if, Component-IsNoPage, part_of-world_step}
 use Rattle.dom_isolation.specs.Worlds.{times_in, IsPart}
 use Rattle.dom_isolation.specs.Tables.{IsNodeIn, HasTables, IsNodeAt}
 use Rattle.dom_isolation.proofs.Insides.{times-has_node}
-use Rattle.dom_isolation.proofs.KindCommands.{has_node-times}
-use Rattle.dom_isolation.proofs.Lists.{all-append, all-filter, all-then, all-from, all-map, all-distinct}
+use Rattle.dom_isolation.proofs.Lists.{all-append, all-filter, all-then, all-map, all-distinct}
 use Rattle.dom_isolation.proofs.PartSteps.{part-step, rest-step}
 use Rattle.dom_isolation.proofs.ShadowRoots.{found-absent}
-use Rattle.dom_isolation.proofs.TableSteps.{There, Fits, MadeIn, Grows, grows-step, tables-step, IfSome}
+use Rattle.dom_isolation.proofs.TableSteps.{Fits, MadeIn, Grows, grows-step, tables-step, IfSome}
 use Rattle.dom_isolation.proofs.Tests.{by_cases, either_way}
 use Rattle.dom_isolation.proofs.Trees.{by_times, times-subtree, nodes-there}
 
@@ -102,6 +101,7 @@ slot-at w g x = from (option_and_then (component_at w) (parent_at w x))
     name_if : (o : Option Node) → IfSome (λ (n : Node). IsNodeAt w n.name) o → IfSome (IsNodeAt w) (option_map (λ (s : Node). s.name) o)
     name_if None h = tt
     name_if (Some n) h = h
+
     looked : (c : Owner) (name : Option DomString) → IfSome (IsNodeAt w) (option_and_then (λ name. option_map (λ (s : Node). s.name) (find (has_slot_name name) (nodes (shadow_tree w c)))) name)
     looked c None = tt
     looked c (Some name) =
@@ -109,6 +109,7 @@ slot-at w g x = from (option_and_then (component_at w) (parent_at w x))
         let P : Node → Type 0 = λ n. IsNodeAt w n.name in
         let all = all-then (λ (n : Node). 1 ≤ times_in (shadow_tree w c) n.name) P (λ n h. at-owner w g c n.name (let s = times-subtree ts (shadow_root_of c) n.name in omega arith)) (nodes (shadow_tree w c)) (nodes-there (shadow_tree w c)) in
         name_if (find (has_slot_name name) (nodes (shadow_tree w c))) (found-listed P (has_slot_name name) (nodes (shadow_tree w c)) all)
+
     from : (c : Option Owner) → IfSome (IsNodeAt w) (option_and_then (λ c. slot_in (shadow_tree w c) (node_at w x)) c)
     from None = tt
     from (Some c) = looked c (slottable_name (node_at w x))
@@ -149,12 +150,12 @@ signals-at was now g h grow x around is_move =
     let other = filter (is_changed was now) (other_slots now x around) in
     let bare-all : AllByRecursion P bare = by_cases (is_move && is_bare_slot now around) (λ e. rw e (bare-at now around is_move e, tt)) (λ e. rw e tt) in
     let own-all = all-filter P (is_changed was now) (own_slots was now x)
-        (all-append P (option_to_list (slot_of was x)) (option_to_list (slot_of now x))
-        (all-if P (slot_of was x) (if-then (IsNodeAt was) P (slot_of was x) (λ y. grow y.owner y) (slot-at was g x))) (all-if P (slot_of now x) (slot-at now h x))) in
+    (all-append P (option_to_list (slot_of was x)) (option_to_list (slot_of now x))
+    (all-if P (slot_of was x) (if-then (IsNodeAt was) P (slot_of was x) (λ y. grow y.owner y) (slot-at was g x))) (all-if P (slot_of now x) (slot-at now h x))) in
     let other-all = all-filter P (is_changed was now) (other_slots now x around)
-        (all-append P (slots_among (subtree (trees_with now around) (root_at now around))) (slots_among (subtree (trees_with now x) x))
-        (among-at now h around.owner (subtree (trees_with now around) (root_at now around)) (times-subtree (trees_with now around) (root_at now around)))
-        (among-at now h x.owner (subtree (trees_with now x) x) (times-subtree (trees_with now x) x))) in
+    (all-append P (slots_among (subtree (trees_with now around) (root_at now around))) (slots_among (subtree (trees_with now x) x))
+    (among-at now h around.owner (subtree (trees_with now around) (root_at now around)) (times-subtree (trees_with now around) (root_at now around)))
+    (among-at now h x.owner (subtree (trees_with now x) x) (times-subtree (trees_with now x) x))) in
     all-distinct P name_eq (own ++ bare ++ other) (all-append P (own ++ bare) other (all-append P own bare own-all bare-all) other-all)
 
 -- a signal, and signals
@@ -252,7 +253,7 @@ part-documents w g k x d e v =
     let o = Component k in
     let ts = trees_with w x in
     let descend = all-map (λ (y : NodeName). y.owner ≡ o) (λ (n : Node). n.name) (nodes (subtree ts x))
-        (all-then (λ (n : Node). 1 ≤ times_in (subtree ts x) n.name) (λ n. n.name.owner ≡ o) (λ n h. (g.parts x.owner).owned n.name (let s = times-subtree ts x n.name in omega arith) ∙ owner-part_of w x.owner ∙ e) (nodes (subtree ts x)) (nodes-there (subtree ts x))) in
+    (all-then (λ (n : Node). 1 ≤ times_in (subtree ts x) n.name) (λ n. n.name.owner ≡ o) (λ n h. (g.parts x.owner).owned n.name (let s = times-subtree ts x n.name in omega arith) ∙ owner-part_of w x.owner ∙ e) (nodes (subtree ts x)) (nodes-there (subtree ts x))) in
     let nothing_below : components_below max_depth w x ≡ [] = ap (flat_map (λ c. c ∷ components_below 0 w (shadow_root_of c))) (no-components w g o (Component-IsNoPage k) (inclusive_descendants ts x) descend) in
     ap (λ cs. part_of (fold (with_shadow_document d) v cs) o) nothing_below
 

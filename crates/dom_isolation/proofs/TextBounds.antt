@@ -1,6 +1,6 @@
 -- The plans of texts keep the ends of ranges within their nodes.
-use Rattle.std.proofs.Common.{zero, suc, ◌≡◌, ◌≤◌, ◌<◌, ℕ, ◌+◌, ◌-◌, Bool, true, false, not, ◌&&◌, List, [], ◌∷◌, ◌++◌, map, filter, flat_map, drop, length, take_while, Option, Some, None, refl, sym, ap, ◌∙◌, arith, true≢false, subst, length-append, length-drop}
-use Rattle.std.specs.Prelude.{if◌then◌else◌, ⊤, ◌==◌, min}
+use Rattle.std.proofs.Common.{◌≡◌, ◌≤◌, ℕ, ◌+◌, ◌-◌, Bool, true, false, not, ◌&&◌, List, [], ◌∷◌, ◌++◌, map, filter, flat_map, drop, length, take_while, Option, Some, None, refl, sym, ap, ◌∙◌, arith, true≢false, subst, length-append, length-drop}
+use Rattle.std.specs.Prelude.{if◌then◌else◌, ◌==◌, min}
 use Rattle.std.specs.List.{AllByRecursion}
 use Rattle.std.specs.Option.{option_map_or}
 use Rattle.std.proofs.lemmas.Bool.{cond-true, cond-false}
@@ -9,27 +9,27 @@ use Rattle.dom_base.specs.declared.Kind.{Kind}
 use Rattle.dom_base.specs.declared.Kind.TheVariants.{Document, Fragment, Shadow, Element, Text, Comment}
 use Rattle.dom_model.specs.Names.{DomString, name_eq, is_in, is_empty, items_after, first_of}
 use Rattle.dom_model.specs.Tree.{Trees, none, tree, Node, node_in, kind_of, is_text, is_document, is_fragment, has_data, subtree, trees_below, children_of, parent_of, siblings, next_sibling, index_of, length_of, descendants, inclusive_descendants, inclusive_ancestors, on_top, names_of, roots}
-use Rattle.dom_model.specs.TreeChanges.{followed_by, put_root, map_nodes, replaced, with_name, with_node, with_data_replaced}
-use Rattle.dom_model.specs.Output.{Change, child_list, character_data}
+use Rattle.dom_model.specs.TreeChanges.{followed_by, with_name, with_node, with_data_replaced}
+use Rattle.dom_model.specs.Output.{child_list, character_data}
 use Rattle.dom_model.specs.Part.{Part, next_name}
 use Rattle.dom_model.specs.Steps.{Step, make, split_at, join_at, replace_data, queue_record, part_step, after}
-use Rattle.dom_model.specs.Changes.{Plan, ◌and_then◌, in_turn, doing, steps_of, only_if, Observing, observed, suppressed, removing, document_below, inserting}
+use Rattle.dom_model.specs.Changes.{Plan, ◌and_then◌, in_turn, doing, steps_of, only_if, observed, suppressed, removing, document_below, inserting}
 use Rattle.dom_model.specs.TextChanges.{replacing_data, new_text_node, replacing_all_data, placing_tail, splitting, texts_after, joins, joining, normalizing_text, normalizing, replacing_children, setting_text}
 use Rattle.dom_model.proofs.OwnerLaws.{name_eq-same}
 use Rattle.dom_isolation.specs.Worlds.{times_in, times_among, IsPart}
 use Rattle.dom_isolation.proofs.Bounds.{nowhere, HasRoom, room-make, room-record, room-split, room-join, length-replaced, length-like}
 use Rattle.dom_isolation.proofs.Insides.{parent-there}
-use Rattle.dom_isolation.proofs.Kids.{kids, index-below, kids-map_nodes, node-with_node, node-new, node-map_nodes, length-data, length-kids}
+use Rattle.dom_isolation.proofs.Kids.{kids, index-below, node-with_node, node-new, node-map_nodes, length-data, length-kids}
 use Rattle.dom_isolation.proofs.Lists.{all-then, all-from, all-filter, all-take_while, all-passed}
 use Rattle.dom_isolation.proofs.NodeKinds.{name-node_in}
-use Rattle.dom_isolation.proofs.PartSteps.{KeepsNames, some-keeps, next-absent}
-use Rattle.dom_isolation.proofs.PlanBounds.{room-then, room-plan, room-removing, room-removals, room-inserting, room-replacing_data, IsOpen, open-still, SameTexts, texts-inserting, kids-plain}
-use Rattle.dom_isolation.proofs.PlanPlaces.{Changed, Leads, MayGo, may-still, still, after-append, leads-then, leads-eased, leads-nothing, leads-one, leads-each, leads-removing, leads-inserting}
-use Rattle.dom_isolation.proofs.PlanTexts.{next-not, new-there, new-may, descend-there, leads-removals, leads-tail, leads-joins, leads-replacing_data, leads-normalizing_text, leads-only_if}
+use Rattle.dom_isolation.proofs.PartSteps.{some-keeps, next-absent}
+use Rattle.dom_isolation.proofs.PlanBounds.{room-then, room-plan, room-removing, room-removals, room-inserting, room-replacing_data, IsOpen, open-still, texts-inserting, kids-plain}
+use Rattle.dom_isolation.proofs.PlanPlaces.{Changed, Leads, MayGo, may-still, still, after-append, leads-then, leads-eased, leads-nothing, leads-one, leads-inserting}
+use Rattle.dom_isolation.proofs.PlanTexts.{next-not, new-there, new-may, descend-there, leads-removals, leads-tail, leads-joins, leads-replacing_data, leads-normalizing_text}
 use Rattle.dom_isolation.proofs.TableSteps.{There, all-kept}
 use Rattle.dom_isolation.proofs.Tests.{by_cases, either_way}
-use Rattle.dom_isolation.proofs.TreeChangeLaws.{HasRoot, put_where, where-here, where-later, put_root-where, root-put_root_new, root-first, times-map_nodes, times-below}
-use Rattle.dom_isolation.proofs.Trees.{IsUnique, times-here, times-elsewhere, times-more, times-subtree, name_eq-true, name_eq-sym, by_times, ancestors-absent, all-both}
+use Rattle.dom_isolation.proofs.TreeChangeLaws.{HasRoot, put_where, where-here, where-later, put_root-where, root-put_root_new, root-first, times-below}
+use Rattle.dom_isolation.proofs.Trees.{times-here, times-elsewhere, times-more, times-subtree, name_eq-sym, ancestors-absent, all-both}
 
 -- A new node changes no ancestors.
 ancestors-followed : (new ts : Trees) (x : NodeName) → times_in new x ≡ 0 → inclusive_ancestors (followed_by new ts) x ≡ inclusive_ancestors ts x
@@ -104,6 +104,7 @@ room-tail p x offset q new (Some parent) e t m =
         let d = ap (λ (s : DomString). length s) (texts x t.there) in
         let f = ap (λ (s : DomString). length s) (texts new t.new_there) in
         let g = t.size in omega arith
+
     lengths : (r : Part) → Changed (Some parent) q (after q (inserting observed new parent (next_sibling q.trees x) q)) → MayGo parent q new → IsOpen q parent → length_of (after q (inserting observed new parent (next_sibling q.trees x) q)).trees parent ≡ kids (after q (inserting observed new parent (next_sibling q.trees x) q)).trees parent
     lengths r c may opened = length-kids (after q (inserting observed new parent (next_sibling q.trees x) q)).trees parent c.part.unique (open-still c parent may.below opened)
 
@@ -209,9 +210,9 @@ room-joining x parent p i t k e h =
     let is = λ (y : NodeName). is_text (kind_of ts y) in
     let texts : AllByRecursion (λ y. has_data (kind_of ts y) ≡ true) nexts = all-then (λ y. is y ≡ true) (λ y. has_data (kind_of ts y) ≡ true) (λ y h. text-data (kind_of ts y) h) nexts (taken is (items_after name_eq x (siblings ts x))) in
     let others : AllByRecursion (λ y. name_eq x y ≡ false) nexts =
-        all-take_while (λ y. name_eq x y ≡ false) is (items_after name_eq x (siblings ts x))
-        (subst (λ (o : Option NodeName). AllByRecursion (λ y. name_eq x y ≡ false) (items_after name_eq x (option_map_or (children_of ts) o (x ∷ [])))) (sym e)
-        (among-behind x (children_of ts parent) (let a = children-among ts parent x in let b = i.unique x in omega arith))) in
+    all-take_while (λ y. name_eq x y ≡ false) is (items_after name_eq x (siblings ts x))
+    (subst (λ (o : Option NodeName). AllByRecursion (λ y. name_eq x y ≡ false) (items_after name_eq x (option_map_or (children_of ts) o (x ∷ [])))) (sym e)
+    (among-behind x (children_of ts parent) (let a = children-among ts parent x in let b = i.unique x in omega arith))) in
     let p1 = part_step p (queue_record (character_data x (Some old))) in
     let few = min 0 (length old - size) in
     let q = after p (replacing_data x size 0 all p) in
@@ -222,9 +223,9 @@ room-joining x parent p i t k e h =
     let sum = length-replaced size few all old in
     let whole = total-texts ts nexts texts in
     let same : AllByRecursion (λ y. length_of q.trees y ≡ length_of ts y) nexts =
-        all-then (λ y. (has_data (kind_of ts y) ≡ true) × (name_eq x y ≡ false)) (λ y. length_of q.trees y ≡ length_of ts y)
-        (λ y h. let n = replaced-elsewhere p1 x size few all y (Rattle.dom_isolation.proofs.Bounds.data-there ts y h.0) h.1 in
-        length-data q.trees y (ap (λ (n : Node). has_data n.kind) n ∙ h.0) ∙ ap (λ (n : Node). length n.text) n ∙ sym (length-data ts y h.0)) nexts (all-both (λ y. has_data (kind_of ts y) ≡ true) (λ y. name_eq x y ≡ false) nexts texts others) in
+    all-then (λ y. (has_data (kind_of ts y) ≡ true) × (name_eq x y ≡ false)) (λ y. length_of q.trees y ≡ length_of ts y)
+    (λ y h. let n = replaced-elsewhere p1 x size few all y (Rattle.dom_isolation.proofs.Bounds.data-there ts y h.0) h.1 in
+    length-data q.trees y (ap (λ (n : Node). has_data n.kind) n ∙ h.0) ∙ ap (λ (n : Node). length n.text) n ∙ sym (length-data ts y h.0)) nexts (all-both (λ y. has_data (kind_of ts y) ≡ true) (λ y. name_eq x y ≡ false) nexts texts others) in
     room-plan None (replacing_data x size 0 all and_then steps_of (joins ts x parent size nexts)) (in_turn (removing observed) nexts) p
     (leads-then None p (replacing_data x size 0 all p) (joins ts x parent size nexts) (leads-replacing_data x size 0 all p i)
     (leads-joins ts x parent size nexts q (leads-replacing_data x size 0 all p i).changed.part (still (leads-replacing_data x size 0 all p i).changed x t)))

@@ -1,6 +1,6 @@
 -- The ends of ranges are within their nodes: after each line but those that insert into a range, or take the contents of one
 -- whose ends are in different trees.
-use Rattle.std.specs.Prelude.{ℕ, ◌≡◌, ◌≤◌, Bool, IsTrue, List, [], Option, Some, None, ⊤}
+use Rattle.std.specs.Prelude.{ℕ, ◌≡◌, ◌≤◌, Bool, IsTrue, [], Option, Some, None, ⊤}
 use Rattle.std.specs.List.{AllByRecursion}
 use Rattle.dom_base.specs.declared.NodeName.{NodeName}
 use Rattle.dom_base.specs.declared.Owner.{Owner}

@@ -1,5 +1,5 @@
 -- The path of an event is the Standard's: it begins at the target and goes from each node to its event parent.
-use Rattle.std.specs.Prelude.{◌≡◌, Bool, IsTrue, Some}
+use Rattle.std.specs.Prelude.{◌≡◌, Bool, Some}
 use Rattle.dom_base.specs.declared.NodeName.{NodeName}
 use Rattle.dom_model.specs.Names.{first_of}
 use Rattle.dom_model.specs.Paths.{whole_path, FollowsParents}

@@ -1,6 +1,6 @@
 -- What holds of the tables of every part of a world that the machine reaches: the nodes and the observers that they name
 -- are there.
-use Rattle.std.specs.Prelude.{◌<◌, ℕ, IsTrue, List, length, Option, Some, None, ⊤}
+use Rattle.std.specs.Prelude.{◌<◌, ℕ, IsTrue, length, Option, Some, None, ⊤}
 use Rattle.std.specs.List.{AllByRecursion}
 use Rattle.dom_base.specs.declared.Owner.{Owner}
 use Rattle.dom_base.specs.declared.NodeName.{NodeName}
