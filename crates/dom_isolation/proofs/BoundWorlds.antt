@@ -42,7 +42,7 @@ use Rattle.dom_isolation.proofs.Kids.{kids, length-children}
 use Rattle.dom_isolation.proofs.LineBegins.{part_of-opening}
 use Rattle.dom_isolation.proofs.Lists.{all-then}
 use Rattle.dom_isolation.proofs.Reached.{ending-keeps_reached, step-keeps_reached, finish-keeps_reached}
-use Rattle.dom_isolation.proofs.PlanTexts.{range-ends}
+use Rattle.dom_isolation.proofs.PlanContents.{range-ends}
 use Rattle.dom_isolation.proofs.RangePlans.{IsProper, room-extracting, room-deleting}
 use Rattle.dom_isolation.proofs.TableCommands.{Holds, holds-effect}
 use Rattle.dom_isolation.proofs.TableEffects.{KeepsBase, base-effect}

@@ -16,7 +16,7 @@ use Rattle.dom_isolation.proofs.Descents.{ancestor-inside}
 use Rattle.dom_isolation.proofs.Insides.{parent-there, or_else-none}
 use Rattle.dom_isolation.proofs.Kids.{root-below}
 use Rattle.dom_isolation.proofs.Lists.{all-then}
-use Rattle.dom_isolation.proofs.TableSteps.{inside-alone}
+use Rattle.dom_isolation.proofs.TableRecords.{inside-alone}
 use Rattle.dom_isolation.proofs.Tests.{by_cases, or-later}
 use Rattle.dom_isolation.proofs.TreeChangeLaws.{HasRoot, subtree-here, subtree-elsewhere, times-below}
 use Rattle.dom_isolation.proofs.Trees.{IsUnique, by_times, times-here, times-elsewhere, times-more, times-subtree, subtree-absent, name_eq-sym, name_eq-true, root-there}

@@ -31,17 +31,17 @@ use Rattle.dom_isolation.proofs.Lists.{all-then}
 use Rattle.dom_isolation.proofs.Owners.{node-there, there-hosted}
 use Rattle.dom_isolation.proofs.ReachedFacts.{root-alone, no_other_shadow_roots, shadow_roots-are_roots}
 use Rattle.dom_isolation.proofs.TableCommands.{all-get}
-use Rattle.dom_isolation.proofs.TableSteps.{IfSome, last-all}
+use Rattle.dom_isolation.proofs.TableRecords.{IfSome, last-all}
 use Rattle.dom_isolation.proofs.Tests.{by_cases}
 use Rattle.dom_isolation.proofs.Trees.{IsUnique, by_times, times-here, times-elsewhere, times-more, times-subtree, name_eq-true, ancestors-absent, ancestors-present, ancestors-there, all-both}
 
 -- A node and those that come after it: each is followed by what is above it, and the last by the end.
-abbrev Runs : (NodeName → Option NodeName) → NodeName → List NodeName → Option NodeName → Type 0
+abbrev pub Runs : (NodeName → Option NodeName) → NodeName → List NodeName → Option NodeName → Type 0
 Runs up x [] e = up x ≡ e
 Runs up x (y ∷ ys) e = (up x ≡ Some y) × Runs up y ys e
 
 -- one after another
-runs-join : (up : NodeName → Option NodeName) (x : NodeName) (xs : List NodeName) (y : NodeName) (ys : List NodeName) (e : Option NodeName) → Runs up x xs (Some y) → Runs up y ys e → Runs up x (xs ++ y ∷ ys) e
+pub runs-join : (up : NodeName → Option NodeName) (x : NodeName) (xs : List NodeName) (y : NodeName) (ys : List NodeName) (e : Option NodeName) → Runs up x xs (Some y) → Runs up y ys e → Runs up x (xs ++ y ∷ ys) e
 runs-join up x [] y ys e h g = (h, g)
 runs-join up x (z ∷ xs) y ys e h g = (h.0, runs-join up z xs y ys e h.1 g)
 
@@ -182,7 +182,7 @@ module _ {only_log : Bool} (w : World) (r : IsReached only_log w) (composed : Bo
   plain-up y e = cond-false (is_shadow (kind_at w y)) (if composed || not (name_eq y (root_at w first)) then host_of w y.owner else None) (option_or (slot_of w y) (parent_at w y)) e
 
   -- of a shadow root
-  shadow-up : (y : NodeName) → is_shadow (kind_at w y) ≡ true → up_from y ≡ (if composed || not (name_eq y (root_at w first)) then host_of w y.owner else None)
+  pub shadow-up : (y : NodeName) → is_shadow (kind_at w y) ≡ true → up_from y ≡ (if composed || not (name_eq y (root_at w first)) then host_of w y.owner else None)
   shadow-up y e = cond-true (is_shadow (kind_at w y)) (if composed || not (name_eq y (root_at w first)) then host_of w y.owner else None) (option_or (slot_of w y) (parent_at w y)) e
 
   -- a shadow root has its owner's first name
@@ -198,7 +198,7 @@ module _ {only_log : Bool} (w : World) (r : IsReached only_log w) (composed : Bo
   page-plain y e = by_cases (is_shadow (kind_at w y)) (λ h. absurd ((shadow-name y y.owner refl h).0 e)) (λ h. h)
 
   -- Up through a tree of a component, to its shadow root.
-  tree-up : (c : Owner) (s : NodeName) → IsInTree w c s → 1 ≤ times_in (trees_with w s) s → (path : List NodeName) → ancestors_at w s ≡ s ∷ path → Runs up_from s path (up_from (shadow_root_of c))
+  pub tree-up : (c : Owner) (s : NodeName) → IsInTree w c s → 1 ≤ times_in (trees_with w s) s → (path : List NodeName) → ancestors_at w s ≡ s ∷ path → Runs up_from s path (up_from (shadow_root_of c))
   tree-up c s t h path e =
       let ts = trees_with w s in
       let Q : NodeName → Type 0 = λ y. IsInTree w c y × (1 ≤ times_in ts y) in
@@ -233,7 +233,7 @@ module _ {only_log : Bool} (w : World) (r : IsReached only_log w) (composed : Bo
   Opens = (c : Owner) → c ≢ Page → (composed || not (name_eq (shadow_root_of c) (root_at w first))) ≡ true
 
   -- to its host
-  out-up : Opens → (c : Owner) → c ≢ Page → IsTrue (is_some (host_of w c)) → up_from (shadow_root_of c) ≡ host_of w c
+  pub out-up : Opens → (c : Owner) → c ≢ Page → IsTrue (is_some (host_of w c)) → up_from (shadow_root_of c) ≡ host_of w c
   out-up opens c f h =
       shadow-up (shadow_root_of c) (ap is_shadow (shadow_roots-are_roots only_log w r c h).1)
       ∙ cond-true (composed || not (name_eq (shadow_root_of c) (root_at w first))) (host_of w c) None (opens c f)
@@ -268,7 +268,7 @@ module _ {only_log : Bool} (w : World) (r : IsReached only_log w) (composed : Bo
       runs-change (parent_of (trees_with w x)) (parent_at w) None (IsOf x.owner) (λ z v e k. same z e ∙ k) (λ z e k. same z e ∙ k) y path h g
 
   -- The way up from a page node.
-  page-way : Opens → (x : NodeName) → x.owner ≡ Page → 1 ≤ times_in (trees_with w x) x → (rest : List NodeName) × (way_up w x ≡ x ∷ rest) × Runs up_from x rest None
+  pub page-way : Opens → (x : NodeName) → x.owner ≡ Page → 1 ≤ times_in (trees_with w x) x → (rest : List NodeName) × (way_up w x ≡ x ∷ rest) × Runs up_from x rest None
   page-way opens x e t =
       let ts = trees_with w x in
       let at = ancestors-present ts x t in
@@ -280,14 +280,14 @@ module _ {only_log : Bool} (w : World) (r : IsReached only_log w) (composed : Bo
       )
 
   -- The way up from a component's node has no slots.
-  no-slots : (ys : List NodeName) (o : Owner) → o ≢ Page → AllByRecursion (IsOf o) ys → flat_map (with_slots 1 w) ys ≡ ys
+  pub no-slots : (ys : List NodeName) (o : Owner) → o ≢ Page → AllByRecursion (IsOf o) ys → flat_map (with_slots 1 w) ys ≡ ys
   no-slots [] o f h = refl
   no-slots (y ∷ ys) o f h =
       let none_at = slot-none w r.world y (λ g. f (sym h.0 ∙ g)) in
       ap (λ s. (y ∷ flat_map (with_slots 0 w) (flat_map (ancestors_at w) (option_to_list s))) ++ flat_map (with_slots 1 w) ys) none_at ∙ ap (λ zs. y ∷ zs) (no-slots ys o f h.1)
 
   -- in no shadow tree it ends at the root
-  loose-up : (x : NodeName) → x.owner ≢ Page → is_in_shadow_tree w x ≡ false → (path : List NodeName) → ancestors_at w x ≡ x ∷ path → Runs up_from x path None
+  pub loose-up : (x : NodeName) → x.owner ≢ Page → is_in_shadow_tree w x ≡ false → (path : List NodeName) → ancestors_at w x ≡ x ∷ path → Runs up_from x path None
   loose-up x f out path e =
       let ts = trees_with w x in
       let u = (r.world.parts x.owner).unique in
@@ -330,106 +330,3 @@ module _ {only_log : Bool} (w : World) (r : IsReached only_log w) (composed : Bo
           let root = shadow_roots-are_roots only_log w r y.owner (there-hosted w r.owners y.owner named.0 there) in
           let none_up : parent_at w y ≡ None = ap (parent_at w) named.1 ∙ root.2 in
           let both : Some z ≡ None = sym up ∙ none_up in cc
-
--- As the definition says it.
-follows-run : (w : World) (composed : Bool) (first x : NodeName) (xs : List NodeName) → Runs (event_parent w composed first) x xs None → FollowsParents w composed first (x ∷ xs)
-follows-run w composed first x [] h = h
-follows-run w composed first x (y ∷ xs) h = (h.0, follows-run w composed first y xs h.1)
-
--- a path that begins at the target and goes on so
-follows-path : (w : World) (composed : Bool) (x : NodeName) (path xs : List NodeName) → path ≡ x ∷ xs → Runs (event_parent w composed x) x xs None → (first_of path ≡ Some x) × FollowsParents w composed x path
-follows-path w composed x path xs e h = (ap first_of e, subst (FollowsParents w composed x) (sym e) (follows-run w composed x x xs h))
-
--- the root of a node is of its owner
-root-owned : (w : World) → IsWorld w → (x : NodeName) → (root_at w x).owner ≡ x.owner
-root-owned w i x = from (last_of (ancestors_at w x)) (last-all (IsOf x.owner) (ancestors_at w x) (ancestors-owned w i x))
-  where
-    from : (o : Option NodeName) → IfSome (IsOf x.owner) o → (unwrap_or o x).owner ≡ x.owner
-    from None h = refl
-    from (Some y) h = h
-
--- the host above a node is that of its owner
-above-host : (w : World) (x host : NodeName) → host_above w x ≡ Some host → host_of w x.owner ≡ Some host
-above-host w x host h = from (host_of w x.owner) refl
-  where
-    by_test : (b : Bool) (y : NodeName) → some_if b y ≡ Some host → Some y ≡ Some host
-    by_test true y e = e
-    by_test false y e = cc
-
-    from : (o : Option NodeName) → host_of w x.owner ≡ o → host_of w x.owner ≡ Some host
-    from None e = let none_at : host_above w x ≡ None = ap (option_and_then (some_if (name_eq (root_at w x) (shadow_root_of x.owner)))) e in let both : None ≡ Some host = sym none_at ∙ h in cc
-    from (Some y) e = e ∙ by_test (name_eq (root_at w x) (shadow_root_of x.owner)) y (sym (ap (option_and_then (some_if (name_eq (root_at w x) (shadow_root_of x.owner)))) e) ∙ h)
-
--- a host is a node of the page
-host-there : (w : World) → IsWorld w → IsWhole w → (o : Owner) (host : NodeName) → host_of w o ≡ Some host → 1 ≤ times_in (trees_with w host) host
-host-there w i h Page host e = cc
-host-there w i h (Component zero) host e = cc
-host-there w i h (Component (suc k)) host e =
-    let page = (host-page w i (Component (suc k)) host e).1 in
-    let ts = (part_of w Page).trees in
-    let there = subst (IfSome (Rattle.dom_isolation.specs.Tables.IsNodeIn ts)) e (all-get (Rattle.dom_isolation.specs.Tables.IsNodeIn ts) (part_of w Page).attached k (h.tables Page).hosts) in
-    subst (λ o. 1 ≤ times_in (part_of w o).trees host) (sym page) (has_node-times ts host there)
-
--- Events of the page.
-page-follows : {only_log : Bool} (w : World) → IsReached only_log w → (x : NodeName) (composed : Bool) → x.owner ≡ Page → 1 ≤ times_in (trees_with w x) x → (first_of (whole_path w x composed) ≡ Some x) × FollowsParents w composed x (whole_path w x composed)
-page-follows w r x composed e t =
-    let way = page-way w r composed x opens x e t in
-    follows-path w composed x (whole_path w x composed) way.0 (ap (flat_map (way_up w)) (chain composed) ∙ append-nil (way_up w x) ∙ way.1) way.2
-  where
-    chain : (c : Bool) → (if c then host_chain w x else x ∷ []) ≡ x ∷ []
-    chain true = host_chain-page w x e
-    chain false = refl
-
-    outer : (c : Owner) → c ≢ Page → name_eq (shadow_root_of c) (root_at w x) ≡ false
-    outer c f = ap (λ b. b && Rattle.std.proofs.Common.eqb 0 (root_at w x).number) (ne-owner_eq c (root_at w x).owner (λ g. f (g ∙ root-owned w r.world x ∙ e)))
-
-    passes : (b t : Bool) → t ≡ false → (b || not t) ≡ true
-    passes true t h = refl
-    passes false t h = ap not h
-
-    opens : (c : Owner) → c ≢ Page → (composed || not (name_eq (shadow_root_of c) (root_at w x))) ≡ true
-    opens c f = passes composed (name_eq (shadow_root_of c) (root_at w x)) (outer c f)
-
--- Events of components.
-component-follows : {only_log : Bool} (w : World) → IsReached only_log w → IsWhole w → (x : NodeName) (composed : Bool) → x.owner ≢ Page → 1 ≤ times_in (trees_with w x) x → (first_of (whole_path w x composed) ≡ Some x) × FollowsParents w composed x (whole_path w x composed)
-component-follows w r h x composed f t =
-    let at = ancestors-present (trees_with w x) x t in
-    let way : way_up w x ≡ x ∷ at.0 = no-slots w r composed x (ancestors_at w x) x.owner f (ancestors-owned w r.world x) ∙ at.1 in
-    by_cases (is_in_shadow_tree w x) (λ e. inner at.0 at.1 way (under w r.world x e) composed) (λ e. outer at.0 at.1 way e composed)
-  where
-    outer : (path : List NodeName) → ancestors_at w x ≡ x ∷ path → way_up w x ≡ x ∷ path → is_in_shadow_tree w x ≡ false → (composed : Bool) → (first_of (whole_path w x composed) ≡ Some x) × FollowsParents w composed x (whole_path w x composed)
-    outer path at way e true =
-        follows-path w true x (whole_path w x true) path (ap (flat_map (way_up w)) (chain-alone w x.owner x (no_host (host_above w x) e)) ∙ append-nil (way_up w x) ∙ way) (loose-up w r true x x f e path at)
-    outer path at way e false = follows-path w false x (whole_path w x false) path (append-nil (way_up w x) ∙ way) (loose-up w r false x x f e path at)
-
-    inner : (path : List NodeName) → ancestors_at w x ≡ x ∷ path → way_up w x ≡ x ∷ path → ((host : NodeName) × IsUnder w x host) → (composed : Bool) → (first_of (whole_path w x composed) ≡ Some x) × FollowsParents w composed x (whole_path w x composed)
-    inner path at way u true =
-        let host = u.0 in
-        let k = u.1 in
-        let e = above-host w x host k.above in
-        let opens = λ (c : Owner) (g : c ≢ Page). refl in
-        let on = page-way w r true x opens host k.page (host-there w r.world h x.owner host e) in
-        let up = tree-up w r true x x.owner x k.tree t path at in
-        let out = out-up w r true x opens x.owner k.tree.foreign k.tree.host ∙ e in
-        follows-path w true x (whole_path w x true) (path ++ host ∷ on.0) (whole_path-under w x host k ∙ ap (λ xs. xs ++ way_up w host) way ∙ ap (λ ys. x ∷ path ++ ys) on.1)
-        (runs-join (event_parent w true x) x path host on.0 None (subst (Runs (event_parent w true x) x path) out up) on.2)
-    inner path at way u false =
-        let k = u.1 in
-        let up = tree-up w r false x x.owner x k.tree t path at in
-        let root = shadow_root_of x.owner in
-        let shut : not (name_eq root (root_at w x)) ≡ false = ap (λ y. not (name_eq root y)) k.tree.root ∙ ap not (name_eq-same root) in
-        let stops : event_parent w false x root ≡ None =
-        shadow-up w r false x root (ap is_shadow (shadow_roots-are_roots _ w r x.owner k.tree.host).1)
-        ∙ cond-false (not (name_eq root (root_at w x))) (host_of w x.owner) None shut in
-        follows-path w false x (whole_path w x false) path (append-nil (way_up w x) ∙ way) (subst (Runs (event_parent w false x) x path) stops up)
-
--- the law
-pub path-follows_parents : PathFollowsParents
-path-follows_parents b w r h x composed t = by_owner x.owner refl
-  where
-    there : 1 ≤ times_in (trees_with w x) x
-    there = has_node-times (trees_with w x) x t
-
-    by_owner : (o : Owner) → x.owner ≡ o → (first_of (whole_path w x composed) ≡ Some x) × FollowsParents w composed x (whole_path w x composed)
-    by_owner Page e = page-follows w r x composed e there
-    by_owner (Component k) e = component-follows w r h x composed (λ g. Component-IsNoPage k (sym e ∙ g)) there

@@ -42,9 +42,12 @@ pub mod NodeKinds
 pub mod Insides
 pub mod Descents
 pub mod TableSteps
+pub mod TableRecords
 pub mod Kids
+pub mod NodesRead
 pub mod PlanPlaces
 pub mod PlanTexts
+pub mod PlanContents
 pub mod TableCommands
 pub mod TableWorlds
 pub mod Bounds
@@ -59,5 +62,6 @@ pub mod Contained
 pub mod RangeBounds
 pub mod BoundWorlds
 pub mod FollowPaths
+pub mod FollowEvents
 pub mod RangeEnds
 pub mod RangePlans

@@ -16,7 +16,8 @@ use Rattle.dom_model.specs.TextChanges.{replacing_data}
 use Rattle.dom_model.proofs.OwnerLaws.{name_eq-same}
 use Rattle.dom_isolation.specs.Worlds.{IsPart}
 use Rattle.dom_isolation.proofs.Bounds.{nowhere, at_node, HasRoom, room-more, room-place, room-document, room-attribute, room-record, room-made, room-take, room-replace}
-use Rattle.dom_isolation.proofs.Kids.{kids, one_at, kids-placed, kids-map_nodes, node-taken_out, node-placed, node-map_nodes}
+use Rattle.dom_isolation.proofs.Kids.{kids, one_at, kids-placed, kids-map_nodes}
+use Rattle.dom_isolation.proofs.NodesRead.{node-taken_out, node-placed, node-map_nodes}
 use Rattle.dom_isolation.proofs.Lists.{all-then}
 use Rattle.dom_isolation.proofs.PartSteps.{some-keeps}
 use Rattle.dom_isolation.proofs.PlanPlaces.{Changed, Leads, MayGo, may-still, still, taken-step, telling-trees, root-adopting, after-append, emptied_of, leads-then, leads-eased, leads-one, leads-each, leads-removing, leads-adopting, leads-placing, leads-emptied, leads-making_room, placed-may}

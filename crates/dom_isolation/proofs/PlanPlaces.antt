@@ -13,7 +13,7 @@ use Rattle.dom_model.specs.Steps.{Step, make, make_room, place, take_out, set_do
 use Rattle.dom_model.specs.Changes.{Plan, in_turn, steps_of, Observing, observed, suppressed, telling, removal_record, removing, removing_from, has_document, changing_document, adopting, document_below, placed_nodes, emptying, making_room, placing, sibling_before, inserting_nodes, inserting}
 use Rattle.dom_model.proofs.StepLaws.{owner-part_step}
 use Rattle.dom_isolation.specs.Worlds.{times_in, IsPart}
-use Rattle.dom_isolation.proofs.Kids.{node-taken_out, node-placed, node-with_node, node-map_nodes}
+use Rattle.dom_isolation.proofs.NodesRead.{node-taken_out, node-placed, node-with_node, node-map_nodes}
 use Rattle.dom_isolation.proofs.Lists.{all-then, all-from}
 use Rattle.dom_isolation.proofs.Tests.{by_cases, either_way}
 use Rattle.dom_isolation.proofs.TreeChangeLaws.{HasRoot, root-put_root_new, root-subtree, root-map_nodes}

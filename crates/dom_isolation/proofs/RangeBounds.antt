@@ -18,12 +18,13 @@ use Rattle.dom_isolation.specs.Worlds.{IsPart}
 use Rattle.dom_isolation.proofs.Bounds.{nowhere, HasRoom, room-make}
 use Rattle.dom_isolation.proofs.Childs.{childs, childs-taken_out, childs-placed, childs-with_node, childs-map_nodes, childs-parent, children-childs}
 use Rattle.dom_isolation.proofs.Insides.{inside, parent-there}
-use Rattle.dom_isolation.proofs.Kids.{node-new}
+use Rattle.dom_isolation.proofs.NodesRead.{node-new}
 use Rattle.dom_isolation.proofs.Lists.{all-then}
 use Rattle.dom_isolation.proofs.PartSteps.{some-keeps, next-absent}
 use Rattle.dom_isolation.proofs.PlanBounds.{room-inserting, room-replacing_data, IsOpen, open-still, documented}
 use Rattle.dom_isolation.proofs.PlanPlaces.{Changed, MayGo, may-still, still, taken-step, telling-trees, after-append, emptied_of, leads-then, leads-eased, leads-one, leads-removing, leads-adopting, leads-placing, leads-emptied, leads-making_room, placed-may, leads-inserting}
-use Rattle.dom_isolation.proofs.PlanTexts.{OldIn, old-may, old-still, whole-then, changed-inner, new-there, next-not, new-may, leads-making_below, leads-taking, leads-replacing_data}
+use Rattle.dom_isolation.proofs.PlanTexts.{new-there, next-not, new-may, leads-replacing_data}
+use Rattle.dom_isolation.proofs.PlanContents.{OldIn, old-may, old-still, whole-then, changed-inner, leads-making_below, leads-taking}
 use Rattle.dom_isolation.proofs.Plans.{AllWhole}
 use Rattle.dom_isolation.proofs.TableSteps.{There}
 use Rattle.dom_isolation.proofs.Tests.{by_cases, either_way}

@@ -17,10 +17,12 @@ use Rattle.dom_isolation.proofs.Contained.{IsSpared, spared-first, spared-up_to,
 use Rattle.dom_isolation.proofs.Descents.{ancestor-inside}
 use Rattle.dom_isolation.proofs.FollowPaths.{root-itself}
 use Rattle.dom_isolation.proofs.Insides.{parent-there}
-use Rattle.dom_isolation.proofs.Kids.{kids, rooted, kids-below, root-below, index-below, length-kids, length-children}
+use Rattle.dom_isolation.proofs.Kids.{kids, rooted, kids-below, root-below, index-below, length-children}
+use Rattle.dom_isolation.proofs.NodesRead.{length-kids}
 use Rattle.dom_isolation.proofs.PlanBounds.{IsOpen}
 use Rattle.dom_isolation.proofs.RangeBounds.{IsChild, AreChildren}
-use Rattle.dom_isolation.proofs.TableSteps.{There, IfSome, last-all, before-all, inside-alone}
+use Rattle.dom_isolation.proofs.TableSteps.{There}
+use Rattle.dom_isolation.proofs.TableRecords.{IfSome, last-all, before-all, inside-alone}
 use Rattle.dom_isolation.proofs.Lists.{all-append, all-then}
 use Rattle.dom_isolation.proofs.Tests.{by_cases, or-later}
 use Rattle.dom_isolation.proofs.TextBounds.{children-among, kids-open}
@@ -146,7 +148,7 @@ room-outer p r i h t te one apart =
     Rattle.dom_isolation.proofs.Trees.all-both (λ a. There p a × (root_of ts a ≡ root_of ts start)) (λ a. is_inclusive_ancestor ts a start ≡ true) (inclusive_ancestors ts start)
     (Rattle.dom_isolation.proofs.Trees.all-both (There p) (λ a. root_of ts a ≡ root_of ts start) (inclusive_ancestors ts start) (ancestors-there ts start) (ancestors-root ts i.unique start)) (listed-each (inclusive_ancestors ts start)) in
     let G : NodeName → Type 0 = λ a. F a × (outside a ≡ true) in
-    let kept : AllByRecursion G above = Rattle.dom_isolation.proofs.TableSteps.all-kept F outside (inclusive_ancestors ts start) all in
+    let kept : AllByRecursion G above = Rattle.dom_isolation.proofs.TableRecords.all-kept F outside (inclusive_ancestors ts start) all in
     let own : G start = (((t, refl), self), ap not apart) in
     chosen (last_of above) (last-all G above kept) own
   where

@@ -21,12 +21,14 @@ use Rattle.dom_isolation.specs.Worlds.{times_in, IsPart, AllNodes}
 use Rattle.dom_isolation.proofs.Bounds.{Under, reach, nowhere, HasRoom, room-make, room-set}
 use Rattle.dom_isolation.proofs.Bounds as bounds
 use Rattle.dom_isolation.proofs.Contained.{IsSpared}
-use Rattle.dom_isolation.proofs.Kids.{kids, length-data, node-with_node, node-new, read-all}
+use Rattle.dom_isolation.proofs.Kids.{kids}
+use Rattle.dom_isolation.proofs.NodesRead.{length-data, node-with_node, node-new, read-all}
 use Rattle.dom_isolation.proofs.Lists.{all-then, all-passed}
 use Rattle.dom_isolation.proofs.PartSteps.{next-absent}
 use Rattle.dom_isolation.proofs.PlanBounds.{room-then, room-removals, room-replacing_data, IsOpen, texts-inserting}
 use Rattle.dom_isolation.proofs.PlanPlaces.{Changed, MayGo, still, after-append, leads-one, leads-nothing, leads-inserting}
-use Rattle.dom_isolation.proofs.PlanTexts.{OldIn, old-there, whole-then, new-there, next-not, new-may, leads-removals, leads-replacing_data, leads-making_below, pieces-there, leads-taking}
+use Rattle.dom_isolation.proofs.PlanTexts.{new-there, next-not, new-may, leads-removals, leads-replacing_data}
+use Rattle.dom_isolation.proofs.PlanContents.{OldIn, old-there, whole-then, leads-making_below, pieces-there, leads-taking}
 use Rattle.dom_isolation.proofs.RangeBounds.{IsChild, IsNot, AreChildren, AreFit, Misses, IsData, IsOpenIn, fits-still, child-removals, child-replacing_data, child-make, room-taking}
 use Rattle.dom_isolation.proofs.RangeEnds.{room-at, above-kids, room-place_new}
 use Rattle.dom_isolation.proofs.TableSteps.{There}

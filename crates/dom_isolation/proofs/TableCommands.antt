@@ -37,9 +37,11 @@ use Rattle.dom_isolation.proofs.KindCommands.{has_node-times}
 use Rattle.dom_isolation.proofs.Lists.{all-append, all-then, all-filter, all-map}
 use Rattle.dom_isolation.proofs.PageCommands.{owner-named}
 use Rattle.dom_isolation.proofs.PlanPlaces.{MayGo, leads-removing, leads-adopting, leads-inserting}
-use Rattle.dom_isolation.proofs.PlanTexts.{range-ends, leads-replacing, leads-setting_attribute, leads-unsetting_attribute, leads-replacing_data, leads-splitting, leads-normalizing, leads-setting_text, leads-extracting, leads-deleting, leads-inserting_into_range}
+use Rattle.dom_isolation.proofs.PlanTexts.{leads-replacing, leads-setting_attribute, leads-unsetting_attribute, leads-replacing_data, leads-splitting, leads-normalizing, leads-setting_text}
+use Rattle.dom_isolation.proofs.PlanContents.{range-ends, leads-extracting, leads-deleting, leads-inserting_into_range}
 use Rattle.dom_isolation.proofs.ShadowRoots.{not_taken}
-use Rattle.dom_isolation.proofs.TableSteps.{StandsIn, all-stand, There, MadeIn, IfSome, first-all, last-all, before-all, after-all, all-descend, all-set, iterator-moved}
+use Rattle.dom_isolation.proofs.TableSteps.{There, MadeIn, all-set}
+use Rattle.dom_isolation.proofs.TableRecords.{StandsIn, all-stand, IfSome, first-all, last-all, before-all, after-all, all-descend, iterator-moved}
 use Rattle.dom_isolation.proofs.Tests.{either_way}
 use Rattle.dom_isolation.proofs.Trees.{IsUnique, ancestors-there}
 

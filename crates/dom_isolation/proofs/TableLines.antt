@@ -43,7 +43,8 @@ use Rattle.dom_isolation.proofs.Reached.{first-is_reached, step-keeps_reached, e
 use Rattle.dom_isolation.proofs.ReachedFacts.{shadow_roots-are_roots}
 use Rattle.dom_isolation.proofs.TableCommands.{Holds, holds-effect, queue-below, more-registered}
 use Rattle.dom_isolation.proofs.TableEffects.{KeepsBase, base-effect}
-use Rattle.dom_isolation.proofs.TableSteps.{Grows, queues-set}
+use Rattle.dom_isolation.proofs.TableSteps.{Grows}
+use Rattle.dom_isolation.proofs.TableRecords.{queues-set}
 use Rattle.dom_isolation.proofs.TableWorlds.{Ground, Frame, frame-with_part, frame-world_after}
 use Rattle.dom_isolation.proofs.Tests.{either_way}
 

@@ -23,7 +23,8 @@ use Rattle.dom_isolation.proofs.Insides.{times-has_node}
 use Rattle.dom_isolation.proofs.Lists.{all-append, all-filter, all-then, all-map, all-distinct}
 use Rattle.dom_isolation.proofs.PartSteps.{part-step, rest-step}
 use Rattle.dom_isolation.proofs.ShadowRoots.{found-absent}
-use Rattle.dom_isolation.proofs.TableSteps.{Fits, MadeIn, Grows, grows-step, tables-step, IfSome}
+use Rattle.dom_isolation.proofs.TableSteps.{Fits, MadeIn, Grows, grows-step}
+use Rattle.dom_isolation.proofs.TableRecords.{tables-step, IfSome}
 use Rattle.dom_isolation.proofs.Tests.{by_cases, either_way}
 use Rattle.dom_isolation.proofs.Trees.{by_times, times-subtree, nodes-there}
 

@@ -19,14 +19,16 @@ use Rattle.dom_model.proofs.OwnerLaws.{name_eq-same}
 use Rattle.dom_isolation.specs.Worlds.{times_in, times_among, IsPart}
 use Rattle.dom_isolation.proofs.Bounds.{nowhere, HasRoom, room-make, room-record, room-split, room-join, length-replaced, length-like}
 use Rattle.dom_isolation.proofs.Insides.{parent-there}
-use Rattle.dom_isolation.proofs.Kids.{kids, index-below, node-with_node, node-new, node-map_nodes, length-data, length-kids}
+use Rattle.dom_isolation.proofs.Kids.{kids, index-below}
+use Rattle.dom_isolation.proofs.NodesRead.{node-with_node, node-new, node-map_nodes, length-data, length-kids}
 use Rattle.dom_isolation.proofs.Lists.{all-then, all-from, all-filter, all-take_while, all-passed}
 use Rattle.dom_isolation.proofs.NodeKinds.{name-node_in}
 use Rattle.dom_isolation.proofs.PartSteps.{some-keeps, next-absent}
 use Rattle.dom_isolation.proofs.PlanBounds.{room-then, room-plan, room-removing, room-removals, room-inserting, room-replacing_data, IsOpen, open-still, texts-inserting, kids-plain}
 use Rattle.dom_isolation.proofs.PlanPlaces.{Changed, Leads, MayGo, may-still, still, after-append, leads-then, leads-eased, leads-nothing, leads-one, leads-inserting}
 use Rattle.dom_isolation.proofs.PlanTexts.{next-not, new-there, new-may, descend-there, leads-removals, leads-tail, leads-joins, leads-replacing_data, leads-normalizing_text}
-use Rattle.dom_isolation.proofs.TableSteps.{There, all-kept}
+use Rattle.dom_isolation.proofs.TableSteps.{There}
+use Rattle.dom_isolation.proofs.TableRecords.{all-kept}
 use Rattle.dom_isolation.proofs.Tests.{by_cases, either_way}
 use Rattle.dom_isolation.proofs.TreeChangeLaws.{HasRoot, put_where, where-here, where-later, put_root-where, root-put_root_new, root-first, times-below}
 use Rattle.dom_isolation.proofs.Trees.{times-here, times-elsewhere, times-more, times-subtree, name_eq-sym, ancestors-absent, all-both}

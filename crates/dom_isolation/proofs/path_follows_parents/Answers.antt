@@ -1,4 +1,4 @@
-use Rattle.dom_isolation.proofs.FollowPaths.{path-follows_parents}
+use Rattle.dom_isolation.proofs.FollowEvents.{path-follows_parents}
 use Rattle.dom_isolation.proofs.path_follows_parents.Goals as goal
 
 pub returns : goal.returns
