@@ -86,7 +86,7 @@ pub record IsUnder (w : World) (x host : NodeName) : Type 0 where
   pub page : host.owner ≡ Page
 
 -- the chain of a node under a host
-chain-under : (w : World) (o : Owner) (x host : NodeName) → o ≢ Page → host_above w x ≡ Some host → hosts_from (owner_depth o) w x ≡ x ∷ host ∷ []
+pub chain-under : (w : World) (o : Owner) (x host : NodeName) → o ≢ Page → host_above w x ≡ Some host → hosts_from (owner_depth o) w x ≡ x ∷ host ∷ []
 chain-under w Page x host f h = absurd (f refl)
 chain-under w (Component k) x host f h = ap (λ o. x ∷ flat_map (hosts_from zero w) (option_to_list o)) h
 

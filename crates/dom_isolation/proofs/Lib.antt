@@ -65,3 +65,4 @@ pub mod FollowPaths
 pub mod FollowEvents
 pub mod RangeEnds
 pub mod RangePlans
+pub mod Sights

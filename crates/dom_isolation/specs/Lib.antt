@@ -4,6 +4,7 @@ pub mod Tables
 pub mod Laws
 pub mod Wholes
 pub mod Follows
+pub mod Sights
 pub mod Bounds
 pub mod Offering
 pub mod Texts

@@ -9,6 +9,7 @@ ghost use Rattle.dom_model.specs.Isolation.{ForeignIsRefused, PagePartAgrees, Pa
 ghost use Rattle.dom_isolation.specs.Laws.{VisitIsUnseen, FoldSkipsComponents, PageVisitsAgree, OutwardVisitsAgree, PageDispatchAgrees, ComponentDispatchAgrees, NotificationIsUnseen, TurnEndingAgrees, OtherEndingIsUnseen, PageLineAgrees, OtherLineAgrees, FinishAgrees, PageRunAgrees, TraceGoesOn, IsReached, IsQuiet, FirstIsReached, StepKeepsReached, EndingKeepsReached, FinishKeepsReached, ScriptsReach, QuietScriptsReach, ShadowRootsAreRoots, NoOtherShadowRoots, AttachedAreThere, HostsAreTheirs, AssignedArePage};
 ghost use Rattle.dom_isolation.specs.Wholes.{FirstIsWhole, StepKeepsWhole, EndingKeepsWhole, FinishKeepsWhole, ScriptsStayWhole};
 ghost use Rattle.dom_isolation.specs.Follows.{PathFollowsParents};
+ghost use Rattle.dom_isolation.specs.Sights.{HiddenByRoots, RetargetedByRoots};
 ghost use Rattle.dom_isolation.specs.Bounds.{FirstIsBounded, OtherStepsKeepBounds, EndingKeepsBounds, FinishKeepsBounds};
 ghost use Rattle.dom_isolation.specs.Offering.{offering};
 ghost use Rattle.dom_isolation.specs.Texts.{ReadsPrefix, DecodeReadsPrefix, OfferingReadsPrefix, TraceHasPageLines, OutputHasPageLines, PageViewIsItsOutput, PageLinesAgree, PageLinesAgreeSoFar, PageTextAgrees, SamePageText, ForeignLineIsRefused};
@@ -84,6 +85,13 @@ pub fn ranges_stay_bounded()
 /// ends where a node has none.
 pub fn path_follows_parents()
     ensures { PathFollowsParents }
+{}
+
+/// In every world that the machine reaches a node is hidden from the nodes outside of its own closed shadow tree, and in its
+/// place they see the host (DOM Standard, concepts: closed-shadow-hidden, retarget).
+pub fn sights_go_by_roots()
+    ensures hidden { HiddenByRoots }
+    ensures retargeted { RetargetedByRoots }
 {}
 
 /// After every script in which no component listener stops or cancels the page's part is the page machine's state after
