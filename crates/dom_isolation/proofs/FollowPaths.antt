@@ -1,5 +1,5 @@
 -- The path of an event goes from each node to its event parent.
-use Rattle.std.proofs.Common.{zero, suc, ◌≡◌, ◌≢◌, ◌≤◌, ◌<◌, ℕ, Bool, true, false, not, ◌&&◌, ◌||◌, List, [], ◌∷◌, ◌++◌, drop, flat_map, length, position, unwrap_or, Option, Some, None, option_map, refl, sym, ap, ◌∙◌, arith, true≢false, subst, append-nil}
+use Rattle.std.proofs.Common.{suc, ◌≡◌, ◌≢◌, ◌≤◌, ℕ, Bool, true, false, not, ◌||◌, List, [], ◌∷◌, ◌++◌, drop, flat_map, position, unwrap_or, Option, Some, None, option_map, refl, sym, ap, ◌∙◌, arith, true≢false, subst, append-nil}
 use Rattle.std.specs.Prelude.{if◌then◌else◌, IsTrue, is_some, option_to_list, slice_get}
 use Rattle.std.specs.List.{AllByRecursion}
 use Rattle.std.specs.Option.{option_or, option_and_then}
@@ -12,26 +12,19 @@ use Rattle.dom_base.specs.declared.NodeName.{NodeName}
 use Rattle.dom_base.specs.declared.Owner.{Owner}
 use Rattle.dom_base.specs.declared.Owner.TheVariants.{Page, Component}
 use Rattle.dom_model.specs.Names.{name_eq, first_of, last_of}
-use Rattle.dom_model.specs.Paths.{with_slots, way_up, whole_path, event_parent, FollowsParents}
+use Rattle.dom_model.specs.Paths.{with_slots, way_up, event_parent}
 use Rattle.dom_model.specs.Slots.{slot_in, slot_of}
 use Rattle.dom_model.specs.Tree.{Trees, none, tree, is_shadow, inclusive_ancestors, on_top, parent_of, root_of}
-use Rattle.dom_model.specs.World.{World, part_of, trees_with, node_at, kind_at, root_at, parent_at, ancestors_at, component_at, component_made, host_of, host_above, host_chain, shadow_root_of, shadow_tree, some_if, is_in_shadow_tree}
-use Rattle.dom_model.proofs.OwnerLaws.{name_eq-same, ne-owner_eq}
+use Rattle.dom_model.specs.World.{World, part_of, trees_with, node_at, kind_at, root_at, parent_at, ancestors_at, component_at, component_made, host_of, shadow_root_of, shadow_tree, some_if, is_in_shadow_tree}
+use Rattle.dom_model.proofs.OwnerLaws.{name_eq-same}
 use Rattle.dom_model.proofs.StepLaws.{Component-IsNoPage}
-use Rattle.dom_isolation.specs.Follows.{PathFollowsParents}
 use Rattle.dom_isolation.specs.Laws.{IsReached}
-use Rattle.dom_isolation.specs.Tables.{IsNodeAt, IsWhole}
 use Rattle.dom_isolation.specs.Worlds.{times_in, MayBeShadow, IsOf, IsWorld}
-use Rattle.dom_isolation.proofs.ComponentEvents.{host-page, under}
-use Rattle.dom_isolation.proofs.ComponentPaths.{IsUnder, chain-alone, no_host, whole_path-under}
-use Rattle.dom_isolation.proofs.Hiding.{owned-in, ancestors-owned, IsInTree, slot-in_tree, slot_in-there, ancestors-in_tree, host_chain-page}
+use Rattle.dom_isolation.proofs.Hiding.{owned-in, ancestors-owned, IsInTree, slot-in_tree, slot_in-there, ancestors-in_tree}
 use Rattle.dom_isolation.proofs.Insides.{parent-there, child-there, no_parent-root}
-use Rattle.dom_isolation.proofs.KindCommands.{has_node-times}
 use Rattle.dom_isolation.proofs.Lists.{all-then}
 use Rattle.dom_isolation.proofs.Owners.{node-there, there-hosted}
 use Rattle.dom_isolation.proofs.ReachedFacts.{root-alone, no_other_shadow_roots, shadow_roots-are_roots}
-use Rattle.dom_isolation.proofs.TableCommands.{all-get}
-use Rattle.dom_isolation.proofs.TableRecords.{IfSome, last-all}
 use Rattle.dom_isolation.proofs.Tests.{by_cases}
 use Rattle.dom_isolation.proofs.Trees.{IsUnique, by_times, times-here, times-elsewhere, times-more, times-subtree, name_eq-true, ancestors-absent, ancestors-present, ancestors-there, all-both}
 

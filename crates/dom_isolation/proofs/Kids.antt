@@ -1,21 +1,17 @@
 -- How many children nodes have, and what the elementary changes do to that and to the nodes themselves.
-use Rattle.std.proofs.Common.{◌≡◌, ℕ, ◌+◌, ◌≤◌, ◌<◌, Bool, true, false, List, [], ◌∷◌, ◌++◌, length, map, find, unwrap_or, Option, Some, None, option_map, refl, sym, ap, ◌∙◌, arith, true≢false, subst, drop}
+use Rattle.std.proofs.Common.{◌≡◌, ℕ, ◌+◌, ◌≤◌, ◌<◌, Bool, true, false, List, [], ◌∷◌, ◌++◌, length, Option, Some, None, refl, sym, ap, ◌∙◌, arith, true≢false, subst, drop}
 use Rattle.std.specs.Prelude.{if◌then◌else◌}
-use Rattle.std.specs.List.{AllByRecursion}
 use Rattle.std.specs.Option.{option_map_or}
 use Rattle.std.proofs.lemmas.Bool.{cond-true, cond-false}
 use Rattle.dom_base.specs.declared.NodeName.{NodeName}
 use Rattle.dom_model.specs.Names.{name_eq, is_in, items_before, first_of}
-use Rattle.dom_model.specs.Tree.{Trees, none, tree, Node, nodes, names_of, roots, node_in, no_node, kind_of, has_data, subtree, or_else, trees_below, children_of, parent_of, index_of, length_of, inclusive_ancestors, on_top}
+use Rattle.dom_model.specs.Tree.{Trees, none, tree, Node, names_of, roots, subtree, or_else, trees_below, children_of, parent_of, index_of, inclusive_ancestors, on_top}
 use Rattle.dom_model.specs.TreeChanges.{followed_by, without, put_before, put_below, put_root, taken_out, placed, with_node, map_nodes}
 use Rattle.dom_model.proofs.OwnerLaws.{name_eq-same}
-use Rattle.dom_isolation.specs.Worlds.{times_in, AllNodes}
-use Rattle.dom_isolation.proofs.Insides.{inside, times-inside, times-parted, times-taken_out_all, times-placed_all, without-absent, or_else-none, parent-there, no_parent-root}
-use Rattle.dom_isolation.proofs.KindCommands.{all-found}
-use Rattle.dom_isolation.proofs.NodeKinds.{name-node_in}
-use Rattle.dom_isolation.proofs.ShadowRoots.{found-absent, found-there}
+use Rattle.dom_isolation.specs.Worlds.{times_in}
+use Rattle.dom_isolation.proofs.Insides.{inside, times-inside, times-parted, without-absent, or_else-none, parent-there, no_parent-root}
 use Rattle.dom_isolation.proofs.Tests.{by_cases, or-later}
-use Rattle.dom_isolation.proofs.TreeChangeLaws.{put_where, where-here, where-later, put_before-where, put_root-where, HasRoot, root-first, without-here, without-elsewhere, subtree-here, subtree-elsewhere, put_below-here, put_below-elsewhere, put_below-absent, nodes-with_node, nodes-taken_out, nodes-placed, nodes-listed}
+use Rattle.dom_isolation.proofs.TreeChangeLaws.{put_where, where-here, where-later, put_before-where, put_root-where, HasRoot, without-here, without-elsewhere, subtree-here, subtree-elsewhere, put_below-here, put_below-elsewhere, put_below-absent}
 use Rattle.dom_isolation.proofs.Trees.{IsUnique, by_times, times-here, times-elsewhere, times-more, subtree-absent, name_eq-sym, name_eq-true, root-there, ancestors-absent, ancestors-present}
 
 -- how many roots there are

@@ -1,36 +1,35 @@
 -- The steps of the plans of extractions, deletions and insertions into ranges fit where they are made.
-use Rattle.std.proofs.Common.{zero, suc, ◌≡◌, ◌≤◌, ℕ, ◌+◌, ◌-◌, Bool, true, false, not, ◌&&◌, List, [], ◌∷◌, ◌++◌, map, filter, flat_map, drop, length, Option, Some, None, unwrap_or, refl, sym, ap, ◌∙◌, arith, subst}
-use Rattle.std.specs.Prelude.{if◌then◌else◌, ⊤, ◌==◌, min, slice_get}
+use Rattle.std.proofs.Common.{zero, suc, ◌≡◌, ◌≤◌, ℕ, ◌+◌, ◌-◌, Bool, true, false, not, List, [], ◌∷◌, ◌++◌, filter, Option, Some, None, unwrap_or, refl, sym, ap, ◌∙◌, arith, subst}
+use Rattle.std.specs.Prelude.{if◌then◌else◌, slice_get}
 use Rattle.std.specs.List.{AllByRecursion}
 use Rattle.std.specs.Option.{option_map_or, option_and_then, option_flatten}
 use Rattle.std.proofs.lemmas.Bool.{cond-true, cond-false}
 use Rattle.dom_base.specs.declared.NodeName.{NodeName}
-use Rattle.dom_model.specs.Names.{Word, DomString, name_eq, is_empty, last_of}
-use Rattle.dom_model.specs.Tree.{Trees, none, tree, Node, node_in, kind_of, is_text, is_document, is_fragment, has_data, subtree, trees_below, children_of, parent_of, previous_sibling, next_sibling, index_of, length_of, attribute_value, descendants, inclusive_descendants, inclusive_ancestors, is_inclusive_ancestor, nodes}
+use Rattle.dom_model.specs.Names.{name_eq, last_of}
+use Rattle.dom_model.specs.Tree.{Trees, none, tree, Node, node_in, kind_of, is_text, is_fragment, has_data, subtree, trees_below, children_of, parent_of, index_of, length_of, inclusive_ancestors, is_inclusive_ancestor}
 use Rattle.dom_model.specs.TreeChanges.{with_name}
-use Rattle.dom_model.specs.Output.{child_list, attributes, character_data}
 use Rattle.dom_model.specs.Part.{Part, next_name, range_at}
 use Rattle.dom_model.specs.Place.{Boundary}
 use Rattle.dom_model.specs.Ranges.{Range, at, from_to, is_collapsed, is_contained}
-use Rattle.dom_model.specs.Steps.{Step, make, set_attribute, replace_data, split_at, join_at, set_range, queue_record, part_step, after}
-use Rattle.dom_model.specs.Changes.{Plan, ◌and_then◌, in_turn, doing, steps_of, only_if, Observing, observed, suppressed, removing, document_below, placed_nodes, inserting, reference_for, pre_inserting, replacing, setting_attribute, unsetting_attribute}
-use Rattle.dom_model.specs.TextChanges.{replacing_data, new_text_node, replacing_all_data, placing_tail, splitting, texts_after, joins, joining, normalizing_text, normalizing, replacing_children, setting_text}
+use Rattle.dom_model.specs.Steps.{Step, make, set_range, part_step, after}
+use Rattle.dom_model.specs.Changes.{◌and_then◌, in_turn, doing, steps_of, observed, removing, inserting, reference_for, pre_inserting}
+use Rattle.dom_model.specs.TextChanges.{replacing_data, splitting}
 use Rattle.dom_model.specs.Extract.{Pieces, nothing, whole, cut, clone, cut_start, cut_end, pieces_of, pieces_among, is_partly_contained, common_ancestor, is_in_one_data, clone_part, making_below, taking, new_fragment_node, own_document, new_place, behind_node, both_at, extracting}
 use Rattle.dom_model.specs.RangeOps.{cutting_data, outermost_contained, deleting_contents, deleting, insertion_parent, start_reference, ending_at, inserting_before, inserting_at, inserting_into_range}
 use Rattle.dom_model.proofs.OwnerLaws.{name_eq-same}
 use Rattle.dom_isolation.specs.Worlds.{times_in, IsPart}
 use Rattle.dom_isolation.specs.Tables.{EndsIn, HasEnds, HasTables}
-use Rattle.dom_isolation.proofs.Lists.{all-then, all-from, all-map, all-filter}
+use Rattle.dom_isolation.proofs.Lists.{all-filter}
 use Rattle.dom_isolation.proofs.Tests.{by_cases, either_way}
-use Rattle.dom_isolation.proofs.Trees.{by_times, times-here, times-subtree, times-more, name_eq-true, nodes-there, ancestors-there}
-use Rattle.dom_isolation.proofs.TreeChangeLaws.{times-with_node, times-below}
+use Rattle.dom_isolation.proofs.Trees.{by_times, times-here, times-subtree, times-more, ancestors-there}
+use Rattle.dom_isolation.proofs.TreeChangeLaws.{times-below}
 use Rattle.dom_isolation.proofs.PartSteps.{next-absent}
 use Rattle.dom_isolation.proofs.KindCommands.{has_node-times}
 use Rattle.dom_isolation.proofs.Plans.{AllWhole}
 use Rattle.dom_isolation.proofs.TableSteps.{There}
 use Rattle.dom_isolation.proofs.TableRecords.{IfSome, last-all, tables-after}
-use Rattle.dom_isolation.proofs.Insides.{inside, inside-times, inside-new, parent-there}
-use Rattle.dom_isolation.proofs.PlanPlaces.{Changed, Leads, MayGo, may-still, still, after-append, made-append, leads-then, leads-eased, leads-nothing, leads-one, leads-each, leads-if, leads-removing, leads-inserting}
+use Rattle.dom_isolation.proofs.Insides.{inside, inside-times, parent-there}
+use Rattle.dom_isolation.proofs.PlanPlaces.{Changed, Leads, MayGo, may-still, still, after-append, made-append, leads-then, leads-eased, leads-nothing, leads-one, leads-if, leads-removing, leads-inserting}
 use Rattle.dom_isolation.proofs.PlanTexts.{leads-plan, leads-replacing_data, new-there, new-may, leads-splitting, leads-removals}
 
 -- Extraction. A node from before, in whose tree no newer node stands.

@@ -1,6 +1,6 @@
 -- Steps with removals, records and iterators keep the tables of their part; and so does every step that fits.
-use Rattle.std.proofs.Common.{zero, suc, ◌≡◌, ◌≤◌, ◌<◌, ℕ, Bool, true, false, not, ◌&&◌, ◌||◌, List, [], ◌∷◌, ◌++◌, map, filter, fold, length, Option, Some, None, option_map, refl, sym, ap, ◌∙◌, arith, true≢false, subst}
-use Rattle.std.specs.Prelude.{if◌then◌else◌, IsTrue, ⊤, slice_set, nat_eq, nat_lt, nat_le, ◌+◌, ◌-◌}
+use Rattle.std.proofs.Common.{suc, ◌≡◌, ◌≤◌, ◌<◌, ℕ, Bool, true, false, not, ◌||◌, List, [], ◌∷◌, ◌++◌, map, filter, fold, length, Option, Some, None, option_map, refl, sym, ap, ◌∙◌, arith, true≢false, subst}
+use Rattle.std.specs.Prelude.{if◌then◌else◌, IsTrue, ⊤, slice_set, nat_eq}
 use Rattle.std.specs.List.{AllByRecursion, last_or}
 use Rattle.std.specs.Option.{option_map_or}
 use Rattle.std.proofs.lemmas.Bool.{cond-true, cond-false, not-true}
@@ -8,24 +8,23 @@ use Rattle.std.proofs.lemmas.List.{length-set}
 use Rattle.dom_base.specs.declared.NodeName.{NodeName}
 use Rattle.dom_model.specs.Names.{name_eq, is_in, first_of, last_of, items_after, items_before, append_once}
 use Rattle.dom_model.specs.Tree.{Trees, Node, nodes, subtree, parent_of, index_of, inclusive_descendants, inclusive_ancestors, is_inclusive_ancestor}
-use Rattle.dom_model.specs.TreeChanges.{without, map_nodes, with_name, with_document, with_data_replaced, with_attribute, taken_out}
-use Rattle.dom_model.specs.Place.{Boundary}
-use Rattle.dom_model.specs.Ranges.{Range, at, map_ends, boundary_eq, after_insert, after_removal, after_replace_data, after_split, after_join}
-use Rattle.dom_model.specs.Traversal.{Iterator, Walker, moved_to, adjusted_iterator}
-use Rattle.dom_model.specs.Observers.{target_of, fits, fitting, interested, Registration, Source, asked_for, copied_from, copied_from_transient, transients_for, registrations_on, copied_source, is_transient}
+use Rattle.dom_model.specs.TreeChanges.{without, taken_out}
+use Rattle.dom_model.specs.Ranges.{map_ends, after_insert, after_removal, after_replace_data, after_split, after_join}
+use Rattle.dom_model.specs.Traversal.{Iterator, moved_to, adjusted_iterator}
+use Rattle.dom_model.specs.Observers.{target_of, fits, fitting, interested, Registration, copied_from, copied_from_transient, transients_for, registrations_on, copied_source, is_transient}
 use Rattle.dom_model.specs.Output.{Change}
-use Rattle.dom_model.specs.Part.{Part, next_name, queue_of}
-use Rattle.dom_model.specs.Steps.{Step, make, make_room, place, take_out, set_document, set_attribute, replace_data, split_at, join_at, set_range, queue_record, part_step, leave, with_ends, told, interested_in, record_in, after}
+use Rattle.dom_model.specs.Part.{Part, queue_of}
+use Rattle.dom_model.specs.Steps.{Step, make, make_room, place, take_out, set_document, set_attribute, replace_data, split_at, join_at, set_range, queue_record, part_step, leave, told, interested_in, record_in, after}
 use Rattle.dom_isolation.specs.Worlds.{times_in, IsPart}
 use Rattle.dom_isolation.specs.Tables.{IsNodeIn, EndsIn, IsIteratorIn, IsWalkerIn, IsSourceIn, IsRegistrationIn, IsListenerIn, HasTables}
 use Rattle.dom_isolation.proofs.Lists.{all-distinct, all-append, all-then, all-filter, all-from, all-flat_map, all-map}
 use Rattle.dom_isolation.proofs.Tests.{by_cases, either_way, or-second, or-neither}
 use Rattle.dom_isolation.proofs.Trees.{IsUnique, by_times, times-subtree, nodes-there, name_eq-true, root-there}
-use Rattle.dom_isolation.proofs.TreeChangeLaws.{times-with_node, times-map_nodes, HasRoot, root-subtree}
-use Rattle.dom_isolation.proofs.PartSteps.{KeepsNames, some-keeps, attribute-keeps, part-step}
+use Rattle.dom_isolation.proofs.TreeChangeLaws.{root-subtree}
+use Rattle.dom_isolation.proofs.PartSteps.{part-step}
 use Rattle.dom_isolation.proofs.KindCommands.{has_node-times}
-use Rattle.dom_isolation.proofs.Descents.{ancestor-inside, inside-ancestor, inside-placed_all, inside-with_node_all, inside-subtree, inside-left, inside-comparable, before-apart, descend-begins}
-use Rattle.dom_isolation.proofs.Insides.{inside, inside-itself, inside-absent, inside-nested, inside-no_ancestor, inside-put_root, inside-map_nodes, times-inside, times-taken_out_all, times-placed_all, parent-there, child-there, times-has_node}
+use Rattle.dom_isolation.proofs.Descents.{ancestor-inside, inside-ancestor, inside-subtree, inside-left, inside-comparable, before-apart, descend-begins}
+use Rattle.dom_isolation.proofs.Insides.{inside, inside-itself, inside-absent, inside-nested, inside-no_ancestor, inside-put_root, times-inside, times-taken_out_all, parent-there, child-there, times-has_node}
 use Rattle.dom_isolation.proofs.TableSteps.{Fits, MadeIn, Grows, grows-times, grows-step, ancestors-step, tables-trees, ranges-moved, tables-ends, moves-insert, moves-removal, moves-data, moves-split, moves-join, all-set, ends-grow, walker-grows, registration-grows}
 
 -- Records and transient registrations: of the registrations on a path.
