@@ -62,12 +62,12 @@ views-kept_in w i target related f =
     (cut-foreign w target related (way_up w target ++ []) (all-append Foreign (way_up w target) [] (way_up-foreign w i target f) tt)))
 
 -- a node without a host above is alone in its chain
-chain-alone : (w : World) (o : Owner) (x : NodeName) → host_above w x ≡ None → hosts_from (owner_depth o) w x ≡ x ∷ []
+pub chain-alone : (w : World) (o : Owner) (x : NodeName) → host_above w x ≡ None → hosts_from (owner_depth o) w x ≡ x ∷ []
 chain-alone w Page x h = refl
 chain-alone w (Component k) x h = ap (λ o. x ∷ flat_map (hosts_from zero w) (option_to_list o)) h
 
 -- where there is none
-no_host : (o : Option NodeName) → is_some o ≡ false → o ≡ None
+pub no_host : (o : Option NodeName) → is_some o ≡ false → o ≡ None
 no_host None h = refl
 no_host (Some x) h = absurd (true≢false h)
 
@@ -86,7 +86,7 @@ pub record IsUnder (w : World) (x host : NodeName) : Type 0 where
   pub page : host.owner ≡ Page
 
 -- the chain of a node under a host
-chain-under : (w : World) (o : Owner) (x host : NodeName) → o ≢ Page → host_above w x ≡ Some host → hosts_from (owner_depth o) w x ≡ x ∷ host ∷ []
+pub chain-under : (w : World) (o : Owner) (x host : NodeName) → o ≢ Page → host_above w x ≡ Some host → hosts_from (owner_depth o) w x ≡ x ∷ host ∷ []
 chain-under w Page x host f h = absurd (f refl)
 chain-under w (Component k) x host f h = ap (λ o. x ∷ flat_map (hosts_from zero w) (option_to_list o)) h
 

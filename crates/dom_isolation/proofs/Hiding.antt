@@ -58,7 +58,7 @@ find-all P t (x ∷ xs) y h e =
     (λ a. find-all P t xs y h.1 (sym (cond-false (t x) (Some x) (find t xs) a) ∙ e))
 
 -- a slot that is found is there
-slot_in-there : (ts : Trees) (n : Node) (s : NodeName) → slot_in ts n ≡ Some s → 1 ≤ times_in ts s
+pub slot_in-there : (ts : Trees) (n : Node) (s : NodeName) → slot_in ts n ≡ Some s → 1 ≤ times_in ts s
 slot_in-there ts n s h = by_name (slottable_name n) refl
   where
     by_found : (name : DomString) (o : Option Node) → find (has_slot_name name) (nodes ts) ≡ o → option_map (λ (m : Node). m.name) o ≡ Some s → 1 ≤ times_in ts s
@@ -130,7 +130,7 @@ pub shadow_including-page : (w : World) (x : NodeName) → x.owner ≡ Page → 
 shadow_including-page w x h = ap (flat_map (ancestors_at w)) (host_chain-page w x h) ∙ append-nil (ancestors_at w x)
 
 -- a node of another owner is not among an owner's
-not_in : (r : NodeName) (xs : List NodeName) (o : Owner) → r.owner ≢ o → AllByRecursion (IsOf o) xs → is_in name_eq r xs ≡ false
+pub not_in : (r : NodeName) (xs : List NodeName) (o : Owner) → r.owner ≢ o → AllByRecursion (IsOf o) xs → is_in name_eq r xs ≡ false
 not_in r [] o f h = refl
 not_in r (x ∷ xs) o f h = rw (ne-owner_eq r.owner x.owner (λ e. f (e ∙ h.0))) (not_in r xs o f h.1)
 

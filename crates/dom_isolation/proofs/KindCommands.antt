@@ -210,14 +210,14 @@ kinds-effect w o (tables p lines v) base m h =
 kinds-effect w o (changes steps v) base m h = holds-world_after kind-steps o steps w h m
 
 -- Attaching: the nodes of the element's name are elements.
-absent-any : (P : Node → Type 0) (ts : Trees) (x : NodeName) → times_in ts x ≡ 0 → AllNodes (λ n. name_eq n.name x ≡ true → P n) ts
+pub absent-any : (P : Node → Type 0) (ts : Trees) (x : NodeName) → times_in ts x ≡ 0 → AllNodes (λ n. name_eq n.name x ≡ true → P n) ts
 absent-any P none x h = tt
 absent-any P (tree n c r) x h =
     let more = times-more n c r x in
     ((λ e. absurd (let g = times-here n c r x e in omega arith)), absent-any P c x (omega arith), absent-any P r x (omega arith))
 
 -- all nodes of a name are the one that is found
-all-found : (ts : Trees) (x : NodeName) (m : Node) → times_in ts x ≤ 1 → find (λ n. name_eq n.name x) (nodes ts) ≡ Some m → AllNodes (λ n. name_eq n.name x ≡ true → n ≡ m) ts
+pub all-found : (ts : Trees) (x : NodeName) (m : Node) → times_in ts x ≤ 1 → find (λ n. name_eq n.name x) (nodes ts) ≡ Some m → AllNodes (λ n. name_eq n.name x ≡ true → n ≡ m) ts
 all-found none x m u e = tt
 all-found (tree n c r) x m u e =
     by_cases (name_eq n.name x)
@@ -256,7 +256,7 @@ not_listed x [] h = refl
 not_listed x (n ∷ ns) h = rw (name_eq-sym x n.name ∙ h.0) (not_listed x ns h.1)
 
 -- the same, by how often it is there
-has_node-times : (ts : Trees) (x : NodeName) → has_node ts x ≡ true → 1 ≤ times_in ts x
+pub has_node-times : (ts : Trees) (x : NodeName) → has_node ts x ≡ true → 1 ≤ times_in ts x
 has_node-times ts x h =
     by_times (times_in ts x)
     (λ z. let none_named = nodes-then (λ n. name_eq n.name x ≡ true → ⊥) (λ n. name_eq n.name x ≡ false) (λ n f. by_cases (name_eq n.name x) (λ e. absurd (f e)) (λ e. e)) ts (absent-any (λ n. ⊥) ts x z) in
@@ -285,13 +285,13 @@ once-push xs x y h u =
     (λ e. let zero_more : times_among (x ∷ []) y ≡ 0 + 0 = ap (λ k. k + 0) (cond-false (name_eq x y) 1 0 e) in omega arith)
 
 -- what an accepted `attach` knows of its element
-record IsFree (p : Part) (x : NodeName) : Type 0 where
-  there : 1 ≤ times_in p.trees x
-  element : is_element (kind_of p.trees x) ≡ true
-  free : is_in name_eq x p.attached ≡ false
+pub record IsFree (p : Part) (x : NodeName) : Type 0 where
+  pub there : 1 ≤ times_in p.trees x
+  pub element : is_element (kind_of p.trees x) ≡ true
+  pub free : is_in name_eq x p.attached ≡ false
 
 -- its element is there, and is no host yet
-attach-free : (p : Part) (x : Spelled) → part_refusal p (Command.attach x) ≡ None → IsFree p (named p x)
+pub attach-free : (p : Part) (x : Spelled) → part_refusal p (Command.attach x) ≡ None → IsFree p (named p x)
 attach-free p x h =
     let a = part-accepted p (Command.attach x) h in
     let own = next-test (is_in name_eq (named p x) p.attached || not (may_be_host (node_in p.trees (named p x)).element)) NotSupported ((nat_lt MAX_COMPONENTS (length p.attached + 1), Limit) ∷ []) a.own in

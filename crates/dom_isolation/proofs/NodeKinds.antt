@@ -58,7 +58,7 @@ MakesNoShadow (make n) = n.kind ≢ Shadow
 MakesNoShadow s = ⊤
 
 -- numbers are given once
-count-grows : (p : Part) (s : Step) → p.node_count ≤ (part_step p s).node_count
+pub count-grows : (p : Part) (s : Step) → p.node_count ≤ (part_step p s).node_count
 count-grows p (make n) = omega arith
 count-grows p s = let e = count-step p s (λ h. h) in omega arith
 

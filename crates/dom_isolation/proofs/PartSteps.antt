@@ -108,7 +108,7 @@ new-named : (n : Node) (x : NodeName) → 1 ≤ times_in (tree n none none) x �
 new-named n x h = by_cases (name_eq n.name x) (λ e. sym (name_eq-true n.name x e)) (λ e. absurd (let g = times-elsewhere n none none x e in omega arith))
 
 -- the next name is not there yet
-next-absent : (p : Part) → IsPart p → times_in p.trees (next_name p) ≡ 0
+pub next-absent : (p : Part) → IsPart p → times_in p.trees (next_name p) ≡ 0
 next-absent p i = by_times (times_in p.trees (next_name p)) (λ z. z) (λ z. absurd (let g = i.numbered (next_name p) z in omega arith))
 
 -- a new node keeps the part as it should be

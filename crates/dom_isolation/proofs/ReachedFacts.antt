@@ -6,13 +6,14 @@ use Rattle.std.proofs.lemmas.Bool.{cond-true, cond-false, false_from_ne_true, lt
 use Rattle.dom_base.specs.declared.Owner.TheVariants.{Page, Component}
 use Rattle.dom_base.specs.declared.NodeName.{NodeName}
 use Rattle.dom_model.specs.Names.{name_eq, is_in, first_of}
-use Rattle.dom_model.specs.Tree.{Trees, none, tree, Node, nodes, names_of, roots, has_node, inclusive_ancestors, on_top}
+use Rattle.dom_model.specs.Tree.{Trees, none, tree, nodes, names_of, roots, has_node, inclusive_ancestors, on_top}
 use Rattle.dom_model.specs.World.{part_of, is_there, host_of, component_made, shadow_root_of}
 use Rattle.dom_model.proofs.OwnerLaws.{name_eq-same}
 use Rattle.dom_model.proofs.PartLaws.{owner-part_of}
 use Rattle.dom_isolation.specs.Laws.{ShadowRootsAreRoots, NoOtherShadowRoots, AttachedAreThere, HostsAreTheirs}
 use Rattle.dom_isolation.specs.Worlds.{IsShadowOf, MayBeShadow, times_among}
 use Rattle.dom_isolation.proofs.ComponentEvents.{host-page}
+use Rattle.dom_isolation.proofs.Insides.{in-later}
 use Rattle.dom_isolation.proofs.NodeKinds.{node-read, name-node_in, fragment-no_shadow}
 use Rattle.dom_isolation.proofs.Owners.{hosted-there, there-hosted}
 use Rattle.dom_isolation.proofs.ShadowRoots.{kind-root}
@@ -20,11 +21,6 @@ use Rattle.dom_isolation.proofs.Tests.{by_cases, or-first, or-second, or-later}
 use Rattle.dom_isolation.proofs.TreeChangeLaws.{HasRoot}
 use Rattle.dom_isolation.proofs.Trees.{IsUnique, unique-rest, times-elsewhere, root-there, name_eq-sym, ancestors-absent}
 use Rattle.dom_isolation.proofs.WorldSteps.{own-part}
-
--- a name behind other nodes
-in-later : (x : NodeName) (ns ms : List Node) → is_in name_eq x (names_of ms) ≡ true → is_in name_eq x (names_of (ns ++ ms)) ≡ true
-in-later x [] ms h = h
-in-later x (n ∷ ns) ms h = or-second (name_eq x n.name) (is_in name_eq x (names_of (ns ++ ms))) (in-later x ns ms h)
 
 -- and so a node of the trees
 root-has_node : (ts : Trees) (x : NodeName) → HasRoot ts x → has_node ts x ≡ true
@@ -34,7 +30,7 @@ root-has_node (tree n c r) x h =
     (λ e. or-second (name_eq x n.name) (is_in name_eq x (names_of (nodes c ++ nodes r))) (in-later x (nodes c) (nodes r) (root-has_node r x (or-later (name_eq x n.name) (is_in name_eq x (names_of (roots r))) e h))))
 
 -- a root is its only ancestor
-root-alone : (ts : Trees) → IsUnique ts → (x : NodeName) → HasRoot ts x → inclusive_ancestors ts x ≡ x ∷ []
+pub root-alone : (ts : Trees) → IsUnique ts → (x : NodeName) → HasRoot ts x → inclusive_ancestors ts x ≡ x ∷ []
 root-alone none u x h = absurd (true≢false (sym h))
 root-alone (tree n c r) u x h =
     by_cases (name_eq n.name x) (λ e. cond-true (name_eq n.name x) (x ∷ []) (on_top (inclusive_ancestors c x) n.name (inclusive_ancestors r x)) e)

@@ -90,7 +90,7 @@ replacement-tested : (ts : Trees) (parent node child : NodeName) → replacement
 replacement-tested ts parent node child h = tested ts parent node (not (has_parent ts parent child)) (filter (λ (n : Node). not (name_eq n.name child)) (child_nodes ts parent)) h
 
 -- no refusal at once
-not_taken : (b : Bool) (r : Option Refusal) → (if b then Some Hierarchy else r) ≡ None → r ≡ None
+pub not_taken : (b : Bool) (r : Option Refusal) → (if b then Some Hierarchy else r) ≡ None → r ≡ None
 not_taken true r h = cc
 not_taken false r h = h
 

@@ -36,3 +36,8 @@ or-earlier false b e h = absurd (true≢false (sym h ∙ e))
 pub or-neither : (a b : Bool) → a ≡ false → b ≡ false → (a || b) ≡ false
 or-neither true b h g = absurd (true≢false h)
 or-neither false b h g = g
+
+-- what holds of each where the test says so
+pub which_way : {X : Type 0} (P : X → Type 0) (b : Bool) (x y : X) → (b ≡ true → P x) → (b ≡ false → P y) → P (if b then x else y)
+which_way P true x y f g = f refl
+which_way P false x y f g = g refl

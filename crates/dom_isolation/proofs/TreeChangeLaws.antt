@@ -10,36 +10,31 @@ use Rattle.dom_model.specs.TreeChanges.{followed_by, without, is_given, put_befo
 use Rattle.dom_isolation.specs.Worlds.{times_in, AllNodes}
 use Rattle.dom_isolation.proofs.Lists.{all-append}
 use Rattle.dom_isolation.proofs.Tests.{by_cases, or-later, or-first, or-second}
-use Rattle.dom_isolation.proofs.Trees.{IsUnique, by_times, times-here, times-elsewhere, times-more, times-parts, times-subtree, subtree-absent, root-there, name_eq-sym, name_eq-true}
+use Rattle.dom_isolation.proofs.Trees.{IsUnique, by_times, times-here, times-elsewhere, times-more, times-parts, times-subtree, times-or_else, subtree-absent, root-there, name_eq-sym, name_eq-true}
 
 -- How often a name is there.
 pub times-followed : (a b : Trees) (x : NodeName) → times_in (followed_by a b) x ≡ times_in a x + times_in b x
 times-followed none b x = omega arith
 times-followed (tree n c r) b x = let h = times-followed r b x in omega arith
 
--- of the first list of trees that is there
-times-or_else : (a b : Trees) (y : NodeName) → times_in (or_else a b) y ≤ times_in a y + times_in b y
-times-or_else none b y = omega arith
-times-or_else (tree n c r) b y = omega arith
-
 -- a tree at hand, by whether its first root is the one
-without-here : (n : Node) (c r : Trees) (y : NodeName) → name_eq n.name y ≡ true → without y (tree n c r) ≡ without y r
+pub without-here : (n : Node) (c r : Trees) (y : NodeName) → name_eq n.name y ≡ true → without y (tree n c r) ≡ without y r
 without-here n c r y e = cond-true (name_eq n.name y) (without y r) (tree n (without y c) (without y r)) e
 
 -- at another root
-without-elsewhere : (n : Node) (c r : Trees) (y : NodeName) → name_eq n.name y ≡ false → without y (tree n c r) ≡ tree n (without y c) (without y r)
+pub without-elsewhere : (n : Node) (c r : Trees) (y : NodeName) → name_eq n.name y ≡ false → without y (tree n c r) ≡ tree n (without y c) (without y r)
 without-elsewhere n c r y e = cond-false (name_eq n.name y) (without y r) (tree n (without y c) (without y r)) e
 
 -- the tree of a first root
-subtree-here : (n : Node) (c r : Trees) (y : NodeName) → name_eq n.name y ≡ true → subtree (tree n c r) y ≡ tree n c none
+pub subtree-here : (n : Node) (c r : Trees) (y : NodeName) → name_eq n.name y ≡ true → subtree (tree n c r) y ≡ tree n c none
 subtree-here n c r y e = cond-true (name_eq n.name y) (tree n c none) (or_else (subtree c y) (subtree r y)) e
 
 -- and of another node
-subtree-elsewhere : (n : Node) (c r : Trees) (y : NodeName) → name_eq n.name y ≡ false → subtree (tree n c r) y ≡ or_else (subtree c y) (subtree r y)
+pub subtree-elsewhere : (n : Node) (c r : Trees) (y : NodeName) → name_eq n.name y ≡ false → subtree (tree n c r) y ≡ or_else (subtree c y) (subtree r y)
 subtree-elsewhere n c r y e = cond-false (name_eq n.name y) (tree n c none) (or_else (subtree c y) (subtree r y)) e
 
 -- what is taken out and what is left are no more than all
-times-without : (ts : Trees) (y x : NodeName) → times_in (without y ts) x + times_in (subtree ts y) x ≤ times_in ts x
+pub times-without : (ts : Trees) (y x : NodeName) → times_in (without y ts) x + times_in (subtree ts y) x ≤ times_in ts x
 times-without none y x = omega arith
 times-without (tree n c r) y x =
     by_cases (name_eq n.name y)
@@ -49,25 +44,25 @@ times-without (tree n c r) y x =
     let d = times-or_else (subtree c y) (subtree r y) x in let f = times-without c y x in let g = times-without r y x in omega arith)
 
 -- trees put into a list before the first root that passes a test, or behind all
-abbrev put_where : (NodeName → Bool) → Trees → Trees → Trees
+abbrev pub put_where : (NodeName → Bool) → Trees → Trees → Trees
 put_where test new none = new
 put_where test new (tree n c r) = if test n.name then followed_by new (tree n c r) else tree n c (put_where test new r)
 
 -- put before this root
-where-here : (test : NodeName → Bool) (new : Trees) (n : Node) (c r : Trees) → test n.name ≡ true → put_where test new (tree n c r) ≡ followed_by new (tree n c r)
+pub where-here : (test : NodeName → Bool) (new : Trees) (n : Node) (c r : Trees) → test n.name ≡ true → put_where test new (tree n c r) ≡ followed_by new (tree n c r)
 where-here test new n c r e = cond-true (test n.name) (followed_by new (tree n c r)) (tree n c (put_where test new r)) e
 
 -- put further on
-where-later : (test : NodeName → Bool) (new : Trees) (n : Node) (c r : Trees) → test n.name ≡ false → put_where test new (tree n c r) ≡ tree n c (put_where test new r)
+pub where-later : (test : NodeName → Bool) (new : Trees) (n : Node) (c r : Trees) → test n.name ≡ false → put_where test new (tree n c r) ≡ tree n c (put_where test new r)
 where-later test new n c r e = cond-false (test n.name) (followed_by new (tree n c r)) (tree n c (put_where test new r)) e
 
 -- before the node given
-put_before-where : (before : Option NodeName) (new ts : Trees) → put_before before new ts ≡ put_where (is_given before) new ts
+pub put_before-where : (before : Option NodeName) (new ts : Trees) → put_before before new ts ≡ put_where (is_given before) new ts
 put_before-where before new none = refl
 put_before-where before new (tree n c r) = ap (λ t. if is_given before n.name then followed_by new (tree n c r) else tree n c t) (put_before-where before new r)
 
 -- by the order of names
-put_root-where : (y : NodeName) (new ts : Trees) → put_root y new ts ≡ put_where (name_before y) new ts
+pub put_root-where : (y : NodeName) (new ts : Trees) → put_root y new ts ≡ put_where (name_before y) new ts
 put_root-where y new none = refl
 put_root-where y new (tree n c r) = ap (λ t. if name_before y n.name then followed_by new (tree n c r) else tree n c t) (put_root-where y new r)
 
@@ -79,11 +74,11 @@ times-where test new (tree n c r) x =
     (λ e. let a = ap (λ t. times_in t x) (where-later test new n c r e) in let h = times-where test new r x in omega arith)
 
 -- the same before the node given
-times-put_before : (before : Option NodeName) (new ts : Trees) (x : NodeName) → times_in (put_before before new ts) x ≡ times_in new x + times_in ts x
+pub times-put_before : (before : Option NodeName) (new ts : Trees) (x : NodeName) → times_in (put_before before new ts) x ≡ times_in new x + times_in ts x
 times-put_before before new ts x = ap (λ t. times_in t x) (put_before-where before new ts) ∙ times-where (is_given before) new ts x
 
 -- and by the order of names
-times-put_root : (y : NodeName) (new ts : Trees) (x : NodeName) → times_in (put_root y new ts) x ≡ times_in new x + times_in ts x
+pub times-put_root : (y : NodeName) (new ts : Trees) (x : NodeName) → times_in (put_root y new ts) x ≡ times_in new x + times_in ts x
 times-put_root y new ts x = ap (λ t. times_in t x) (put_root-where y new ts) ∙ times-where (name_before y) new ts x
 
 -- a new node
@@ -95,21 +90,21 @@ pub times-taken_out : (y : NodeName) (ts : Trees) (x : NodeName) → times_in (t
 times-taken_out y ts x = let a = times-put_root y (subtree ts y) (without y ts) x in let b = times-without ts y x in omega arith
 
 -- below a first root
-put_below-here : (parent : NodeName) (before : Option NodeName) (new : Trees) (n : Node) (c r : Trees) → name_eq n.name parent ≡ true →
+pub put_below-here : (parent : NodeName) (before : Option NodeName) (new : Trees) (n : Node) (c r : Trees) → name_eq n.name parent ≡ true →
     put_below parent before new (tree n c r) ≡ tree n (put_before before new (put_below parent before new c)) (put_below parent before new r)
 put_below-here parent before new n c r e =
     let below = put_below parent before new c in
     ap (λ t. tree n t (put_below parent before new r)) (cond-true (name_eq n.name parent) (put_before before new below) below e)
 
 -- below another node
-put_below-elsewhere : (parent : NodeName) (before : Option NodeName) (new : Trees) (n : Node) (c r : Trees) → name_eq n.name parent ≡ false →
+pub put_below-elsewhere : (parent : NodeName) (before : Option NodeName) (new : Trees) (n : Node) (c r : Trees) → name_eq n.name parent ≡ false →
     put_below parent before new (tree n c r) ≡ tree n (put_below parent before new c) (put_below parent before new r)
 put_below-elsewhere parent before new n c r e =
     let below = put_below parent before new c in
     ap (λ t. tree n t (put_below parent before new r)) (cond-false (name_eq n.name parent) (put_before before new below) below e)
 
 -- below a node that is not there nothing is put
-put_below-absent : (parent : NodeName) (before : Option NodeName) (new ts : Trees) → times_in ts parent ≡ 0 → put_below parent before new ts ≡ ts
+pub put_below-absent : (parent : NodeName) (before : Option NodeName) (new ts : Trees) → times_in ts parent ≡ 0 → put_below parent before new ts ≡ ts
 put_below-absent parent before new none h = refl
 put_below-absent parent before new (tree n c r) h =
     by_cases (name_eq n.name parent) (λ e. absurd (let g = times-here n c r parent e in omega arith))
@@ -230,15 +225,15 @@ abbrev pub HasRoot : Trees → NodeName → Type 0
 HasRoot ts x = is_in name_eq x (names_of (roots ts)) ≡ true
 
 -- of a first root and others, one that is there is the first or one of the others
-root-cases : {P : Type 0} (n : Node) (c r : Trees) (x : NodeName) → HasRoot (tree n c r) x → (name_eq x n.name ≡ true → P) → (HasRoot r x → P) → P
+pub root-cases : {P : Type 0} (n : Node) (c r : Trees) (x : NodeName) → HasRoot (tree n c r) x → (name_eq x n.name ≡ true → P) → (HasRoot r x → P) → P
 root-cases n c r x h f g = by_cases (name_eq x n.name) f (λ e. g (or-later (name_eq x n.name) (is_in name_eq x (names_of (roots r))) e h))
 
 -- the first root
-root-first : (n : Node) (c r : Trees) (x : NodeName) → name_eq x n.name ≡ true → HasRoot (tree n c r) x
+pub root-first : (n : Node) (c r : Trees) (x : NodeName) → name_eq x n.name ≡ true → HasRoot (tree n c r) x
 root-first n c r x e = or-first (name_eq x n.name) (is_in name_eq x (names_of (roots r))) e
 
 -- a root behind it
-root-second : (n : Node) (c r : Trees) (x : NodeName) → HasRoot r x → HasRoot (tree n c r) x
+pub root-second : (n : Node) (c r : Trees) (x : NodeName) → HasRoot r x → HasRoot (tree n c r) x
 root-second n c r x e = or-second (name_eq x n.name) (is_in name_eq x (names_of (roots r))) e
 
 -- a root of the first list
@@ -268,11 +263,11 @@ root-where_new test new (tree n c r) x h =
     (λ e. subst (λ t. HasRoot t x) (sym (where-later test new n c r e)) (root-second n c (put_where test new r) x (root-where_new test new r x h)))
 
 -- a root that was there
-root-put_root_old : (y : NodeName) (new ts : Trees) (x : NodeName) → HasRoot ts x → HasRoot (put_root y new ts) x
+pub root-put_root_old : (y : NodeName) (new ts : Trees) (x : NodeName) → HasRoot ts x → HasRoot (put_root y new ts) x
 root-put_root_old y new ts x h = subst (λ t. HasRoot t x) (sym (put_root-where y new ts)) (root-where_old (name_before y) new ts x h)
 
 -- a root that was put in
-root-put_root_new : (y : NodeName) (new ts : Trees) (x : NodeName) → HasRoot new x → HasRoot (put_root y new ts) x
+pub root-put_root_new : (y : NodeName) (new ts : Trees) (x : NodeName) → HasRoot new x → HasRoot (put_root y new ts) x
 root-put_root_new y new ts x h = subst (λ t. HasRoot t x) (sym (put_root-where y new ts)) (root-where_new (name_before y) new ts x h)
 
 -- beside a new node
@@ -280,7 +275,7 @@ pub root-with_node : (n : Node) (ts : Trees) (x : NodeName) → HasRoot ts x →
 root-with_node n ts x h = root-put_root_old n.name (tree n none none) ts x h
 
 -- without another tree
-root-without : (ts : Trees) (y x : NodeName) → name_eq y x ≡ false → HasRoot ts x → HasRoot (without y ts) x
+pub root-without : (ts : Trees) (y x : NodeName) → name_eq y x ≡ false → HasRoot ts x → HasRoot (without y ts) x
 root-without none y x d h = h
 root-without (tree n c r) y x d h =
     by_cases (name_eq n.name y)
@@ -295,7 +290,7 @@ root-or_else_left none b x h = absurd (true≢false (sym h))
 root-or_else_left (tree n c r) b x h = h
 
 -- the root of a node's tree is the node
-root-subtree : (ts : Trees) (x : NodeName) → 1 ≤ times_in ts x → HasRoot (subtree ts x) x
+pub root-subtree : (ts : Trees) (x : NodeName) → 1 ≤ times_in ts x → HasRoot (subtree ts x) x
 root-subtree none x h = absurd (omega arith)
 root-subtree (tree n c r) x h =
     by_cases (name_eq n.name x) (λ e. subst (λ t. HasRoot t x) (sym (subtree-here n c r x e)) (root-first n c none x (name_eq-sym x n.name ∙ e)))

@@ -109,7 +109,7 @@ pub unique-rest : (n : Node) (c r : Trees) → IsUnique (tree n c r) → IsUniqu
 unique-rest n c r u x = let g = times-parts n c r x in let h = u x in omega arith
 
 -- what holds of each, taken together
-all-both : (P Q : NodeName → Type 0) (xs : List NodeName) → AllByRecursion P xs → AllByRecursion Q xs → AllByRecursion (λ x. P x × Q x) xs
+pub all-both : (P Q : NodeName → Type 0) (xs : List NodeName) → AllByRecursion P xs → AllByRecursion Q xs → AllByRecursion (λ x. P x × Q x) xs
 all-both P Q [] h g = tt
 all-both P Q (x ∷ xs) h g = ((h.0, g.0), all-both P Q xs h.1 g.1)
 
@@ -149,7 +149,7 @@ subtree-absent (tree n c r) x h =
     ∙ ap (λ t. or_else t (subtree r x)) (subtree-absent c x (omega arith)) ∙ subtree-absent r x (omega arith))
 
 -- of the first list of trees that is there
-times-or_else : (a b : Trees) (y : NodeName) → times_in (or_else a b) y ≤ times_in a y + times_in b y
+pub times-or_else : (a b : Trees) (y : NodeName) → times_in (or_else a b) y ≤ times_in a y + times_in b y
 times-or_else none b y = omega arith
 times-or_else (tree n c r) b y = omega arith
 

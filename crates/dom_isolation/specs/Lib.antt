@@ -1,6 +1,11 @@
 -- What holds of every world that the document machine reaches, and the isolation laws.
 pub mod Worlds
+pub mod Tables
 pub mod Laws
+pub mod Wholes
+pub mod Follows
+pub mod Sights
+pub mod Bounds
 pub mod Offering
 pub mod Texts
 pub mod Words

@@ -7,6 +7,10 @@ ghost use Rattle.dom_model.specs.Command.{Command, Line};
 ghost use Rattle.dom_model.specs.World.{World};
 ghost use Rattle.dom_model.specs.Isolation.{ForeignIsRefused, PagePartAgrees, PageSeesItsTrace, SamePage};
 ghost use Rattle.dom_isolation.specs.Laws.{VisitIsUnseen, FoldSkipsComponents, PageVisitsAgree, OutwardVisitsAgree, PageDispatchAgrees, ComponentDispatchAgrees, NotificationIsUnseen, TurnEndingAgrees, OtherEndingIsUnseen, PageLineAgrees, OtherLineAgrees, FinishAgrees, PageRunAgrees, TraceGoesOn, IsReached, IsQuiet, FirstIsReached, StepKeepsReached, EndingKeepsReached, FinishKeepsReached, ScriptsReach, QuietScriptsReach, ShadowRootsAreRoots, NoOtherShadowRoots, AttachedAreThere, HostsAreTheirs, AssignedArePage};
+ghost use Rattle.dom_isolation.specs.Wholes.{FirstIsWhole, StepKeepsWhole, EndingKeepsWhole, FinishKeepsWhole, ScriptsStayWhole};
+ghost use Rattle.dom_isolation.specs.Follows.{PathFollowsParents};
+ghost use Rattle.dom_isolation.specs.Sights.{HiddenByRoots, RetargetedByRoots};
+ghost use Rattle.dom_isolation.specs.Bounds.{FirstIsBounded, OtherStepsKeepBounds, EndingKeepsBounds, FinishKeepsBounds};
 ghost use Rattle.dom_isolation.specs.Offering.{offering};
 ghost use Rattle.dom_isolation.specs.Texts.{ReadsPrefix, DecodeReadsPrefix, OfferingReadsPrefix, TraceHasPageLines, OutputHasPageLines, PageViewIsItsOutput, PageLinesAgree, PageLinesAgreeSoFar, PageTextAgrees, SamePageText, ForeignLineIsRefused};
 ghost use Rattle.dom_isolation.specs.Words.{ReadsPlainWords, DecodeReadsPlainWords, OfferingReadsPlainWords, OutputHasItsLines, PickedLinesAgree};
@@ -55,6 +59,39 @@ pub fn reached_worlds()
     ensures there { AttachedAreThere }
     ensures hosts { HostsAreTheirs }
     ensures assigned { AssignedArePage }
+{}
+
+/// Of every world that the machine reaches the tables name what is there: hosts, the ends of ranges, iterators, walkers,
+/// registrations, listeners and signalled slots are at nodes of their owners, observers have their record queues, and each
+/// owner that is there has its first node.
+pub fn whole_worlds()
+    ensures first { FirstIsWhole }
+    ensures kept { StepKeepsWhole }
+    ensures ending { EndingKeepsWhole }
+    ensures finish { FinishKeepsWhole }
+    ensures script { (read : List ℕ → Line) → ScriptsStayWhole read }
+{}
+
+/// The ends of ranges are within their nodes: in the first world, and after each line but those with `insert-node`, and those with
+/// `extract` or `delete` of a range whose ends are in different trees. Of these lines it is not shown yet.
+pub fn ranges_stay_bounded()
+    ensures first { FirstIsBounded }
+    ensures other_lines { OtherStepsKeepBounds }
+    ensures ending { EndingKeepsBounds }
+    ensures finish { FinishKeepsBounds }
+{}
+
+/// The whole path of an event begins at its target, goes from each node to its event parent, through slots and shadow roots, and
+/// ends where a node has none.
+pub fn path_follows_parents()
+    ensures { PathFollowsParents }
+{}
+
+/// In every world that the machine reaches a node is hidden from the nodes outside of its own closed shadow tree, and in its
+/// place they see the host (DOM Standard, concepts: closed-shadow-hidden, retarget).
+pub fn sights_go_by_roots()
+    ensures hidden { HiddenByRoots }
+    ensures retargeted { RetargetedByRoots }
 {}
 
 /// After every script in which no component listener stops or cancels the page's part is the page machine's state after

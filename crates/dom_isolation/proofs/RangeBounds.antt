@@ -1,0 +1,281 @@
+-- Extractions and deletions of ranges' contents keep the ends of ranges within their nodes.
+use Rattle.std.proofs.Common.{◌≡◌, ◌≤◌, ℕ, ◌-◌, Bool, true, false, List, [], ◌∷◌, ◌++◌, length, Option, Some, None, refl, sym, ap, ◌∙◌, arith, true≢false, subst}
+use Rattle.std.specs.Prelude.{if◌then◌else◌, ⊤, min}
+use Rattle.std.specs.List.{AllByRecursion}
+use Rattle.std.specs.Option.{option_map_or}
+use Rattle.dom_base.specs.declared.NodeName.{NodeName}
+use Rattle.dom_model.specs.Names.{DomString, name_eq, is_in, is_empty}
+use Rattle.dom_model.specs.Tree.{Node, node_in, kind_of, is_fragment, has_data, children_of, parent_of, inclusive_descendants}
+use Rattle.dom_model.specs.TreeChanges.{with_name, with_document, with_data_replaced}
+use Rattle.dom_model.specs.Output.{child_list}
+use Rattle.dom_model.specs.Part.{Part, next_name}
+use Rattle.dom_model.specs.Steps.{Step, make, place, take_out, queue_record, part_step, after}
+use Rattle.dom_model.specs.Changes.{in_turn, steps_of, Observing, observed, suppressed, telling, removal_record, removing, removing_from, changing_document, adopting, document_below, placed_nodes, emptying, making_room, placing, sibling_before, inserting_nodes, inserting}
+use Rattle.dom_model.specs.TextChanges.{replacing_data}
+use Rattle.dom_model.specs.Extract.{Pieces, nothing, whole, cut, clone, clone_part, making_below, taking}
+use Rattle.dom_model.proofs.OwnerLaws.{name_eq-same}
+use Rattle.dom_isolation.specs.Worlds.{IsPart}
+use Rattle.dom_isolation.proofs.Bounds.{nowhere, HasRoom, room-make}
+use Rattle.dom_isolation.proofs.Childs.{childs, childs-taken_out, childs-placed, childs-with_node, childs-map_nodes, childs-parent, children-childs}
+use Rattle.dom_isolation.proofs.Insides.{inside, parent-there}
+use Rattle.dom_isolation.proofs.NodesRead.{node-new}
+use Rattle.dom_isolation.proofs.Lists.{all-then}
+use Rattle.dom_isolation.proofs.PartSteps.{some-keeps, next-absent}
+use Rattle.dom_isolation.proofs.PlanBounds.{room-inserting, room-replacing_data, IsOpen, open-still, documented}
+use Rattle.dom_isolation.proofs.PlanPlaces.{Changed, MayGo, may-still, still, taken-step, telling-trees, after-append, emptied_of, leads-then, leads-eased, leads-one, leads-removing, leads-adopting, leads-placing, leads-emptied, leads-making_room, placed-may, leads-inserting}
+use Rattle.dom_isolation.proofs.PlanTexts.{new-there, next-not, new-may, leads-replacing_data}
+use Rattle.dom_isolation.proofs.PlanContents.{OldIn, old-may, old-still, whole-then, changed-inner, leads-making_below, leads-taking}
+use Rattle.dom_isolation.proofs.Plans.{AllWhole}
+use Rattle.dom_isolation.proofs.TableSteps.{There}
+use Rattle.dom_isolation.proofs.Tests.{by_cases, either_way}
+use Rattle.dom_isolation.proofs.Trees.{name_eq-true}
+
+-- x is a child of y.
+abbrev pub IsChild : NodeName → NodeName → Part → Type 0
+IsChild x y p = 1 ≤ childs p.trees x y
+
+-- other nodes
+abbrev pub IsNot : NodeName → NodeName → Type 0
+IsNot x z = name_eq z x ≡ false
+
+-- It stays a child where others leave.
+child-removing : (x y : NodeName) (how : Observing) (z : NodeName) (p : Part) → IsPart p → IsNot x z → IsChild x y p → IsChild x y (after p (removing how z p))
+child-removing x y how z p i d h = from (parent_of p.trees z) refl
+  where
+    from : (o : Option NodeName) → parent_of p.trees z ≡ o → IsChild x y (after p (option_map_or (removing_from how z p.trees) o []))
+    from None e = h
+    from (Some parent) e =
+        subst (λ ts. 1 ≤ childs ts x y) (sym (telling-trees how (removal_record p.trees parent z) (part_step p (take_out z)) ∙ ap (λ (q : Part). q.trees) (taken-step p z parent e)))
+        (let s = childs-taken_out p.trees z x y i.unique d in omega arith)
+
+-- steps after steps
+child-then : (x y : NodeName) (p : Part) (xs ys : List Step) → IsChild x y (after (after p xs) ys) → IsChild x y (after p (xs ++ ys))
+child-then x y p xs ys h = subst (IsChild x y) (sym (after-append p xs ys)) h
+
+-- many that leave
+pub child-removals : (x y : NodeName) (how : Observing) (zs : List NodeName) (p : Part) → IsPart p → AllByRecursion (IsNot x) zs → IsChild x y p → IsChild x y (after p (in_turn (removing how) zs p))
+child-removals x y how [] p i d h = h
+child-removals x y how (z ∷ zs) p i d h =
+    let q = after p (removing how z p) in
+    child-then x y p (removing how z p) (in_turn (removing how) zs q) (child-removals x y how zs q (leads-removing how z p i).changed.part d.1 (child-removing x y how z p i d.0 h))
+
+-- an adoption
+child-adopting : (x y d z : NodeName) (p : Part) → IsPart p → IsNot x z → IsChild x y p → IsChild x y (after p (adopting d z p))
+child-adopting x y d z p i n h =
+    let q = after p (removing observed z p) in
+    let g = child-removing x y observed z p i n h in
+    child-then x y p (removing observed z p) (changing_document d z q)
+    (documented d z q (λ ts. 1 ≤ childs ts x y) g
+    (let s = childs-map_nodes (λ n. if is_in name_eq n.name (inclusive_descendants q.trees z) then with_document d n else n) (λ n. (some-keeps (λ (n : Node). is_in name_eq n.name (inclusive_descendants q.trees z)) (with_document d) (λ n. (refl, refl)) n).0) q.trees x y in omega arith))
+
+-- another one that is placed
+child-placing : (x y parent : NodeName) (before : Option NodeName) (p : Part) (z : NodeName) → IsPart p → MayGo parent p z → IsNot x z → IsChild x y p → IsChild x y (after p (placing parent before z p))
+child-placing x y parent before p z i m n h =
+    let doc = document_below p.trees parent in
+    let steps = adopting doc z p in
+    let q = after p steps in
+    let first = leads-eased (Some parent) p steps (leads-adopting doc z p i m.owner) in
+    let k = may-still parent p q z first.changed m in
+    let g = child-adopting x y doc z p i n h in
+    child-then x y p steps (place z parent before ∷ []) (let s = childs-placed q.trees z parent before x y first.changed.part.unique k.below k.apart n in omega arith)
+
+-- all others that are placed
+child-each : (x y parent : NodeName) (before : Option NodeName) (zs : List NodeName) (p : Part) → IsPart p → AllByRecursion (MayGo parent p) zs → AllByRecursion (IsNot x) zs → IsChild x y p → IsChild x y (after p (in_turn (placing parent before) zs p))
+child-each x y parent before [] p i m d h = h
+child-each x y parent before (z ∷ zs) p i m d h =
+    let steps = placing parent before z p in
+    let q = after p steps in
+    let c = (leads-placing parent before p z i m.0).changed in
+    child-then x y p steps (in_turn (placing parent before) zs q) (child-each x y parent before zs q c.part (all-then (MayGo parent p) (MayGo parent q) (λ a. may-still parent p q a c) zs m.1) d.1 (child-placing x y parent before p z i m.0 d.0 h))
+
+-- what is placed is another one, where neither x nor its parent is inserted
+others-placed : (x y node : NodeName) (p : Part) → IsPart p → IsNot x node → IsNot y node → IsChild x y p → AllByRecursion (IsNot x) (placed_nodes p.trees node)
+others-placed x y node p i a b h =
+    either_way (AllByRecursion (IsNot x)) (is_fragment (kind_of p.trees node)) (children_of p.trees node) (node ∷ [])
+    (all-then (λ z. 1 ≤ childs p.trees z node) (IsNot x)
+    (λ z g. by_cases (name_eq z x)
+    (λ e. let same = name_eq-true z x e in
+    let one = childs-parent p.trees x node i.unique (subst (λ n. 1 ≤ childs p.trees n node) same g) in
+    let two = childs-parent p.trees x y i.unique h in
+    let both : Some node ≡ Some y = sym one ∙ two in let is : node ≡ y = cc in
+    absurd (true≢false (sym (name_eq-same node) ∙ ap (name_eq node) is ∙ b)))
+    (λ e. e)) (children_of p.trees node) (children-childs p.trees node)) (a, tt)
+
+-- an insertion
+pub child-inserting : (x y : NodeName) (how : Observing) (node parent : NodeName) (before : Option NodeName) (p : Part) → IsPart p → MayGo parent p node → IsNot x node → IsNot y node → IsChild x y p → IsChild x y (after p (inserting how node parent before p))
+child-inserting x y how node parent before p i m a b h =
+    let spot = Some parent in
+    let moved = placed_nodes p.trees node in
+    let told = telling how (child_list parent moved [] (sibling_before p.trees parent before) before) in
+    let one = emptied_of p node p in
+    let l = leads-eased spot p one (leads-emptied node p i) in
+    let q = after p one in
+    let two = making_room parent before (length moved) q in
+    let lb = leads-eased spot q two (leads-making_room parent before (length moved) q l.changed.part) in
+    let ab = leads-then spot p one two l lb in
+    let r = after p (one ++ two) in
+    let three = in_turn (placing parent before) moved r in
+    let others = others-placed x y node p i a b h in
+    let n = all-then (MayGo parent p) (MayGo parent r) (λ z. may-still parent p r z ab.changed) moved (placed-may parent p node i m) in
+    let s = after p ((one ++ two) ++ three) in
+    either_way (λ steps. IsChild x y (after p steps)) (is_empty moved) [] (inserting_nodes how node moved parent before p) h
+    (child-then x y p ((one ++ two) ++ three) told (subst (λ ts. 1 ≤ childs ts x y) (sym (telling-trees how (child_list parent moved [] (sibling_before p.trees parent before) before) s))
+    (child-then x y p (one ++ two) three (child-each x y parent before moved r ab.changed.part n others
+    (child-then x y p one two (unmoved before (length moved) q (emptied (is_fragment (kind_of p.trees node)) moved others)))))))
+  where
+    unmoved : (before : Option NodeName) (count : ℕ) (q : Part) → IsChild x y q → IsChild x y (after q (making_room parent before count q))
+    unmoved None count q g = g
+    unmoved (Some child) count q g = g
+
+    emptied : (t : Bool) (moved : List NodeName) → AllByRecursion (IsNot x) moved → IsChild x y (after p ((if t then emptying node moved else steps_of []) p))
+    emptied false moved others = h
+    emptied true moved others = child-then x y p (in_turn (removing suppressed) moved p) (queue_record (child_list node [] moved None None) ∷ []) (child-removals x y suppressed moved p i others h)
+
+-- data
+pub child-replacing_data : (x y z : NodeName) (offset count : ℕ) (new : DomString) (p : Part) → IsChild x y p → IsChild x y (after p (replacing_data z offset count new p))
+child-replacing_data x y z offset count new p h =
+    let few = min count (length (node_in p.trees z).text - offset) in
+    let s = childs-map_nodes (λ n. if name_eq n.name z then with_data_replaced offset few new n else n) (λ n. (some-keeps (λ (n : Node). name_eq n.name z) (with_data_replaced offset few new) (λ n. (refl, refl)) n).0) p.trees x y in omega arith
+
+-- a new node
+pub child-make : (x y : NodeName) (n : Node) (p : Part) → IsChild x y p → IsChild x y (part_step p (make n))
+child-make x y n p h = let s = childs-with_node (with_name (next_name p) n) p.trees x y in omega arith
+
+-- Extraction: what is known of pieces.
+abbrev pub AreFit : (NodeName → Type 0) → (NodeName → Type 0) → (NodeName → Type 0) → Pieces → Type 0
+AreFit W C K nothing = ⊤
+AreFit W C K (whole x rest) = W x × AreFit W C K rest
+AreFit W C K (cut x from to rest) = C x × AreFit W C K rest
+AreFit W C K (clone x inner rest) = K x × AreFit W C K inner × AreFit W C K rest
+
+-- what follows for each
+fit-then : (W C K W' C' K' : NodeName → Type 0) → ((x : NodeName) → W x → W' x) → ((x : NodeName) → C x → C' x) → ((x : NodeName) → K x → K' x) → (pieces : Pieces) → AreFit W C K pieces → AreFit W' C' K' pieces
+fit-then W C K W' C' K' f g k nothing h = tt
+fit-then W C K W' C' K' f g k (whole x rest) h = (f x h.0, fit-then W C K W' C' K' f g k rest h.1)
+fit-then W C K W' C' K' f g k (cut x from to rest) h = (g x h.0, fit-then W C K W' C' K' f g k rest h.1)
+fit-then W C K W' C' K' f g k (clone x inner rest) h = (k x h.0, fit-then W C K W' C' K' f g k inner h.1, fit-then W C K W' C' K' f g k rest h.2)
+
+-- pieces of data are of Texts and Comments, and other clones are not
+abbrev pub IsData : Part → NodeName → Type 0
+IsData p x = There p x × (has_data (kind_of p.trees x) ≡ true)
+
+-- of other nodes
+abbrev pub IsOpenIn : Part → NodeName → Type 0
+IsOpenIn p x = There p x × IsOpen p x
+
+-- neither x nor its parent is taken whole
+abbrev pub Misses : List NodeName → NodeName → NodeName → Type 0
+Misses xs y z = IsNot y z × AllByRecursion (λ x. IsNot x z) xs
+
+-- children that stay
+abbrev pub AreChildren : List NodeName → NodeName → Part → Type 0
+AreChildren xs y p = AllByRecursion (λ x. IsChild x y p) xs × There p y
+
+-- all of them stay, where each does
+children-stay : (xs : List NodeName) (y : NodeName) (p q : Part) → There q y → ((x : NodeName) → IsChild x y p → IsChild x y q) → AreChildren xs y p → AreChildren xs y q
+children-stay xs y p q t f h = (all-then (λ x. IsChild x y p) (λ x. IsChild x y q) f xs h.0, t)
+
+-- by what is missed
+children-missed : (xs : List NodeName) (y z : NodeName) (p q : Part) → There q y → Misses xs y z → ((x : NodeName) → IsNot x z → IsChild x y p → IsChild x y q) → AreChildren xs y p → AreChildren xs y q
+children-missed [] y z p q t m f h = (tt, t)
+children-missed (x ∷ xs) y z p q t m f h =
+    let rest = children-missed xs y z p q t (m.0, m.1.1) f (h.0.1, h.1) in
+    let first : AreChildren (x ∷ xs) y p = h in
+    let one = f x m.1.0 first.0.0 in ((one, rest.0), t)
+
+-- a child is there
+child-there_in : (p : Part) (x y : NodeName) → IsPart p → IsChild x y p → There p x
+child-there_in p x y i h = Rattle.dom_isolation.proofs.Insides.child-there p.trees x y (childs-parent p.trees x y i.unique h)
+
+-- the part after a new node went below another one
+record IsMadeBelow (xs : List NodeName) (y : NodeName) (n : Node) (into : NodeName) (p : Part) : Type 0 where
+  room : HasRoom nowhere (after p (making_below into n p))
+  children : AreChildren xs y (after p (making_below into n p))
+  there : There (after p (making_below into n p)) (next_name p)
+  kind : kind_of (after p (making_below into n p)).trees (next_name p) ≡ n.kind
+
+-- is such
+made-below : (xs : List NodeName) (y : NodeName) (n : Node) (into : NodeName) (p : Part) → n.name ≡ next_name p → IsPart p → There p into → IsOpen p into → HasRoom nowhere p → AreChildren xs y p → IsMadeBelow xs y n into p
+made-below xs y n into p e i t k h c =
+    let q = part_step p (make n) in
+    let first = leads-one p (make n) i tt in
+    let may : MayGo into q n.name = subst (MayGo into q) (sym e) (new-may p n into i t) in
+    let steps = inserting observed n.name into None q in
+    let put = leads-inserting observed n.name into None q first.changed.part may in
+    let r = after q steps in
+    let not_y : IsNot y n.name = ap (λ z. name_eq z y) e ∙ next-not p i y c.1 in
+    let qc = all-then (λ x. IsChild x y p) (λ x. IsChild x y q) (λ x g. child-make x y n p g) xs c.0 in
+    let made : node_in q.trees (next_name p) ≡ with_name (next_name p) n = node-new (with_name (next_name p) n) p.trees (next-absent p i) in
+    record {
+      room = room-inserting observed n.name into None q first.changed.part may (open-still first.changed into t k) (room-make nowhere p n i h);
+      children = (each xs c.0 q first.changed.part may not_y qc, still put.changed y (still first.changed y c.1));
+      there = still put.changed (next_name p) (new-there p n);
+      kind = put.changed.kinds (next_name p) (new-there p n) ∙ ap (λ (m : Node). m.kind) made;
+    }
+  where
+    each : (xs : List NodeName) → AllByRecursion (λ x. IsChild x y p) xs → (q : Part) → IsPart q → MayGo into q n.name → IsNot y n.name → AllByRecursion (λ x. IsChild x y q) xs → AllByRecursion (λ x. IsChild x y (after q (inserting observed n.name into None q))) xs
+    each [] g q j m d h = tt
+    each (x ∷ xs) g q j m d h =
+        let not_x : IsNot x n.name = ap (λ z. name_eq z x) e ∙ next-not p i x (child-there_in p x y i g.0) in
+        (child-inserting x y observed n.name into None q j m not_x d h.0, each xs g.1 q j m d h.1)
+
+-- What the taking of pieces leaves.
+record IsTaken (xs : List NodeName) (y : NodeName) (into : NodeName) (pieces : Pieces) (p : Part) : Type 0 where
+  room : HasRoom nowhere (after p (taking into pieces p))
+  children : AreChildren xs y (after p (taking into pieces p))
+
+-- one plan and then the rest
+taken-then : (xs : List NodeName) (y : NodeName) (p : Part) (one two : List Step) → HasRoom nowhere (after (after p one) two) × AreChildren xs y (after (after p one) two) → HasRoom nowhere (after p (one ++ two)) × AreChildren xs y (after p (one ++ two))
+taken-then xs y p one two h = subst (λ (q : Part). HasRoom nowhere q × AreChildren xs y q) (sym (after-append p one two)) h
+
+-- pieces stay fit
+pub fits-still : {spot : Option NodeName} (xs : List NodeName) (y : NodeName) (p q : Part) → Changed spot p q → (pieces : Pieces) → AreFit (Misses xs y) (IsData p) (IsOpenIn p) pieces → AreFit (Misses xs y) (IsData q) (IsOpenIn q) pieces
+fits-still xs y p q c pieces h =
+    fit-then (Misses xs y) (IsData p) (IsOpenIn p) (Misses xs y) (IsData q) (IsOpenIn q) (λ x m. m) (λ x d. (still c x d.0, ap has_data (c.kinds x d.0) ∙ d.1)) (λ x d. (still c x d.0, open-still c x d.0 d.1)) pieces h
+
+-- the taking of pieces
+pub room-taking : (xs : List NodeName) (y : NodeName) (count : ℕ) (pieces : Pieces) (into : NodeName) (p : Part) → IsPart p → count ≤ p.node_count → There p into → IsOpen p into → count ≤ into.number → AllWhole (OldIn count p) pieces → AreFit (Misses xs y) (IsData p) (IsOpenIn p) pieces → HasRoom nowhere p → AreChildren xs y p →
+    HasRoom nowhere (after p (taking into pieces p)) × AreChildren xs y (after p (taking into pieces p))
+room-taking xs y count nothing into p i k t op h o f r c = (r, c)
+room-taking xs y count (whole x rest) into p i k t op h o f r c =
+    let may = old-may count p x into i o.0 t h in
+    let one = inserting observed x into None p in
+    let l = leads-inserting observed x into None p i may in
+    let q = after p one in
+    let cq = children-missed xs y x p q (still l.changed y c.1) f.0 (λ z n g. child-inserting z y observed x into None p i may n f.0.0 g) c in
+    taken-then xs y p one (taking into rest q)
+    (room-taking xs y count rest into q l.changed.part (let a = l.changed.count in omega arith) (still l.changed into t) (open-still l.changed into t op) h (whole-then (OldIn count p) (OldIn count q) (old-still count into p q h l.changed) rest o.1) (fits-still xs y p q l.changed rest f.1) (room-inserting observed x into None p i may op r) cq)
+room-taking xs y count (cut x from to rest) into p i k t op h o f r c =
+    let n = clone_part (next_name p) from to (node_in p.trees x) in
+    let one = making_below into n p in
+    let l = leads-making_below into n p refl i t in
+    let made = made-below xs y n into p refl i t op r c in
+    let q = after p one in
+    let two = replacing_data x from (to - from) [] q in
+    let lq = leads-replacing_data x from (to - from) [] q l.changed.part in
+    let units : has_data (kind_of q.trees x) ≡ true = ap has_data (l.changed.kinds x o.0.there) ∙ f.0.1 in
+    let s = after q two in
+    let both = leads-then (Some into) p one two l (leads-eased (Some into) q two lq) in
+    let rs = after p (one ++ two) in
+    let mc = made.children in
+    let cs : AreChildren xs y s = (all-then (λ z. IsChild z y q) (λ z. IsChild z y s) (λ z g. child-replacing_data z y x from (to - from) [] q g) xs mc.0, still lq.changed y mc.1) in
+    let after_both = taken-then xs y p one two (room-replacing_data x from (to - from) [] q l.changed.part units made.room, cs) in
+    taken-then xs y p (one ++ two) (taking into rest rs)
+    (room-taking xs y count rest into rs both.changed.part (let a = both.changed.count in omega arith) (still both.changed into t) (open-still both.changed into t op) h (whole-then (OldIn count p) (OldIn count rs) (old-still count into p rs h both.changed) rest o.1) (fits-still xs y p rs both.changed rest f.1) after_both.0 after_both.1)
+room-taking xs y count (clone x inner rest) into p i k t op h o f r c =
+    let new = next_name p in
+    let n = with_name new (node_in p.trees x) in
+    let one = making_below into n p in
+    let l = leads-making_below into n p refl i t in
+    let made = made-below xs y n into p refl i t op r c in
+    let q = after p one in
+    let two = taking new inner q in
+    let inner_old = whole-then (OldIn count p) (OldIn count q) (old-still count into p q h l.changed) inner o.1 in
+    let lq = leads-taking count inner new q l.changed.part (let g = l.changed.count in omega arith) made.there k inner_old in
+    let op_new : IsOpen q new = ap has_data made.kind ∙ f.0.1 in
+    let deep = room-taking xs y count inner new q l.changed.part (let g = l.changed.count in omega arith) made.there op_new k inner_old (fits-still xs y p q l.changed inner f.1) made.room made.children in
+    let both_changed : Changed (Some into) p (after p (one ++ two)) = subst (Changed (Some into) p) (sym (after-append p one two)) (changed-inner into new p q (after q two) (next-absent p i) l.changed lq.changed) in
+    let rs = after p (one ++ two) in
+    let after_both = taken-then xs y p one two deep in
+    taken-then xs y p (one ++ two) (taking into rest rs)
+    (room-taking xs y count rest into rs both_changed.part (let a = both_changed.count in omega arith) (still both_changed into t) (open-still both_changed into t op) h (whole-then (OldIn count p) (OldIn count rs) (old-still count into p rs h both_changed) rest o.2) (fits-still xs y p rs both_changed rest f.2) after_both.0 after_both.1)

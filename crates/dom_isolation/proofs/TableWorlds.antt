@@ -1,0 +1,280 @@
+-- Steps in the world keep the tables of all parts, and each signalled slot a node.
+use Rattle.std.proofs.Common.{◌≡◌, ◌≢◌, ◌≤◌, ℕ, Bool, true, false, ◌&&◌, List, [], ◌∷◌, ◌++◌, filter, filter_map, flat_map, find, fold, position, Option, Some, None, option_map, refl, sym, ap, ◌∙◌, arith, true≢false, subst}
+use Rattle.std.specs.Prelude.{if◌then◌else◌, option_to_list, unwrap_or}
+use Rattle.std.specs.List.{AllByRecursion, cons_option}
+use Rattle.std.specs.Option.{option_and_then}
+use Rattle.std.proofs.lemmas.Bool.{and_parts}
+use Rattle.dom_base.specs.declared.NodeName.{NodeName}
+use Rattle.dom_base.specs.declared.Owner.{Owner}
+use Rattle.dom_base.specs.declared.Owner.TheVariants.{Page, Component}
+use Rattle.dom_model.specs.Names.{DomString, name_eq, owner_eq, node_of, max_depth, is_empty, is_in}
+use Rattle.dom_model.specs.Tree.{Trees, Node, nodes, node_in, no_node, subtree, inclusive_descendants, parent_of, is_element}
+use Rattle.dom_model.specs.Part.{Part}
+use Rattle.dom_model.specs.Slots.{is_slot_element, slottable_name, slot_in, slot_of, has_slot_name, assigned, is_changed, is_bare_slot, own_slots, slots_among, other_slots, signals, with_signal}
+use Rattle.dom_model.specs.Steps.{Step, place, take_out, set_document, set_attribute, queue_record, part_step, is_taken}
+use Rattle.dom_model.specs.World.{World, part_of, with_part, trees_with, node_at, root_at, parent_at, component_at, component_made, components_below, shadow_root_of, shadow_tree, is_in_shadow_tree}
+use Rattle.dom_model.specs.WorldSteps.{world_step, world_after, stepped, with_signals, with_removal_signals, with_notify_if, with_shadow_document}
+use Rattle.dom_model.proofs.OwnerLaws.{owner_eq-true, owner_eq-false}
+use Rattle.dom_model.proofs.PartLaws.{part_of-with_part, part_of-with_part-other, owner-part_of}
+use Rattle.dom_model.proofs.StepLaws.{owner-part_step, part_of-stepped, part_of-with_signals, part_of-with_removal_signals, part_of-with_notify_if, Component-IsNoPage, part_of-world_step}
+use Rattle.dom_isolation.specs.Worlds.{times_in, IsPart}
+use Rattle.dom_isolation.specs.Tables.{IsNodeIn, HasTables, IsNodeAt}
+use Rattle.dom_isolation.proofs.Insides.{times-has_node}
+use Rattle.dom_isolation.proofs.Lists.{all-append, all-filter, all-then, all-map, all-distinct}
+use Rattle.dom_isolation.proofs.PartSteps.{part-step, rest-step}
+use Rattle.dom_isolation.proofs.ShadowRoots.{found-absent}
+use Rattle.dom_isolation.proofs.TableSteps.{Fits, MadeIn, Grows, grows-step}
+use Rattle.dom_isolation.proofs.TableRecords.{tables-step, IfSome}
+use Rattle.dom_isolation.proofs.Tests.{by_cases, either_way}
+use Rattle.dom_isolation.proofs.Trees.{by_times, times-subtree, nodes-there}
+
+-- All parts keep the nodes that they have.
+abbrev pub AllGrow : World → World → Type 0
+AllGrow w v = (o : Owner) → Grows (part_of w o).trees (part_of v o).trees
+
+-- What is carried through steps: names are as they should be, and components host nothing.
+pub record Ground (w : World) : Type 0 where
+  pub parts : (o : Owner) → IsPart (part_of w o)
+  pub no_hosts : (o : Owner) → o ≢ Page → (part_of w o).attached ≡ []
+
+-- The tables, the page's first document, and the signalled slots.
+pub record Frame (w : World) : Type 0 where
+  pub tables : (o : Owner) → HasTables (part_of w o)
+  pub first : IsNodeIn (part_of w Page).trees (node_of Page 0)
+  pub signalled : AllByRecursion (IsNodeAt w) w.signalled
+
+-- what holds of another part and of all others
+pub each-part : (P : Owner → Part → Type 0) (w : World) (p : Part) (o : Owner) → p.owner ≡ o → P o p → ((x : Owner) → P x (part_of w x)) → (x : Owner) → P x (part_of (with_part w p) x)
+each-part P w p o e h g x =
+    by_cases (owner_eq o x)
+    (λ k. let same = owner_eq-true o x k in subst (P x) (sym (part_of-with_part w p x (e ∙ same))) (subst (λ y. P y p) same h))
+    (λ k. subst (P x) (sym (part_of-with_part-other w p x (λ s. owner_eq-false o x k (sym e ∙ s)))) (g x))
+
+-- another part with more nodes
+pub grow-with_part : (w : World) (p : Part) (o : Owner) → p.owner ≡ o → Grows (part_of w o).trees p.trees → AllGrow w (with_part w p)
+grow-with_part w p o e g = each-part (λ x q. Grows (part_of w x).trees q.trees) w p o e g (λ x y h. h)
+
+-- a world in which all parts have grown
+pub frame-grown : (w v : World) → AllGrow w v → ((o : Owner) → HasTables (part_of v o)) → AllByRecursion (IsNodeAt w) v.signalled → Frame w → Frame v
+frame-grown w v g t s f = record { tables = t; first = g Page (node_of Page 0) f.first; signalled = all-then (IsNodeAt w) (IsNodeAt v) (λ x. g x.owner x) v.signalled s }
+
+-- another part
+pub frame-with_part : (w : World) (p : Part) (o : Owner) → p.owner ≡ o → HasTables p → Grows (part_of w o).trees p.trees → Frame w → Frame (with_part w p)
+frame-with_part w p o e h g f = frame-grown w (with_part w p) (grow-with_part w p o e g) (each-part (λ x q. HasTables q) w p o e h f.tables) f.signalled f
+
+-- with its hosts
+ground-with_part : (w : World) (p : Part) (o : Owner) → p.owner ≡ o → IsPart p → p.attached ≡ (part_of w o).attached → Ground w → Ground (with_part w p)
+ground-with_part w p o e i a g =
+    record { parts = each-part (λ x q. IsPart q) w p o e i g.parts; no_hosts = each-part (λ x q. x ≢ Page → q.attached ≡ []) w p o e (λ n. a ∙ g.no_hosts o n) g.no_hosts }
+
+-- A step in its part.
+owner-stepped : (w : World) (o : Owner) (s : Step) → (part_step (part_of w o) s).owner ≡ o
+owner-stepped w o s = owner-part_step (part_of w o) s ∙ owner-part_of w o
+
+-- names and hosts
+pub ground-stepped : (o : Owner) (w : World) (s : Step) → Ground w → Ground (stepped o w s)
+ground-stepped o w s g = ground-with_part w (part_step (part_of w o) s) o (owner-stepped w o s) (part-step (part_of w o) s (g.parts o)) (rest-step (part_of w o) s).0 g
+
+-- nodes
+grow-stepped : (o : Owner) (w : World) (s : Step) → Fits (part_of w o) s → Ground w → AllGrow w (stepped o w s)
+grow-stepped o w s h g = grow-with_part w (part_step (part_of w o) s) o (owner-stepped w o s) (grows-step (part_of w o) s (g.parts o) h)
+
+-- tables
+frame-stepped : (o : Owner) (w : World) (s : Step) → Fits (part_of w o) s → Ground w → Frame w → Frame (stepped o w s)
+frame-stepped o w s h g f =
+    frame-with_part w (part_step (part_of w o) s) o (owner-stepped w o s) (tables-step (part_of w o) s (g.parts o) h (f.tables o)) (grows-step (part_of w o) s (g.parts o) h) f
+
+-- Slots that are signalled are nodes. First, a node of a part is one of its owner's trees.
+at-owner : (w : World) → Ground w → (o : Owner) (x : NodeName) → 1 ≤ times_in (part_of w o).trees x → IsNodeAt w x
+at-owner w g o x h =
+    let mine : o ≡ x.owner = sym ((g.parts o).owned x h ∙ owner-part_of w o) in
+    subst (λ a. IsNodeIn (part_of w a).trees x) mine (times-has_node (part_of w o).trees x h)
+
+-- a node that is found
+found-listed : (P : Node → Type 0) (test : Node → Bool) (ns : List Node) → AllByRecursion P ns → IfSome P (find test ns)
+found-listed P test [] h = tt
+found-listed P test (n ∷ ns) h = either_way (IfSome P) (test n) (Some n) (find test ns) h.0 (found-listed P test ns h.1)
+
+-- the slot of a node
+slot-at : (w : World) → Ground w → (x : NodeName) → IfSome (IsNodeAt w) (slot_of w x)
+slot-at w g x = from (option_and_then (component_at w) (parent_at w x))
+  where
+    name_if : (o : Option Node) → IfSome (λ (n : Node). IsNodeAt w n.name) o → IfSome (IsNodeAt w) (option_map (λ (s : Node). s.name) o)
+    name_if None h = tt
+    name_if (Some n) h = h
+
+    looked : (c : Owner) (name : Option DomString) → IfSome (IsNodeAt w) (option_and_then (λ name. option_map (λ (s : Node). s.name) (find (has_slot_name name) (nodes (shadow_tree w c)))) name)
+    looked c None = tt
+    looked c (Some name) =
+        let ts = (part_of w c).trees in
+        let P : Node → Type 0 = λ n. IsNodeAt w n.name in
+        let all = all-then (λ (n : Node). 1 ≤ times_in (shadow_tree w c) n.name) P (λ n h. at-owner w g c n.name (let s = times-subtree ts (shadow_root_of c) n.name in omega arith)) (nodes (shadow_tree w c)) (nodes-there (shadow_tree w c)) in
+        name_if (find (has_slot_name name) (nodes (shadow_tree w c))) (found-listed P (has_slot_name name) (nodes (shadow_tree w c)) all)
+
+    from : (c : Option Owner) → IfSome (IsNodeAt w) (option_and_then (λ c. slot_in (shadow_tree w c) (node_at w x)) c)
+    from None = tt
+    from (Some c) = looked c (slottable_name (node_at w x))
+
+-- one that is there, or none
+all-if : {X : Type 0} (P : X → Type 0) (o : Option X) → IfSome P o → AllByRecursion P (option_to_list o)
+all-if P None h = tt
+all-if P (Some x) h = (h, tt)
+
+-- what holds of what is there
+if-then : {X : Type 0} (P Q : X → Type 0) (o : Option X) → ((x : X) → P x → Q x) → IfSome P o → IfSome Q o
+if-then P Q None f h = tt
+if-then P Q (Some x) f h = f x h
+
+-- slots of trees of an owner
+among-at : (w : World) → Ground w → (o : Owner) (us : Trees) → ((y : NodeName) → times_in us y ≤ times_in (part_of w o).trees y) → AllByRecursion (IsNodeAt w) (slots_among us)
+among-at w g o us h =
+    all-map (IsNodeAt w) (λ (n : Node). n.name) (filter is_slot_element (nodes us))
+    (all-filter (λ (n : Node). IsNodeAt w n.name) is_slot_element (nodes us) (all-then (λ (n : Node). 1 ≤ times_in us n.name) (λ n. IsNodeAt w n.name) (λ n k. at-owner w g o n.name (let a = h n.name in omega arith)) (nodes us) (nodes-there us)))
+
+-- an element is there
+element-there : (ts : Trees) (x : NodeName) → is_element (node_in ts x).kind ≡ true → IsNodeIn ts x
+element-there ts x h = times-has_node ts x (by_times (times_in ts x) (λ z. absurd (true≢false (sym h ∙ ap (λ (o : Option Node). is_element (unwrap_or o (no_node x)).kind) (found-absent ts x z)))) (λ z. z))
+
+-- a slot without assigned nodes
+bare-at : (w : World) (s : NodeName) (is_move : Bool) → (is_move && is_bare_slot w s) ≡ true → IsNodeAt w s
+bare-at w s is_move h =
+    let both = and_parts is_move (is_bare_slot w s) h in
+    let slot = and_parts (is_slot_element (node_at w s)) (is_in_shadow_tree w s && is_empty (assigned w s)) both.1 in
+    element-there (trees_with w s) s (and_parts (is_element (node_at w s).kind) _ slot.0).0
+
+-- all that is signalled
+signals-at : (was now : World) → Ground was → Ground now → AllGrow was now → (x around : NodeName) (is_move : Bool) → AllByRecursion (IsNodeAt now) (signals was now x around is_move)
+signals-at was now g h grow x around is_move =
+    let P = IsNodeAt now in
+    let bare : List NodeName = if is_move && is_bare_slot now around then around ∷ [] else [] in
+    let own = filter (is_changed was now) (own_slots was now x) in
+    let other = filter (is_changed was now) (other_slots now x around) in
+    let bare-all : AllByRecursion P bare = by_cases (is_move && is_bare_slot now around) (λ e. rw e (bare-at now around is_move e, tt)) (λ e. rw e tt) in
+    let own-all = all-filter P (is_changed was now) (own_slots was now x)
+    (all-append P (option_to_list (slot_of was x)) (option_to_list (slot_of now x))
+    (all-if P (slot_of was x) (if-then (IsNodeAt was) P (slot_of was x) (λ y. grow y.owner y) (slot-at was g x))) (all-if P (slot_of now x) (slot-at now h x))) in
+    let other-all = all-filter P (is_changed was now) (other_slots now x around)
+    (all-append P (slots_among (subtree (trees_with now around) (root_at now around))) (slots_among (subtree (trees_with now x) x))
+    (among-at now h around.owner (subtree (trees_with now around) (root_at now around)) (times-subtree (trees_with now around) (root_at now around)))
+    (among-at now h x.owner (subtree (trees_with now x) x) (times-subtree (trees_with now x) x))) in
+    all-distinct P name_eq (own ++ bare ++ other) (all-append P (own ++ bare) other (all-append P own bare own-all bare-all) other-all)
+
+-- a signal, and signals
+frame-signal : (w : World) (s : NodeName) → IsNodeAt w s → Frame w → Frame (with_signal w s)
+frame-signal w s h f =
+    record {
+      tables = f.tables;
+      first = f.first;
+      signalled = either_way (AllByRecursion (IsNodeAt w)) (is_in name_eq s w.signalled) w.signalled (w.signalled ++ s ∷ []) f.signalled (all-append (IsNodeAt w) w.signalled (s ∷ []) f.signalled (h, tt));
+    }
+
+-- all of them
+frame-each_signal : (ss : List NodeName) (w : World) → AllByRecursion (IsNodeAt w) ss → Frame w → Frame (fold with_signal w ss)
+frame-each_signal [] w h f = f
+frame-each_signal (s ∷ ss) w h f = frame-each_signal ss (with_signal w s) h.1 (frame-signal w s h.0 f)
+
+-- names and hosts stay
+ground-each_signal : (ss : List NodeName) (w : World) → Ground w → Ground (fold with_signal w ss)
+ground-each_signal [] w g = g
+ground-each_signal (s ∷ ss) w g = ground-each_signal ss (with_signal w s) (record { parts = g.parts; no_hosts = g.no_hosts })
+
+-- the signals of a step
+frame-signals : (o : Owner) (w : World) (s : Step) → Fits (part_of w o) s → Ground w → Frame w → (x around : NodeName) (is_move : Bool) → Frame (with_signals w (stepped o w s) x around is_move)
+frame-signals o w s h g f x around is_move =
+    let now = stepped o w s in
+    frame-each_signal (signals w now x around is_move) now (signals-at w now g (ground-stepped o w s g) (grow-stepped o w s h g) x around is_move) (frame-stepped o w s h g f)
+
+-- of a removal
+frame-removal : (o : Owner) (w : World) (s : Step) → Fits (part_of w o) s → Ground w → Frame w → (x : NodeName) (parent : Option NodeName) → Frame (with_removal_signals w (stepped o w s) x parent)
+frame-removal o w s h g f x None = frame-stepped o w s h g f
+frame-removal o w s h g f x (Some parent) = frame-signals o w s h g f x parent true
+
+-- names and hosts stay
+ground-removal : (was now : World) (x : NodeName) (parent : Option NodeName) → Ground now → Ground (with_removal_signals was now x parent)
+ground-removal was now x None g = g
+ground-removal was now x (Some parent) g = ground-each_signal (signals was now x parent true) now g
+
+-- Node documents of shadow trees.
+fits-document : (w : World) (c : Owner) (d : NodeName) → Fits (part_of w c) (set_document (shadow_root_of c) d)
+fits-document w c d = sym (owner-part_of w c)
+
+-- of all of them
+frame-documents : (cs : List Owner) (d : NodeName) (w : World) → Ground w → Frame w → Frame (fold (with_shadow_document d) w cs)
+frame-documents [] d w g f = f
+frame-documents (c ∷ cs) d w g f =
+    let s = set_document (shadow_root_of c) d in
+    frame-documents cs d (stepped c w s) (ground-stepped c w s g) (frame-stepped c w s (fits-document w c d) g f)
+
+-- names and hosts stay
+ground-documents : (cs : List Owner) (d : NodeName) (w : World) → Ground w → Ground (fold (with_shadow_document d) w cs)
+ground-documents [] d w g = g
+ground-documents (c ∷ cs) d w g = ground-documents cs d (with_shadow_document d w c) (ground-stepped c w (set_document (shadow_root_of c) d) g)
+
+-- a notification, if so
+frame-notify : (b : Bool) (o : Owner) (w : World) → Frame w → Frame (with_notify_if b o w)
+frame-notify true o w f = record { tables = f.tables; first = f.first; signalled = f.signalled }
+frame-notify false o w f = f
+
+-- names and hosts stay
+ground-notify : (b : Bool) (o : Owner) (w : World) → Ground w → Ground (with_notify_if b o w)
+ground-notify true o w g = record { parts = g.parts; no_hosts = g.no_hosts }
+ground-notify false o w g = g
+
+-- Steps.
+frame-world_step : (o : Owner) (w : World) (s : Step) → Fits (part_of w o) s → Ground w → Frame w → Frame (world_step o w s)
+frame-world_step o w (place x parent before) h g f = frame-signals o w (place x parent before) h g f x parent true
+frame-world_step o w (take_out x) h g f = frame-removal o w (take_out x) h g f x (parent_of (part_of w o).trees x)
+frame-world_step o w (set_attribute x a v) h g f = frame-signals o w (set_attribute x a v) h g f x x false
+frame-world_step o w (set_document x d) h g f =
+    frame-documents (components_below max_depth w x) d (stepped o w (set_document x d)) (ground-stepped o w (set_document x d) g) (frame-stepped o w (set_document x d) h g f)
+frame-world_step o w (queue_record c) h g f = frame-notify (is_taken (part_of w o) c) o (stepped o w (queue_record c)) (frame-stepped o w (queue_record c) h g f)
+frame-world_step o w s h g f = frame-stepped o w s h g f
+
+-- names and hosts
+pub ground-world_step : (o : Owner) (w : World) (s : Step) → Ground w → Ground (world_step o w s)
+ground-world_step o w (place x parent before) g =
+    let now = stepped o w (place x parent before) in ground-each_signal (signals w now x parent true) now (ground-stepped o w (place x parent before) g)
+ground-world_step o w (take_out x) g = ground-removal w (stepped o w (take_out x)) x (parent_of (part_of w o).trees x) (ground-stepped o w (take_out x) g)
+ground-world_step o w (set_attribute x a v) g =
+    let now = stepped o w (set_attribute x a v) in ground-each_signal (signals w now x x false) now (ground-stepped o w (set_attribute x a v) g)
+ground-world_step o w (set_document x d) g = ground-documents (components_below max_depth w x) d (stepped o w (set_document x d)) (ground-stepped o w (set_document x d) g)
+ground-world_step o w (queue_record c) g = ground-notify (is_taken (part_of w o) c) o (stepped o w (queue_record c)) (ground-stepped o w (queue_record c) g)
+ground-world_step o w s g = ground-stepped o w s g
+
+-- What a step does in its owner's part is not done again elsewhere: a component's trees have no hosts.
+no-components : (w : World) → Ground w → (o : Owner) → o ≢ Page → (xs : List NodeName) → AllByRecursion (λ (y : NodeName). y.owner ≡ o) xs → filter_map (component_at w) xs ≡ []
+no-components w g o n [] h = refl
+no-components w g o n (x ∷ xs) h =
+    let none_at : component_at w x ≡ None = ap (λ (hs : List NodeName). option_map (component_made x.owner) (position (name_eq x) hs)) (ap (λ a. (part_of w a).attached) h.0 ∙ g.no_hosts o n) in
+    ap (λ c. cons_option c (filter_map (component_at w) xs)) none_at ∙ no-components w g o n xs h.1
+
+-- so the parts of others alone
+part-documents : (w : World) → Ground w → (k : ℕ) (x d : NodeName) → x.owner ≡ Component k → (v : World) → part_of (fold (with_shadow_document d) v (components_below max_depth w x)) (Component k) ≡ part_of v (Component k)
+part-documents w g k x d e v =
+    let o = Component k in
+    let ts = trees_with w x in
+    let descend = all-map (λ (y : NodeName). y.owner ≡ o) (λ (n : Node). n.name) (nodes (subtree ts x))
+    (all-then (λ (n : Node). 1 ≤ times_in (subtree ts x) n.name) (λ n. n.name.owner ≡ o) (λ n h. (g.parts x.owner).owned n.name (let s = times-subtree ts x n.name in omega arith) ∙ owner-part_of w x.owner ∙ e) (nodes (subtree ts x)) (nodes-there (subtree ts x))) in
+    let nothing_below : components_below max_depth w x ≡ [] = ap (flat_map (λ c. c ∷ components_below 0 w (shadow_root_of c))) (no-components w g o (Component-IsNoPage k) (inclusive_descendants ts x) descend) in
+    ap (λ cs. part_of (fold (with_shadow_document d) v cs) o) nothing_below
+
+-- a component's step in its part
+part-component_step : (k : ℕ) (w : World) (s : Step) → Ground w → Fits (part_of w (Component k)) s → part_of (world_step (Component k) w s) (Component k) ≡ part_step (part_of w (Component k)) s
+part-component_step k w (place x parent before) g h = let o = Component k in part_of-with_signals w (stepped o w (place x parent before)) x parent true o ∙ part_of-stepped w o (place x parent before)
+part-component_step k w (take_out x) g h = let o = Component k in part_of-with_removal_signals w (stepped o w (take_out x)) x (parent_of (part_of w o).trees x) o ∙ part_of-stepped w o (take_out x)
+part-component_step k w (set_attribute x a v) g h = let o = Component k in part_of-with_signals w (stepped o w (set_attribute x a v)) x x false o ∙ part_of-stepped w o (set_attribute x a v)
+part-component_step k w (set_document x d) g h =
+    let o = Component k in part-documents w g k x d (h ∙ owner-part_of w o) (stepped o w (set_document x d)) ∙ part_of-stepped w o (set_document x d)
+part-component_step k w (queue_record c) g h = let o = Component k in part_of-with_notify_if (is_taken (part_of w o) c) o o (stepped o w (queue_record c)) ∙ part_of-stepped w o (queue_record c)
+part-component_step k w s g h = part_of-stepped w (Component k) s
+
+-- a step in its part
+pub part-own_step : (o : Owner) (w : World) (s : Step) → Ground w → Fits (part_of w o) s → part_of (world_step o w s) o ≡ part_step (part_of w o) s
+part-own_step Page w s g h = part_of-world_step w s
+part-own_step (Component k) w s g h = part-component_step k w s g h
+
+-- many steps, each of which fits where it is made
+pub frame-world_after : (o : Owner) (steps : List Step) (w : World) → Ground w → MadeIn (part_of w o) steps → Frame w → Frame (world_after o w steps)
+frame-world_after o [] w g h f = f
+frame-world_after o (s ∷ steps) w g h f =
+    frame-world_after o steps (world_step o w s) (ground-world_step o w s g) (subst (λ p. MadeIn p steps) (sym (part-own_step o w s g h.0)) h.1) (frame-world_step o w s h.0 g f)
