@@ -12,3 +12,5 @@ pub mod Placed
 pub mod Turns
 pub mod Listing
 pub mod Inserted
+pub mod Spliced
+pub mod Replaced

@@ -17,10 +17,12 @@ ghost use Rattle.dom_tree.specs.Owners.{trees_of_owner, AreOwned};
 ghost use Rattle.dom_mutation.specs.Doc.{made};
 
 mod attributes;
+mod data;
 mod documents;
 mod inserting;
 mod reads;
 mod removing;
+mod replacing;
 mod steps;
 
 pub use attributes::is_name;

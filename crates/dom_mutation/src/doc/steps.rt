@@ -1,11 +1,12 @@
 //! The elementary steps of which all changes consist.
-ghost use Rattle.std.specs.Prelude.{◌≡◌, ◌<◌, length, true, false, is_some, map, OnOk, OnErr, Some, None};
+ghost use Rattle.std.specs.Prelude.{◌≡◌, ◌<◌, ◌≤◌, length, true, false, is_some, map, IsOk, OnOk, OnErr, Some, None};
 ghost use Rattle.std.specs.Option.{option_map, ForSome};
 ghost use Rattle.dom_model.specs.Tree.{parent_of, is_inclusive_ancestor, index_of, attribute_value, node_in};
-ghost use Rattle.dom_model.specs.Steps.{make_room, place, take_out, set_attribute, queue_record};
+ghost use Rattle.dom_model.specs.Steps.{make_room, place, take_out, set_attribute, replace_data, queue_record};
 ghost use Rattle.dom_model.specs.Output.{child_list, attributes, character_data};
 ghost use Rattle.dom_mutation.specs.Doc.{name_in, owner_in, trees_in, stepped};
 
+use super::data::spliced;
 use crate::Doc;
 use dom_base::DomStr;
 use node_arena::Key;
@@ -57,6 +58,26 @@ impl Doc {
         let _ = self.forest.remove_attr(node, name);
     }
 
+    /// Code units of a Text or a Comment give way to others. There are no ranges whose ends this moves. All of them give
+    /// way without taking memory.
+    pub(super) fn change_data(
+        &mut self,
+        node: Key,
+        offset: usize,
+        count: usize,
+        data: DomStr,
+    ) -> Result<(), AllocError>
+        requires { node < length self.old.names }
+        ensures ok { OnOk result (self.new ≡ stepped (owner_in self.old node) (replace_data (name_in self.old node) offset count «data».items) self.old) }
+        ensures whole { offset ≡ 0 → length (node_in (trees_in self.old node) (name_in self.old node)).text ≤ count → IsOk result }
+        ensures err { OnErr result (self.new ≡ self.old) }
+    {
+        self.forest.nodes_stand_once();
+        let text = spliced(self.alloc, self.forest.text(node), offset, count, data)?;
+        self.forest.set_data(node, text);
+        Ok(())
+    }
+
     /// So many nodes are to come into a parent before a child. There are no ranges whose ends this moves.
     pub(super) fn make_room(&mut self, parent: Key, child: Key, count: usize)
         requires { parent < length self.old.names }
@@ -84,6 +105,13 @@ impl Doc {
     pub(super) fn tell_attribute(&mut self, node: Key, name: &str)
         requires { node < length self.old.names }
         ensures { self.new ≡ stepped (owner_in self.old node) (queue_record (attributes (name_in self.old node) name.now (attribute_value (node_in (trees_in self.old node) (name_in self.old node)) name.now))) self.old }
+    {
+        let _ = &self.forest;
+    }
+    /// Observers are told that data change. There are no observers.
+    pub(super) fn tell_data(&mut self, node: Key)
+        requires { node < length self.old.names }
+        ensures { self.new ≡ stepped (owner_in self.old node) (queue_record (character_data (name_in self.old node) (Some (node_in (trees_in self.old node) (name_in self.old node)).text))) self.old }
     {
         let _ = &self.forest;
     }
