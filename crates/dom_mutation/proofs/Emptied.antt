@@ -97,6 +97,7 @@ module _ (d : DocState) (node : ℕ) (alone : StepsAlone (owner_in d node)) wher
   abbrev told_of : List NodeName → List Step
   told_of old = only_if (not (is_empty old && true)) (queue_record (child_list x [] old None None))
 
+  -- without children, and with some
   pub cleared_none : (e : DocState) (ks : List ℕ) → ks ≡ [] → map (name_in d) ks ≡ children_of (trees_in d node) x → e ≡ planned o (in_turn (removing suppressed) (map (name_in d) ks)) d
       → e ≡ planned o (replacing_children x []) d
   cleared_none e ks nil listed taken =
@@ -109,6 +110,7 @@ module _ (d : DocState) (node : ℕ) (alone : StepsAlone (owner_in d node)) wher
       let tell : DocState → DocState = λ s. stepped (owner_in s node) (queue_record (child_list (name_in s node) [] (map (name_in s) (k ∷ ks)) None None)) s in
       told ∙ ap tell taken ∙ cleared (map (name_in d) (k ∷ ks)) (queue_record (child_list x [] (map (name_in d) (k ∷ ks)) None None) ∷ []) ∙ ap (λ old. all old (told_of old)) listed
 
+-- a test of length, for emptiness
 pub none_left : (ks : List ℕ) → true ≡ (length ks == 0) → ks ≡ []
 none_left [] e = refl
 none_left (k ∷ ks) e = let h = eqb-true (length (k ∷ ks)) 0 (sym e) in absurd (omega arith)
@@ -151,6 +153,7 @@ module _ (d e : DocState) (node new : ℕ) (doc : Option NodeName) (text : DomSt
       let told = only_if (not (is_empty old && b)) (queue_record (child_list z added old None None)) in
       (steps_of made_ and_then clear_plan old and_then in_turn put_plan added and_then steps_of told) (part_of d.world p)
 
+  -- what a change of text makes
   pub text_whole : (g : DocState) → is_empty text ≡ false → doc ≡ Some (document_below (part_of d.world p).trees z) → g ≡ planned (owner_in e node) (putting_text (name_in e node) (name_in e new)) e
       → g.world ≡ made p (replacing_children z text) d.world
   text_whole g some documented is =

@@ -45,6 +45,7 @@ subtree_beside n y x (tree m d r) h = elim (cases_Bool (name_before y m.name)) [
   | inr g ↦ rw g (ap (λ t. Rattle.std.specs.Prelude.cond (name_eq m.name x) (tree m d none) (or_else (subtree d x) t)) (subtree_beside n y x r h))
 ]
 
+-- what is read of a tree with one root more
 module _ (n : Node) (ts : Trees) where
   path_beside_new : (y : NodeName) → name_eq n.name y ≡ false → inclusive_ancestors (with_node n ts) y ≡ inclusive_ancestors ts y
   path_beside_new y h = path_put_root n.name (tree n none none) ts y (path_after n none none y h refl)
@@ -78,12 +79,14 @@ module _ (d e : DocState) (node new : ℕ) (doc : Option NodeName) (text : DomSt
   abbrev n : Node
   n = new_text_node y doc text
 
+  -- the names of the two, by their keys
   pub same_name : name_in e node ≡ x
   same_name = ap (λ (ns : List NodeName). name_at ns node) names ∙ get_or-append d.names (y ∷ []) (node_of Page 0) node node_is
 
   pub new_name : name_in e new ≡ y
   new_name = ap (λ (ns : List NodeName). name_at ns new) names ∙ ap (name_at (d.names ++ y ∷ [])) key ∙ get_or-append_seam d.names y [] (node_of Page 0)
 
+  -- the trees, and how many nodes there are
   pub grown_trees : (part_of e.world o).trees ≡ with_node n ts
   grown_trees = ap (λ (w : World). (part_of w o).trees) world ∙ ap (λ (p : Part). p.trees) (alone d.world (make n ∷ []))
 
@@ -106,6 +109,7 @@ module _ (d e : DocState) (node new : ℕ) (doc : Option NodeName) (text : DomSt
     once : IsOnce (with_node n ts)
     once = subst IsOnce grown_trees (once_in e counted o)
 
+    -- the new node stands alone
     pub new_unlinked : parent_of (trees_in e node) (name_in e new) ≡ None
     new_unlinked = ap (λ t. parent_of t (name_in e new)) own_trees ∙ ap (parent_of (with_node n ts)) new_name ∙ new_root n ts once
 
@@ -114,6 +118,7 @@ module _ (d e : DocState) (node new : ℕ) (doc : Option NodeName) (text : DomSt
         ap (λ t. is_inclusive_ancestor t (name_in e new) (name_in e node)) own_trees ∙ ap (λ z. is_inclusive_ancestor (with_node n ts) z (name_in e node)) new_name
         ∙ ap (is_inclusive_ancestor (with_node n ts) y) same_name ∙ new_below_none n ts once x apart
 
+    -- the other one's parent and children are the same
     same_parent : parent_of (part_of e.world o).trees x ≡ parent_of ts x
     same_parent = ap (λ t. parent_of t x) grown_trees ∙ ap (λ path. first_of (drop 1 path)) (path_beside_new n ts x apart)
 

@@ -33,6 +33,7 @@ use Rattle.dom_mutation.proofs.Turns.{all_drop}
 
 -- ---- the Texts directly after a Text
 
+-- what stands behind the next name is what stands behind that one
 after_first : (x y : NodeName) (xs rest : List NodeName) → NoTwice xs → items_after name_eq x xs ≡ y ∷ rest → items_after name_eq y xs ≡ rest
 after_first x y [] rest once e = cc
 after_first x y (w ∷ ws) rest once e = elim (cases_Bool (name_eq x w)) [
@@ -55,6 +56,7 @@ abbrev pub rest_length : Trees → Option NodeName → ℕ
 rest_length ts None = 0
 rest_length ts (Some y) = suc (length (texts_after ts y))
 
+-- with the first of some names, these are all of them
 record IsRest (ts : Trees) (zs : List NodeName) (o : Option NodeName) : Type 0 where
   pub all : (xs : List NodeName) → with_rest ts xs o ≡ xs ++ zs
   pub size : rest_length ts o ≡ length zs
@@ -65,6 +67,7 @@ rest_none ts zs e = subst (λ ys. IsRest ts ys (first_of ys)) (sym e) (record { 
 rest_some : (ts : Trees) (zs : List NodeName) (y : NodeName) → zs ≡ y ∷ texts_after ts y → IsRest ts zs (first_of zs)
 rest_some ts zs y e = subst (λ ys. IsRest ts ys (first_of ys)) (sym e) (record { all = λ xs. refl; size = refl })
 
+-- so they are with the first Text after a Text
 after_rest : (ts : Trees) → IsOnce ts → (x : NodeName) → IsRest ts (texts_after ts x) (first_of (texts_after ts x))
 after_rest ts once x = by_parent (parent_of ts x) refl
   where
@@ -102,6 +105,7 @@ first_while p (z ∷ zs) y e = by (p z) refl
         ap first_of (take_while-cons p z zs ∙ cond-true (p z) (z ∷ take_while p zs) [] h) ∙ ap (λ w. Some w) same ∙ sym (cond-true (p y) (Some y) None (ap p (sym same) ∙ h))
     by false h = ap first_of (take_while-cons p z zs ∙ cond-false (p z) (z ∷ take_while p zs) [] h) ∙ sym (cond-false (p y) (Some y) None (ap p (sym same) ∙ h))
 
+-- that is the next sibling, where it is a Text
 pub text_next : (ts : Trees) (x y : NodeName) (b : Bool) → next_sibling ts x ≡ Some y → is_text (kind_of ts y) ≡ b → (if b then Some y else None) ≡ first_of (texts_after ts x)
 text_next ts x y b next kind = sym (first_while (λ y. is_text (kind_of ts y)) (items_after name_eq x (siblings ts x)) y next ∙ ap (λ t. if t then Some y else None) kind)
 
@@ -118,6 +122,7 @@ follows_first d counted node at found near = record {
   here = near;
 }
 
+-- a step of it
 pub follows_next : (d : DocState) → Counted d → (node : ℕ) (keys : List ℕ) (at next : Option ℕ) (k : ℕ) → at ≡ Some k → Follows d node keys at
     → option_map (name_in d) next ≡ first_of (texts_after (trees_in d k) (name_in d k)) → ForSome next (IsOwnNode d k)
     → Follows d node (keys ++ k ∷ []) next × (rest_length (trees_in d node) (option_map (name_in d) next) < rest_length (trees_in d node) (option_map (name_in d) at))
@@ -139,28 +144,11 @@ follows_next d counted node keys at next k is follows found near =
 
 -- ---- their data
 
+-- how far the loop has come that collects it, with these Texts left
 pub record Collects (d : DocState) (top : ℕ) (all : List ℕ) (units : DomString) (rest : List ℕ) : Type 0 where
   pub data_is : let text_of = λ (y : NodeName). (node_in (trees_in d top) y).text in
       units ++ flat_map text_of (map (name_in d) rest) ≡ flat_map text_of (map (name_in d) all)
   pub nodes : AllByRecursion (IsOwnNode d top) rest
-
-pub collects_on : (d : DocState) (top : ℕ) (all : List ℕ) (units more : DomString) (i k : ℕ) → i < length all → k ≡ get_or all i k → Collects d top all units (drop i all)
-    → more ≡ units ++ (node_in (trees_in d k) (name_in d k)).text → Collects d top all more (drop (i + 1) all)
-collects_on d top all units more i k i< is collects pushed =
-    let now : drop i all ≡ k ∷ drop (suc i) all = drop-cons all i k i< ∙ ap (λ j. j ∷ drop (suc i) all) (sym is) in
-    let c = subst (Collects d top all units) now collects in
-    let text_of = λ (y : NodeName). (node_in (trees_in d top) y).text in
-    let own : more ≡ units ++ text_of (name_in d k) = pushed ∙ ap (λ o. units ++ (node_in (part_of d.world o).trees (name_in d k)).text) c.nodes.0.1 in
-    subst (λ j. Collects d top all more (drop j all)) (sym (add-one i))
-    (record {
-      data_is = ap (λ s. s ++ flat_map text_of (map (name_in d) (drop (suc i) all))) own ∙ append_assoc units (text_of (name_in d k)) (flat_map text_of (map (name_in d) (drop (suc i) all))) ∙ c.data_is;
-      nodes = c.nodes.1;
-    })
-
-pub collects_node : (d : DocState) (top : ℕ) (all : List ℕ) (units : DomString) (i k : ℕ) → i < length all → k ≡ get_or all i k → Collects d top all units (drop i all) → k < length d.names
-collects_node d top all units i k i< is collects =
-    let now : drop i all ≡ k ∷ drop (suc i) all = drop-cons all i k i< ∙ ap (λ j. j ∷ drop (suc i) all) (sym is) in
-    (subst (Collects d top all units) now collects).nodes.0.0
 
 -- ---- joining
 
@@ -173,6 +161,7 @@ then_ok (Err e) p f = tt
 pub own_nodes : (d e : DocState) (top : ℕ) (ks : List ℕ) → e.names ≡ d.names → AllByRecursion (IsOwnNode d top) ks → AllByRecursion (IsOwnNode e top) ks
 own_nodes d e top ks names h = subst (λ (ns : List NodeName). AllByRecursion (λ k. (k < length ns) × ((name_at ns k).owner ≡ (name_at ns top).owner)) ks) (sym names) h
 
+-- the steps of a joining are its plan
 pub joined_whole : (d e f g : DocState) (node parent size : ℕ) (units : DomString) (ks : List ℕ) → StepsAlone (owner_in d node)
     → size ≡ length_of (trees_in d node) (name_in d node) → units ≡ flat_map (λ y. (node_in (trees_in d node) y).text) (map (name_in d) ks)
     → e ≡ planned (owner_in d node) (replacing_data (name_in d node) size 0 units) d
@@ -195,6 +184,7 @@ joined_whole d e f g node parent size units ks alone sized collected replaced ca
 
 -- ---- one Text
 
+-- what is done with it is its plan: it leaves, it stays, or it is joined with those after it
 module _ (d : DocState) (node : ℕ) where
   abbrev o : Owner
   o = owner_in d node
@@ -232,10 +222,12 @@ module _ (d : DocState) (node : ℕ) where
 
 -- ---- one Text after another
 
+-- how far the loop has come that normalizes them, with these left
 pub record Normalizes (top : ℕ) (all : List ℕ) (d : DocState) (rest : List ℕ) (e : DocState) : Type 0 where
   pub names : e.names ≡ d.names
   pub state : planned (owner_in d top) (in_turn normalizing_text (map (name_in d) rest)) e ≡ planned (owner_in d top) (in_turn normalizing_text (map (name_in d) all)) d
 
+-- a step of it
 pub normalizes_on : (top : ℕ) (all : List ℕ) (d : DocState) (i k : ℕ) (e f : DocState) → StepsAlone (owner_in d top) → i < length all → k ≡ get_or all i k → AllByRecursion (IsOwnNode d top) all
     → Normalizes top all d (drop i all) e → f ≡ planned (owner_in e k) (normalizing_text (name_in e k)) e → Normalizes top all d (drop (i + 1) all) f
 normalizes_on top all d i k e f alone i< is nodes turn made =
@@ -250,12 +242,6 @@ normalizes_on top all d i k e f alone i< is nodes turn made =
       state = ap (planned (owner_in d top) (in_turn normalizing_text (map (name_in d) (drop (suc i) all)))) at
           ∙ planned_turn (owner_in d top) alone normalizing_text (name_in d k) (map (name_in d) (drop (suc i) all)) e ∙ state;
     })
-
-pub normalizes_node : (top : ℕ) (all : List ℕ) (d : DocState) (i k : ℕ) (e : DocState) → i < length all → k ≡ get_or all i k → AllByRecursion (IsOwnNode d top) all
-    → Normalizes top all d (drop i all) e → k < length e.names
-normalizes_node top all d i k e i< is nodes turn =
-    let now : drop i all ≡ k ∷ drop (suc i) all = drop-cons all i k i< ∙ ap (λ j. j ∷ drop (suc i) all) (sym is) in
-    subst (λ (ns : List NodeName). k < length ns) (sym turn.names) (subst (AllByRecursion (IsOwnNode d top)) now (all_drop (IsOwnNode d top) i all nodes)).0.0
 
 -- ---- the Texts below a node
 
@@ -289,9 +275,11 @@ pub record Gathers (d : DocState) (top : ℕ) (keys : List ℕ) (at : Option ℕ
   pub here : ForSome at (IsOwnNode d top)
   pub within : ForSome at (λ k. is_inclusive_ancestor (trees_in d top) (name_in d top) (name_in d k) ≡ true)
 
+-- each stands once in tree order
 below_once : (d : DocState) → Counted d → (top : ℕ) → NoTwice (below_of d top)
 below_once d counted top = names_once (subtree (trees_in d top) (name_in d top)) (once_subtree (trees_in d top) (name_in d top) (once_in d counted (owner_in d top)))
 
+-- at the first one
 pub gathers_first : (d : DocState) → Counted d → (top : ℕ) (at : Option ℕ) → is_inclusive_ancestor (trees_in d top) (name_in d top) (name_in d top) ≡ true
     → option_map (name_in d) at ≡ first_of (items_after name_eq (name_in d top) (below_of d top)) → ForSome at (IsOwnNode d top)
     → ForSome at (λ k. is_inclusive_ancestor (trees_in d top) (name_in d top) (name_in d k) ≡ true) → Gathers d top [] at
@@ -312,6 +300,7 @@ gathers_first d counted top at there found near inside =
       within = inside;
     }
 
+-- a step of it, at a Text or another node
 module _ (d : DocState) (counted : Counted d) (top : ℕ) (keys : List ℕ) (at next : Option ℕ) (k : ℕ) (is : at ≡ Some k) (gathers : Gathers d top keys at)
     (found : option_map (name_in d) next ≡ first_of (items_after name_eq (name_in d k) (below_of d top))) (near : ForSome next (IsOwnNode d top))
     (inside : ForSome next (λ j. is_inclusive_ancestor (trees_in d top) (name_in d top) (name_in d j) ≡ true)) where

@@ -41,11 +41,13 @@ path_once (tree n c r) once x =
     by_path (a ∷ path) is h below rest lacks =
         subst NoTwice (sym (path_below n c r x a path h is)) (twice_push (a ∷ path) n.name (subst NoTwice is below) (subst (Lacks n.name) is lacks))
 
+-- so a child is not above its parent
 pub child_below : (ts : Trees) → IsOnce ts → (x p : NodeName) → parent_of ts x ≡ Some p → Lacks x (inclusive_ancestors ts p)
 child_below ts once x p up = (subst NoTwice (parent_path ts once x p up) (path_once ts once x)).0
 
 -- ---- the reference
 
+-- what a list lacks, what stands behind a name lacks
 pub lacks_after : (x z : NodeName) (xs : List NodeName) → Lacks x xs → Lacks x (items_after name_eq z xs)
 lacks_after x z [] h = tt
 lacks_after x z (y ∷ ys) h = elim (cases_Bool (name_eq z y)) [
@@ -119,6 +121,7 @@ module _ (d e : DocState) (counted : Counted d) (alone : (k : ℕ) → k < lengt
       ∙ removal_keeps d e counted child (alone child child_is.node) suppressed removed y (ap (λ t. is_inclusive_ancestor t (name_in d child) y) own ∙ lacks_to (name_in d child) (inclusive_ancestors (trees_in d parent) y) lacks)
       ∙ ap (λ t. inclusive_ancestors t y) own
 
+  -- what was asked of the parent and the reference still holds
   pub stays_removed : ForSome reference (IsChild d parent) → Stays parent reference d e
   stays_removed children = record {
     names = same_names;
@@ -129,6 +132,7 @@ module _ (d e : DocState) (counted : Counted d) (alone : (k : ℕ) → k < lengt
 
 -- ---- the whole
 
+-- the steps of a replacement are its plan
 pub replaced_whole : (d e f g : DocState) → (parent node child : ℕ) (added : List ℕ) (prev next reference : Option ℕ) → StepsAlone (owner_in d parent) → owner_in d node ≡ owner_in d parent → owner_in d child ≡ owner_in d parent
     → map (name_in d) added ≡ placed_nodes (trees_in d node) (name_in d node)
     → option_map (name_in d) prev ≡ previous_sibling (trees_in d child) (name_in d child)
