@@ -1,14 +1,13 @@
 -- A node's children give way to a new Text, or to none.
 use Rattle.std.proofs.Common.{◌≡◌, ℕ, ◌<◌, Bool, true, false, not, ◌&&◌, List, [], ◌∷◌, ◌++◌, length, map, Option, Some, None, refl, sym, ap, subst, ◌∙◌, arith}
 use Rattle.std.specs.Prelude.{◌==◌, if◌then◌else◌}
-use Rattle.std.specs.List.{AllByRecursion}
 use Rattle.std.proofs.lemmas.Bool.{eqb-true}
 use Rattle.dom_base.specs.declared.NodeName.{NodeName}
 use Rattle.dom_base.specs.declared.Owner.{Owner}
 use Rattle.dom_model.specs.Names.{DomString, name_eq, is_empty, is_in}
 use Rattle.dom_model.specs.Tree.{Trees, children_of, parent_of, inclusive_ancestors, is_inclusive_ancestor}
 use Rattle.dom_model.specs.Output.{child_list}
-use Rattle.dom_model.specs.Part.{Part, next_name}
+use Rattle.dom_model.specs.Part.{next_name}
 use Rattle.dom_model.specs.Steps.{Step, make, queue_record}
 use Rattle.dom_model.specs.World.{World, part_of}
 use Rattle.dom_model.specs.WorldSteps.{world_after}

@@ -1,6 +1,6 @@
 -- A document with one Text more: what is read of the other nodes stays, and the new one stands alone.
-use Rattle.std.proofs.Common.{◌≡◌, ℕ, ◌+◌, ◌<◌, ◌≤◌, ◌-◌, inl, inr, true, false, List, [], ◌∷◌, ◌++◌, drop, length, Option, Some, None, option_map, refl, sym, ap, subst, ◌∙◌, arith}
-use Rattle.std.proofs.lemmas.Bool.{cases_Bool, cond-true, cond-false, false_from_ne_true}
+use Rattle.std.proofs.Common.{◌≡◌, ℕ, ◌+◌, ◌<◌, ◌-◌, inl, inr, false, List, [], ◌∷◌, ◌++◌, drop, length, Option, None, refl, sym, ap, subst, ◌∙◌, arith}
+use Rattle.std.proofs.lemmas.Bool.{cases_Bool, cond-false, false_from_ne_true}
 use Rattle.std.proofs.lemmas.List.{length_push}
 use Rattle.std.proofs.Math.ListN.{get_or-append}
 use Rattle.std.proofs.Math.Seq.{get_or-append_seam}
@@ -9,7 +9,7 @@ use Rattle.dom_base.specs.declared.Owner.{Owner}
 use Rattle.dom_base.specs.declared.Owner.TheVariants.{Page}
 use Rattle.dom_model.specs.Names.{DomString, name_eq, name_before, node_of, first_of, is_in}
 use Rattle.dom_model.specs.Tree.{Trees, none, tree, Node, subtree, or_else, names_of, roots, trees_below, node_in, parent_of, children_of, inclusive_ancestors, is_inclusive_ancestor}
-use Rattle.dom_model.specs.TreeChanges.{with_node, with_name, put_root, followed_by}
+use Rattle.dom_model.specs.TreeChanges.{with_node, put_root}
 use Rattle.dom_model.specs.Part.{Part, next_name}
 use Rattle.dom_model.specs.Steps.{make}
 use Rattle.dom_model.specs.World.{World, part_of}
@@ -19,9 +19,9 @@ use Rattle.dom_model.proofs.OwnerLaws.{name_eq-same}
 use Rattle.dom_model.proofs.PartLaws.{owner-part_of}
 use Rattle.dom_tree.specs.Forest.{name_at}
 use Rattle.dom_tree.proofs.Names.{name_eq-true}
-use Rattle.dom_tree.proofs.Once.{times_in, times_in-none, times_in-tree, one, one-true}
+use Rattle.dom_tree.proofs.Once.{times_in, times_in-none, times_in-tree, one-true}
 use Rattle.dom_mutation.specs.Doc.{DocState, made, planned, StepsAlone, name_in, owner_in, trees_in, cutting_tail}
-use Rattle.dom_mutation.proofs.Paths.{Lacks, lacks_to, IsOnce, path_after, path_lacks}
+use Rattle.dom_mutation.proofs.Paths.{lacks_to, IsOnce, path_after, path_lacks}
 use Rattle.dom_mutation.proofs.Moves.{path_put_root, path_root}
 use Rattle.dom_mutation.proofs.Made.{made_then}
 use Rattle.dom_mutation.proofs.Placed.{Counted, once_in}

@@ -1,5 +1,5 @@
 -- Normalization: the Texts directly after a Text, their data, and the Texts below a node.
-use Rattle.std.proofs.Common.{◌≡◌, ℕ, suc, ◌+◌, ◌<◌, ◌≤◌, inl, inr, Bool, true, false, ◌||◌, List, [], ◌∷◌, ◌++◌, drop, drop-cons, add-one, get_or, length, map, Option, Some, None, option_map, refl, sym, ap, subst, ◌∙◌, arith}
+use Rattle.std.proofs.Common.{◌≡◌, ℕ, suc, ◌+◌, ◌<◌, ◌≤◌, inl, inr, Bool, true, false, List, [], ◌∷◌, ◌++◌, drop, drop-cons, add-one, get_or, length, map, Option, Some, None, option_map, refl, sym, ap, subst, ◌∙◌, arith}
 use Rattle.std.specs.Prelude.{◌==◌, Result, Ok, Err, OnOk, filter, flat_map, take_while, if◌then◌else◌}
 use Rattle.std.specs.List.{AllByRecursion}
 use Rattle.std.specs.Option.{ForSome, option_map_or}
@@ -10,11 +10,11 @@ use Rattle.std.proofs.lemmas.List.Sums.{take_while-cons}
 use Rattle.dom_base.specs.declared.NodeName.{NodeName}
 use Rattle.dom_base.specs.declared.Owner.{Owner}
 use Rattle.dom_model.specs.Names.{DomString, name_eq, first_of, is_empty, is_in, items_before, items_after}
-use Rattle.dom_model.specs.Tree.{Trees, kind_of, is_text, node_in, length_of, siblings, children_of, parent_of, next_sibling, inclusive_ancestors, is_inclusive_ancestor, subtree, descendants, inclusive_descendants}
+use Rattle.dom_model.specs.Tree.{Trees, kind_of, is_text, node_in, length_of, siblings, children_of, parent_of, next_sibling, inclusive_ancestors, is_inclusive_ancestor, subtree, inclusive_descendants}
 use Rattle.dom_model.specs.Steps.{Step}
 use Rattle.dom_model.specs.World.{part_of}
 use Rattle.dom_model.specs.WorldSteps.{world_after}
-use Rattle.dom_model.specs.Changes.{Plan, ◌and_then◌, in_turn, steps_of, observed, removing}
+use Rattle.dom_model.specs.Changes.{◌and_then◌, in_turn, steps_of, observed, removing}
 use Rattle.dom_model.specs.TextChanges.{replacing_data, joins, texts_after, joining, normalizing_text}
 use Rattle.dom_model.proofs.OwnerLaws.{name_eq-same}
 use Rattle.dom_tree.specs.Forest.{name_at}

@@ -1,10 +1,8 @@
 -- The tail of a split Text is placed behind it.
-use Rattle.std.proofs.Common.{◌≡◌, ℕ, ◌<◌, false, List, length, Option, Some, None, option_map, refl, sym, ap, subst, ◌∙◌}
+use Rattle.std.proofs.Common.{◌≡◌, ℕ, ◌<◌, false, length, Option, Some, None, option_map, sym, ap, subst, ◌∙◌}
 use Rattle.std.specs.Option.{ForSome}
 use Rattle.std.proofs.lemmas.Bool.{false_from_ne_true}
-use Rattle.dom_base.specs.declared.NodeName.{NodeName}
-use Rattle.dom_model.specs.Names.{name_eq}
-use Rattle.dom_model.specs.Tree.{Trees, parent_of, next_sibling, index_of, inclusive_ancestors, is_inclusive_ancestor}
+use Rattle.dom_model.specs.Tree.{parent_of, next_sibling, index_of, inclusive_ancestors, is_inclusive_ancestor}
 use Rattle.dom_model.specs.Steps.{split_at}
 use Rattle.dom_model.specs.World.{part_of}
 use Rattle.dom_model.specs.Changes.{Plan, ◌and_then◌, doing, observed, inserting}

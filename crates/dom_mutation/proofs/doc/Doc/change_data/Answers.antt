@@ -1,4 +1,4 @@
-use Rattle.std.proofs.Common.{◌≡◌, ℕ, ◌<◌, ◌≤◌, List, length, refl, sym, ap, subst, ◌∙◌, arith, true≢false}
+use Rattle.std.proofs.Common.{ℕ, ◌<◌, ◌≤◌, List, length, refl, sym, ap, subst, ◌∙◌, arith, true≢false}
 use Rattle.dom_model.specs.Tree.{node_in}
 use Rattle.dom_model.specs.TreeChanges.{change_node, replaced, with_text, with_data_replaced}
 use Rattle.dom_model.specs.Steps.{replace_data}

@@ -1,4 +1,4 @@
-use Rattle.std.proofs.Common.{◌≡◌, ℕ, [], ◌∷◌, List, None, map, ap, sym, ◌∙◌}
+use Rattle.std.proofs.Common.{ℕ, [], ◌∷◌, List, None, map, ap, sym, ◌∙◌}
 use Rattle.dom_model.specs.Output.{child_list}
 use Rattle.dom_model.specs.Steps.{queue_record}
 use Rattle.dom_mutation.specs.Doc.{name_in, owner_in, stepped}

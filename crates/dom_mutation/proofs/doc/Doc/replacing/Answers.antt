@@ -1,7 +1,7 @@
-use Rattle.std.proofs.Common.{◌≡◌, ◌∷◌, [], ℕ, List, map, option_map, sym, ap, subst, ◌∙◌}
+use Rattle.std.proofs.Common.{◌∷◌, [], ℕ, List, map, option_map, ap, ◌∙◌}
 use Rattle.dom_model.specs.Output.{child_list}
 use Rattle.dom_model.specs.Steps.{queue_record}
-use Rattle.dom_mutation.specs.Doc.{MayMove, name_in, owner_in, stepped}
+use Rattle.dom_mutation.specs.Doc.{name_in, owner_in, stepped}
 use Rattle.dom_mutation.proofs.Turns.{may_now, child_now}
 use Rattle.dom_mutation.proofs.Replaced.{next_is_near, stays_removed, replaced_whole}
 use Rattle.dom_mutation.proofs.doc.Doc.replacing.Goals as goal

@@ -1,4 +1,4 @@
-use Rattle.std.proofs.Common.{◌≡◌, ◌≤◌, Some, length, sym, ap, subst, ◌∙◌, arith}
+use Rattle.std.proofs.Common.{◌≡◌, Some, length, ap, ◌∙◌, arith}
 use Rattle.dom_model.specs.Tree.{node_in}
 use Rattle.dom_model.specs.Names.{DomString}
 use Rattle.dom_model.specs.Output.{character_data}

@@ -1,4 +1,4 @@
-use Rattle.std.proofs.Common.{◌≡◌, ◌-◌, length, option_map, ap, sym, ◌∙◌, arith}
+use Rattle.std.proofs.Common.{◌≡◌, ◌-◌, length, option_map, ap, arith}
 use Rattle.dom_model.specs.Names.{DomString}
 use Rattle.dom_model.specs.Tree.{node_in}
 use Rattle.dom_mutation.specs.Doc.{name_in, trees_in}
