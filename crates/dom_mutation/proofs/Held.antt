@@ -1,7 +1,7 @@
 -- What holds of a `Doc` stays so when one owner's trees change, and then its world has that owner's part changed.
 use Rattle.std.proofs.Common.{◌≡◌, ℕ, ◌+◌, ◌<◌, ◌≤◌, ◌⊎◌, inl, inr, true, false, cond, List, [], ◌∷◌, ◌++◌, length, Result, Ok, Err, refl, sym, ap, subst, ◌∙◌, ◌≢◌, arith, zero-add, add-one, suc}
 use Rattle.std.specs.Prelude.{OnOk, OnErr, ◌↔◌}
-use Rattle.std.proofs.lemmas.Bool.{cases_Bool}
+use Rattle.std.proofs.lemmas.Bool.{cases_Bool, false_from_ne_true}
 use Rattle.std.proofs.lemmas.List.{length_push}
 use Rattle.std.proofs.lemmas.List.Sums.{sum_by-append}
 use Rattle.std.proofs.Math.Nat.{eq-or-lt_of_le}
@@ -159,6 +159,11 @@ limit_at : (names : List NodeName) (ts : Trees) → IsHeld names ts → (o : Own
     → (count_of o names ≡ 1000000) ↔ (past_limit (part_of (world_from names ts) o).node_count 1 ≡ true)
 limit_at names ts held Page there = let few = held.limited Page in (λ e. rw e refl, λ h. let more = ltb-true 1000000 (count_of Page names + 1) h in omega arith)
 limit_at names ts held (Component k) there = cc
+
+-- no owner has more nodes than it may
+pub within_limit : (names : List NodeName) (ts : Trees) → IsHeld names ts → (o : Owner) → past_limit (part_of (world_from names ts) o).node_count 0 ≡ false
+within_limit names ts held Page = let few = held.limited Page in false_from_ne_true _ (λ h. let more = ltb-true 1000000 (count_of Page names + 0) h in omega arith)
+within_limit names ts held (Component k) = refl
 
 pub limit_held : (f : NamedTrees) (d : DocState) → state_from f.names f.trees ≡ d → IsHeld f.names f.trees → (o : Owner) → is_there d.world o ≡ true
     → {P : Type 0} → (P ↔ (count_of o f.names ≡ 1000000)) → P ↔ (past_limit (part_of d.world o).node_count 1 ≡ true)

@@ -17,11 +17,16 @@ ghost use Rattle.dom_tree.specs.Owners.{trees_of_owner, AreOwned};
 ghost use Rattle.dom_mutation.specs.Doc.{made};
 
 mod attributes;
+mod data;
 mod documents;
 mod inserting;
+mod normalizing;
 mod reads;
 mod removing;
+mod replacing;
+mod splitting;
 mod steps;
+mod texts;
 
 pub use attributes::is_name;
 use dom_base::{Fault, Kind, Owner};
