@@ -4,7 +4,7 @@ use Rattle.std.specs.Prelude.{OnOk, OnErr, ◌↔◌}
 use Rattle.std.proofs.lemmas.Bool.{cases_Bool}
 use Rattle.std.proofs.lemmas.List.{length_push}
 use Rattle.std.proofs.lemmas.List.Sums.{sum_by-append}
-use Rattle.std.proofs.Math.Nat.{eq-or-lt_of_le}
+use Rattle.std.proofs.Math.Nat.{eq-or-lt_of_le, add-zero}
 use Rattle.std.proofs.Math.ListN.{get_or-append}
 use Rattle.std.proofs.Math.Seq.{get_or-append_seam}
 use borrow.Author.Tests.{ltb-true}
@@ -13,30 +13,34 @@ use Rattle.dom_base.specs.declared.Fault.TheVariants.{Refused}
 use Rattle.dom_base.specs.declared.Refusal.TheVariants.{Limit}
 use Rattle.dom_base.specs.declared.NodeName.{NodeName}
 use Rattle.dom_base.specs.declared.Owner.{Owner}
-use Rattle.dom_base.specs.declared.Owner.TheVariants.{Page, Component}
+use Rattle.dom_base.specs.declared.Owner.TheVariants.{Page}
 use Rattle.dom_model.specs.Names.{owner_eq, node_of}
 use Rattle.dom_model.specs.Tree.{Trees, Node}
-use Rattle.dom_model.specs.TreeChanges.{with_node}
+use Rattle.dom_model.specs.TreeChanges.{with_node, with_name}
 use Rattle.dom_model.specs.Steps.{make}
-use Rattle.dom_model.specs.World.{World, part_of, with_part, is_there}
+use Rattle.dom_model.specs.World.{part_of, is_there}
 use Rattle.dom_model.specs.WorldSteps.{world_step}
-use Rattle.dom_model.specs.Part.{next_name as part_next}
+use Rattle.dom_model.specs.Part.{Part, next_name as part_next}
 use Rattle.dom_model.specs.CommandRefusals.{past_limit}
-use Rattle.dom_model.proofs.OwnerLaws.{owner_eq-true}
+use Rattle.dom_model.proofs.OwnerLaws.{owner_eq-same, owner_eq-true, ne-owner_eq}
 use Rattle.dom_tree.specs.Forest.{NamedTrees, name_at, next_name, count_of}
 use Rattle.dom_tree.specs.Owners.{trees_of_owner, IsOwnChange}
 use Rattle.dom_tree.proofs.OwnChanges.{added}
-use Rattle.dom_mutation.specs.Doc.{DocState, part_from, world_from, state_from, IsHeld}
+use Rattle.dom_mutation.specs.Contents.{no_tables, part_with}
+use Rattle.dom_mutation.specs.Doc.{DocState, contents, world_from, state_from, IsHeld}
+use Rattle.dom_mutation.proofs.Worlds.{Single, there_in, there_same, part_at}
+use Rattle.dom_mutation.proofs.Quiet.{IsQuiet, world_stepped}
 
--- the only owner here is the page
+-- so far the page alone is there
+pub page_single : Single (Page ∷ [])
+page_single = (λ h. h, tt)
+
 pub there_page : (names : List NodeName) (ts : Trees) (o : Owner) → is_there (world_from names ts) o ≡ true → o ≡ Page
-there_page names ts Page h = refl
-there_page names ts (Component k) h = cc
+there_page names ts o h = elim (there_in (contents names ts) o h) [ inl e ↦ sym e | inr none ↦ absurd none ]
 
--- who is there, no change of trees changes
-pub there_same : (names others : List NodeName) (ts us : Trees) (o : Owner) → is_there (world_from names ts) o ≡ is_there (world_from others us) o
-there_same names others ts us Page = refl
-there_same names others ts us (Component k) = refl
+-- without hosts and registrations
+pub held_quiet : (names : List NodeName) (ts : Trees) → IsQuiet (contents names ts)
+held_quiet names ts = record { no_hosts = λ o. refl; no_observers = λ o. refl }
 
 -- the trees of an owner that is not there
 absent_changed : (names : List NodeName) (ts us : Trees) (o : Owner) → is_there (world_from names ts) o ≡ true
@@ -49,19 +53,10 @@ pub held_changed : (names : List NodeName) (ts : Trees) → IsHeld names ts → 
     → (f : Trees → Trees) → IsOwnChange o f ts → IsHeld names (f ts)
 held_changed names ts held o there f change = record {
   owned = change.owned;
-  present = λ k k<. there_same names names (f ts) ts (name_at names k).owner ∙ held.present k k<;
-  absent = λ p off. absent_changed names ts (f ts) o there change.others held p (there_same names names ts (f ts) p ∙ off);
+  present = λ k k<. there_same (contents names (f ts)) (contents names ts) refl (name_at names k).owner ∙ held.present k k<;
+  absent = λ p off. absent_changed names ts (f ts) o there change.others held p (there_same (contents names ts) (contents names (f ts)) refl p ∙ off);
   limited = held.limited;
 }
-
--- the world with an owner's trees changed
-pub world_changed : (names : List NodeName) (ts : Trees) (o : Owner) → is_there (world_from names ts) o ≡ true → (f : Trees → Trees) → IsOwnChange o f ts
-    → let p = part_of (world_from names ts) o in world_from names (f ts) ≡ with_part (world_from names ts) (record p { trees = f p.trees })
-world_changed names ts Page there f change = ap (λ us. world_with names us) change.own
-  where
-    world_with : List NodeName → Trees → World
-    world_with names us = record (world_from names ts) { parts = record (part_from names ts Page) { trees = us } ∷ [] }
-world_changed names ts (Component k) there f change = cc
 
 -- ---- one node more
 
@@ -78,7 +73,7 @@ present_more : (names : List NodeName) (ts us : Trees) (x : NodeName) → is_the
     → ((k : ℕ) → k < length names → is_there (world_from names ts) (name_at names k).owner ≡ true)
     → (k : ℕ) → k < length (names ++ x ∷ []) → is_there (world_from (names ++ x ∷ []) us) (name_at (names ++ x ∷ []) k).owner ≡ true
 present_more names ts us x there all k k< =
-    there_same (names ++ x ∷ []) names us ts (name_at (names ++ x ∷ []) k).owner
+    there_same (contents (names ++ x ∷ []) us) (contents names ts) refl (name_at (names ++ x ∷ []) k).owner
     ∙ at (let within : k ≤ length names = omega (arith, length_push names x) in eq-or-lt_of_le within)
   where
     at : (k ≡ length names) ⊎ (k < length names) → is_there (world_from names ts) (name_at (names ++ x ∷ []) k).owner ≡ true
@@ -93,32 +88,40 @@ held_more names ts held o there room n is =
     record {
       owned = change.owned;
       present = present_more names ts (with_node n ts) (next_name o names) there held.present;
-      absent = λ p off. absent_changed names ts (with_node n ts) o there change.others held p (there_same names more ts (with_node n ts) p ∙ off);
+      absent = λ p off. absent_changed names ts (with_node n ts) o there change.others held p (there_same (contents names ts) (contents more (with_node n ts)) refl p ∙ off);
       limited = λ p. limited_more names o p (count_of o names) (held.limited o) (held.limited p) room;
     }
 
 -- the world with one node more
 world_more : (names : List NodeName) (ts : Trees) → IsHeld names ts → (o : Owner) → is_there (world_from names ts) o ≡ true → (n : Node) → n.name ≡ next_name o names
     → world_from (names ++ next_name o names ∷ []) (with_node n ts) ≡ world_step o (world_from names ts) (make n)
-world_more names ts held Page there n is =
-    let change = added ts held.owned Page n (ap (λ (x : NodeName). x.owner) is) in
-    ap (λ us. world_with us (count_of Page more)) change.own ∙ ap (world_with (with_node n (trees_of_owner Page ts))) (count_more Page names (next_name Page names) ∙ add-one (count_of Page names))
-    ∙ ap (λ (x : NodeName). world_with (with_node (record n { name = x }) (trees_of_owner Page ts)) (suc (count_of Page names))) is
+world_more names ts held o there n is =
+    world_stepped (contents names ts) (contents more (with_node n ts)) o (make n) (held_quiet names ts) (held_quiet more (with_node n ts)) page_single there record {
+      owners = refl;
+      signalled = refl;
+      tasks = refl;
+      own = ap (λ us. part_with o us (count_of o more) no_tables) change.own ∙ ap (λ k. part_with o (with_node n (trees_of_owner o ts)) k no_tables) more_own ∙ ap (λ (x : NodeName). part_with o (with_node (with_name x n) (trees_of_owner o ts)) (suc (count_of o names)) no_tables) is;
+      others = λ q other. ap (λ us. part_with q us (count_of q more) no_tables) (change.others q other) ∙ ap (λ k. part_with q (trees_of_owner q ts) k no_tables) (more_other q other);
+    }
   where
     more : List NodeName
-    more = names ++ next_name Page names ∷ []
+    more = names ++ next_name o names ∷ []
 
-    world_with : Trees → ℕ → World
-    world_with us k = record (world_from names ts) { parts = record (part_from names ts Page) { trees = us; node_count = k } ∷ [] }
-world_more names ts held (Component k) there n is = cc
+    change : IsOwnChange o (with_node n) ts
+    change = added ts held.owned o n (ap (λ (x : NodeName). x.owner) is)
+
+    more_own : count_of o (names ++ next_name o names ∷ []) ≡ suc (count_of o names)
+    more_own = count_more o names (next_name o names) ∙ ap (λ b. count_of o names + cond b 1 0) (owner_eq-same o) ∙ add-one (count_of o names)
+
+    more_other : (q : Owner) → q ≢ o → count_of q (names ++ next_name o names ∷ []) ≡ count_of q names
+    more_other q other = count_more q names (next_name o names) ∙ ap (λ b. count_of q names + cond b 1 0) (ne-owner_eq o q (λ e. other (sym e))) ∙ add-zero (count_of q names)
 
 abbrev trees_named : List NodeName → Trees → NamedTrees
 trees_named ns ts = record { names = ns; trees = ts }
 
 -- an owner's next name, as its part says it and as the names of all nodes do
 next_same : (names : List NodeName) (ts : Trees) (o : Owner) → is_there (world_from names ts) o ≡ true → part_next (part_of (world_from names ts) o) ≡ next_name o names
-next_same names ts Page there = refl
-next_same names ts (Component k) there = cc
+next_same names ts o there = ap part_next (part_at (contents names ts) o there)
 
 -- what a call that makes a node ensures
 abbrev pub Added : NamedTrees → Owner → (List NodeName → NodeName → Node) → {T : Type 0} → Result T Fault → DocState → Type 0
@@ -157,8 +160,12 @@ added_held f g d is_d held o there n is r names trees limit same =
 -- when there is no room for one node more
 limit_at : (names : List NodeName) (ts : Trees) → IsHeld names ts → (o : Owner) → is_there (world_from names ts) o ≡ true
     → (count_of o names ≡ 1000000) ↔ (past_limit (part_of (world_from names ts) o).node_count 1 ≡ true)
-limit_at names ts held Page there = let few = held.limited Page in (λ e. rw e refl, λ h. let more = ltb-true 1000000 (count_of Page names + 1) h in omega arith)
-limit_at names ts held (Component k) there = cc
+limit_at names ts held o there =
+    let few = held.limited o in
+    let count : (part_of (world_from names ts) o).node_count ≡ count_of o names = ap (λ (p : Part). p.node_count) (part_at (contents names ts) o there) in (
+      λ e. ap (λ n. past_limit n 1) (count ∙ e),
+      λ h. let more = ltb-true 1000000 (count_of o names + 1) (ap (λ n. past_limit n 1) (sym count) ∙ h) in omega arith,
+    )
 
 pub limit_held : (f : NamedTrees) (d : DocState) → state_from f.names f.trees ≡ d → IsHeld f.names f.trees → (o : Owner) → is_there d.world o ≡ true
     → {P : Type 0} → (P ↔ (count_of o f.names ≡ 1000000)) → P ↔ (past_limit (part_of d.world o).node_count 1 ≡ true)

@@ -1,6 +1,8 @@
 -- Lemmas of the changes of documents.
-pub mod Held
+pub mod Worlds
 pub mod Quiet
+pub mod Held
+pub mod Steps
 pub mod Shown
 pub mod Made
 pub mod Paths

@@ -1,29 +1,33 @@
 -- What the forest says of a node is what its owner's part in the world says of it.
-use Rattle.std.proofs.Common.{◌≡◌, ℕ, ◌<◌, true, List, length, Result, Ok, Err, Option, Some, None, option_map, refl, sym, ap, subst, ◌∙◌}
+use Rattle.std.proofs.Common.{◌≡◌, ℕ, ◌<◌, inl, inr, true, List, length, Result, Ok, Err, Option, Some, None, option_map, refl, sym, ap, subst, ◌∙◌}
 use Rattle.std.specs.Prelude.{OnOk, OnErr}
 use Rattle.std.specs.Option.{ForSome}
+use Rattle.std.proofs.lemmas.Bool.{cases_Bool}
 use Rattle.dom_base.specs.declared.NodeName.{NodeName}
 use Rattle.dom_base.specs.declared.Owner.{Owner}
-use Rattle.dom_base.specs.declared.Owner.TheVariants.{Page, Component}
 use Rattle.dom_model.specs.Tree.{Trees}
 use Rattle.dom_model.specs.World.{World, part_of, is_there}
+use Rattle.dom_model.specs.Part.{Part}
 use Rattle.dom_model.specs.Output.{Change}
 use Rattle.dom_model.specs.Steps.{Step, queue_record}
 use Rattle.dom_model.specs.WorldSteps.{world_step}
 use Rattle.dom_tree.specs.Forest.{NamedTrees, name_at}
 use Rattle.dom_tree.specs.Owners.{trees_of_owner, IsReadOwn, IsOwnChange}
 use Rattle.dom_tree.proofs.Owned.{read_own}
-use Rattle.dom_mutation.specs.Doc.{DocState, state_from, world_from, IsHeld, name_in, owner_in, trees_in, stepped}
-use Rattle.dom_mutation.proofs.Held.{held_changed}
-use Rattle.dom_mutation.proofs.Quiet.{record_world}
+use Rattle.dom_mutation.specs.Doc.{DocState, contents, state_from, world_from, IsHeld, name_in, owner_in, trees_in, stepped}
+use Rattle.dom_mutation.proofs.Worlds.{part_at, part_off}
+use Rattle.dom_mutation.proofs.Held.{held_changed, held_quiet, page_single}
+use Rattle.dom_mutation.proofs.Quiet.{record_step}
 
 abbrev state_with : List NodeName → World → DocState
 state_with ns w = record { names = ns; world = w }
 
 -- the trees of a part
 pub own_in_part : (names : List NodeName) (ts : Trees) → IsHeld names ts → (o : Owner) → trees_of_owner o ts ≡ (part_of (world_from names ts) o).trees
-own_in_part names ts held Page = refl
-own_in_part names ts held (Component k) = held.absent (Component k) refl
+own_in_part names ts held o = elim (cases_Bool (is_there (world_from names ts) o)) [
+  | inl there ↦ ap (λ (p : Part). p.trees) (sym (part_at (contents names ts) o there))
+  | inr off ↦ held.absent o off ∙ ap (λ (p : Part). p.trees) (sym (part_off (contents names ts) o off))
+]
 
 -- the owner of a name that is given by its key
 pub of_owner : (names : List NodeName) (o : Owner) (given : Option ℕ) → ForSome given (λ k. (name_at names k).owner ≡ o) → ForSome (option_map (name_at names) given) (λ x. x.owner ≡ o)
@@ -85,4 +89,4 @@ module _ (f : NamedTrees) (held : IsHeld f.names f.trees) {d : DocState} (is_d :
   pub untold : (k : ℕ) → k < length d.names → (c : Change NodeName) → d ≡ stepped (owner_in d k) (queue_record c) d
   untold k k< c =
       subst (λ (e : DocState). e ≡ stepped (owner_in e k) (queue_record c) e) is_d
-      (ap (λ w. state_with f.names w) (record_world f.names f.trees (name_at f.names k).owner (owner_there k k<) c))
+      (ap (λ w. state_with f.names w) (record_step (contents f.names f.trees) (name_at f.names k).owner (held_quiet f.names f.trees) page_single (owner_there k k<) c))

@@ -11,7 +11,6 @@ use Rattle.dom_base.specs.declared.Refusal.{Refusal}
 use Rattle.dom_base.specs.declared.Refusal.TheVariants.{Hierarchy, NotSupported}
 use Rattle.dom_model.specs.Names.{name_eq}
 use Rattle.dom_model.specs.Tree.{Trees, none, parent_of, inclusive_ancestors, is_inclusive_ancestor}
-use Rattle.dom_model.specs.Part.{Part, empty_part}
 use Rattle.dom_model.specs.Steps.{Step, after}
 use Rattle.dom_model.specs.World.{World, part_of, is_there}
 use Rattle.dom_model.specs.WorldSteps.{world_step, world_after}
@@ -19,6 +18,7 @@ use Rattle.dom_model.specs.Changes.{Plan, Observing, observed, suppressed, in_tu
 use Rattle.dom_model.specs.Output.{child_list}
 use Rattle.dom_mutation.specs.declared.doc.removing.Telling.{Telling}
 use Rattle.dom_mutation.specs.declared.doc.removing.Telling.TheVariants.{Observed, Suppressed}
+use Rattle.dom_mutation.specs.Contents.{Contents, no_tables, world_of}
 use Rattle.dom_tree.specs.Forest.{name_at, count_of}
 use Rattle.dom_tree.specs.Owners.{trees_of_owner, AreOwned}
 
@@ -27,13 +27,13 @@ pub record DocState : Type 0 where
   pub names : List NodeName
   pub world : World
 
--- the part of an owner, from the names of all nodes and all trees
-abbrev pub part_from : List NodeName → Trees → Owner → Part
-part_from names ts o = record (empty_part o) { trees = trees_of_owner o ts; node_count = count_of o names }
+-- what is held: so far the page alone is there, and no owner has tables
+abbrev pub contents : List NodeName → Trees → Contents
+contents names ts = record { owners = Page ∷ []; names = names; trees = ts; tables = λ o. no_tables; signalled = []; tasks = [] }
 
--- the world of the page alone
+-- its world
 abbrev pub world_from : List NodeName → Trees → World
-world_from names ts = record { parts = part_from names ts Page ∷ []; signalled = []; tasks = []; turn = None }
+world_from names ts = world_of (contents names ts)
 
 abbrev pub state_from : List NodeName → Trees → DocState
 state_from names ts = record { names = names; world = world_from names ts }

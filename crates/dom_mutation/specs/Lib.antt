@@ -1,2 +1,3 @@
 -- What contracts see of a `Doc`.
+pub mod Contents
 pub mod Doc

@@ -6,7 +6,7 @@ use Rattle.dom_model.specs.Steps.{place}
 use Rattle.dom_tree.specs.Forest.{name_at}
 use Rattle.dom_tree.proofs.OwnChanges.{put}
 use Rattle.dom_mutation.specs.Doc.{name_in, owner_in, trees_in}
-use Rattle.dom_mutation.proofs.Quiet.{placed_world}
+use Rattle.dom_mutation.proofs.Steps.{placed_world}
 use Rattle.dom_mutation.proofs.Shown.{known, read_there, owner_there, step_held, step_done}
 use Rattle.dom_mutation.proofs.doc.Doc.place.Goals as goal
 

@@ -3,7 +3,7 @@ use Rattle.dom_model.specs.TreeChanges.{change_subtree, with_document}
 use Rattle.dom_model.specs.Steps.{set_document}
 use Rattle.dom_tree.specs.Forest.{name_at}
 use Rattle.dom_tree.proofs.OwnChanges.{changed_subtree}
-use Rattle.dom_mutation.proofs.Quiet.{document_world}
+use Rattle.dom_mutation.proofs.Steps.{document_world}
 use Rattle.dom_mutation.proofs.Shown.{owner_there, step_held, step_done}
 use Rattle.dom_mutation.proofs.doc.Doc.set_document.Goals as goal
 

@@ -6,7 +6,7 @@ use Rattle.dom_model.specs.Steps.{take_out}
 use Rattle.dom_tree.specs.Forest.{name_at}
 use Rattle.dom_tree.proofs.OwnChanges.{taken}
 use Rattle.dom_mutation.specs.Doc.{name_in, trees_in}
-use Rattle.dom_mutation.proofs.Quiet.{taken_world}
+use Rattle.dom_mutation.proofs.Steps.{taken_world}
 use Rattle.dom_mutation.proofs.Shown.{known, owner_there, step_held, step_done}
 use Rattle.dom_mutation.proofs.doc.Doc.take_out.Goals as goal
 

@@ -3,7 +3,7 @@ use Rattle.dom_model.specs.TreeChanges.{change_node, with_attribute}
 use Rattle.dom_model.specs.Steps.{set_attribute}
 use Rattle.dom_tree.specs.Forest.{name_at}
 use Rattle.dom_tree.proofs.OwnChanges.{changed_node}
-use Rattle.dom_mutation.proofs.Quiet.{attribute_world}
+use Rattle.dom_mutation.proofs.Steps.{attribute_world}
 use Rattle.dom_mutation.proofs.Shown.{owner_there, step_held, step_done}
 use Rattle.dom_mutation.proofs.doc.Doc.unset_attribute.Goals as goal
 
