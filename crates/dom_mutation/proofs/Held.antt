@@ -2,7 +2,7 @@
 use Rattle.std.proofs.Common.{◌≡◌, ℕ, ◌+◌, ◌<◌, ◌≤◌, ◌⊎◌, inl, inr, true, false, cond, List, [], ◌∷◌, ◌++◌, length, Option, Some, None, Result, Ok, Err, unwrap_or, zero, refl, sym, ap, subst, ◌∙◌, ◌≢◌, arith, zero-add, add-one, suc}
 use Rattle.std.specs.Prelude.{OnOk, OnErr, ◌↔◌}
 use Rattle.std.specs.Option.{ForSome}
-use Rattle.std.proofs.lemmas.Bool.{cases_Bool}
+use Rattle.std.proofs.lemmas.Bool.{cases_Bool, false_from_ne_true}
 use Rattle.std.proofs.lemmas.List.{length_push}
 use Rattle.std.proofs.lemmas.List.Sums.{sum_by-append}
 use Rattle.std.proofs.lemmas.Option.{slice_get_within, none-some, same_Some}
@@ -31,7 +31,7 @@ use Rattle.dom_tree.proofs.OwnChanges.{added}
 use Rattle.dom_mutation.specs.Contents.{part_with}
 use Rattle.dom_mutation.specs.OwnTables.{KeyedTables, tables_view, place_of, owner_at, owners_up_to, table_of, AreTablesOf}
 use Rattle.dom_mutation.specs.Doc.{DocState, named_trees, own_tables, contents, world_from, state_from, IsHeld}
-use Rattle.dom_mutation.proofs.Worlds.{In, there_in, in_there, there_same, part_at}
+use Rattle.dom_mutation.proofs.Worlds.{In, there_in, in_there, there_same, part_at, part_off}
 use Rattle.dom_mutation.proofs.Places.{place_within, owners_in, single_owners, table_place, table_owner}
 use Rattle.dom_mutation.proofs.Quiet.{IsQuiet, world_stepped}
 use Rattle.dom_mutation.proofs.Standing.{KeepsAbove}
@@ -244,6 +244,16 @@ limit_at : (names : List NodeName) (ts : Trees) (tables : List KeyedTables) → 
 limit_at names ts tables held o there =
     let count : (part_of (world_from names ts tables) o).node_count ≡ count_of o names = ap (λ (p : Part). p.node_count) (part_at (contents names ts tables) o there) in
     limit_count (count_of o names) (part_of (world_from names ts tables) o).node_count count (held.limited o)
+
+-- no owner has more nodes than it may
+pub within_limit : (names : List NodeName) (ts : Trees) {tables : List KeyedTables} → IsHeld names ts tables → (o : Owner) → past_limit (part_of (world_from names ts tables) o).node_count 0 ≡ false
+within_limit names ts {tables} held o = elim (cases_Bool (is_there (world_from names ts tables) o)) [
+  | inl there ↦
+      let count : (part_of (world_from names ts tables) o).node_count ≡ count_of o names = ap (λ (p : Part). p.node_count) (part_at (contents names ts tables) o there) in
+      let few = held.limited o in
+      false_from_ne_true _ (λ h. let more = ltb-true 1000000 (count_of o names + 0) (ap (λ n. past_limit n 0) (sym count) ∙ h) in omega arith)
+  | inr off ↦ ap (λ (p : Part). past_limit p.node_count 0) (part_off (contents names ts tables) o off)
+]
 
 pub limit_held : (f : NamedTrees) {tables : List KeyedTables} (d : DocState) → state_from f.names f.trees tables ≡ d → IsHeld f.names f.trees tables → (o : Owner) → is_there d.world o ≡ true
     → {P : Type 0} → (P ↔ (count_of o f.names ≡ 1000000)) → P ↔ (past_limit (part_of d.world o).node_count 1 ≡ true)

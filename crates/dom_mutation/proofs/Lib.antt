@@ -21,3 +21,9 @@ pub mod Placed
 pub mod Turns
 pub mod Listing
 pub mod Inserted
+pub mod Spliced
+pub mod Replaced
+pub mod Grown
+pub mod Tails
+pub mod Emptied
+pub mod Joined

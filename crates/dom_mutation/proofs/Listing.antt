@@ -9,13 +9,10 @@ use Rattle.dom_model.specs.Tree.{parent_of, children_of, next_sibling}
 use Rattle.dom_model.specs.World.{part_of}
 use Rattle.dom_model.proofs.OwnerLaws.{name_eq-same}
 use Rattle.dom_tree.proofs.Names.{name_eq-true}
-use Rattle.dom_mutation.specs.Doc.{DocState, name_in, owner_in, trees_in}
+use Rattle.dom_mutation.specs.Doc.{DocState, name_in, owner_in, trees_in, IsOwnNode}
 use Rattle.dom_mutation.proofs.Near.{Each, children_parent, children_once, next_walked}
 use Rattle.dom_mutation.proofs.Covering.{walked, left, StandsIn, Walks, walks}
 use Rattle.dom_mutation.proofs.Placed.{Counted, once_in}
-
-abbrev pub IsOwnNode : DocState → ℕ → ℕ → Type 0
-IsOwnNode d node k = (k < length d.names) × (owner_in d k ≡ owner_in d node)
 
 -- how far it has come: these keys are listed, and it stands there
 pub record Lists (d : DocState) (node : ℕ) (keys : List ℕ) (at : Option ℕ) : Type 0 where
@@ -39,11 +36,11 @@ lists_first d node at is near own =
     let first = first_walked (children_of (trees_in d node) (name_in d node)) (option_map (name_in d) at) is in
     record { listed = first.0; stands = first.1; nodes = tt; here = λ k e. (near k e, own k e) }
 
-all_push : (P : ℕ → Type 0) (xs : List ℕ) (x : ℕ) → AllByRecursion P xs → P x → AllByRecursion P (xs ++ x ∷ [])
+pub all_push : (P : ℕ → Type 0) (xs : List ℕ) (x : ℕ) → AllByRecursion P xs → P x → AllByRecursion P (xs ++ x ∷ [])
 all_push P [] x h p = (p, tt)
 all_push P (y ∷ xs) x h p = (h.0, all_push P xs x h.1 p)
 
-each_in : (P : NodeName → Type 0) (xs : List NodeName) → Each P xs → (y : NodeName) → is_in name_eq y xs ≡ true → P y
+pub each_in : (P : NodeName → Type 0) (xs : List NodeName) → Each P xs → (y : NodeName) → is_in name_eq y xs ≡ true → P y
 each_in P [] h y e = cc
 each_in P (x ∷ xs) h y e = elim (Rattle.std.proofs.lemmas.Bool.cases_Bool (name_eq y x)) [
   | inl g ↦ subst P (sym (name_eq-true y x g)) h.0

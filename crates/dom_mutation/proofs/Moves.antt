@@ -95,7 +95,7 @@ path_followed (tree n c r) ts y e =
 path_behind : (n : Node) (c r s : Trees) (y : NodeName) → inclusive_ancestors r y ≡ inclusive_ancestors s y → inclusive_ancestors (tree n c r) y ≡ inclusive_ancestors (tree n c s) y
 path_behind n c r s y e = ap (λ rest. cond (name_eq n.name y) (y ∷ []) (on_top (inclusive_ancestors c y) n.name rest)) e
 
-path_put_root : (x : NodeName) (new ts : Trees) (y : NodeName) → inclusive_ancestors new y ≡ [] → inclusive_ancestors (put_root x new ts) y ≡ inclusive_ancestors ts y
+pub path_put_root : (x : NodeName) (new ts : Trees) (y : NodeName) → inclusive_ancestors new y ≡ [] → inclusive_ancestors (put_root x new ts) y ≡ inclusive_ancestors ts y
 path_put_root x new none y e = e
 path_put_root x new (tree n c r) y e = elim (cases_Bool (name_before x n.name)) [
   | inl h ↦ rw h (path_followed new (tree n c r) y e)
@@ -153,7 +153,7 @@ subtree_root (tree n c r) x = elim (cases_Bool (name_eq n.name x)) [
     either e (inr (m, d, is, h)) rest = inr (m, d, e ∙ ap (λ t. or_else t (subtree r x)) is, h)
 
 -- put among others that have it not, it is a root
-path_root : (x y : NodeName) (n : Node) (c ts : Trees) → name_eq n.name x ≡ true → times_in ts x ≡ 0 → inclusive_ancestors (put_root y (tree n c none) ts) x ≡ x ∷ []
+pub path_root : (x y : NodeName) (n : Node) (c ts : Trees) → name_eq n.name x ≡ true → times_in ts x ≡ 0 → inclusive_ancestors (put_root y (tree n c none) ts) x ≡ x ∷ []
 path_root x y n c none h gone = path_here n c none x h
 path_root x y n c (tree m d r) h gone =
     let off = times_none m d r x gone in

@@ -171,7 +171,7 @@ first_all : (P : NodeName → Type 0) (xs : List NodeName) → Each P xs → (y 
 first_all P [] h y e = cc
 first_all P (x ∷ xs) h y e = let same : x ≡ y = cc in subst P same h.0
 
-first_lacks : (x : NodeName) (xs : List NodeName) → Lacks x xs → (y : NodeName) → first_of xs ≡ Some y → name_eq x y ≡ false
+pub first_lacks : (x : NodeName) (xs : List NodeName) → Lacks x xs → (y : NodeName) → first_of xs ≡ Some y → name_eq x y ≡ false
 first_lacks x [] h y e = cc
 first_lacks x (z ∷ zs) h y e = let same : z ≡ y = cc in subst (λ w. name_eq x w ≡ false) same h.0
 

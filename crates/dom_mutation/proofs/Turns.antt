@@ -5,7 +5,7 @@ use Rattle.std.specs.Option.{ForSome}
 use Rattle.dom_base.specs.declared.NodeName.{NodeName}
 use Rattle.dom_model.specs.Names.{name_eq, first_of, is_in}
 use Rattle.dom_model.specs.Tree.{parent_of, inclusive_ancestors, is_inclusive_ancestor}
-use Rattle.dom_model.specs.Changes.{Plan, in_turn, placing, removing, suppressed}
+use Rattle.dom_model.specs.Changes.{Plan, Observing, in_turn, placing, removing}
 use Rattle.dom_tree.specs.Forest.{name_at}
 use Rattle.dom_mutation.specs.Doc.{DocState, planned, StepsAlone, name_in, owner_in, trees_in, MayMove, IsChild, KeepsPaths, NoneAbove}
 use Rattle.dom_mutation.proofs.Paths.{lacks_to}
@@ -81,26 +81,26 @@ places_next parent before all d k rest e f alone places may off is keeps =
 -- ---- taking out
 
 -- how far a loop has come that takes nodes out
-pub record Empties (top : ℕ) (all : List ℕ) (d : DocState) (rest : List ℕ) (e : DocState) : Type 0 where
+pub record Empties (how : Observing) (top : ℕ) (all : List ℕ) (d : DocState) (rest : List ℕ) (e : DocState) : Type 0 where
   pub names : e.names ≡ d.names
-  pub state : planned (owner_in d top) (in_turn (removing suppressed) (map (name_in d) rest)) e ≡ planned (owner_in d top) (in_turn (removing suppressed) (map (name_in d) all)) d
+  pub state : planned (owner_in d top) (in_turn (removing how) (map (name_in d) rest)) e ≡ planned (owner_in d top) (in_turn (removing how) (map (name_in d) all)) d
   pub paths : (y : NodeName) → NoneAbove d top y all → (inclusive_ancestors (trees_in e top) y ≡ inclusive_ancestors (trees_in d top) y) × NoneAbove d top y rest
 
-pub empties_first : (top : ℕ) (all : List ℕ) (d : DocState) → Empties top all d all d
-empties_first top all d = record { names = refl; state = refl; paths = λ y h. (refl, h) }
+pub empties_first : (how : Observing) (top : ℕ) (all : List ℕ) (d : DocState) → Empties how top all d all d
+empties_first how top all d = record { names = refl; state = refl; paths = λ y h. (refl, h) }
 
-pub empties_next : (top : ℕ) (all : List ℕ) (d : DocState) (k : ℕ) (rest : List ℕ) (e f : DocState) → StepsAlone (owner_in d top) → owner_in d k ≡ owner_in d top
-    → Empties top all d (k ∷ rest) e → f ≡ planned (owner_in e k) (removing suppressed (name_in e k)) e → KeepsPaths k (name_in e k) e f → Empties top all d rest f
-empties_next top all d k rest e f alone owner empties is keeps =
+pub empties_next : (how : Observing) (top : ℕ) (all : List ℕ) (d : DocState) (k : ℕ) (rest : List ℕ) (e f : DocState) → StepsAlone (owner_in d top) → owner_in d k ≡ owner_in d top
+    → Empties how top all d (k ∷ rest) e → f ≡ planned (owner_in e k) (removing how (name_in e k)) e → KeepsPaths k (name_in e k) e f → Empties how top all d rest f
+empties_next how top all d k rest e f alone owner empties is keeps =
     let own : owner_in e k ≡ owner_in d top = ap (λ (ns : List NodeName). (name_at ns k).owner) empties.names ∙ owner in
-    let at : f ≡ planned (owner_in d top) (removing suppressed (name_in d k)) e =
-    is ∙ ap (λ o. planned o (removing suppressed (name_in e k)) e) own ∙ ap (λ (ns : List NodeName). planned (owner_in d top) (removing suppressed (name_at ns k)) e) empties.names in
+    let at : f ≡ planned (owner_in d top) (removing how (name_in d k)) e =
+    is ∙ ap (λ o. planned o (removing how (name_in e k)) e) own ∙ ap (λ (ns : List NodeName). planned (owner_in d top) (removing how (name_at ns k)) e) empties.names in
     let names = ap (λ (s : DocState). s.names) at in
     let trees_e = ap (λ o. (Rattle.dom_model.specs.World.part_of e.world o).trees) (own ∙ ap (λ (ns : List NodeName). (name_at ns top).owner) (sym empties.names)) in
     let trees_f = ap (λ o. (Rattle.dom_model.specs.World.part_of f.world o).trees) (ap (λ (ns : List NodeName). (name_at ns k).owner) (names ∙ empties.names) ∙ owner ∙ ap (λ (ns : List NodeName). (name_at ns top).owner) (sym (names ∙ empties.names))) in
     record {
       names = names ∙ empties.names;
-      state = ap (planned (owner_in d top) (in_turn (removing suppressed) (map (name_in d) rest))) at ∙ planned_turn (owner_in d top) alone (removing suppressed) (name_in d k) (map (name_in d) rest) e ∙ empties.state;
+      state = ap (planned (owner_in d top) (in_turn (removing how) (map (name_in d) rest))) at ∙ planned_turn (owner_in d top) alone (removing how) (name_in d k) (map (name_in d) rest) e ∙ empties.state;
       paths = λ y h.
           let was = empties.paths y h in
           let off = ap (λ (ns : List NodeName). is_in name_eq (name_at ns k) (inclusive_ancestors (trees_in e k) y)) empties.names
@@ -110,7 +110,7 @@ empties_next top all d k rest e f alone owner empties is keeps =
 
 -- ---- the loops, by their indices
 
-all_drop : (P : ℕ → Type 0) (i : ℕ) (xs : List ℕ) → AllByRecursion P xs → AllByRecursion P (drop i xs)
+pub all_drop : (P : ℕ → Type 0) (i : ℕ) (xs : List ℕ) → AllByRecursion P xs → AllByRecursion P (drop i xs)
 all_drop P zero xs h = h
 all_drop P (suc i) [] h = tt
 all_drop P (suc i) (x ∷ xs) h = all_drop P i xs h.1
@@ -135,19 +135,19 @@ places_may parent before all d i k e i< is may places =
     may_now parent before d e places.stays k (subst (AllByRecursion (MayMove d parent before)) now (all_drop (MayMove d parent before) i all may)).0
 
 -- a step of a loop that takes nodes out
-pub empties_on : (top : ℕ) (all : List ℕ) (d : DocState) (i k : ℕ) (e f : DocState) → StepsAlone (owner_in d top) → Counted e → StepsAlone (owner_in e k)
-    → i < length all → k ≡ get_or all i k → AllByRecursion (λ j. (j < length d.names) × (owner_in d j ≡ owner_in d top)) all → Empties top all d (drop i all) e
-    → f ≡ planned (owner_in e k) (removing suppressed (name_in e k)) e → Empties top all d (drop (i + 1) all) f
-empties_on top all d i k e f alone counted alone_now i< is nodes empties made =
+pub empties_on : (how : Observing) (top : ℕ) (all : List ℕ) (d : DocState) (i k : ℕ) (e f : DocState) → StepsAlone (owner_in d top) → Counted e → StepsAlone (owner_in e k)
+    → i < length all → k ≡ get_or all i k → AllByRecursion (λ j. (j < length d.names) × (owner_in d j ≡ owner_in d top)) all → Empties how top all d (drop i all) e
+    → f ≡ planned (owner_in e k) (removing how (name_in e k)) e → Empties how top all d (drop (i + 1) all) f
+empties_on how top all d i k e f alone counted alone_now i< is nodes empties made =
     let now : drop i all ≡ k ∷ drop (suc i) all = drop-cons all i k i< ∙ ap (λ j. j ∷ drop (suc i) all) (sym is) in
     let here = (subst (AllByRecursion (λ j. (j < length d.names) × (owner_in d j ≡ owner_in d top))) now (all_drop (λ j. (j < length d.names) × (owner_in d j ≡ owner_in d top)) i all nodes)).0 in
-    subst (λ j. Empties top all d (drop j all) f) (sym (add-one i))
-    (empties_next top all d k (drop (suc i) all) e f alone here.1 (subst (λ ks. Empties top all d ks e) now empties) made (removal_keeps e f counted k alone_now suppressed made))
+    subst (λ j. Empties how top all d (drop j all) f) (sym (add-one i))
+    (empties_next how top all d k (drop (suc i) all) e f alone here.1 (subst (λ ks. Empties how top all d ks e) now empties) made (removal_keeps e f counted k alone_now how made))
 
 -- what it asks
-pub empties_node : (top : ℕ) (all : List ℕ) (d : DocState) (i k : ℕ) (e : DocState) → i < length all → k ≡ get_or all i k
-    → AllByRecursion (λ j. (j < length d.names) × (owner_in d j ≡ owner_in d top)) all → Empties top all d (drop i all) e → k < length e.names
-empties_node top all d i k e i< is nodes empties =
+pub empties_node : (how : Observing) (top : ℕ) (all : List ℕ) (d : DocState) (i k : ℕ) (e : DocState) → i < length all → k ≡ get_or all i k
+    → AllByRecursion (λ j. (j < length d.names) × (owner_in d j ≡ owner_in d top)) all → Empties how top all d (drop i all) e → k < length e.names
+empties_node how top all d i k e i< is nodes empties =
     let now : drop i all ≡ k ∷ drop (suc i) all = drop-cons all i k i< ∙ ap (λ j. j ∷ drop (suc i) all) (sym is) in
     let here = (subst (AllByRecursion (λ j. (j < length d.names) × (owner_in d j ≡ owner_in d top))) now (all_drop (λ j. (j < length d.names) × (owner_in d j ≡ owner_in d top)) i all nodes)).0 in
     subst (λ (ns : List NodeName). k < length ns) (sym empties.names) here.0

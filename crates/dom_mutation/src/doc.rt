@@ -19,11 +19,16 @@ ghost use Rattle.dom_mutation.specs.Doc.{made};
 
 mod attributes;
 mod cursors;
+mod data;
 mod documents;
 mod inserting;
+mod normalizing;
 mod reads;
 mod removing;
+mod replacing;
+mod splitting;
 mod steps;
+mod texts;
 
 use crate::tables::OwnTables;
 pub use attributes::is_name;

@@ -5,7 +5,7 @@ ghost use Rattle.dom_base.specs.declared.NodeName.{NodeName as Name};
 ghost use Rattle.std.specs.Option.{option_map, ForSome};
 ghost use Rattle.dom_model.specs.Names.{name_eq};
 ghost use Rattle.dom_model.specs.Tree.{kind_of, is_fragment, children_of, is_inclusive_ancestor, inclusive_ancestors};
-ghost use Rattle.dom_model.specs.Changes.{pre_inserting, reference_for, inserting, sibling_before, in_turn, making_room, steps_of, telling, placing, emptying, removing, suppressed};
+ghost use Rattle.dom_model.specs.Changes.{pre_inserting, reference_for, inserting, sibling_before, in_turn, making_room, steps_of, telling, placing, emptying, removing};
 ghost use Rattle.dom_base.specs.declared.Refusal.{Refusal as RefusalOf};
 ghost use Rattle.dom_model.specs.Validity.{insertion_refusal};
 ghost use Rattle.dom_tree.specs.Forest.{err_of};
@@ -58,7 +58,7 @@ impl Doc {
     }
 
     /// The child before which a node is put: the one given, or the node's next sibling where that is the node itself.
-    fn reference_for(&self, parent: Key, node: Key, child: Option<Key>) -> Option<Key>
+    pub(super) fn reference_for(&self, parent: Key, node: Key, child: Option<Key>) -> Option<Key>
         requires parent_is_node { parent < length self.now.names }
         requires node_is_node { node < length self.now.names }
         requires child_is_child { ForSome child (IsChild self.now parent) }
@@ -101,7 +101,7 @@ impl Doc {
     }
 
     /// Whether a node is a fragment.
-    fn is_fragment(&self, node: Key) -> bool
+    pub(super) fn is_fragment(&self, node: Key) -> bool
         requires { node < length self.now.names }
         ensures { result ≡ is_fragment (kind_of (trees_in self.now node) (name_in self.now node)) }
     {
@@ -148,7 +148,7 @@ impl Doc {
     }
 
     /// The children of a node.
-    fn children(&self, node: Key) -> Result<Vec<Key>, AllocError>
+    pub(super) fn children(&self, node: Key) -> Result<Vec<Key>, AllocError>
         requires { node < length self.now.names }
         ensures names { IfOk result (λ keys. map (name_in self.now) keys.items ≡ children_of (trees_in self.now node) (name_in self.now node)) }
         ensures nodes { IfOk result (λ keys. AllByRecursion (λ k. (k < length self.now.names) × (owner_in self.now k ≡ owner_in self.now node)) keys.items) }
@@ -237,21 +237,21 @@ impl Doc {
         ensures paths { (y : Name) → NoneAbove self.old fragment y children.now → inclusive_ancestors (trees_in self.new fragment) y ≡ inclusive_ancestors (trees_in self.old fragment) y }
     {
         self.laws();
-        self.take_each(fragment, children);
+        self.take_each(Telling::Suppressed, fragment, children);
         self.tell_children(fragment, &[], children, None, None);
     }
 
-    /// Some children of a node are taken out, one after another.
-    fn take_each(&mut self, top: Key, children: &[Key])
+    /// Some nodes are taken out, one after another, of which observers are told or not; `top` is one of their owner.
+    pub(super) fn take_each(&mut self, how: Telling, top: Key, children: &[Key])
         requires top_is_node { top < length self.old.names }
         requires children_are_nodes { AllByRecursion (λ k. (k < length self.old.names) × (owner_in self.old k ≡ owner_in self.old top)) children.now }
-        ensures state { self.new ≡ planned (owner_in self.old top) (in_turn (removing suppressed) (map (name_in self.old) children.now)) self.old }
+        ensures state { self.new ≡ planned (owner_in self.old top) (in_turn (removing (observing_of how)) (map (name_in self.old) children.now)) self.old }
         ensures paths { (y : Name) → NoneAbove self.old top y children.now → inclusive_ancestors (trees_in self.new top) y ≡ inclusive_ancestors (trees_in self.old top) y }
     {
         self.laws();
         for child in children {
             self.laws();
-            self.removing(Telling::Suppressed, *child);
+            self.removing(how, *child);
         }
     }
 

@@ -1,26 +1,45 @@
 //! What is read of a node, in its owner's trees.
-ghost use Rattle.std.specs.Prelude.{◌≡◌, ℕ, ◌<◌, ◌≤◌, length, count_by, is_some};
+ghost use Rattle.std.specs.Prelude.{◌≡◌, ℕ, ◌<◌, ◌≤◌, true, false, length, count_by, is_some};
 ghost use Rattle.std.specs.Option.{option_map, ForSome};
 ghost use Rattle.dom_model.specs.Names.{first_of, last_of, name_eq};
-ghost use Rattle.dom_model.specs.Tree.{nodes, node_in, attribute_value, kind_of, parent_of, children_of, next_sibling, previous_sibling};
+ghost use Rattle.dom_model.specs.Tree.{nodes, node_in, attribute_value, kind_of, parent_of, children_of, next_sibling, previous_sibling, length_of, is_inclusive_ancestor};
 ghost use Rattle.dom_base.specs.declared.NodeName.{NodeName as Name};
 ghost use Rattle.dom_base.specs.declared.Owner.{Owner as OwnerOf};
-ghost use Rattle.dom_model.specs.World.{part_of};
+ghost use Rattle.dom_model.specs.World.{part_of, is_there};
+ghost use Rattle.dom_model.specs.CommandRefusals.{past_limit};
 ghost use Rattle.dom_mutation.specs.Doc.{name_in, owner_in, trees_in, StepsAlone};
 
 use crate::Doc;
-use dom_base::Kind;
+use dom_base::{Kind, Owner};
 use node_arena::Key;
 
 impl Doc {
-    /// Holds of every document: names tell the nodes apart, each node stands once in its owner's trees, and an owner's
-    /// steps do in its part what they do in a part alone.
+    /// Holds of every document: names tell the nodes apart, each node stands once in its owner's trees, an owner's steps
+    /// do in its part what they do in a part alone, no owner has more nodes than it may, and each node's owner is there.
     pub(super) fn laws(&self)
         ensures distinct { (j k : ℕ) → j < length self.now.names → k < length self.now.names → name_in self.now j ≡ name_in self.now k → j ≡ k }
         ensures once { (o : OwnerOf) (x : Name) → count_by (λ n. name_eq n.name x) (nodes (part_of self.now.world o).trees) ≤ 1 }
         ensures alone { (k : ℕ) → k < length self.now.names → StepsAlone (owner_in self.now k) }
+        ensures limited { (o : OwnerOf) → past_limit (part_of self.now.world o).node_count 0 ≡ false }
+        ensures present { (k : ℕ) → k < length self.now.names → is_there self.now.world (owner_in self.now k) ≡ true }
     {
         self.forest.nodes_stand_once();
+    }
+
+    /// Holds of every node: it stands in its owner's trees.
+    pub(super) fn stands(&self, node: Key)
+        requires { node < length self.now.names }
+        ensures { is_inclusive_ancestor (trees_in self.now node) (name_in self.now node) (name_in self.now node) ≡ true }
+    {
+        self.forest.nodes_stand_once();
+    }
+
+    /// The owner of a node.
+    pub(super) fn owner(&self, node: Key) -> Owner
+        requires { node < length self.now.names }
+        ensures { result ≡ owner_in self.now node }
+    {
+        self.forest.name(node).owner
     }
 
     /// The kind of a node.
@@ -29,6 +48,22 @@ impl Doc {
         ensures { result ≡ kind_of (trees_in self.now node) (name_in self.now node) }
     {
         self.forest.kind(node)
+    }
+
+    /// The data of a Text or a Comment, in code units.
+    pub(super) fn text(&self, node: Key) -> &[u16]
+        requires { node < length self.now.names }
+        ensures { result.now ≡ (node_in (trees_in self.now node) (name_in self.now node)).text }
+    {
+        self.forest.text(node)
+    }
+
+    /// The number of code units of a Text or a Comment, and of another node that of its children, which are counted.
+    pub(super) fn length(&self, node: Key) -> usize
+        requires { node < length self.now.names }
+        ensures { result ≡ length_of (trees_in self.now node) (name_in self.now node) }
+    {
+        self.forest.length(node)
     }
 
     /// Whether a node has an attribute.

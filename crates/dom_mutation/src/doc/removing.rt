@@ -1,6 +1,7 @@
 //! Removal and adoption (DOM Standard, concepts: remove, adopt).
-ghost use Rattle.std.specs.Prelude.{◌≡◌, ◌<◌, ◌↔◌, length, Some, IfErr, OnOk, OnErr};
+ghost use Rattle.std.specs.Prelude.{◌≡◌, ◌<◌, ◌↔◌, ◌⊎◌, length, Some, IfErr, IsOk, OnOk, OnErr};
 ghost use Rattle.dom_base.specs.declared.Refusal.{Refusal as RefusalOf};
+ghost use Rattle.dom_base.specs.declared.Refusal.TheVariants.{Hierarchy, NotSupported};
 ghost use Rattle.dom_model.specs.Tree.{kind_of};
 ghost use Rattle.dom_model.specs.Changes.{removing, adopting, observed};
 ghost use Rattle.dom_mutation.specs.Doc.{made, planned, name_in, owner_in, trees_in, observing_of, adoption_refusal};
@@ -23,8 +24,8 @@ impl Doc {
         ensures names { self.new.names ≡ self.old.names }
         ensures world { OnOk result (self.new.world ≡ made (owner_in self.old node) (removing observed (name_in self.old node)) self.old.world) }
 
-        // Nothing but memory stops a removal.
-        ensures err { IfErr result (λ fault. fault ≡ Fault.Memory) }
+        // Nothing stops a removal: it takes no memory.
+        ensures ok { IsOk result }
     {
         self.removing(Telling::Observed, node);
         Ok(())
@@ -37,6 +38,7 @@ impl Doc {
         requires node_is_node { node < length self.old.names }
         requires one_owner { owner_in self.old document ≡ owner_in self.old node }
         ensures refused { (r : RefusalOf) → (result ≡ Err (Fault.Refused r)) ↔ (adoption_refusal (kind_of (trees_in self.old node) (name_in self.old node)) ≡ Some r) }
+        ensures other { IfErr result (λ fault. (fault ≡ Fault.Refused NotSupported) ⊎ (fault ≡ Fault.Refused Hierarchy)) }
         ensures unchanged { OnErr result (self.new ≡ self.old) }
         ensures names { self.new.names ≡ self.old.names }
         ensures world { OnOk result (self.new.world ≡ made (owner_in self.old node) (adopting (name_in self.old document) (name_in self.old node)) self.old.world) }

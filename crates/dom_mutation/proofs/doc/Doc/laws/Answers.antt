@@ -1,13 +1,14 @@
-use Rattle.std.proofs.Common.{◌≤◌, arith, subst, sym}
+use Rattle.std.proofs.Common.{◌≡◌, ◌≤◌, true, false, arith, subst, sym}
 use Rattle.std.specs.Prelude.{count_by}
 use Rattle.dom_model.specs.Names.{name_eq}
 use Rattle.dom_model.specs.Tree.{Node, Trees, nodes}
-use Rattle.dom_model.specs.World.{part_of}
+use Rattle.dom_model.specs.World.{part_of, is_there}
 use Rattle.dom_tree.specs.Owners.{trees_of_owner}
 use Rattle.dom_mutation.proofs.Once.{once_forest, once_own, times_count}
 use Rattle.dom_tree.specs.Forest.{name_at}
 use Rattle.dom_mutation.specs.Doc.{owner_in, StepsAlone}
-use Rattle.dom_mutation.proofs.Held.{there_page}
+use Rattle.dom_model.specs.CommandRefusals.{past_limit}
+use Rattle.dom_mutation.proofs.Held.{there_page, within_limit}
 use Rattle.dom_mutation.proofs.Made.{page_alone}
 use Rattle.dom_mutation.proofs.Shown.{own_in_part, owner_there}
 use Rattle.dom_mutation.proofs.doc.Doc.laws.Goals as goal
@@ -21,8 +22,18 @@ returns-clause-once c o x =
     subst (λ e. count_by (λ (n : Node). name_eq n.name x) (nodes (part_of e.world o).trees) ≤ 1) c.self.view_is
     (subst (λ (ts : Trees). count_by (λ (n : Node). name_eq n.name x) (nodes ts) ≤ 1) (own_in_part f.names f.trees c.self.invariant o) own)
 
+pub returns-clause-present : goal.returns-clause-present
+returns-clause-present c k k< =
+    let f = c.self.inside.forest in
+    subst (λ e. is_there e.world (owner_in e k) ≡ true) c.self.view_is (owner_there f c.self.invariant c.self.view_is k k<)
+
 pub returns-clause-alone : goal.returns-clause-alone
 returns-clause-alone c k k< =
     let f = c.self.inside.forest in
     let page = there_page f.names f.trees c.self.inside.tables.items c.self.invariant (name_at f.names k).owner (owner_there f c.self.invariant c.self.view_is k k<) in
     subst (λ e. StepsAlone (owner_in e k)) c.self.view_is (subst StepsAlone (sym page) page_alone)
+
+pub returns-clause-limited : goal.returns-clause-limited
+returns-clause-limited c o =
+    let f = c.self.inside.forest in
+    subst (λ e. past_limit (part_of e.world o).node_count 0 ≡ false) c.self.view_is (within_limit f.names f.trees c.self.invariant o)

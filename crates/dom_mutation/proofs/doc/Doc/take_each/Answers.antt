@@ -1,9 +1,10 @@
+use Rattle.dom_mutation.specs.Doc.{observing_of}
 use Rattle.dom_mutation.proofs.Turns.{empties_on, empties_node}
 use Rattle.dom_mutation.proofs.doc.Doc.take_each.Goals as goal
 
 pub loop-child-preserved : goal.loop-child-preserved
 loop-child-preserved c =
-    empties_on c.args.top c.args.children.now c.args.self.now c.loop-child.child-index c.child-item.result c.loop-child.self c.removing.new.self (c.laws.ensures.alone c.args.top c.requires.top_is_node)
+    empties_on (observing_of c.args.how) c.args.top c.args.children.now c.args.self.now c.loop-child.child-index c.child-item.result c.loop-child.self c.removing.new.self (c.laws.ensures.alone c.args.top c.requires.top_is_node)
     c.laws-in-loop-child.ensures.once
-    (c.laws-in-loop-child.ensures.alone c.child-item.result (empties_node c.args.top c.args.children.now c.args.self.now c.loop-child.child-index c.child-item.result c.loop-child.self c.loop-child-test.true c.child-item.is c.requires.children_are_nodes c.loop-child.invariant))
+    (c.laws-in-loop-child.ensures.alone c.child-item.result (empties_node (observing_of c.args.how) c.args.top c.args.children.now c.args.self.now c.loop-child.child-index c.child-item.result c.loop-child.self c.loop-child-test.true c.child-item.is c.requires.children_are_nodes c.loop-child.invariant))
     c.loop-child-test.true c.child-item.is c.requires.children_are_nodes c.loop-child.invariant c.removing.ensures

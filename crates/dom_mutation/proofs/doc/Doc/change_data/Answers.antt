@@ -1,0 +1,41 @@
+use Rattle.std.proofs.Common.{◌≡◌, ℕ, ◌<◌, ◌≤◌, List, length, refl, sym, ap, subst, ◌∙◌, arith, true≢false}
+use Rattle.dom_model.specs.Tree.{node_in}
+use Rattle.dom_model.specs.TreeChanges.{change_node, replaced, with_text, with_data_replaced}
+use Rattle.dom_model.specs.Steps.{replace_data}
+use Rattle.dom_tree.specs.Forest.{name_at}
+use Rattle.dom_tree.proofs.OwnChanges.{changed_node}
+use Rattle.dom_mutation.proofs.Standing.{keeps_changed}
+use Rattle.dom_mutation.proofs.Steps.{data_world}
+use Rattle.dom_mutation.proofs.Shown.{owner_there, shown, known, step_held, step_done}
+use Rattle.dom_mutation.proofs.Spliced.{data_changed}
+use Rattle.dom_mutation.proofs.doc.Doc.change_data.Goals as goal
+
+pub returns-in_err-text-clause-whole : goal.returns-in_err-text-clause-whole
+returns-in_err-text-clause-whole c start all =
+    let same = shown c.self.inside.forest c.self.invariant c.self.view_is (λ ts x. (node_in ts x).text) (λ ns. c.text.result.now) c.args.node c.text.ensures (λ r. ap (λ n. n.text) r.node) in
+    absurd (true≢false (sym (c.in_err-text.ensures.whole start (subst (λ (units : List ℕ). length units ≤ c.args.count) (sym same) all))))
+
+pub invariant_of-self : goal.invariant_of-self
+invariant_of-self c =
+    let f = c.self.inside.forest in
+    let x = name_at f.names c.args.node in
+    let h = with_data_replaced c.args.offset c.args.count c.args.data.items in
+    let once = c.nodes_stand_once.ensures.once c.args.node (known f c.self.invariant c.self.view_is (λ e. c.args.node < length e.names) c.requires) in
+    step_held f c.self.invariant c.self.view_is c.args.node (change_node h x) c.set_data.new.self c.set_data.ensures.names
+    (c.set_data.ensures.trees ∙ ap (λ units. change_node (with_text units) x f.trees) (c.in_ok-text.ensures.items ∙ ap (replaced c.args.offset c.args.count c.args.data.items) c.text.ensures)
+    ∙ data_changed x c.args.offset c.args.count c.args.data.items f.trees (omega arith))
+    c.requires
+    (changed_node f.trees c.self.invariant.owned x.owner h x (λ n. refl) refl) (keeps_changed h (λ n. refl) x f.trees)
+
+pub returns-clause-ok : goal.returns-clause-ok
+returns-clause-ok c =
+    let f = c.self.inside.forest in
+    let x = name_at f.names c.args.node in
+    let h = with_data_replaced c.args.offset c.args.count c.args.data.items in
+    let once = c.nodes_stand_once.ensures.once c.args.node (known f c.self.invariant c.self.view_is (λ e. c.args.node < length e.names) c.requires) in
+    step_done f c.self.invariant c.self.view_is c.args.node (change_node h x) c.set_data.new.self c.set_data.ensures.names
+    (c.set_data.ensures.trees ∙ ap (λ units. change_node (with_text units) x f.trees) (c.in_ok-text.ensures.items ∙ ap (replaced c.args.offset c.args.count c.args.data.items) c.text.ensures)
+    ∙ data_changed x c.args.offset c.args.count c.args.data.items f.trees (omega arith))
+    (λ ns. replace_data (name_at ns c.args.node) c.args.offset c.args.count c.args.data.items)
+    (data_world f.names f.trees c.self.inside.tables.items x.owner (owner_there f c.self.invariant c.self.view_is c.args.node c.requires) x c.args.offset c.args.count c.args.data.items
+    (changed_node f.trees c.self.invariant.owned x.owner h x (λ n. refl) refl))

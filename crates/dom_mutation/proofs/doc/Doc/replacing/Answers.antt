@@ -1,0 +1,34 @@
+use Rattle.std.proofs.Common.{◌≡◌, ◌∷◌, [], ℕ, List, map, option_map, sym, ap, subst, ◌∙◌}
+use Rattle.dom_model.specs.Output.{child_list}
+use Rattle.dom_model.specs.Steps.{queue_record}
+use Rattle.dom_mutation.specs.Doc.{MayMove, name_in, owner_in, stepped}
+use Rattle.dom_mutation.proofs.Turns.{may_now, child_now}
+use Rattle.dom_mutation.proofs.Replaced.{next_is_near, stays_removed, replaced_whole}
+use Rattle.dom_mutation.proofs.doc.Doc.replacing.Goals as goal
+
+pub reference_for-reference-requires-clause-child_is_child : goal.reference_for-reference-requires-clause-child_is_child
+reference_for-reference-requires-clause-child_is_child c =
+    next_is_near c.args.self.now c.laws.ensures.once c.args.parent c.args.child c.next-next.result c.requires.child_is_child c.next-next.ensures.value c.next-next.ensures.node c.next-next.ensures.owner
+
+pub inserting-requires-clause-may_move : goal.inserting-requires-clause-may_move
+inserting-requires-clause-may_move c =
+    may_now c.args.parent c.reference_for-reference.result c.args.self.now c.removing.new.self
+    (stays_removed c.args.self.now c.removing.new.self c.laws.ensures.once c.laws.ensures.alone c.args.parent c.args.node c.args.child c.next-next.result c.reference_for-reference.result c.requires.child_is_child
+    c.next-next.ensures.value c.reference_for-reference.ensures.value c.removing.ensures c.reference_for-reference.ensures.child)
+    c.args.node (record { node = c.requires.node_is_node; owner = c.requires.node_owner; not_above = c.requires.not_above; apart = c.reference_for-reference.ensures.apart })
+
+pub inserting-requires-clause-before_is_child : goal.inserting-requires-clause-before_is_child
+inserting-requires-clause-before_is_child c =
+    child_now c.args.parent c.reference_for-reference.result c.args.self.now c.removing.new.self
+    (stays_removed c.args.self.now c.removing.new.self c.laws.ensures.once c.laws.ensures.alone c.args.parent c.args.node c.args.child c.next-next.result c.reference_for-reference.result c.requires.child_is_child
+    c.next-next.ensures.value c.reference_for-reference.ensures.value c.removing.ensures c.reference_for-reference.ensures.child)
+    c.reference_for-reference.ensures.child
+
+pub returns-clause-world : goal.returns-clause-world
+returns-clause-world c =
+    let f = c.inserting.new.self in
+    replaced_whole c.args.self.now c.removing.new.self f c.tell_children.new.self c.args.parent c.args.node c.args.child c.in_ok-added.added.items c.prev-prev.result c.next-next.result c.reference_for-reference.result
+    (c.laws.ensures.alone c.args.parent c.requires.parent_is_node) c.requires.node_owner c.requires.child_is_child.owner c.in_ok-added.ensures c.prev-prev.ensures.value c.next-next.ensures.value c.reference_for-reference.ensures.value
+    c.removing.ensures c.in_ok-inserting.ensures.ok
+    (c.tell_children.ensures
+    ∙ ap (λ (ks : List ℕ). stepped (owner_in f c.args.parent) (queue_record (child_list (name_in f c.args.parent) (map (name_in f) ks) (name_in f c.args.child ∷ []) (option_map (name_in f) c.prev-prev.result) (option_map (name_in f) c.reference_for-reference.result))) f) c.as_slice.ensures.value)
