@@ -1,10 +1,12 @@
 -- What holds of a `Doc` stays so when one owner's trees change, and then its world has that owner's part changed.
-use Rattle.std.proofs.Common.{◌≡◌, ℕ, ◌+◌, ◌<◌, ◌≤◌, ◌⊎◌, inl, inr, true, false, cond, List, [], ◌∷◌, ◌++◌, length, Result, Ok, Err, refl, sym, ap, subst, ◌∙◌, ◌≢◌, arith, zero-add, add-one, suc}
+use Rattle.std.proofs.Common.{◌≡◌, ℕ, ◌+◌, ◌<◌, ◌≤◌, ◌⊎◌, inl, inr, true, false, cond, List, [], ◌∷◌, ◌++◌, length, Option, Some, None, Result, Ok, Err, unwrap_or, zero, refl, sym, ap, subst, ◌∙◌, ◌≢◌, arith, zero-add, add-one, suc}
 use Rattle.std.specs.Prelude.{OnOk, OnErr, ◌↔◌}
+use Rattle.std.specs.Option.{ForSome}
 use Rattle.std.proofs.lemmas.Bool.{cases_Bool, false_from_ne_true}
 use Rattle.std.proofs.lemmas.List.{length_push}
 use Rattle.std.proofs.lemmas.List.Sums.{sum_by-append}
-use Rattle.std.proofs.Math.Nat.{eq-or-lt_of_le}
+use Rattle.std.proofs.lemmas.Option.{slice_get_within, none-some, same_Some}
+use Rattle.std.proofs.Math.Nat.{eq-or-lt_of_le, add-zero}
 use Rattle.std.proofs.Math.ListN.{get_or-append}
 use Rattle.std.proofs.Math.Seq.{get_or-append_seam}
 use borrow.Author.Tests.{ltb-true}
@@ -15,53 +17,77 @@ use Rattle.dom_base.specs.declared.NodeName.{NodeName}
 use Rattle.dom_base.specs.declared.Owner.{Owner}
 use Rattle.dom_base.specs.declared.Owner.TheVariants.{Page, Component}
 use Rattle.dom_model.specs.Names.{owner_eq, node_of}
-use Rattle.dom_model.specs.Tree.{Trees, Node}
-use Rattle.dom_model.specs.TreeChanges.{with_node}
+use Rattle.dom_model.specs.Tree.{Trees, none, Node}
+use Rattle.dom_model.specs.TreeChanges.{with_node, with_name}
 use Rattle.dom_model.specs.Steps.{make}
-use Rattle.dom_model.specs.World.{World, part_of, with_part, is_there}
+use Rattle.dom_model.specs.World.{part_of, is_there}
 use Rattle.dom_model.specs.WorldSteps.{world_step}
-use Rattle.dom_model.specs.Part.{next_name as part_next}
+use Rattle.dom_model.specs.Part.{Part, next_name as part_next}
 use Rattle.dom_model.specs.CommandRefusals.{past_limit}
-use Rattle.dom_model.proofs.OwnerLaws.{owner_eq-true}
+use Rattle.dom_model.proofs.OwnerLaws.{owner_eq-same, owner_eq-true, ne-owner_eq}
 use Rattle.dom_tree.specs.Forest.{NamedTrees, name_at, next_name, count_of}
-use Rattle.dom_tree.specs.Owners.{trees_of_owner, IsOwnChange}
+use Rattle.dom_tree.specs.Owners.{AreOwned, trees_of_owner, IsOwnChange}
 use Rattle.dom_tree.proofs.OwnChanges.{added}
-use Rattle.dom_mutation.specs.Doc.{DocState, part_from, world_from, state_from, IsHeld}
+use Rattle.dom_mutation.specs.Contents.{part_with}
+use Rattle.dom_mutation.specs.OwnTables.{KeyedTables, tables_view, place_of, owner_at, owners_up_to, table_of, AreTablesOf}
+use Rattle.dom_mutation.specs.Doc.{DocState, named_trees, own_tables, contents, world_from, state_from, IsHeld}
+use Rattle.dom_mutation.proofs.Worlds.{In, there_in, in_there, there_same, part_at, part_off}
+use Rattle.dom_mutation.proofs.Places.{place_within, owners_in, single_owners, table_place, table_owner}
+use Rattle.dom_mutation.proofs.Quiet.{IsQuiet, world_stepped}
+use Rattle.dom_mutation.proofs.Standing.{KeepsAbove}
+use Rattle.dom_mutation.proofs.Keeping.{tables_kept, tables_more, view_same}
 
--- the only owner here is the page
-pub there_page : (names : List NodeName) (ts : Trees) (o : Owner) → is_there (world_from names ts) o ≡ true → o ≡ Page
-there_page names ts Page h = refl
-there_page names ts (Component k) h = cc
+-- so far the page alone is there
+pub there_page : (names : List NodeName) (ts : Trees) (tables : List KeyedTables) → IsHeld names ts tables → (o : Owner) → is_there (world_from names ts tables) o ≡ true → o ≡ Page
+there_page names ts tables held o h =
+    let page : In o (Page ∷ []) = subst (λ n. In o (owners_up_to n)) held.alone (there_in (contents names ts tables) o h) in
+    elim page [ inl e ↦ sym e | inr never ↦ absurd never ]
 
--- who is there, no change of trees changes
-pub there_same : (names others : List NodeName) (ts us : Trees) (o : Owner) → is_there (world_from names ts) o ≡ is_there (world_from others us) o
-there_same names others ts us Page = refl
-there_same names others ts us (Component k) = refl
+-- without hosts and registrations
+pub held_quiet : (names : List NodeName) (ts : Trees) (tables : List KeyedTables) → IsQuiet (contents names ts tables)
+held_quiet names ts tables = record { no_hosts = λ o. refl; no_observers = λ o. refl }
 
--- the trees of an owner that is not there
-absent_changed : (names : List NodeName) (ts us : Trees) (o : Owner) → is_there (world_from names ts) o ≡ true
-    → ((p : Owner) → p ≢ o → trees_of_owner p us ≡ trees_of_owner p ts)
-    → IsHeld names ts → (p : Owner) → is_there (world_from names ts) p ≡ false → trees_of_owner p us ≡ Rattle.dom_model.specs.Tree.none
-absent_changed names ts us o there others held p off =
-    others p (λ same. let on : is_there (world_from names ts) p ≡ true = subst (λ (q : Owner). is_there (world_from names ts) q ≡ true) (sym same) there in cc) ∙ held.absent p off
+-- an owner that is there has tables
+pub table_there : (names : List NodeName) (ts : Trees) (tables : List KeyedTables) (o : Owner) → is_there (world_from names ts tables) o ≡ true → (place_of o < length tables) × (owner_at (place_of o) ≡ o)
+table_there names ts tables o h = place_within (length tables) o (there_in (contents names ts tables) o h)
 
-pub held_changed : (names : List NodeName) (ts : Trees) → IsHeld names ts → (o : Owner) → is_there (world_from names ts) o ≡ true
-    → (f : Trees → Trees) → IsOwnChange o f ts → IsHeld names (f ts)
-held_changed names ts held o there f change = record {
-  owned = change.owned;
-  present = λ k k<. there_same names names (f ts) ts (name_at names k).owner ∙ held.present k k<;
-  absent = λ p off. absent_changed names ts (f ts) o there change.others held p (there_same names names ts (f ts) p ∙ off);
-  limited = held.limited;
-}
+-- and one that has tables is there
+pub there_table : (names : List NodeName) (ts : Trees) (tables : List KeyedTables) (o : Owner) (t : KeyedTables) → table_of tables o ≡ Some t → is_there (world_from names ts tables) o ≡ true
+there_table names ts tables o t e =
+    in_there (contents names ts tables) o (owners_in (length tables) o (slice_get_within tables (place_of o) t (table_place tables o t e)) (table_owner tables o t e))
 
--- the world with an owner's trees changed
-pub world_changed : (names : List NodeName) (ts : Trees) (o : Owner) → is_there (world_from names ts) o ≡ true → (f : Trees → Trees) → IsOwnChange o f ts
-    → let p = part_of (world_from names ts) o in world_from names (f ts) ≡ with_part (world_from names ts) (record p { trees = f p.trees })
-world_changed names ts Page there f change = ap (λ us. world_with names us) change.own
-  where
-    world_with : List NodeName → Trees → World
-    world_with names us = record (world_from names ts) { parts = record (part_from names ts Page) { trees = us } ∷ [] }
-world_changed names ts (Component k) there f change = cc
+-- other trees and tables, where only one owner's trees change
+module _ (names : List NodeName) (ts : Trees) (tables : List KeyedTables) (held : IsHeld names ts tables) (o : Owner) (there : is_there (world_from names ts tables) o ≡ true)
+    (more : List NodeName) (us : Trees) (others : List KeyedTables) (same : length others ≡ length tables) where
+  who : (p : Owner) → is_there (world_from more us others) p ≡ is_there (world_from names ts tables) p
+  who p = there_same (contents more us others) (contents names ts tables) (ap owners_up_to same) p
+
+  pub held_with : AreOwned us → ((p : Owner) → p ≢ o → trees_of_owner p us ≡ trees_of_owner p ts)
+      → ((k : ℕ) → k < length more → is_there (world_from names ts tables) (name_at more k).owner ≡ true) → ((p : Owner) → count_of p more ≤ 1000000)
+      → ((p : Owner) → ForSome (table_of others p) (AreTablesOf (named_trees more us) p)) → IsHeld more us others
+  held_with owned apart present limited own = record {
+    owned = owned;
+    present = λ k k<. who (name_at more k).owner ∙ present k k<;
+    absent = λ p off. apart p (λ same_owner. let on : is_there (world_from names ts tables) p ≡ true = subst (λ (q : Owner). is_there (world_from names ts tables) q ≡ true) (sym same_owner) there in let gone = sym (who p) ∙ off in cc)
+        ∙ held.absent p (sym (who p) ∙ off);
+    limited = limited;
+    alone = same ∙ held.alone;
+    own = own;
+  }
+
+pub held_changed : (names : List NodeName) (ts : Trees) (tables : List KeyedTables) → IsHeld names ts tables → (o : Owner) → is_there (world_from names ts tables) o ≡ true
+    → (f : Trees → Trees) → IsOwnChange o f ts → KeepsAbove ts (f ts) → IsHeld names (f ts) tables
+held_changed names ts tables held o there f change keeps =
+    held_with names ts tables held o there names (f ts) tables refl change.owned change.others held.present held.limited
+    (λ p t e. tables_kept names ts (f ts) keeps p t (held.own p t e))
+
+-- ---- limits
+
+pub limit_count : (n m : ℕ) → m ≡ n → n ≤ 1000000 → (n ≡ 1000000) ↔ (past_limit m 1 ≡ true)
+limit_count n m same few = (
+  λ e. ap (λ k. past_limit k 1) (same ∙ e),
+  λ h. let more = ltb-true 1000000 (n + 1) (ap (λ k. past_limit k 1) (sym same) ∙ h) in omega arith,
+)
 
 -- ---- one node more
 
@@ -74,99 +100,163 @@ limited_more names o p n few few_of other = elim (cases_Bool (owner_eq o p)) [
   | inr e ↦ let more : count_of p (names ++ node_of o n ∷ []) ≡ count_of p names + 0 = rw e at (count_more p names (node_of o n)) in omega arith
 ]
 
-present_more : (names : List NodeName) (ts us : Trees) (x : NodeName) → is_there (world_from names ts) x.owner ≡ true
-    → ((k : ℕ) → k < length names → is_there (world_from names ts) (name_at names k).owner ≡ true)
-    → (k : ℕ) → k < length (names ++ x ∷ []) → is_there (world_from (names ++ x ∷ []) us) (name_at (names ++ x ∷ []) k).owner ≡ true
-present_more names ts us x there all k k< =
-    there_same (names ++ x ∷ []) names us ts (name_at (names ++ x ∷ []) k).owner
-    ∙ at (let within : k ≤ length names = omega (arith, length_push names x) in eq-or-lt_of_le within)
+present_more : (names : List NodeName) (ts : Trees) (tables : List KeyedTables) (x : NodeName) → is_there (world_from names ts tables) x.owner ≡ true
+    → ((k : ℕ) → k < length names → is_there (world_from names ts tables) (name_at names k).owner ≡ true)
+    → (k : ℕ) → k < length (names ++ x ∷ []) → is_there (world_from names ts tables) (name_at (names ++ x ∷ []) k).owner ≡ true
+present_more names ts tables x there all k k< =
+    at (let within : k ≤ length names = omega (arith, length_push names x) in eq-or-lt_of_le within)
   where
-    at : (k ≡ length names) ⊎ (k < length names) → is_there (world_from names ts) (name_at (names ++ x ∷ []) k).owner ≡ true
-    at (inl same) = ap (λ (y : NodeName). is_there (world_from names ts) y.owner) (ap (λ j. name_at (names ++ x ∷ []) j) same ∙ get_or-append_seam names x [] (node_of Page 0)) ∙ there
-    at (inr h) = ap (λ (y : NodeName). is_there (world_from names ts) y.owner) (get_or-append names (x ∷ []) (node_of Page 0) k h) ∙ all k h
+    at : (k ≡ length names) ⊎ (k < length names) → is_there (world_from names ts tables) (name_at (names ++ x ∷ []) k).owner ≡ true
+    at (inl same) = ap (λ (y : NodeName). is_there (world_from names ts tables) y.owner) (ap (λ j. name_at (names ++ x ∷ []) j) same ∙ get_or-append_seam names x [] (node_of Page 0)) ∙ there
+    at (inr h) = ap (λ (y : NodeName). is_there (world_from names ts tables) y.owner) (get_or-append names (x ∷ []) (node_of Page 0) k h) ∙ all k h
 
-pub held_more : (names : List NodeName) (ts : Trees) → IsHeld names ts → (o : Owner) → is_there (world_from names ts) o ≡ true → count_of o names ≢ 1000000
-    → (n : Node) → n.name ≡ next_name o names → IsHeld (names ++ next_name o names ∷ []) (with_node n ts)
-held_more names ts held o there room n is =
-    let change = added ts held.owned o n (ap (λ (x : NodeName). x.owner) is) in
-    let more = names ++ next_name o names ∷ [] in
-    record {
-      owned = change.owned;
-      present = present_more names ts (with_node n ts) (next_name o names) there held.present;
-      absent = λ p off. absent_changed names ts (with_node n ts) o there change.others held p (there_same names more ts (with_node n ts) p ∙ off);
-      limited = λ p. limited_more names o p (count_of o names) (held.limited o) (held.limited p) room;
-    }
+module _ (names : List NodeName) (ts : Trees) (tables : List KeyedTables) (held : IsHeld names ts tables) (o : Owner) (there : is_there (world_from names ts tables) o ≡ true)
+    (n : Node) (is : n.name ≡ next_name o names) (new : (k : ℕ) → k < length names → name_at names k ≢ next_name o names) where
+  abbrev grown : List NodeName
+  grown = names ++ next_name o names ∷ []
 
--- the world with one node more
-world_more : (names : List NodeName) (ts : Trees) → IsHeld names ts → (o : Owner) → is_there (world_from names ts) o ≡ true → (n : Node) → n.name ≡ next_name o names
-    → world_from (names ++ next_name o names ∷ []) (with_node n ts) ≡ world_step o (world_from names ts) (make n)
-world_more names ts held Page there n is =
-    let change = added ts held.owned Page n (ap (λ (x : NodeName). x.owner) is) in
-    ap (λ us. world_with us (count_of Page more)) change.own ∙ ap (world_with (with_node n (trees_of_owner Page ts))) (count_more Page names (next_name Page names) ∙ add-one (count_of Page names))
-    ∙ ap (λ (x : NodeName). world_with (with_node (record n { name = x }) (trees_of_owner Page ts)) (suc (count_of Page names))) is
-  where
-    more : List NodeName
-    more = names ++ next_name Page names ∷ []
+  own_change : IsOwnChange o (with_node n) ts
+  own_change = added ts held.owned o n (ap (λ (x : NodeName). x.owner) is)
 
-    world_with : Trees → ℕ → World
-    world_with us k = record (world_from names ts) { parts = record (part_from names ts Page) { trees = us; node_count = k } ∷ [] }
-world_more names ts held (Component k) there n is = cc
+  pub held_more : count_of o names ≢ 1000000 → IsHeld (names ++ next_name o names ∷ []) (with_node n ts) tables
+  held_more room =
+      held_with names ts tables held o there grown (with_node n ts) tables refl own_change.owned own_change.others (present_more names ts tables (next_name o names) there held.present)
+      (λ p. limited_more names o p (count_of o names) (held.limited o) (held.limited p) room)
+      (λ p t e. tables_more names (next_name o names) ts n is new p t (held.own p t e))
+
+  -- each owner's tables are the same in names
+  view_grown : (q : Owner) → tables_view grown (own_tables tables q) ≡ tables_view names (own_tables tables q)
+  view_grown q = by (table_of tables q) refl
+    where
+      by : (m : Option KeyedTables) → table_of tables q ≡ m → tables_view grown (unwrap_or m (record { iterators = []; walkers = [] })) ≡ tables_view names (unwrap_or m (record { iterators = []; walkers = [] }))
+      by None e = refl
+      by (Some t) e = view_same names (next_name o names) ts q t (held.own q t e)
+
+  -- the world with one node more
+  world_more : world_from (names ++ next_name o names ∷ []) (with_node n ts) tables ≡ world_step o (world_from names ts tables) (make n)
+  world_more =
+      world_stepped (contents names ts tables) (contents grown (with_node n ts) tables) o (make n) (held_quiet names ts tables) (held_quiet grown (with_node n ts) tables) (single_owners (length tables)) there record {
+        owners = refl;
+        signalled = refl;
+        tasks = refl;
+        own = ap (λ us. part_with o us (count_of o grown) (tables_view grown (own_tables tables o))) own_change.own
+            ∙ ap (λ k. part_with o (with_node n (trees_of_owner o ts)) k (tables_view grown (own_tables tables o))) more_own
+            ∙ ap (λ t. part_with o (with_node n (trees_of_owner o ts)) (suc (count_of o names)) t) (view_grown o)
+            ∙ ap (λ (x : NodeName). part_with o (with_node (with_name x n) (trees_of_owner o ts)) (suc (count_of o names)) (tables_view names (own_tables tables o))) is;
+        others = λ q other.
+            ap (λ us. part_with q us (count_of q grown) (tables_view grown (own_tables tables q))) (own_change.others q other)
+            ∙ ap (λ k. part_with q (trees_of_owner q ts) k (tables_view grown (own_tables tables q))) (more_other q other)
+            ∙ ap (λ t. part_with q (trees_of_owner q ts) (count_of q names) t) (view_grown q);
+      }
+    where
+      more_own : count_of o (names ++ next_name o names ∷ []) ≡ suc (count_of o names)
+      more_own = count_more o names (next_name o names) ∙ ap (λ b. count_of o names + cond b 1 0) (owner_eq-same o) ∙ add-one (count_of o names)
+
+      more_other : (q : Owner) → q ≢ o → count_of q (names ++ next_name o names ∷ []) ≡ count_of q names
+      more_other q other = count_more q names (next_name o names) ∙ ap (λ b. count_of q names + cond b 1 0) (ne-owner_eq o q (λ e. other (sym e))) ∙ add-zero (count_of q names)
 
 abbrev trees_named : List NodeName → Trees → NamedTrees
 trees_named ns ts = record { names = ns; trees = ts }
 
 -- an owner's next name, as its part says it and as the names of all nodes do
-next_same : (names : List NodeName) (ts : Trees) (o : Owner) → is_there (world_from names ts) o ≡ true → part_next (part_of (world_from names ts) o) ≡ next_name o names
-next_same names ts Page there = refl
-next_same names ts (Component k) there = cc
+next_same : (names : List NodeName) (ts : Trees) (tables : List KeyedTables) (o : Owner) → is_there (world_from names ts tables) o ≡ true → part_next (part_of (world_from names ts tables) o) ≡ next_name o names
+next_same names ts tables o there = ap part_next (part_at (contents names ts tables) o there)
 
 -- what a call that makes a node ensures
-abbrev pub Added : NamedTrees → Owner → (List NodeName → NodeName → Node) → {T : Type 0} → Result T Fault → DocState → Type 0
-Added g o n r d =
+abbrev pub Added : NamedTrees → List KeyedTables → Owner → (List NodeName → NodeName → Node) → {T : Type 0} → Result T Fault → DocState → Type 0
+Added g tables o n r d =
     OnOk r (g.names ≡ d.names ++ part_next (part_of d.world o) ∷ [])
-    × OnOk r (world_from g.names g.trees ≡ world_step o d.world (make (n d.names (part_next (part_of d.world o)))))
+    × OnOk r (world_from g.names g.trees tables ≡ world_step o d.world (make (n d.names (part_next (part_of d.world o)))))
 
-added_at : (f g : NamedTrees) → IsHeld f.names f.trees → (o : Owner) → is_there (world_from f.names f.trees) o ≡ true
-    → (n : List NodeName → NodeName → Node) → ((ns : List NodeName) (x : NodeName) → (n ns x).name ≡ x) → {T : Type 0} (r : Result T Fault)
+-- names that tell the nodes apart
+abbrev pub TellApart : List NodeName → Type 0
+TellApart names = (j k : ℕ) → j < length names → k < length names → name_at names j ≡ name_at names k → j ≡ k
+
+module _ (f g : NamedTrees) {tables : List KeyedTables} (held : IsHeld f.names f.trees tables) (o : Owner) (there : is_there (world_from f.names f.trees tables) o ≡ true)
+    (n : List NodeName → NodeName → Node) (own_name : (ns : List NodeName) (x : NodeName) → (n ns x).name ≡ x) (apart : TellApart g.names) where
+  -- the new name is none of the others
+  new_name : g.names ≡ f.names ++ next_name o f.names ∷ [] → (k : ℕ) → k < length f.names → name_at f.names k ≢ next_name o f.names
+  new_name names k less same =
+      let longer = length_push f.names (next_name o f.names) in
+      let all : TellApart (f.names ++ next_name o f.names ∷ []) = subst TellApart names apart in
+      let one = all k (length f.names) (omega arith) (omega arith)
+      (get_or-append f.names (next_name o f.names ∷ []) (node_of Page 0) k less ∙ same ∙ sym (get_or-append_seam f.names (next_name o f.names) [] (node_of Page 0))) in
+      omega arith
+
+  added_at : {T : Type 0} (r : Result T Fault) → OnOk r (g.names ≡ f.names ++ next_name o f.names ∷ []) → OnOk r (g.trees ≡ with_node (n f.names (next_name o f.names)) f.trees)
+      → ((r ≡ Err (Refused Limit)) ↔ (count_of o f.names ≡ 1000000)) → OnErr r (g ≡ f)
+      → IsHeld g.names g.trees tables × Added g tables o n r (state_from f.names f.trees tables)
+  added_at (Ok x) names trees limit same =
+      let next = next_same f.names f.trees tables o there in
+      let room : count_of o f.names ≢ 1000000 = λ full. let h = limit.1 full in cc in
+      let new = new_name names in
+      let both : g ≡ trees_named (f.names ++ next_name o f.names ∷ []) (with_node (n f.names (next_name o f.names)) f.trees) =
+      ap (λ ns. trees_named ns g.trees) names ∙ ap (trees_named (f.names ++ next_name o f.names ∷ [])) trees in (
+        subst (λ (p : NamedTrees). IsHeld p.names p.trees tables) (sym both)
+            (held_more f.names f.trees tables held o there (n f.names (next_name o f.names)) (own_name f.names (next_name o f.names)) new room),
+        (
+          names ∙ ap (λ (y : NodeName). f.names ++ y ∷ []) (sym next),
+          ap (λ (p : NamedTrees). world_from p.names p.trees tables) both
+              ∙ world_more f.names f.trees tables held o there (n f.names (next_name o f.names)) (own_name f.names (next_name o f.names)) new
+              ∙ ap (λ (y : NodeName). world_step o (world_from f.names f.trees tables) (make (n f.names y))) (sym next),
+        ),
+      )
+  added_at (Err e) names trees limit same = (subst (λ (p : NamedTrees). IsHeld p.names p.trees tables) (sym same) held, (tt, tt))
+
+pub added_held : (f g : NamedTrees) {tables : List KeyedTables} (d : DocState) → state_from f.names f.trees tables ≡ d → IsHeld f.names f.trees tables → (o : Owner) → is_there d.world o ≡ true
+    → (n : List NodeName → NodeName → Node) → ((ns : List NodeName) (x : NodeName) → (n ns x).name ≡ x) → TellApart g.names → {T : Type 0} (r : Result T Fault)
     → OnOk r (g.names ≡ f.names ++ next_name o f.names ∷ []) → OnOk r (g.trees ≡ with_node (n f.names (next_name o f.names)) f.trees)
     → ((r ≡ Err (Refused Limit)) ↔ (count_of o f.names ≡ 1000000)) → OnErr r (g ≡ f)
-    → IsHeld g.names g.trees × Added g o n r (state_from f.names f.trees)
-added_at f g held o there n is (Ok x) names trees limit same =
-    let next = next_same f.names f.trees o there in
-    let other : count_of o f.names ≢ 1000000 = λ full. let h = limit.1 full in cc in
-    let both : g ≡ trees_named (f.names ++ next_name o f.names ∷ []) (with_node (n f.names (next_name o f.names)) f.trees) =
-    ap (λ ns. trees_named ns g.trees) names ∙ ap (trees_named (f.names ++ next_name o f.names ∷ [])) trees in (
-      subst (λ (p : NamedTrees). IsHeld p.names p.trees) (sym both) (held_more f.names f.trees held o there other (n f.names (next_name o f.names)) (is f.names (next_name o f.names))),
-      (
-        names ∙ ap (λ (y : NodeName). f.names ++ y ∷ []) (sym next),
-        ap (λ (p : NamedTrees). world_from p.names p.trees) both ∙ world_more f.names f.trees held o there (n f.names (next_name o f.names)) (is f.names (next_name o f.names))
-            ∙ ap (λ (y : NodeName). world_step o (world_from f.names f.trees) (make (n f.names y))) (sym next),
-      ),
-    )
-added_at f g held o there n is (Err e) names trees limit same = (subst (λ (p : NamedTrees). IsHeld p.names p.trees) (sym same) held, (tt, tt))
+    → IsHeld g.names g.trees tables × Added g tables o n r d
+added_held f g {tables} d is_d held o there n own_name apart r names trees limit same =
+    subst (λ (e : DocState). is_there e.world o ≡ true → IsHeld g.names g.trees tables × Added g tables o n r e) is_d
+    (λ h. added_at f g held o h n own_name apart r names trees limit same) there
 
-pub added_held : (f g : NamedTrees) (d : DocState) → state_from f.names f.trees ≡ d → IsHeld f.names f.trees → (o : Owner) → is_there d.world o ≡ true
-    → (n : List NodeName → NodeName → Node) → ((ns : List NodeName) (x : NodeName) → (n ns x).name ≡ x) → {T : Type 0} (r : Result T Fault)
-    → OnOk r (g.names ≡ f.names ++ next_name o f.names ∷ []) → OnOk r (g.trees ≡ with_node (n f.names (next_name o f.names)) f.trees)
-    → ((r ≡ Err (Refused Limit)) ↔ (count_of o f.names ≡ 1000000)) → OnErr r (g ≡ f)
-    → IsHeld g.names g.trees × Added g o n r d
-added_held f g d is_d held o there n is r names trees limit same =
-    subst (λ (e : DocState). is_there e.world o ≡ true → IsHeld g.names g.trees × Added g o n r e) is_d
-    (λ h. added_at f g held o h n is r names trees limit same) there
+-- ---- the first node
+
+-- without nodes, where the page alone is there
+empty_held : IsHeld [] none (record { iterators = []; walkers = [] } ∷ [])
+empty_held = record {
+  owned = record { owners = tt; order = tt };
+  present = λ k k<. absurd (omega arith);
+  absent = λ o off. refl;
+  limited = λ o. omega arith;
+  alone = refl;
+  own = λ o t e. subst (AreTablesOf (named_trees [] none) o) (same_own o t e) record { iterators = λ k i is. absurd (none-some i is); walkers = λ k w is. absurd (none-some w is); few_iterators = omega arith; few_walkers = omega arith };
+}
+  where
+    same_own : (o : Owner) (t : KeyedTables) → table_of (record { iterators = []; walkers = [] } ∷ []) o ≡ Some t → record { iterators = []; walkers = [] } ≡ t
+    same_own Page t e = same_Some (record { iterators = []; walkers = [] }) t e
+    same_own (Component zero) t e = absurd (none-some t e)
+    same_own (Component (suc k)) t e = absurd (none-some t e)
+
+-- with the first one
+pub first_held : (g : NamedTrees) (tables : List KeyedTables) (n : Node) → n.name ≡ node_of Page 0 → tables ≡ record { iterators = []; walkers = [] } ∷ [] → g.names ≡ node_of Page 0 ∷ [] → g.trees ≡ with_node n none → IsHeld g.names g.trees tables
+first_held g tables n is one names trees =
+    subst (IsHeld g.names g.trees) (sym one)
+    (subst (λ ns. IsHeld ns g.trees (record { iterators = []; walkers = [] } ∷ [])) (sym names)
+    (subst (λ ts. IsHeld (node_of Page 0 ∷ []) ts (record { iterators = []; walkers = [] } ∷ [])) (sym trees)
+    (held_more [] none (record { iterators = []; walkers = [] } ∷ []) empty_held Page refl n is (λ k less. absurd (omega arith)) (λ e. omega arith))))
 
 -- when there is no room for one node more
-limit_at : (names : List NodeName) (ts : Trees) → IsHeld names ts → (o : Owner) → is_there (world_from names ts) o ≡ true
-    → (count_of o names ≡ 1000000) ↔ (past_limit (part_of (world_from names ts) o).node_count 1 ≡ true)
-limit_at names ts held Page there = let few = held.limited Page in (λ e. rw e refl, λ h. let more = ltb-true 1000000 (count_of Page names + 1) h in omega arith)
-limit_at names ts held (Component k) there = cc
+limit_at : (names : List NodeName) (ts : Trees) (tables : List KeyedTables) → IsHeld names ts tables → (o : Owner) → is_there (world_from names ts tables) o ≡ true
+    → (count_of o names ≡ 1000000) ↔ (past_limit (part_of (world_from names ts tables) o).node_count 1 ≡ true)
+limit_at names ts tables held o there =
+    let count : (part_of (world_from names ts tables) o).node_count ≡ count_of o names = ap (λ (p : Part). p.node_count) (part_at (contents names ts tables) o there) in
+    limit_count (count_of o names) (part_of (world_from names ts tables) o).node_count count (held.limited o)
 
 -- no owner has more nodes than it may
-pub within_limit : (names : List NodeName) (ts : Trees) → IsHeld names ts → (o : Owner) → past_limit (part_of (world_from names ts) o).node_count 0 ≡ false
-within_limit names ts held Page = let few = held.limited Page in false_from_ne_true _ (λ h. let more = ltb-true 1000000 (count_of Page names + 0) h in omega arith)
-within_limit names ts held (Component k) = refl
+pub within_limit : (names : List NodeName) (ts : Trees) {tables : List KeyedTables} → IsHeld names ts tables → (o : Owner) → past_limit (part_of (world_from names ts tables) o).node_count 0 ≡ false
+within_limit names ts {tables} held o = elim (cases_Bool (is_there (world_from names ts tables) o)) [
+  | inl there ↦
+      let count : (part_of (world_from names ts tables) o).node_count ≡ count_of o names = ap (λ (p : Part). p.node_count) (part_at (contents names ts tables) o there) in
+      let few = held.limited o in
+      false_from_ne_true _ (λ h. let more = ltb-true 1000000 (count_of o names + 0) (ap (λ n. past_limit n 0) (sym count) ∙ h) in omega arith)
+  | inr off ↦ ap (λ (p : Part). past_limit p.node_count 0) (part_off (contents names ts tables) o off)
+]
 
-pub limit_held : (f : NamedTrees) (d : DocState) → state_from f.names f.trees ≡ d → IsHeld f.names f.trees → (o : Owner) → is_there d.world o ≡ true
+pub limit_held : (f : NamedTrees) {tables : List KeyedTables} (d : DocState) → state_from f.names f.trees tables ≡ d → IsHeld f.names f.trees tables → (o : Owner) → is_there d.world o ≡ true
     → {P : Type 0} → (P ↔ (count_of o f.names ≡ 1000000)) → P ↔ (past_limit (part_of d.world o).node_count 1 ≡ true)
-limit_held f d is_d held o there {P} limit =
+limit_held f {tables} d is_d held o there {P} limit =
     subst (λ (e : DocState). is_there e.world o ≡ true → P ↔ (past_limit (part_of e.world o).node_count 1 ≡ true)) is_d
-    (λ h. let both = limit_at f.names f.trees held o h in (λ p. both.0 (limit.0 p), λ e. limit.1 (both.1 e))) there
+    (λ h. let both = limit_at f.names f.trees tables held o h in (λ p. both.0 (limit.0 p), λ e. limit.1 (both.1 e))) there

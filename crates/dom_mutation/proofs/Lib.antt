@@ -1,11 +1,20 @@
 -- Lemmas of the changes of documents.
-pub mod Held
+pub mod Worlds
+pub mod Places
+pub mod Leaving
 pub mod Quiet
+pub mod Held
+pub mod Steps
 pub mod Shown
+pub mod Cursors
+pub mod Passing
 pub mod Made
 pub mod Paths
 pub mod Moves
 pub mod Near
+pub mod Standing
+pub mod Own
+pub mod Keeping
 pub mod Once
 pub mod Covering
 pub mod Placed

@@ -1,33 +1,30 @@
--- Where there are no hosts, ranges and registrations, steps change trees alone: no slot is signalled, no document of a
--- closed tree changes, no boundary moves and no record is taken.
-use Rattle.std.proofs.Common.{◌≡◌, ℕ, zero, suc, Bool, true, false, ◌&&◌, List, [], ◌∷◌, ◌++◌, Option, Some, None, option_map, position, map, filter, filter_map, flat_map, fold, refl, sym, ap, subst, ◌∙◌}
-use Rattle.std.specs.Prelude.{if◌then◌else◌, slice_get, is_some}
+-- Where there are no hosts and no registrations a step changes its owner's part alone: no slot is signalled, no document of
+-- a closed tree changes and no record is taken.
+use Rattle.std.proofs.Common.{◌≡◌, ℕ, zero, suc, Bool, true, false, ◌&&◌, not, List, [], ◌∷◌, ◌++◌, Option, Some, None, option_map, position, map, filter, filter_map, flat_map, fold, unwrap_or, refl, sym, ap, subst, ◌∙◌, inl, inr}
+use Rattle.std.specs.Prelude.{if◌then◌else◌, slice_get, slice_set, nat_eq, is_some}
 use Rattle.std.specs.Option.{option_and_then, option_map_or}
+use Rattle.std.proofs.lemmas.Bool.{cases_Bool}
 use Rattle.dom_base.specs.declared.NodeName.{NodeName}
 use Rattle.dom_base.specs.declared.Owner.{Owner}
-use Rattle.dom_base.specs.declared.Owner.TheVariants.{Page, Component}
-use Rattle.dom_model.specs.Names.{Word, DomString, name_eq, distinct, list_eq, max_depth}
+use Rattle.dom_model.specs.Names.{name_eq, owner_eq, distinct, append_once, is_empty, max_depth}
 use Rattle.dom_model.specs.Tree.{Trees, inclusive_descendants, inclusive_ancestors, parent_of}
-use Rattle.dom_model.specs.TreeChanges.{placed, taken_out, change_node, change_subtree, with_document, with_attribute, with_data_replaced}
-use Rattle.dom_model.specs.Observers.{registrations_on, target_of, copied_source}
+use Rattle.dom_model.specs.Observers.{Registration, registrations_on, target_of, fits, interested}
 use Rattle.dom_model.specs.Output.{Change}
-use Rattle.dom_model.specs.Steps.{make_room, place, take_out, set_document, set_attribute, replace_data, split_at, join_at, queue_record, leave}
-use Rattle.dom_model.specs.World.{World, part_of, is_there, component_at, component_made, made_by, host_above, components_below, shadow_root_of, trees_with, parent_at, node_at, shadow_tree, with_part}
+use Rattle.dom_model.specs.Part.{Part, empty_part, queue_of}
+use Rattle.dom_model.specs.Steps.{Step, make, make_room, place, take_out, set_document, set_attribute, replace_data, split_at, join_at, set_range, queue_record, part_step, interested_in, is_taken, record_in}
+use Rattle.dom_model.specs.World.{World, find_part, part_of, with_part, is_there, component_at, component_made, made_by, host_above, components_below, shadow_root_of, trees_with, parent_at, node_at, shadow_tree}
 use Rattle.dom_model.specs.Slots.{signals, slot_of, slot_in, assigned, assigned_below, is_changed, is_bare_slot, is_slot_element, own_slots, other_slots, with_signal}
-use Rattle.dom_model.specs.WorldSteps.{world_step, stepped, with_signals, with_removal_signals, with_shadow_document}
+use Rattle.dom_model.specs.WorldSteps.{world_step, stepped, with_signals, with_removal_signals, with_shadow_document, with_notify_if}
+use Rattle.dom_tree.specs.Forest.{count_of}
 use Rattle.dom_tree.specs.Owners.{trees_of_owner, IsOwnChange}
-use Rattle.dom_mutation.specs.Doc.{world_from}
-use Rattle.dom_mutation.proofs.Held.{world_changed}
+use Rattle.dom_mutation.specs.Contents.{Contents, part_with, part_in, world_of}
+use Rattle.dom_mutation.proofs.Worlds.{Single, IsChangeOf, part_at, changed}
 
 -- ---- without hosts
 
 -- no owner has attached a shadow root
-abbrev pub HasNoHosts : World → Type 0
+abbrev HasNoHosts : World → Type 0
 HasNoHosts w = (o : Owner) → (part_of w o).attached ≡ []
-
-no_hosts : (names : List NodeName) (ts : Trees) → HasNoHosts (world_from names ts)
-no_hosts names ts Page = refl
-no_hosts names ts (Component k) = refl
 
 and_then_none : {X Y : Type 0} (f : X → Option Y) → ((x : X) → f x ≡ None) → (o : Option X) → option_and_then f o ≡ None
 and_then_none f h None = refl
@@ -59,7 +56,7 @@ module _ (w : World) (h : HasNoHosts w) where
   assigned_none s = ap (λ o. option_map_or (assigned_below w s) o []) (host_above_none s)
 
   bare_false : (s : NodeName) → is_bare_slot w s ≡ false
-  bare_false s = and_false (is_slot_element (node_at w s)) _ (ap (λ o. is_some o && Rattle.dom_model.specs.Names.is_empty (assigned w s)) (host_above_none s))
+  bare_false s = and_false (is_slot_element (node_at w s)) _ (ap (λ o. is_some o && is_empty (assigned w s)) (host_above_none s))
 
   below_none : (depth : ℕ) (x : NodeName) → components_below depth w x ≡ []
   below_none zero x = refl
@@ -70,7 +67,7 @@ changed_false : (was now : World) → HasNoHosts was → HasNoHosts now → (s :
 changed_false was now h g s = rw (assigned_none was h s, assigned_none now g s) refl
 
 -- no slot is signalled
-pub signals_none : (was now : World) → HasNoHosts was → HasNoHosts now → (x around : NodeName) (is_move : Bool) → signals was now x around is_move ≡ []
+signals_none : (was now : World) → HasNoHosts was → HasNoHosts now → (x around : NodeName) (is_move : Bool) → signals was now x around is_move ≡ []
 signals_none was now h g x around is_move =
     let none = filter_none (is_changed was now) (changed_false was now h g) in
     let own : List NodeName = if is_move && is_bare_slot now around then around ∷ [] else [] in
@@ -79,93 +76,90 @@ signals_none was now h g x around is_move =
     ∙ ap (λ xs. distinct name_eq (xs ++ filter (is_changed was now) (other_slots now x around))) bare
     ∙ ap (distinct name_eq) (none (other_slots now x around))
 
-quieted : (was now : World) → HasNoHosts was → HasNoHosts now → (x around : NodeName) (is_move : Bool) → with_signals was now x around is_move ≡ now
-quieted was now h g x around is_move = ap (fold with_signal now) (signals_none was now h g x around is_move)
+-- ---- without registrations
 
--- ---- the steps that change trees
-
-module _ (names : List NodeName) (ts : Trees) (o : Owner) (there : is_there (world_from names ts) o ≡ true) where
-  abbrev was : World
-  was = world_from names ts
-
-  pub placed_world : (x parent : NodeName) (before : Option NodeName) → IsOwnChange o (placed x parent before) ts
-      → world_from names (placed x parent before ts) ≡ world_step o was (place x parent before)
-  placed_world x parent before change =
-      let now = stepped o was (place x parent before) in
-      let is : world_from names (placed x parent before ts) ≡ now = world_changed names ts o there (placed x parent before) change in
-      is ∙ sym (quieted was now (no_hosts names ts) (subst HasNoHosts is (no_hosts names (placed x parent before ts))) x parent true)
-
-  pub attribute_world : (x : NodeName) (a : Word) (v : Option DomString) → IsOwnChange o (change_node (with_attribute a v) x) ts
-      → world_from names (change_node (with_attribute a v) x ts) ≡ world_step o was (set_attribute x a v)
-  attribute_world x a v change =
-      let now = stepped o was (set_attribute x a v) in
-      let is : world_from names (change_node (with_attribute a v) x ts) ≡ now = world_changed names ts o there (change_node (with_attribute a v) x) change in
-      is ∙ sym (quieted was now (no_hosts names ts) (subst HasNoHosts is (no_hosts names (change_node (with_attribute a v) x ts))) x x false)
-
-  pub document_world : (x d : NodeName) → IsOwnChange o (change_subtree (with_document d) x) ts
-      → world_from names (change_subtree (with_document d) x ts) ≡ world_step o was (set_document x d)
-  document_world x d change =
-      world_changed names ts o there (change_subtree (with_document d) x) change
-      ∙ sym (ap (fold (with_shadow_document d) (stepped o was (set_document x d))) (below_none was (no_hosts names ts) max_depth x))
-
-registrations_none : (path : List NodeName) → registrations_on name_eq path [] ≡ []
+pub registrations_none : (path : List NodeName) → registrations_on name_eq path [] ≡ []
 registrations_none [] = refl
 registrations_none (x ∷ path) = registrations_none path
 
-pub data_world : (names : List NodeName) (ts : Trees) (o : Owner) → is_there (world_from names ts) o ≡ true
-    → (x : NodeName) (offset count : ℕ) (new : DomString) → IsOwnChange o (change_node (with_data_replaced offset count new) x) ts
-    → world_from names (change_node (with_data_replaced offset count new) x ts) ≡ world_step o (world_from names ts) (replace_data x offset count new)
-data_world names ts Page there x offset count new change = world_changed names ts Page there (change_node (with_data_replaced offset count new) x) change
-data_world names ts (Component k) there x offset count new change = cc
+-- no observer is interested
+none_interested : (p : Part) → p.registrations ≡ [] → (c : Change NodeName) → interested_in p c ≡ []
+none_interested p none c =
+    let path = inclusive_ancestors p.trees (target_of c) in
+    ap (λ (rs : List (Registration NodeName)). interested name_eq path rs c) none
+    ∙ ap (λ (rs : List (Registration NodeName)). distinct nat_eq (map (λ r. r.observer) (filter (fits name_eq c) rs))) (registrations_none path)
 
-taken_part : (names : List NodeName) (ts : Trees) (o : Owner) → is_there (world_from names ts) o ≡ true → (x parent : NodeName)
-    → let p = part_of (world_from names ts) o in leave p x parent ≡ record p { trees = taken_out x p.trees }
-taken_part names ts Page there x parent =
-    let us = trees_of_owner Page ts in
-    let p = part_of (world_from names ts) Page in
-    ap (λ rs. record p { trees = taken_out x us; registrations = map (λ r. record { node = x; observer = r.observer; options = r.options; source = copied_source name_eq r }) (filter (λ r. r.options.subtree) rs) }) (registrations_none (inclusive_ancestors us parent))
-taken_part names ts (Component k) there x parent = cc
+-- ---- the steps
 
-taken_from : (names : List NodeName) (ts : Trees) (o : Owner) → is_there (world_from names ts) o ≡ true
-    → (x parent : NodeName) → parent_of (part_of (world_from names ts) o).trees x ≡ Some parent → IsOwnChange o (taken_out x) ts
-    → world_from names (taken_out x ts) ≡ world_step o (world_from names ts) (take_out x)
-taken_from names ts o there x parent up change =
-    let was = world_from names ts in
-    let p = part_of was o in
-    let now = with_part was (record p { trees = taken_out x p.trees }) in
-    let is : world_from names (taken_out x ts) ≡ now = world_changed names ts o there (taken_out x) change in
-    is ∙ sym (quieted was now (no_hosts names ts) (subst HasNoHosts is (no_hosts names (taken_out x ts))) x parent true)
-    ∙ ap (λ q. with_signals was (with_part was q) x parent true) (sym (taken_part names ts o there x parent))
-    ∙ ap (λ (a : Option NodeName). with_removal_signals was (with_part was (option_map_or (leave p x) a p)) x a) (sym up)
+-- no owner has hosts or registrations
+pub record IsQuiet (c : Contents) : Type 0 where
+  pub no_hosts : (o : Owner) → (c.tables o).attached ≡ []
+  pub no_observers : (o : Owner) → (c.tables o).registrations ≡ []
 
-pub taken_world : (names : List NodeName) (ts : Trees) (o : Owner) → is_there (world_from names ts) o ≡ true
-    → (x : NodeName) → is_some (parent_of (part_of (world_from names ts) o).trees x) ≡ true → IsOwnChange o (taken_out x) ts
-    → world_from names (taken_out x ts) ≡ world_step o (world_from names ts) (take_out x)
-taken_world names ts o there x has change = up (parent_of (part_of (world_from names ts) o).trees x) refl has
+hosts_none : (c : Contents) → IsQuiet c → HasNoHosts (world_of c)
+hosts_none c quiet o = each c.owners
   where
-    up : (a : Option NodeName) → parent_of (part_of (world_from names ts) o).trees x ≡ a → is_some a ≡ true → world_from names (taken_out x ts) ≡ world_step o (world_from names ts) (take_out x)
-    up None e has = cc
-    up (Some parent) e has = taken_from names ts o there x parent e change
+    each : (os : List Owner) → (unwrap_or (find_part (map (part_in c) os) o) (empty_part o)).attached ≡ []
+    each [] = refl
+    each (q ∷ os) = elim (cases_Bool (owner_eq q o)) [ inl e ↦ rw e (quiet.no_hosts q) | inr e ↦ rw e (each os) ]
 
--- ---- the steps that change nothing
+-- where a step's change of its owner's part is made, the world is the one after the step
+pub world_stepped : (a b : Contents) (o : Owner) (s : Step) → IsQuiet a → IsQuiet b → Single a.owners → is_there (world_of a) o ≡ true
+    → IsChangeOf a b o (part_step (part_in a o) s) → world_of b ≡ world_step o (world_of a) s
+world_stepped a b o s quiet_a quiet_b single there change = by s is
+  where
+    is : world_of b ≡ stepped o (world_of a) s
+    is = changed a b o (part_step (part_in a o) s) single there change ∙ ap (λ (p : Part). with_part (world_of a) (part_step p s)) (sym (part_at a o there))
 
-module _ (names : List NodeName) (ts : Trees) where
-  pub room_world : (o : Owner) → is_there (world_from names ts) o ≡ true → (parent : NodeName) (index count : ℕ)
-      → world_from names ts ≡ world_step o (world_from names ts) (make_room parent index count)
-  room_world Page there parent index count = refl
-  room_world (Component k) there parent index count = cc
+    -- no slot is signalled
+    quieted : (now : World) → world_of b ≡ now → (x around : NodeName) (is_move : Bool) → now ≡ with_signals (world_of a) now x around is_move
+    quieted now e x around is_move = sym (ap (fold with_signal now) (signals_none (world_of a) now (hosts_none a quiet_a) (subst HasNoHosts e (hosts_none b quiet_b)) x around is_move))
 
-  pub split_world : (o : Owner) → is_there (world_from names ts) o ≡ true → (x : NodeName) (offset : ℕ) (new parent : NodeName) (index : ℕ)
-      → world_from names ts ≡ world_step o (world_from names ts) (split_at x offset new parent index)
-  split_world Page there x offset new parent index = refl
-  split_world (Component k) there x offset new parent index = cc
+    left : (now : World) → world_of b ≡ now → (x : NodeName) (parent : Option NodeName) → now ≡ with_removal_signals (world_of a) now x parent
+    left now e x None = refl
+    left now e x (Some parent) = quieted now e x parent true
 
-  pub join_world : (o : Owner) → is_there (world_from names ts) o ≡ true → (first : NodeName) (size : ℕ) (next parent : NodeName) (index : ℕ)
-      → world_from names ts ≡ world_step o (world_from names ts) (join_at first size next parent index)
-  join_world Page there first size next parent index = refl
-  join_world (Component k) there first size next parent index = cc
+    by : (s : Step) → world_of b ≡ stepped o (world_of a) s → world_of b ≡ world_step o (world_of a) s
+    by (make n) e = e
+    by (make_room parent index count) e = e
+    by (place x parent before) e = e ∙ quieted (stepped o (world_of a) (place x parent before)) e x parent true
+    by (take_out x) e = e ∙ left (stepped o (world_of a) (take_out x)) e x (parent_of (part_of (world_of a) o).trees x)
+    by (set_document x d) e = e ∙ sym (ap (fold (with_shadow_document d) (stepped o (world_of a) (set_document x d))) (below_none (world_of a) (hosts_none a quiet_a) max_depth x))
+    by (set_attribute x n v) e = e ∙ quieted (stepped o (world_of a) (set_attribute x n v)) e x x false
+    by (replace_data x offset count new) e = e
+    by (split_at x offset new parent index) e = e
+    by (join_at first size next parent index) e = e
+    by (set_range k r) e = e
+    by (queue_record c) e =
+        let none : is_taken (part_of (world_of a) o) c ≡ false = ap (λ ks. not (is_empty ks)) (none_interested (part_of (world_of a) o) (ap (λ (p : Part). p.registrations) (part_at a o there) ∙ quiet_a.no_observers o) c) in
+        e ∙ sym (ap (λ t. with_notify_if t o (stepped o (world_of a) (queue_record c))) none)
 
-  pub record_world : (o : Owner) → is_there (world_from names ts) o ≡ true → (c : Change NodeName)
-      → world_from names ts ≡ world_step o (world_from names ts) (queue_record c)
-  record_world Page there c = rw (registrations_none (inclusive_ancestors (trees_of_owner Page ts) (target_of c))) refl
-  record_world (Component k) there c = cc
+-- a step that changes its owner's trees alone
+pub tree_step : (c : Contents) (o : Owner) (s : Step) (h : Trees → Trees) → IsQuiet c → Single c.owners → is_there (world_of c) o ≡ true → IsOwnChange o h c.trees
+    → part_step (part_in c o) s ≡ record (part_in c o) { trees = h (trees_of_owner o c.trees) }
+    → world_of (record c { trees = h c.trees }) ≡ world_step o (world_of c) s
+tree_step c o s h quiet single there change is =
+    world_stepped c (record c { trees = h c.trees }) o s quiet (record { no_hosts = quiet.no_hosts; no_observers = quiet.no_observers }) single there record {
+      owners = refl;
+      signalled = refl;
+      tasks = refl;
+      own = ap (λ us. part_with o us (count_of o c.names) (c.tables o)) change.own ∙ sym is;
+      others = λ q other. ap (λ us. part_with q us (count_of q c.names) (c.tables q)) (change.others q other);
+    }
+
+-- a step that changes nothing
+pub same_step : (c : Contents) (o : Owner) (s : Step) → IsQuiet c → Single c.owners → is_there (world_of c) o ≡ true → part_step (part_in c o) s ≡ part_in c o → world_of c ≡ world_step o (world_of c) s
+same_step c o s quiet single there is =
+    world_stepped c c o s quiet quiet single there record { owners = refl; signalled = refl; tasks = refl; own = sym is; others = λ q other. refl }
+
+-- a record that no observer takes
+told_by : Part → Change NodeName → List ℕ → Part
+told_by p c ks =
+    let add : List (List (Change NodeName)) → ℕ → List (List (Change NodeName)) = λ queues k. slice_set queues k (queue_of queues k ++ record_in p c k ∷ []) in
+    record p { record_queues = fold add p.record_queues ks; pending = fold (append_once nat_eq) p.pending ks }
+
+pub record_step : (c : Contents) (o : Owner) → IsQuiet c → Single c.owners → is_there (world_of c) o ≡ true → (r : Change NodeName) → world_of c ≡ world_step o (world_of c) (queue_record r)
+unfolding told_by
+record_step c o quiet single there r =
+    let p = part_in c o in
+    same_step c o (queue_record r) quiet single there (ap (λ ks. told_by p r ks) (none_interested p (quiet.no_observers o) r))

@@ -1,5 +1,5 @@
 -- What a contract sees of a `Doc`: the names of its nodes by their keys, and what it holds of the world.
-use Rattle.std.specs.Prelude.{◌≡◌, ℕ, ◌<◌, ◌≤◌, true, false, ◌||◌, List, [], ◌∷◌, length, Option, Some, None, if◌then◌else◌}
+use Rattle.std.specs.Prelude.{◌≡◌, ℕ, ◌<◌, ◌≤◌, true, false, ◌||◌, List, [], ◌∷◌, length, Option, Some, None, unwrap_or, if◌then◌else◌}
 use Rattle.std.specs.List.{AllByRecursion}
 use Rattle.std.specs.Option.{ForSome}
 use Rattle.dom_base.specs.declared.Owner.{Owner}
@@ -11,18 +11,22 @@ use Rattle.dom_base.specs.declared.Refusal.{Refusal}
 use Rattle.dom_base.specs.declared.Refusal.TheVariants.{Hierarchy, NotSupported, IndexSize, Limit}
 use Rattle.dom_model.specs.Names.{DomString, name_eq, is_empty}
 use Rattle.dom_model.specs.Tree.{Trees, none, kind_of, is_document, has_data, children_of, parent_of, inclusive_ancestors, is_inclusive_ancestor}
-use Rattle.dom_model.specs.Part.{Part, empty_part, next_name}
+use Rattle.dom_model.specs.Part.{Part, next_name}
 use Rattle.dom_model.specs.Steps.{Step, queue_record, after}
-use Rattle.dom_model.specs.World.{World, part_of, is_there}
+use Rattle.dom_model.specs.World.{World, part_of, with_part, is_there}
+use Rattle.dom_model.specs.Command.{Command}
+use Rattle.dom_model.specs.Effects.{Effect, effect}
 use Rattle.dom_model.specs.WorldSteps.{world_step, world_after}
 use Rattle.dom_model.specs.Changes.{Plan, Observing, observed, suppressed, ◌and_then◌, in_turn, doing, steps_of, telling, making_room, placing, removing, inserting}
 use Rattle.dom_model.specs.TextChanges.{placing_tail, replacing_data}
 use Rattle.dom_model.specs.Validity.{first_refusal}
 use Rattle.dom_model.specs.CommandRefusals.{past_end, past_limit}
-use Rattle.dom_model.specs.Output.{child_list}
+use Rattle.dom_model.specs.Output.{Value, child_list}
 use Rattle.dom_mutation.specs.declared.doc.removing.Telling.{Telling}
 use Rattle.dom_mutation.specs.declared.doc.removing.Telling.TheVariants.{Observed, Suppressed}
-use Rattle.dom_tree.specs.Forest.{name_at, count_of}
+use Rattle.dom_mutation.specs.Contents.{Contents, world_of}
+use Rattle.dom_mutation.specs.OwnTables.{KeyedTables, tables_view, owners_up_to, table_of, AreTablesOf}
+use Rattle.dom_tree.specs.Forest.{NamedTrees, name_at, count_of}
 use Rattle.dom_tree.specs.Owners.{trees_of_owner, AreOwned}
 
 -- the world here has no listeners and no open turn: a `Doc` does not hold these
@@ -30,28 +34,49 @@ pub record DocState : Type 0 where
   pub names : List NodeName
   pub world : World
 
--- the part of an owner, from the names of all nodes and all trees
-abbrev pub part_from : List NodeName → Trees → Owner → Part
-part_from names ts o = record (empty_part o) { trees = trees_of_owner o ts; node_count = count_of o names }
+-- the names of the nodes and the trees
+abbrev pub named_trees : List NodeName → Trees → NamedTrees
+named_trees names ts = record { names = names; trees = ts }
 
--- the world of the page alone
-abbrev pub world_from : List NodeName → Trees → World
-world_from names ts = record { parts = part_from names ts Page ∷ []; signalled = []; tasks = []; turn = None }
+-- an owner's tables; one that is not there has none
+abbrev pub own_tables : List KeyedTables → Owner → KeyedTables
+own_tables tables o = unwrap_or (table_of tables o) (record { iterators = []; walkers = [] })
 
-abbrev pub state_from : List NodeName → Trees → DocState
-state_from names ts = record { names = names; world = world_from names ts }
+-- what is held
+abbrev pub contents : List NodeName → Trees → List KeyedTables → Contents
+contents names ts tables = record {
+  owners = owners_up_to (length tables);
+  names = names;
+  trees = ts;
+  tables = λ o. tables_view names (own_tables tables o);
+  signalled = [];
+  tasks = [];
+}
 
--- what holds of a `Doc`: each tree has one owner, each node's owner is there and no other one has trees, and no owner has
--- more nodes than it may make
-pub record IsHeld (names : List NodeName) (ts : Trees) : Type 0 where
+-- its world
+abbrev pub world_from : List NodeName → Trees → List KeyedTables → World
+world_from names ts tables = world_of (contents names ts tables)
+
+abbrev pub state_from : List NodeName → Trees → List KeyedTables → DocState
+state_from names ts tables = record { names = names; world = world_from names ts tables }
+
+-- what holds of a `Doc`: each tree has one owner, each node's owner is there and no other one has trees, no owner has more
+-- nodes than it may make, so far the page alone is there, and each owner's tables are of its own nodes
+pub record IsHeld (names : List NodeName) (ts : Trees) (tables : List KeyedTables) : Type 0 where
   pub owned : AreOwned ts
-  pub present : (k : ℕ) → k < length names → is_there (world_from names ts) (name_at names k).owner ≡ true
-  pub absent : (o : Owner) → is_there (world_from names ts) o ≡ false → trees_of_owner o ts ≡ none
+  pub present : (k : ℕ) → k < length names → is_there (world_from names ts tables) (name_at names k).owner ≡ true
+  pub absent : (o : Owner) → is_there (world_from names ts tables) o ≡ false → trees_of_owner o ts ≡ none
   pub limited : (o : Owner) → count_of o names ≤ 1000000
+  pub alone : length tables ≡ 1
+  pub own : (o : Owner) → ForSome (table_of tables o) (AreTablesOf (named_trees names ts) o)
 
 -- the world after an owner's plan
 abbrev pub made : Owner → Plan → World → World
 made o plan w = world_after o w (plan (part_of w o))
+
+-- an owner's command that changes its tables alone was made, and answered this
+abbrev pub Makes : Owner → Command → Value → World → World → Type 0
+Makes o c v was now = (effect (part_of was o) c ≡ Effect.tables (part_of now o) [] v) × (now ≡ with_part was (part_of now o))
 
 -- the name of a key, its owner, and that one's trees
 abbrev pub name_in : DocState → ℕ → NodeName

@@ -1,2 +1,4 @@
 -- What contracts see of a `Doc`.
+pub mod Contents
+pub mod OwnTables
 pub mod Doc

@@ -1,6 +1,6 @@
 //! The documents of a run.
 ghost use Rattle.std.specs.Prelude.{◌≡◌, ℕ, ◌<◌, ◌↔◌, ◌⊎◌, ◌++◌, ◌∷◌, [], true, false, length, IfOk, IfErr, OnOk, OnErr};
-ghost use Rattle.std.specs.Option.{ForSome};
+ghost use Rattle.std.specs.Option.{option_map, ForSome};
 ghost use Rattle.dom_base.specs.declared.Owner.{Owner as OwnerOf};
 ghost use Rattle.dom_base.specs.declared.Owner.TheVariants.{Page};
 ghost use Rattle.dom_base.specs.declared.Refusal.TheVariants.{Limit};
@@ -14,9 +14,11 @@ ghost use Rattle.dom_model.specs.CommandRefusals.{past_limit};
 ghost use Rattle.dom_model.specs.DocumentMachine.{first_world};
 ghost use Rattle.dom_tree.specs.Forest.{name_at, node_from};
 ghost use Rattle.dom_tree.specs.Owners.{trees_of_owner, AreOwned};
+ghost use Rattle.dom_mutation.specs.OwnTables.{table_of, place_of};
 ghost use Rattle.dom_mutation.specs.Doc.{made};
 
 mod attributes;
+mod cursors;
 mod data;
 mod documents;
 mod inserting;
@@ -28,6 +30,7 @@ mod splitting;
 mod steps;
 mod texts;
 
+use crate::tables::OwnTables;
 pub use attributes::is_name;
 use dom_base::{Fault, Kind, Owner};
 use dom_tree::{Forest, NodeData};
@@ -36,10 +39,12 @@ use node_arena::Key;
 use std::alloc::{AllocError, Global};
 use std::marker::Model;
 
-/// The nodes of all owners, and how they stand.
+/// The nodes of all owners, how they stand, and each owner's tables: the page's first, and then those of the components by
+/// their numbers.
 #[derive(Drop)]
 pub struct Doc {
     forest: Forest,
+    tables: Vec<OwnTables>,
     alloc: Global,
 }
 
@@ -52,9 +57,9 @@ impl Model for Doc {
 
     ghost coded = { Prim.hlevel (codes, trees_code) };
 
-    ghost view = { λ d. state_from d.forest.names d.forest.trees };
+    ghost view = { λ d. state_from d.forest.names d.forest.trees d.tables.items };
 
-    ghost invariant = { λ d. IsHeld d.forest.names d.forest.trees };
+    ghost invariant = { λ d. IsHeld d.forest.names d.forest.trees d.tables.items };
 }
 
 impl Doc {
@@ -70,8 +75,17 @@ impl Doc {
             text: Vec::new(alloc),
             document: None,
         };
+        let mut tables = Vec::new(alloc);
+        match tables.push(OwnTables::new(alloc)) {
+            Ok(()) => (),
+            Err(_) => return Err(AllocError),
+        }
         match forest.add(Owner::Page, document) {
-            Ok(_) => Ok(Doc { forest, alloc }),
+            Ok(_) => Ok(Doc {
+                forest,
+                tables,
+                alloc,
+            }),
             Err(_) => Err(AllocError),
         }
     }
@@ -86,12 +100,11 @@ impl Doc {
         &self.forest
     }
 
-    /// Whether an owner has a part: so far the page alone has one.
+    /// Whether an owner has a part.
     pub fn is_there(&self, owner: Owner) -> bool
         ensures { result ≡ is_there self.now.world owner }
     {
-        let _ = &self.forest;
-        matches!(owner, Owner::Page)
+        table_of(&self.tables, owner).is_some()
     }
 
     /// Holds of every `Doc` so far: no microtask and no notification is queued.
@@ -115,6 +128,29 @@ impl Doc {
         ensures other { IfErr result (λ fault. (fault ≡ Fault.Refused Limit) ⊎ (fault ≡ Fault.Memory)) }
         ensures err { OnErr result (self.new ≡ self.old) }
     {
-        self.forest.add(owner, node)
+        let added = self.forest.add(owner, node);
+        self.forest.nodes_stand_once();
+        added
+    }
+}
+
+/// An owner's tables, if it is there. No component has the number 0.
+fn table_of(tables: &[OwnTables], owner: Owner) -> Option<&OwnTables>
+    ensures { option_map (λ t. t.now) result ≡ table_of tables.now owner }
+{
+    match owner {
+        Owner::Page => tables.get(0),
+        Owner::Component(0) => None,
+        Owner::Component(number) => tables.get(number as usize),
+    }
+}
+
+/// An owner's place among the owners.
+fn place_of(owner: Owner) -> usize
+    ensures { result ≡ place_of owner }
+{
+    match owner {
+        Owner::Page => 0,
+        Owner::Component(number) => number as usize,
     }
 }

@@ -2,6 +2,7 @@
 #![tactic(auto)]
 
 mod doc;
+mod tables;
 #[cfg(test)]
 mod tests;
 #[cfg(test)]

@@ -4,6 +4,8 @@ ghost use Rattle.dom_model.specs.Tree.{is_shadow};
 ghost use Rattle.dom_model.specs.World.{is_there};
 ghost use Rattle.dom_mutation.specs.Doc.{owner_in};
 
+mod cursors;
+
 use crate::Doc;
 use dom_base::{Fault, Kind, NodeName, Owner, Refusal};
 use dom_tree::NodeData;

@@ -11,7 +11,7 @@ use Rattle.dom_traversal.proofs.Shapes.{Has, Once, IsTreeOf, has_or_not, subtree
 use Rattle.dom_traversal.proofs.Order.{IsWithin, stands_in}
 
 -- what is left stood there before
-Has-without : (ts : Trees) (x y : NodeName) → Has (without x ts) y → Has ts y
+pub Has-without : (ts : Trees) (x y : NodeName) → Has (without x ts) y → Has ts y
 Has-without none x y h = h
 Has-without (tree n c r) x y h = elim (same_or_not n.name x) [
   | inl e ↦ inr (inr (Has-without r x y (rw (name_eq-from n.name x e) at h)))
@@ -37,7 +37,7 @@ place_of n c r x = by (has_or_not (tree n c r) x)
     by (inr off) = inr (inr (inr off))
 
 -- and is not in the tree that went
-without-apart : (ts : Trees) (x y : NodeName) → Once ts → Has (without x ts) y → Has (subtree ts x) y → ⊥
+pub without-apart : (ts : Trees) (x y : NodeName) → Once ts → Has (without x ts) y → Has (subtree ts x) y → ⊥
 without-apart none x y once h i = h
 without-apart (tree n c r) x y once h i = elim (place_of n c r x) [
   | inl e ↦ here e (rw (name_eq-from n.name x e) at h) (subst (λ (us : Trees). Has us y) (subtree-here n c r x e) i)
@@ -80,7 +80,7 @@ no-subtree : (ts : Trees) (x y : NodeName) → (Has ts x → ⊥) → Has (subtr
 no-subtree ts x y off h = subst (λ (us : Trees). Has us y) (subtree-absent ts x off) h
 
 -- above a node that is not in the tree that goes stands what stood there
-above-without : (ts : Trees) (x y : NodeName) → Once ts → Has ts y → (Has (subtree ts x) y → ⊥) → inclusive_ancestors (without x ts) y ≡ inclusive_ancestors ts y
+pub above-without : (ts : Trees) (x y : NodeName) → Once ts → Has ts y → (Has (subtree ts x) y → ⊥) → inclusive_ancestors (without x ts) y ≡ inclusive_ancestors ts y
 above-without none x y once h off = refl
 above-without (tree n c r) x y once (inl g) off = elim (same_or_not n.name x) [
   | inl e ↦ absurd (off (subst (λ (us : Trees). Has us y) (sym (subtree-here n c r x e)) (inl g)))
@@ -114,7 +114,7 @@ above-without (tree n c r) x y once (inr (inr g)) off = elim (same_or_not n.name
         ∙ (same ∙ sym (ap (λ path. on_top path n.name (inclusive_ancestors r y)) (above-absent c y (λ i. once.2 y i g)))))
 
 -- a tree among the roots: above a node of the others
-above-put_others : (x : NodeName) (m : Node) (d ts : Trees) (y : NodeName) → (Has (tree m d none) y → ⊥) → inclusive_ancestors (put_root x (tree m d none) ts) y ≡ inclusive_ancestors ts y
+pub above-put_others : (x : NodeName) (m : Node) (d ts : Trees) (y : NodeName) → (Has (tree m d none) y → ⊥) → inclusive_ancestors (put_root x (tree m d none) ts) y ≡ inclusive_ancestors ts y
 above-put_others x m d none y off = above-absent (tree m d none) y off
 above-put_others x m d (tree n c r) y off = elim (cases_Bool (name_before x n.name)) [
   | inl e ↦ rw e (first (name_eq-other m.name y (λ same. off (inl same))) (above-absent d y (λ i. off (inr (inl i)))))

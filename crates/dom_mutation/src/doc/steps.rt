@@ -10,18 +10,24 @@ ghost use Rattle.dom_model.specs.Output.{child_list, attributes, character_data}
 ghost use Rattle.dom_mutation.specs.Doc.{name_in, owner_in, trees_in, stepped, planned};
 
 use super::data::spliced;
+use super::place_of;
 use crate::Doc;
 use dom_base::DomStr;
+use dom_traversal::iterators_stay;
 use node_arena::Key;
 use std::alloc::AllocError;
 
 impl Doc {
-    /// A node leaves its parent.
+    /// A node leaves its parent, after its owner's iterators have left its tree.
     pub(super) fn take_out(&mut self, node: Key)
         requires node_is_node { node < length self.old.names }
         requires has_parent { is_some (parent_of (trees_in self.old node) (name_in self.old node)) ≡ true }
         ensures { self.new ≡ stepped (owner_in self.old node) (take_out (name_in self.old node)) self.old }
     {
+        iterators_stay(&self.forest);
+        let owner = self.forest.name(node).owner;
+        let tables = &mut self.tables[place_of(owner)];
+        tables.leave(&self.forest, node);
         self.forest.unlink(node);
     }
 
@@ -36,6 +42,7 @@ impl Doc {
         requires before_is_child { ForSome before (λ b. parent_of (trees_in self.old b) (name_in self.old b) ≡ Some (name_in self.old parent)) }
         ensures { self.new ≡ stepped (owner_in self.old parent) (place (name_in self.old node) (name_in self.old parent) (option_map (name_in self.old) before)) self.old }
     {
+        self.forest.nodes_stand_once();
         self.forest.link_before(parent, node, before);
     }
 

@@ -5,13 +5,13 @@ use Rattle.dom_mutation.proofs.doc.Doc.add.Goals as goal
 
 pub invariant_of-self : goal.invariant_of-self
 invariant_of-self c =
-    (added_held c.self.inside.forest c.add.new.self c.args.self.now c.self.view_is c.self.invariant c.args.owner c.requires.owner_is_there (λ ns x. node_from ns x c.args.node) (λ ns x. refl) c.add.result
-    c.add.ensures.names c.add.ensures.trees c.add.ensures.limit c.add.ensures.err).0
+    (added_held c.self.inside.forest c.add-added.new.self c.args.self.now c.self.view_is c.self.invariant c.args.owner c.requires.owner_is_there (λ ns x. node_from ns x c.args.node) (λ ns x. refl) c.nodes_stand_once.ensures.distinct c.add-added.result
+    c.add-added.ensures.names c.add-added.ensures.trees c.add-added.ensures.limit c.add-added.ensures.err).0
 
 pub returns-clause-world : goal.returns-clause-world
 returns-clause-world c =
-    (added_held c.self.inside.forest c.add.new.self c.args.self.now c.self.view_is c.self.invariant c.args.owner c.requires.owner_is_there (λ ns x. node_from ns x c.args.node) (λ ns x. refl) c.add.result
-    c.add.ensures.names c.add.ensures.trees c.add.ensures.limit c.add.ensures.err).1.1
+    (added_held c.self.inside.forest c.add-added.new.self c.args.self.now c.self.view_is c.self.invariant c.args.owner c.requires.owner_is_there (λ ns x. node_from ns x c.args.node) (λ ns x. refl) c.nodes_stand_once.ensures.distinct c.add-added.result
+    c.add-added.ensures.names c.add-added.ensures.trees c.add-added.ensures.limit c.add-added.ensures.err).1.1
 
 pub returns-clause-limit : goal.returns-clause-limit
-returns-clause-limit c = limit_held c.self.inside.forest c.args.self.now c.self.view_is c.self.invariant c.args.owner c.requires.owner_is_there c.add.ensures.limit
+returns-clause-limit c = limit_held c.self.inside.forest c.args.self.now c.self.view_is c.self.invariant c.args.owner c.requires.owner_is_there c.add-added.ensures.limit

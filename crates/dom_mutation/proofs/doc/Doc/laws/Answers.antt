@@ -30,7 +30,7 @@ returns-clause-present c k k< =
 pub returns-clause-alone : goal.returns-clause-alone
 returns-clause-alone c k k< =
     let f = c.self.inside.forest in
-    let page = there_page f.names f.trees (name_at f.names k).owner (owner_there f c.self.invariant c.self.view_is k k<) in
+    let page = there_page f.names f.trees c.self.inside.tables.items c.self.invariant (name_at f.names k).owner (owner_there f c.self.invariant c.self.view_is k k<) in
     subst (λ e. StepsAlone (owner_in e k)) c.self.view_is (subst StepsAlone (sym page) page_alone)
 
 pub returns-clause-limited : goal.returns-clause-limited

@@ -3,7 +3,8 @@ use Rattle.dom_model.specs.TreeChanges.{change_node, with_attribute}
 use Rattle.dom_model.specs.Steps.{set_attribute}
 use Rattle.dom_tree.specs.Forest.{name_at}
 use Rattle.dom_tree.proofs.OwnChanges.{changed_node}
-use Rattle.dom_mutation.proofs.Quiet.{attribute_world}
+use Rattle.dom_mutation.proofs.Standing.{keeps_changed}
+use Rattle.dom_mutation.proofs.Steps.{attribute_world}
 use Rattle.dom_mutation.proofs.Shown.{owner_there, step_held, step_done}
 use Rattle.dom_mutation.proofs.doc.Doc.unset_attribute.Goals as goal
 
@@ -13,7 +14,7 @@ invariant_of-self c =
     let x = name_at f.names c.args.node in
     let h = with_attribute c.args.name.now None in
     step_held f c.self.invariant c.self.view_is c.args.node (change_node h x) c.remove_attr.new.self c.remove_attr.ensures.names c.remove_attr.ensures.trees c.requires
-    (changed_node f.trees c.self.invariant.owned x.owner h x (λ n. refl) refl)
+    (changed_node f.trees c.self.invariant.owned x.owner h x (λ n. refl) refl) (keeps_changed h (λ n. refl) x f.trees)
 
 pub returns : goal.returns
 returns c =
@@ -21,5 +22,5 @@ returns c =
     let x = name_at f.names c.args.node in
     let h = with_attribute c.args.name.now None in
     step_done f c.self.invariant c.self.view_is c.args.node (change_node h x) c.remove_attr.new.self c.remove_attr.ensures.names c.remove_attr.ensures.trees (λ ns. set_attribute (name_at ns c.args.node) c.args.name.now None)
-    (attribute_world f.names f.trees x.owner (owner_there f c.self.invariant c.self.view_is c.args.node c.requires) x c.args.name.now None
+    (attribute_world f.names f.trees c.self.inside.tables.items x.owner (owner_there f c.self.invariant c.self.view_is c.args.node c.requires) x c.args.name.now None
     (changed_node f.trees c.self.invariant.owned x.owner h x (λ n. refl) refl))
