@@ -42,6 +42,16 @@ pub named-number_in : (p : Part) (s : Spelled) → named p s ≡ node_of p.owner
 named-number_in p (own k) = refl
 named-number_in p foreign = refl
 
+-- a node that an owner's line names is the owner's
+pub owner-named : (w : World) (o : Owner) (s : Spelled) → (named (part_of w o) s).owner ≡ o
+owner-named w o s = ap (λ (y : NodeName). y.owner) (named-number_in (part_of w o) s) ∙ owner-part_of w o
+
+-- what is read of a node in the trees of all owners, where it is read so in its owner's trees
+pub read_at : {A : Type 0} (f : Trees → NodeName → A) (names : List NodeName) (ts : Trees) (w : World) (o : Owner) (s : Spelled) (key : ℕ) →
+    name_at names key ≡ named (part_of w o) s → ((p : Owner) → trees_of_owner p ts ≡ (part_of w p).trees) →
+    f ts (named (part_of w o) s) ≡ f (trees_of_owner o ts) (named (part_of w o) s) → f ts (name_at names key) ≡ f (part_of w o).trees (named (part_of w o) s)
+read_at f names ts w o s key here own_trees same = ap (f ts) here ∙ same ∙ ap (λ (us : Trees). f us (named (part_of w o) s)) (own_trees o)
+
 -- the node of a name, where the look-up found one
 pub found_node : (names : List NodeName) (x : NodeName) (r : Option ℕ) → ForSome r (λ k. slice_get names k ≡ Some x) → ForSome r (λ k. (k < length names) × (name_at names k ≡ x))
 found_node names x r found k e = let is = found k e in (slice_get_within names k x is, get_or_from_slice_get names k x (node_of Page 0) is)

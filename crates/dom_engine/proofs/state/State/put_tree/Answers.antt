@@ -7,7 +7,7 @@ use Rattle.dom_printer.specs.Steps.{steps_view, shown_steps}
 use Rattle.dom_tree.specs.Forest.{name_at}
 use Rattle.dom_tree.proofs.Owned.{read_own}
 use Rattle.dom_reader.specs.Views.{spelled_view}
-use Rattle.dom_engine.proofs.TreeCommands.{owner-named}
+use Rattle.dom_engine.proofs.Finding.{owner-named}
 use Rattle.dom_engine.proofs.state.State.put_tree.Goals as goal
 
 pub returns : goal.returns
