@@ -14,3 +14,7 @@ pub mod Listing
 pub mod Inserted
 pub mod Spliced
 pub mod Replaced
+pub mod Grown
+pub mod Tails
+pub mod Emptied
+pub mod Joined

@@ -9,13 +9,10 @@ use Rattle.dom_model.specs.Tree.{parent_of, children_of, next_sibling}
 use Rattle.dom_model.specs.World.{part_of}
 use Rattle.dom_model.proofs.OwnerLaws.{name_eq-same}
 use Rattle.dom_tree.proofs.Names.{name_eq-true}
-use Rattle.dom_mutation.specs.Doc.{DocState, name_in, owner_in, trees_in}
+use Rattle.dom_mutation.specs.Doc.{DocState, name_in, owner_in, trees_in, IsOwnNode}
 use Rattle.dom_mutation.proofs.Near.{Each, children_parent, children_once, next_walked}
 use Rattle.dom_mutation.proofs.Covering.{walked, left, StandsIn, Walks, walks}
 use Rattle.dom_mutation.proofs.Placed.{Counted, once_in}
-
-abbrev pub IsOwnNode : DocState → ℕ → ℕ → Type 0
-IsOwnNode d node k = (k < length d.names) × (owner_in d k ≡ owner_in d node)
 
 -- how far it has come: these keys are listed, and it stands there
 pub record Lists (d : DocState) (node : ℕ) (keys : List ℕ) (at : Option ℕ) : Type 0 where

@@ -46,7 +46,7 @@ child_below ts once x p up = (subst NoTwice (parent_path ts once x p up) (path_o
 
 -- ---- the reference
 
-lacks_after : (x z : NodeName) (xs : List NodeName) → Lacks x xs → Lacks x (items_after name_eq z xs)
+pub lacks_after : (x z : NodeName) (xs : List NodeName) → Lacks x xs → Lacks x (items_after name_eq z xs)
 lacks_after x z [] h = tt
 lacks_after x z (y ∷ ys) h = elim (cases_Bool (name_eq z y)) [
   | inl e ↦ rw e h.1

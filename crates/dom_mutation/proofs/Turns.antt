@@ -110,7 +110,7 @@ empties_next how top all d k rest e f alone owner empties is keeps =
 
 -- ---- the loops, by their indices
 
-all_drop : (P : ℕ → Type 0) (i : ℕ) (xs : List ℕ) → AllByRecursion P xs → AllByRecursion P (drop i xs)
+pub all_drop : (P : ℕ → Type 0) (i : ℕ) (xs : List ℕ) → AllByRecursion P xs → AllByRecursion P (drop i xs)
 all_drop P zero xs h = h
 all_drop P (suc i) [] h = tt
 all_drop P (suc i) (x ∷ xs) h = all_drop P i xs h.1

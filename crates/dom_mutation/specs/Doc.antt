@@ -1,5 +1,5 @@
 -- What a contract sees of a `Doc`: the names of its nodes by their keys, and what it holds of the world.
-use Rattle.std.specs.Prelude.{◌≡◌, ℕ, ◌<◌, ◌≤◌, true, false, List, [], ◌∷◌, length, Option, Some, None}
+use Rattle.std.specs.Prelude.{◌≡◌, ℕ, ◌<◌, ◌≤◌, true, false, ◌||◌, List, [], ◌∷◌, length, Option, Some, None, if◌then◌else◌}
 use Rattle.std.specs.List.{AllByRecursion}
 use Rattle.std.specs.Option.{ForSome}
 use Rattle.dom_base.specs.declared.Owner.{Owner}
@@ -8,14 +8,17 @@ use Rattle.dom_base.specs.declared.NodeName.{NodeName}
 use Rattle.dom_base.specs.declared.Kind.{Kind}
 use Rattle.dom_base.specs.declared.Kind.TheVariants.{Document, Shadow}
 use Rattle.dom_base.specs.declared.Refusal.{Refusal}
-use Rattle.dom_base.specs.declared.Refusal.TheVariants.{Hierarchy, NotSupported}
-use Rattle.dom_model.specs.Names.{name_eq}
-use Rattle.dom_model.specs.Tree.{Trees, none, parent_of, inclusive_ancestors, is_inclusive_ancestor}
-use Rattle.dom_model.specs.Part.{Part, empty_part}
-use Rattle.dom_model.specs.Steps.{Step, after}
+use Rattle.dom_base.specs.declared.Refusal.TheVariants.{Hierarchy, NotSupported, IndexSize, Limit}
+use Rattle.dom_model.specs.Names.{DomString, name_eq, is_empty}
+use Rattle.dom_model.specs.Tree.{Trees, none, kind_of, is_document, has_data, children_of, parent_of, inclusive_ancestors, is_inclusive_ancestor}
+use Rattle.dom_model.specs.Part.{Part, empty_part, next_name}
+use Rattle.dom_model.specs.Steps.{Step, queue_record, after}
 use Rattle.dom_model.specs.World.{World, part_of, is_there}
 use Rattle.dom_model.specs.WorldSteps.{world_step, world_after}
-use Rattle.dom_model.specs.Changes.{Plan, Observing, observed, suppressed, in_turn, steps_of, telling, making_room, placing}
+use Rattle.dom_model.specs.Changes.{Plan, Observing, observed, suppressed, ◌and_then◌, in_turn, doing, steps_of, telling, making_room, placing, removing, inserting}
+use Rattle.dom_model.specs.TextChanges.{placing_tail, replacing_data}
+use Rattle.dom_model.specs.Validity.{first_refusal}
+use Rattle.dom_model.specs.CommandRefusals.{past_end, past_limit}
 use Rattle.dom_model.specs.Output.{child_list}
 use Rattle.dom_mutation.specs.declared.doc.removing.Telling.{Telling}
 use Rattle.dom_mutation.specs.declared.doc.removing.Telling.TheVariants.{Observed, Suppressed}
@@ -89,6 +92,10 @@ pub record IsChild (d : DocState) (parent b : ℕ) : Type 0 where
   pub owner : owner_in d b ≡ owner_in d parent
   pub child : parent_of (trees_in d parent) (name_in d b) ≡ Some (name_in d parent)
 
+-- a node of the owner of another one
+abbrev pub IsOwnNode : DocState → ℕ → ℕ → Type 0
+IsOwnNode d node k = (k < length d.names) × (owner_in d k ≡ owner_in d node)
+
 -- the nodes that x is not above keep their inclusive ancestors
 abbrev pub KeepsPaths : ℕ → NodeName → DocState → DocState → Type 0
 KeepsPaths parent x d e = (y : NodeName) → is_inclusive_ancestor (trees_in d parent) x y ≡ false → inclusive_ancestors (trees_in e parent) y ≡ inclusive_ancestors (trees_in d parent) y
@@ -108,3 +115,27 @@ abbrev pub adoption_refusal : Kind → Option Refusal
 adoption_refusal Document = Some NotSupported
 adoption_refusal Shadow = Some Hierarchy
 adoption_refusal _ = None
+
+-- the refusal of a split (DOM Standard, split a Text node; own rule for the limit)
+abbrev pub splitting_refusal : Part → NodeName → ℕ → Option Refusal
+splitting_refusal p x offset = first_refusal ((past_end p x offset, IndexSize) ∷ (past_limit p.node_count 1, Limit) ∷ [])
+
+-- the tail of a split Text is placed behind it, if it has a parent, and cut off
+abbrev pub cutting_tail : NodeName → ℕ → ℕ → NodeName → Plan
+cutting_tail x offset count new p = (placing_tail x offset new (parent_of p.trees x) and_then replacing_data x offset count []) p
+
+-- the names of the Texts that are made where a node's children give way to these data
+abbrev pub children_texts : Part → DomString → List NodeName
+children_texts p new = if is_empty new then [] else next_name p ∷ []
+
+-- the names of the Texts that a change of text makes (DOM Standard, textContent)
+abbrev pub texts_made : Part → NodeName → DomString → List NodeName
+texts_made p x new = if has_data (kind_of p.trees x) || is_document (kind_of p.trees x) then [] else children_texts p new
+
+-- a node's children give way to a Text that was made (DOM Standard, concept: string replace all)
+abbrev pub putting_text : NodeName → NodeName → Plan
+putting_text x y p =
+    let old = children_of p.trees x in
+    (in_turn (removing suppressed) old
+    and_then inserting suppressed y x None
+    and_then doing (queue_record (child_list x (y ∷ []) old None None))) p

@@ -20,10 +20,13 @@ mod attributes;
 mod data;
 mod documents;
 mod inserting;
+mod normalizing;
 mod reads;
 mod removing;
 mod replacing;
+mod splitting;
 mod steps;
+mod texts;
 
 pub use attributes::is_name;
 use dom_base::{Fault, Kind, Owner};

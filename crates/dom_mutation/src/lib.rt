@@ -4,5 +4,7 @@
 mod doc;
 #[cfg(test)]
 mod tests;
+#[cfg(test)]
+mod text_tests;
 
 pub use doc::{Doc, is_name};

@@ -14,7 +14,7 @@ use std::process::Abort;
 use std::test::Fail;
 
 // The node of the page with this number, which has to be there.
-fn key_of(rt: &impl Abort, doc: &Doc, number: u32) -> Key
+pub(crate) fn key_of(rt: &impl Abort, doc: &Doc, number: u32) -> Key
     ensures node { result < length doc.now.names }
     ensures owner { owner_in doc.now result ≡ Page }
     ensures page { is_there doc.now.world Page ≡ true }
@@ -29,7 +29,7 @@ fn key_of(rt: &impl Abort, doc: &Doc, number: u32) -> Key
 }
 
 // Makes a node of the page.
-fn add(rt: &impl Abort, alloc: Global, doc: &mut Doc, kind: Kind)
+pub(crate) fn add(rt: &impl Abort, alloc: Global, doc: &mut Doc, kind: Kind)
     requires { is_shadow kind ≡ false }
 {
     let _root = key_of(rt, doc, 0);
@@ -44,7 +44,7 @@ fn add(rt: &impl Abort, alloc: Global, doc: &mut Doc, kind: Kind)
 }
 
 // Puts a node of the page among the children of another one.
-fn insert(
+pub(crate) fn insert(
     rt: &impl Abort,
     doc: &mut Doc,
     parent: u32,
@@ -62,7 +62,7 @@ fn insert(
     }
 }
 
-fn is_refused(answer: Result<(), Fault>, refusal: Refusal) -> bool {
+pub(crate) fn is_refused(answer: Result<(), Fault>, refusal: Refusal) -> bool {
     match answer {
         Err(Fault::Refused(why)) => why == refusal,
         _ => false,
@@ -70,7 +70,7 @@ fn is_refused(answer: Result<(), Fault>, refusal: Refusal) -> bool {
 }
 
 // Checks that the children of a node are these.
-fn check_children(rt: &impl Abort, doc: &Doc, parent: u32, wanted: &[u32]) {
+pub(crate) fn check_children(rt: &impl Abort, doc: &Doc, parent: u32, wanted: &[u32]) {
     let forest = doc.forest();
     let mut at = forest.first(key_of(rt, doc, parent));
     for number in wanted {
@@ -85,7 +85,7 @@ fn check_children(rt: &impl Abort, doc: &Doc, parent: u32, wanted: &[u32]) {
 }
 
 // The page with an element 1 in its document, elements 2 and 3 and Texts 4 and 5 in that one, and a fragment 6.
-fn small_page(rt: &impl Abort, alloc: Global) -> Result<Doc, AllocError> {
+pub(crate) fn small_page(rt: &impl Abort, alloc: Global) -> Result<Doc, AllocError> {
     let mut doc = Doc::new(alloc)?;
     for _ in 0..3 {
         add(rt, alloc, &mut doc, Kind::Element);

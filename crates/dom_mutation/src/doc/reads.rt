@@ -2,7 +2,7 @@
 ghost use Rattle.std.specs.Prelude.{◌≡◌, ℕ, ◌<◌, ◌≤◌, true, false, length, count_by, is_some};
 ghost use Rattle.std.specs.Option.{option_map, ForSome};
 ghost use Rattle.dom_model.specs.Names.{first_of, last_of, name_eq};
-ghost use Rattle.dom_model.specs.Tree.{nodes, node_in, attribute_value, kind_of, parent_of, children_of, next_sibling, previous_sibling, length_of};
+ghost use Rattle.dom_model.specs.Tree.{nodes, node_in, attribute_value, kind_of, parent_of, children_of, next_sibling, previous_sibling, length_of, is_inclusive_ancestor};
 ghost use Rattle.dom_base.specs.declared.NodeName.{NodeName as Name};
 ghost use Rattle.dom_base.specs.declared.Owner.{Owner as OwnerOf};
 ghost use Rattle.dom_model.specs.World.{part_of, is_there};
@@ -22,6 +22,14 @@ impl Doc {
         ensures alone { (k : ℕ) → k < length self.now.names → StepsAlone (owner_in self.now k) }
         ensures limited { (o : OwnerOf) → past_limit (part_of self.now.world o).node_count 0 ≡ false }
         ensures present { (k : ℕ) → k < length self.now.names → is_there self.now.world (owner_in self.now k) ≡ true }
+    {
+        self.forest.nodes_stand_once();
+    }
+
+    /// Holds of every node: it stands in its owner's trees.
+    pub(super) fn stands(&self, node: Key)
+        requires { node < length self.now.names }
+        ensures { is_inclusive_ancestor (trees_in self.now node) (name_in self.now node) (name_in self.now node) ≡ true }
     {
         self.forest.nodes_stand_once();
     }

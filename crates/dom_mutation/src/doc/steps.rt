@@ -1,10 +1,13 @@
 //! The elementary steps of which all changes consist.
-ghost use Rattle.std.specs.Prelude.{◌≡◌, ◌<◌, ◌≤◌, length, true, false, is_some, map, IsOk, OnOk, OnErr, Some, None};
+ghost use Rattle.std.specs.Prelude.{◌≡◌, ℕ, ◌<◌, ◌≤◌, length, true, false, is_some, map, IsOk, OnOk, OnErr, Some, None};
 ghost use Rattle.std.specs.Option.{option_map, ForSome};
 ghost use Rattle.dom_model.specs.Tree.{parent_of, is_inclusive_ancestor, index_of, attribute_value, node_in};
-ghost use Rattle.dom_model.specs.Steps.{make_room, place, take_out, set_attribute, replace_data, queue_record};
+ghost use Rattle.dom_model.specs.Steps.{make_room, place, take_out, set_attribute, replace_data, split_at, queue_record};
+ghost use Rattle.dom_model.specs.Changes.{steps_of};
+ghost use Rattle.dom_model.specs.TextChanges.{joins};
+ghost use Rattle.dom_model.specs.Tree.{Trees as TreesOf};
 ghost use Rattle.dom_model.specs.Output.{child_list, attributes, character_data};
-ghost use Rattle.dom_mutation.specs.Doc.{name_in, owner_in, trees_in, stepped};
+ghost use Rattle.dom_mutation.specs.Doc.{name_in, owner_in, trees_in, stepped, planned};
 
 use super::data::spliced;
 use crate::Doc;
@@ -112,6 +115,23 @@ impl Doc {
     pub(super) fn tell_data(&mut self, node: Key)
         requires { node < length self.old.names }
         ensures { self.new ≡ stepped (owner_in self.old node) (queue_record (character_data (name_in self.old node) (Some (node_in (trees_in self.old node) (name_in self.old node)).text))) self.old }
+    {
+        let _ = &self.forest;
+    }
+    /// A Text was split at an offset, and its tail is in a new Text. There are no ranges whose ends this moves, whatever the
+    /// index at which the Text stood below its parent.
+    pub(super) fn split_at(&mut self, node: Key, offset: usize, new: Key, parent: Key)
+        requires { node < length self.old.names }
+        ensures { (index : ℕ) → self.new ≡ stepped (owner_in self.old node) (split_at (name_in self.old node) offset (name_in self.old new) (name_in self.old parent) index) self.old }
+    {
+        let _ = &self.forest;
+    }
+
+    /// A first Text got the data of others, the children of its parent. There are no ranges whose ends this moves, whatever
+    /// the trees were.
+    pub(super) fn join_each(&mut self, first: Key, size: usize, nexts: &[Key], parent: Key)
+        requires { first < length self.old.names }
+        ensures { (ts : TreesOf) → self.new ≡ planned (owner_in self.old first) (steps_of (joins ts (name_in self.old first) (name_in self.old parent) size (map (name_in self.old) nexts.now))) self.old }
     {
         let _ = &self.forest;
     }

@@ -1,0 +1,22 @@
+use Rattle.std.proofs.Common.{Some, ap, sym, ◌∙◌}
+use Rattle.dom_model.specs.Names.{is_empty}
+use Rattle.dom_mutation.specs.Doc.{name_in}
+use Rattle.dom_mutation.proofs.Inserted.{some_left}
+use Rattle.dom_mutation.proofs.Grown.{new_owner, new_not_above}
+use Rattle.dom_mutation.proofs.Emptied.{text_whole}
+use Rattle.dom_mutation.proofs.doc.Doc.replace_children.Goals as goal
+
+pub put_text-requires-clause-one_owner : goal.put_text-requires-clause-one_owner
+put_text-requires-clause-one_owner c =
+    new_owner c.args.self.now c.make_text.new.self c.args.node c.in_ok-text.text (Some (name_in c.args.self.now c.document_below-document.result)) c.args.units.items c.in_ok-text.ensures.names c.in_ok-text.ensures.world c.in_ok-text.ensures.key c.requires (c.laws.ensures.alone c.args.node c.requires)
+
+pub put_text-requires-clause-not_above : goal.put_text-requires-clause-not_above
+put_text-requires-clause-not_above c =
+    new_not_above c.args.self.now c.make_text.new.self c.args.node c.in_ok-text.text (Some (name_in c.args.self.now c.document_below-document.result)) c.args.units.items c.in_ok-text.ensures.names c.in_ok-text.ensures.world c.in_ok-text.ensures.key c.requires (c.laws.ensures.alone c.args.node c.requires)
+    c.laws-2.ensures.distinct c.laws-2.ensures.once
+
+pub returns-clause-world : goal.returns-clause-world
+returns-clause-world c =
+    text_whole c.args.self.now c.make_text.new.self c.args.node c.in_ok-text.text (Some (name_in c.args.self.now c.document_below-document.result)) c.args.units.items c.in_ok-text.ensures.names c.in_ok-text.ensures.world c.in_ok-text.ensures.key c.requires (c.laws.ensures.alone c.args.node c.requires)
+    c.laws-2.ensures.distinct c.laws-2.ensures.once c.put_text.new.self (ap is_empty (sym c.as_slice.ensures.value) ∙ some_left c.as_slice.result.now c.if-is_empty.ensures)
+    (ap (λ y. Some y) c.document_below-document.ensures.value) c.in_ok-put_text.ensures.ok

@@ -1,0 +1,11 @@
+use Rattle.std.proofs.Common.{option_map}
+use Rattle.dom_mutation.specs.Doc.{name_in}
+use Rattle.dom_mutation.proofs.Covering.{left}
+use Rattle.dom_mutation.proofs.Joined.{Gathers, below_of}
+use Rattle.dom_mutation.proofs.doc.Doc.texts_below.Given as goal
+
+abbrev pub invariant-loop-at : goal.invariant-loop-at
+invariant-loop-at l = Gathers l.self l.top l.keys.items l.at
+
+abbrev pub decreases-loop-at : goal.decreases-loop-at
+decreases-loop-at l = left (below_of l.self l.top) (option_map (name_in l.self) l.at)
