@@ -1,5 +1,5 @@
 -- What the commands that make plans do, from the keys of the nodes that they name.
-use Rattle.std.proofs.Common.{◌≡◌, ◌⊎◌, inl, inr, ℕ, Bool, true, false, List, [], ◌∷◌, Option, Some, None, Err, not, refl, sym, ap, subst, ◌∙◌}
+use Rattle.std.proofs.Common.{◌≡◌, ◌⊎◌, inl, inr, ℕ, Bool, true, false, List, [], ◌∷◌, Option, ◌++◌, length, Some, None, Result, Ok, Err, not, refl, sym, ap, subst, ◌∙◌}
 use Rattle.dom_base.specs.declared.Fault.{Fault}
 use Rattle.dom_base.specs.declared.Fault.TheVariants.{Refused, Memory}
 use Rattle.dom_base.specs.declared.Kind.{Kind}
@@ -11,12 +11,16 @@ use Rattle.dom_base.specs.declared.NodeName.{NodeName}
 use Rattle.dom_model.specs.Tree.{kind_of, is_shadow, is_document, has_data}
 use Rattle.dom_model.specs.Command.{Command, Spelled}
 use Rattle.dom_model.specs.CommandNames.{named}
-use Rattle.dom_model.specs.CommandRefusals.{own_refusal, past_end}
+use Rattle.dom_model.specs.CommandRefusals.{own_refusal, past_end, past_limit, made_by_text}
 use Rattle.dom_model.specs.Validity.{first_refusal, insertion_refusal, replacement_refusal}
 use Rattle.dom_model.specs.Changes.{Plan, pre_inserting, replacing, adopting}
+use Rattle.dom_model.specs.Names.{DomString, node_of}
+use Rattle.dom_model.specs.Part.{next_name}
+use Rattle.dom_base.specs.declared.Owner.TheVariants.{Page}
+use Rattle.std.proofs.Math.Seq.{get_or-append_seam}
 use Rattle.dom_model.specs.World.{World, part_of}
 use Rattle.dom_tree.specs.Forest.{name_at}
-use Rattle.dom_mutation.specs.Doc.{made, adoption_refusal}
+use Rattle.dom_mutation.specs.Doc.{made, adoption_refusal, splitting_refusal}
 use Rattle.dom_engine.proofs.Finding.{owner-named}
 use Rattle.dom_engine.proofs.Handling.{done}
 
@@ -84,6 +88,27 @@ module _ (names : List NodeName) (w : World) (o : Owner) where
   pub past_end-key : (x : Spelled) (node offset : ℕ) → IsKey node x → past_end (part_of w (name_at names node).owner) (name_at names node) offset ≡ past_end (part_of w o) (named (part_of w o) x) offset
   past_end-key x node offset node_is = rw (node_is, owner-named w o x) refl
 
+  -- the refusals of a split, and of a change of text
+  pub split-refused : (x : Spelled) (node offset : ℕ) → IsKey node x → splitting_refusal (part_of w (name_at names node).owner) (name_at names node) offset ≡ own_refusal (part_of w o) (Command.split x offset)
+  split-refused x node offset node_is = rw (node_is, owner-named w o x) refl
+
+  pub text-limit : (x : Spelled) (node : ℕ) (s : DomString) → IsKey node x →
+      past_limit (part_of w (name_at names node).owner).node_count (made_by_text (part_of w (name_at names node).owner) (name_at names node) s) ≡ past_limit (part_of w o).node_count (made_by_text (part_of w o) (named (part_of w o) x) s)
+  text-limit x node s node_is = rw (node_is, owner-named w o x) refl
+
+  -- the owner's next name is that of a node made for one of its nodes
+  pub next-key : (x : Spelled) (node : ℕ) → IsKey node x → next_name (part_of w (name_at names node).owner) ≡ next_name (part_of w o)
+  next-key x node node_is = ap (λ (y : NodeName). next_name (part_of w y.owner)) node_is ∙ ap (λ (p : Owner). next_name (part_of w p)) (owner-named w o x)
+
+-- the name of the node that was made last
+pub name-last : (names more : List NodeName) (x made : NodeName) (key : ℕ) → more ≡ names ++ x ∷ [] → key ≡ length names → name_at more key ≡ made → made ≡ x
+name-last names more x made key all last is =
+    sym is ∙ ap (λ (ns : List NodeName). name_at ns key) all ∙ ap (name_at (names ++ x ∷ [])) last ∙ get_or-append_seam names x [] (node_of Page 0)
+
+-- a call that is done
+abbrev pub ended : {X : Type 0} → X → Result X Fault
+ended x = Ok x
+
 -- a lone test
 pub lone_holds : (b : Bool) (r : Refusal) → b ≡ true → first_refusal ((b, r) ∷ []) ≡ Some r
 lone_holds b r e = rw e refl
@@ -108,3 +133,16 @@ only_refusal f q r (inr e) h = absurd cc
 -- what is done was not refused
 pub accepted_not : (r : Refusal) → done tt ≡ Err (Refused r) → ⊥
 accepted_not r h = absurd cc
+
+-- nor would have been
+pub none_stopped : {X : Type 0} (x : X) (v : Option Refusal) → ((r : Refusal) → v ≡ Some r → (ended x ≡ Err (Refused r)) ⊎ (ended x ≡ Err Memory)) → v ≡ None
+none_stopped x None h = refl
+none_stopped x (Some r) h = by (h r refl)
+  where
+    by : (ended x ≡ Err (Refused r)) ⊎ (ended x ≡ Err Memory) → Some r ≡ None
+    by (inl e) = absurd cc
+    by (inr e) = absurd cc
+
+-- want of memory is no refusal
+pub memory_only : (f : Fault) (r : Refusal) → f ≡ Memory → f ≡ Refused r → ⊥
+memory_only f r e h = absurd cc

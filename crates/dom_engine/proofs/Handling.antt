@@ -11,7 +11,7 @@ use Rattle.dom_base.specs.declared.Kind.{Kind}
 use Rattle.dom_model.specs.Names.{Word, DomString, owner_eq}
 use Rattle.dom_model.specs.Changes.{Plan}
 use Rattle.dom_model.specs.Effects.{changes, answers}
-use Rattle.dom_model.specs.Output.{Output, says, replied, nothing, Value}
+use Rattle.dom_model.specs.Output.{Output, says, replied, Value}
 use Rattle.dom_model.specs.Part.{Part, empty_part}
 use Rattle.dom_model.specs.Validity.{first_refusal}
 use Rattle.dom_model.specs.Runs.{Run}

@@ -1,5 +1,5 @@
 -- The nodes that each command names.
-use Rattle.std.proofs.Common.{ℕ, List, [], ◌∷◌, refl}
+use Rattle.std.proofs.Common.{ℕ, [], ◌∷◌, refl}
 use Rattle.dom_model.specs.Names.{Word, DomString}
 use Rattle.dom_model.specs.Command.{Command}
 use Rattle.dom_reader.specs.declared.line.Spelled.{Spelled}
@@ -48,6 +48,15 @@ naming-set_data x s = record { offered = by_owner _ refl (λ k. refl); foreign =
 
 pub naming-replace_data : (x : Spelled) (i n : ℕ) (s : DomString) → IsNaming (Command.replace_data (spelled_view x) i n s) (Data x ∷ [])
 naming-replace_data x i n s = record { offered = by_owner _ refl (λ k. refl); foreign = refl; exist = λ p. refl; thing = λ p. refl; fit = λ p. refl }
+
+pub naming-split : (x : Spelled) (i : ℕ) → IsNaming (Command.split (spelled_view x) i) (Text x ∷ [])
+naming-split x i = record { offered = by_owner _ refl (λ k. refl); foreign = refl; exist = λ p. refl; thing = λ p. refl; fit = λ p. refl }
+
+pub naming-set_text : (x : Spelled) (s : DomString) → IsNaming (Command.set_text (spelled_view x) s) (Any x ∷ [])
+naming-set_text x s = record { offered = by_owner _ refl (λ k. refl); foreign = refl; exist = λ p. refl; thing = λ p. refl; fit = λ p. refl }
+
+pub naming-normalize : (x : Spelled) → IsNaming (Command.normalize (spelled_view x)) (Any x ∷ [])
+naming-normalize x = record { offered = by_owner _ refl (λ k. refl); foreign = refl; exist = λ p. refl; thing = λ p. refl; fit = λ p. refl }
 
 pub naming-tree : (x : Spelled) → IsNaming (Command.tree (spelled_view x)) (Any x ∷ [])
 naming-tree x = record { offered = by_owner _ refl (λ k. refl); foreign = refl; exist = λ p. refl; thing = λ p. refl; fit = λ p. refl }

@@ -1,11 +1,10 @@
 -- The children of a node from one of them on, along the links from sibling to sibling.
-use Rattle.std.proofs.Common.{◌≡◌, ℕ, ◌<◌, inl, inr, List, [], ◌∷◌, ◌++◌, length, Option, Some, None, refl, sym, ap, subst, ◌∙◌, arith, append_assoc}
+use Rattle.std.proofs.Common.{◌≡◌, ℕ, ◌<◌, inl, inr, List, [], ◌∷◌, length, Option, Some, None, refl, sym, ap, subst, ◌∙◌, arith}
 use Rattle.std.specs.Option.{option_map, option_map_or}
-use Rattle.std.proofs.lemmas.List.{append-nil}
 use Rattle.dom_base.specs.declared.NodeName.{NodeName}
 use Rattle.dom_model.specs.Names.{first_of}
-use Rattle.dom_model.specs.Tree.{Trees, none, tree, Node, names_of, roots, parent_of, children_of, next_sibling}
-use Rattle.dom_engine.proofs.Spots.{Spot, spot_of, IsSpot, IsChild, times, spot_of-spot, spot_there, child_spot, IsSpot-child, next_spot, IsSpot-next, cases_root, above-root}
+use Rattle.dom_model.specs.Tree.{Trees, none, tree, names_of, roots, parent_of, children_of, next_sibling}
+use Rattle.dom_engine.proofs.Spots.{Spot, spot_of, IsSpot, IsChild, spot_of-spot, spot_there, child_spot, IsSpot-child, next_spot, IsSpot-next, cases_root, above-root}
 use Rattle.dom_tree.specs.Forest.{name_at}
 use Rattle.dom_engine.proofs.Standing.{StandOnce, HaveKeys, times-key, IsUnique-forest}
 use Rattle.dom_engine.proofs.SpotReads.{IsUnique, children-spot, parent-spot, next-child}

@@ -1,5 +1,5 @@
 -- What the commands that make a node do.
-use Rattle.std.specs.Prelude.{List, ℕ, Option, None}
+use Rattle.std.specs.Prelude.{Option, None}
 use Rattle.dom_base.specs.declared.Owner.{Owner}
 use Rattle.dom_base.specs.declared.NodeName.{NodeName}
 use Rattle.dom_base.specs.declared.Kind.{Kind}

@@ -1,7 +1,6 @@
 -- The refusals that come before those of a command's own: the tests in their order (own rules).
-use Rattle.std.specs.Prelude.{ℕ, Bool, true, not, ◌||◌, List, [], ◌∷◌, Option, map}
+use Rattle.std.specs.Prelude.{ℕ, Bool, true, not, ◌||◌, List, [], ◌∷◌, Option}
 use Rattle.std.specs.List.{list_any, list_all}
-use Rattle.std.specs.Option.{option_or}
 use Rattle.dom_base.specs.declared.Owner.{Owner}
 use Rattle.dom_base.specs.declared.Kind.{Kind}
 use Rattle.dom_base.specs.declared.Refusal.{Refusal}

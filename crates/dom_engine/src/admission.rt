@@ -90,9 +90,7 @@ impl State {
     fn are_fitting(&self, owner: Owner, named: &[Named]) -> bool
         ensures { result ≡ are_fitting (part_of self.now.world owner) named.now }
     {
-        named
-            .iter()
-            .all(|n| n.accepts(self.kind(owner, n.node())))
+        named.iter().all(|n| n.accepts(self.kind(owner, n.node())))
     }
 }
 

@@ -98,6 +98,9 @@ impl State {
             Command::ReplaceData(node, offset, count, text) => {
                 self.replace_data(owner, node, offset, count, text, out)
             }
+            Command::Split(node, offset) => self.split(owner, node, offset, out),
+            Command::SetText(node, text) => self.set_text(owner, node, text, out),
+            Command::Normalize(node) => self.normalize(owner, node, out),
             Command::Tree(node) => self.tree(owner, node, out),
             Command::Attribute(element, name) => self.attribute(owner, element, name, out),
             Command::Parent(node) => self.parent(owner, node, out),
@@ -130,6 +133,9 @@ fn is_offered(command: &Command) -> bool
             | Command::UnsetAttribute(_, _)
             | Command::SetData(_, _)
             | Command::ReplaceData(_, _, _, _)
+            | Command::Split(_, _)
+            | Command::SetText(_, _)
+            | Command::Normalize(_)
             | Command::Tree(_)
             | Command::Attribute(_, _)
             | Command::Parent(_)

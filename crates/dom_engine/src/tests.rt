@@ -1,5 +1,6 @@
 //! Lines and their answers on a session.
 mod attributes;
+mod data;
 mod large;
 mod lines;
 mod making;
@@ -26,12 +27,7 @@ fn check_script(
 }
 
 // Runs one line of a script.
-fn check_row(
-    rt: &impl Abort,
-    alloc: Global,
-    session: &mut Session,
-    row: &str,
-) -> Result<(), Fail> {
+fn check_row(rt: &impl Abort, alloc: Global, session: &mut Session, row: &str) -> Result<(), Fail> {
     let (line, answer) = match row.split_once(" => ") {
         Some((line, answer)) => (line, format!(in alloc; "{answer}\n")?),
         None => {

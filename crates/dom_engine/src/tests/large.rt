@@ -2,12 +2,7 @@
 use super::*;
 
 // A chain of this many elements, built from the bottom up: the last one that was made is its root.
-fn chain(
-    rt: &impl Abort,
-    alloc: Global,
-    session: &mut Session,
-    count: usize,
-) -> Result<(), Fail> {
+fn chain(rt: &impl Abort, alloc: Global, session: &mut Session, count: usize) -> Result<(), Fail> {
     for number in 1..count + 1 {
         let answer = session.line(b"p new element a")?;
         let wanted = format!(in alloc; "p ok n{number}\n")?;
@@ -16,7 +11,10 @@ fn chain(
     for number in 1..count {
         let above = number + 1;
         let line = format!(in alloc; "p append n{above} n{number}")?;
-        assert_eq!(rt; session.line(line.as_bytes())?.as_slice(), b"p ok\n".as_slice());
+        assert_eq!(rt;
+            session.line(line.as_bytes())?.as_slice(),
+            b"p ok\n".as_slice()
+        );
     }
     Ok(())
 }
@@ -49,6 +47,7 @@ fn a_chain_is_built_from_the_bottom_up(rt: HostRuntime) -> Result<(), Fail> {
         &mut session,
         "p contains n100000 n1 => p ok true
 p contains n1 n100000 => p ok false
+p normalize n100000
 p append n0 n100000
 p contains n0 n1 => p ok true
 p append n1 n50000 => p ! hierarchy
@@ -74,7 +73,10 @@ p append n2 n3",
     for number in 4..100_004 {
         let _ = session.line(b"p new element a")?;
         let line = format!(in alloc; "p append n1 n{number}")?;
-        assert_eq!(rt; session.line(line.as_bytes())?.as_slice(), b"p ok\n".as_slice());
+        assert_eq!(rt;
+            session.line(line.as_bytes())?.as_slice(),
+            b"p ok\n".as_slice()
+        );
     }
     check_script(
         &rt,

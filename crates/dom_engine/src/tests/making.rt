@@ -43,6 +43,9 @@ p new text \"\" => p ! limit
 p new comment \"\" => p ! limit
 p new fragment => p ! limit
 p document => p ! limit
+p text n1 \"\"
+p text n1 \"x\" => p ! limit
+p text n0 \"x\"
 p tree n1000000 => p ! unknown
 p tree n0 => p ok (n0 document)",
     )

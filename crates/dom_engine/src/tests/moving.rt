@@ -95,3 +95,29 @@ p docof n3 => p ok n0
 p tree n0 => p ok (n0 document (n2 element div (n3 text \"x\")))",
     )
 }
+
+#[test]
+fn a_child_gives_way(rt: HostRuntime) -> Result<(), Fail> {
+    check_alone(
+        &rt,
+        rt.alloc(),
+        "p new element ul => p ok n1
+p new element li => p ok n2
+p new element li => p ok n3
+p new element li => p ok n4
+p append n1 n2
+p append n1 n4
+p insert n1 n3 n4
+p replace n1 n3 n2
+p children n1 => p ok [n3,n4]
+p parent n2 => p ok null
+p replace n1 n3 n3
+p children n1 => p ok [n3,n4]
+p replace n1 n2 n4
+p children n1 => p ok [n3,n2]
+p append n0 n1
+p replace n0 n4 n1
+p tree n0 => p ok (n0 document (n4 element li))
+p replace n0 n1 n2 => p ! not-found",
+    )
+}

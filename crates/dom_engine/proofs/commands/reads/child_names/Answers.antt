@@ -1,9 +1,8 @@
 -- Each turn lists a child, until there is none.
-use Rattle.std.proofs.Common.{◌≡◌, ◌<◌, ◌++◌, ◌∷◌, [], List, length, sym, ap, subst, ◌∙◌, arith, append_assoc}
-use Rattle.std.specs.Option.{option_map, ForSome}
+use Rattle.std.proofs.Common.{◌++◌, ◌∷◌, [], length, sym, ap, ◌∙◌, arith, append_assoc}
+use Rattle.std.specs.Option.{option_map}
 use Rattle.std.proofs.lemmas.List.{append-nil}
 use Rattle.dom_base.specs.declared.NodeName.{NodeName}
-use Rattle.dom_model.specs.Tree.{children_of}
 use Rattle.dom_tree.specs.Forest.{name_at}
 use Rattle.dom_engine.proofs.Siblings.{from_or, begins, goes_on}
 use Rattle.dom_engine.proofs.commands.reads.child_names.Goals as goal

@@ -1,4 +1,4 @@
-use Rattle.std.proofs.Common.{◌≡◌, true, sym, ap, ◌∙◌, Some, refl}
+use Rattle.std.proofs.Common.{◌≡◌, true, sym, ap, ◌∙◌}
 use Rattle.dom_model.specs.Names.{node_of}
 use Rattle.dom_model.specs.Tree.{is_document, node_in}
 use Rattle.dom_model.specs.World.{part_of}

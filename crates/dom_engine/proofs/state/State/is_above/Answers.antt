@@ -1,4 +1,4 @@
-use Rattle.std.proofs.Common.{◌≡◌, sym, ap, ◌∙◌, List}
+use Rattle.std.proofs.Common.{◌≡◌, ap, ◌∙◌, List}
 use Rattle.dom_base.specs.declared.NodeName.{NodeName}
 use Rattle.dom_model.specs.Names.{name_eq, is_in}
 use Rattle.dom_model.specs.Tree.{is_inclusive_ancestor}

@@ -1,28 +1,14 @@
-use Rattle.std.specs.Prelude.{string_bytes}
-use Rattle.std.proofs.Common.{◌≡◌, true≢false, Ok, Err, List, [], ◌∷◌, Some, None, refl, sym, ap, subst, ◌∙◌}
+use Rattle.std.proofs.Common.{[], ◌∷◌, refl, sym, ap, ◌∙◌}
 use Rattle.std.proofs.lemmas.Result.{err_from_is_err_and}
-use Rattle.dom_base.specs.declared.Fault.TheVariants.{Refused, Memory}
-use Rattle.dom_base.specs.declared.Refusal.TheVariants.{InvalidCharacter, IndexSize}
-use Rattle.dom_model.specs.Names.{is_name}
-use Rattle.dom_model.specs.Tree.{kind_of, subtree, children_of, parent_of, is_inclusive_ancestor, node_in, attribute_value}
-use Rattle.dom_model.specs.Changes.{Plan, pre_inserting, replacing, removing, adopting, setting_attribute, unsetting_attribute, observed}
-use Rattle.dom_model.specs.TextChanges.{replacing_data, replacing_all_data}
+use Rattle.dom_model.specs.Tree.{parent_of}
 use Rattle.dom_model.specs.Command.{Command}
 use Rattle.dom_model.specs.CommandNames.{named}
-use Rattle.dom_model.specs.CommandRefusals.{own_refusal, past_end}
-use Rattle.dom_model.specs.Effects.{node_or_null, string_or_null}
-use Rattle.dom_model.specs.Output.{nothing, a_list, a_truth, a_tree}
-use Rattle.dom_model.specs.Validity.{insertion_refusal, replacement_refusal}
-use Rattle.dom_model.specs.World.{part_of}
-use Rattle.dom_mutation.specs.Doc.{made, adoption_refusal}
-use Rattle.dom_tree.specs.Forest.{name_at}
+use Rattle.dom_model.specs.Effects.{node_or_null}
 use Rattle.dom_printer.specs.Replies.{value_view}
 use Rattle.dom_reader.specs.Views.{spelled_view}
-use Rattle.dom_engine.specs.declared.admission.Named.{Named}
-use Rattle.dom_engine.specs.declared.admission.Named.TheVariants.{Any, Element, Text, Document, Data, Child}
-use Rattle.dom_engine.proofs.Handling.{refused, plans, faults, accepted_none, reads}
+use Rattle.dom_engine.specs.declared.admission.Named.TheVariants.{Any}
+use Rattle.dom_engine.proofs.Handling.{refused, reads}
 use Rattle.dom_engine.proofs.Namings.{naming-parent}
-use Rattle.dom_engine.proofs.CommandPlans.{IsKey, IsKey}
 use Rattle.dom_engine.proofs.state.State.parent.Goals as goal
 
 pub returns-in_err-admit : goal.returns-in_err-admit
