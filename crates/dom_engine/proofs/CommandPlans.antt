@@ -78,10 +78,6 @@ module _ (names : List NodeName) (w : World) (o : Owner) where
       let second = subst (λ (y : NodeName). new ≡ made y.owner (adopting d y) w) node_is first in
       subst (λ (q : Owner). new ≡ made q (adopting d (named (part_of w o) x)) w) (owner-named w o x) second
 
-  -- the keys of an owner's nodes have one owner
-  pub one_owner : (a x : Spelled) (j k : ℕ) → IsKey j a → IsKey k x → (name_at names j).owner ≡ (name_at names k).owner
-  one_owner a x j k j_is k_is = ap (λ (y : NodeName). y.owner) j_is ∙ owner-named w o a ∙ sym (ap (λ (y : NodeName). y.owner) k_is ∙ owner-named w o x)
-
   pub has_data-key : (x : Spelled) (node : ℕ) → IsKey node x → has_data (kind_of (part_of w (name_at names node).owner).trees (name_at names node)) ≡ has_data (kind_of (part_of w o).trees (named (part_of w o) x))
   has_data-key x node node_is = rw (node_is, owner-named w o x) refl
 
