@@ -1,7 +1,7 @@
 -- The end of a turn where nothing is queued.
-use Rattle.std.proofs.Common.{◌≡◌, List, [], Option, None, refl, sym, ap, ◌∙◌}
+use Rattle.std.proofs.Common.{◌≡◌, List, [], Option, None, sym, ap, ◌∙◌}
 use Rattle.dom_base.specs.declared.Owner.{Owner}
-use Rattle.dom_model.specs.Runs.{Run, run_each}
+use Rattle.dom_model.specs.Runs.{run_each}
 use Rattle.dom_model.specs.Turns.{ending_turn, running_task}
 use Rattle.dom_model.specs.World.{World, Task}
 use Rattle.dom_engine.specs.Turned.{with_turn}

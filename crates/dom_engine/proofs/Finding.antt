@@ -1,14 +1,12 @@
 -- What a look-up of a name in a forest says of an owner's own trees.
-use Rattle.std.proofs.Common.{◌≡◌, ◌≢◌, ℕ, ◌+◌, ◌<◌, Bool, true, false, ◌||◌, List, [], ◌∷◌, length, Option, Some, None, map, cond, refl, sym, ap, ◌∙◌, arith, zero-add}
+use Rattle.std.proofs.Common.{◌≡◌, ℕ, ◌<◌, Bool, true, false, ◌||◌, List, [], ◌∷◌, length, Option, Some, None, cond, refl, sym, ap, ◌∙◌, arith, zero-add}
 use Rattle.std.specs.Prelude.{is_some, slice_get, count_by, find}
-use Rattle.std.specs.List.{list_any, sum_by}
 use Rattle.std.specs.Option.{option_map, ForSome}
 use Rattle.std.proofs.lemmas.List.Sums.{sum_by-cons}
 use Rattle.std.proofs.lemmas.Option.{slice_get_within, get_or_from_slice_get}
 use Rattle.dom_base.specs.declared.Owner.{Owner}
 use Rattle.dom_base.specs.declared.Owner.TheVariants.{Page}
 use Rattle.dom_base.specs.declared.NodeName.{NodeName}
-use Rattle.dom_base.specs.declared.Kind.TheVariants.{Fragment}
 use Rattle.dom_model.specs.Names.{name_eq, is_in, node_of}
 use Rattle.dom_model.specs.Command.{Spelled, own, foreign}
 use Rattle.dom_model.specs.CommandNames.{named}
@@ -41,6 +39,16 @@ pub record FindsNames (names : List NodeName) (ts : Trees) : Type 0 where
 pub named-number_in : (p : Part) (s : Spelled) → named p s ≡ node_of p.owner (number_in s)
 named-number_in p (own k) = refl
 named-number_in p foreign = refl
+
+-- a node that an owner's line names is the owner's
+pub owner-named : (w : World) (o : Owner) (s : Spelled) → (named (part_of w o) s).owner ≡ o
+owner-named w o s = ap (λ (y : NodeName). y.owner) (named-number_in (part_of w o) s) ∙ owner-part_of w o
+
+-- what is read of a node in the trees of all owners, where it is read so in its owner's trees
+pub read_at : {A : Type 0} (f : Trees → NodeName → A) (names : List NodeName) (ts : Trees) (w : World) (o : Owner) (s : Spelled) (key : ℕ) →
+    name_at names key ≡ named (part_of w o) s → ((p : Owner) → trees_of_owner p ts ≡ (part_of w p).trees) →
+    f ts (named (part_of w o) s) ≡ f (trees_of_owner o ts) (named (part_of w o) s) → f ts (name_at names key) ≡ f (part_of w o).trees (named (part_of w o) s)
+read_at f names ts w o s key here own_trees same = ap (f ts) here ∙ same ∙ ap (λ (us : Trees). f us (named (part_of w o) s)) (own_trees o)
 
 -- the node of a name, where the look-up found one
 pub found_node : (names : List NodeName) (x : NodeName) (r : Option ℕ) → ForSome r (λ k. slice_get names k ≡ Some x) → ForSome r (λ k. (k < length names) × (name_at names k ≡ x))

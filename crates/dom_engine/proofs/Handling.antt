@@ -1,70 +1,160 @@
--- What an accepted command does, from what it does to the document trees alone.
-use Rattle.std.proofs.Common.{◌≡◌, ℕ, Bool, true, false, not, unwrap_or, List, [], ◌∷◌, ◌++◌, Option, Some, None, Result, Ok, Err, OnOk, IfErr, refl, ap}
+-- How a command is handled: it passes the tests that all commands share, then it makes a plan and answers, or only answers.
+use Rattle.std.proofs.Common.{◌≡◌, ℕ, Bool, true, false, not, ◌&&◌, unwrap_or, List, [], ◌∷◌, ◌++◌, Option, Some, None, Result, Ok, Err, refl, sym, ap, subst, ◌∙◌}
+use Rattle.std.specs.Prelude.{is_some, if◌then◌else◌}
+use Rattle.std.specs.Option.{option_or}
 use Rattle.dom_base.specs.declared.Fault.{Fault}
 use Rattle.dom_base.specs.declared.Fault.TheVariants.{Refused, Memory}
 use Rattle.dom_base.specs.declared.Refusal.{Refusal}
-use Rattle.dom_base.specs.declared.Owner.{Owner}
-use Rattle.dom_model.specs.Changes.{Plan}
-use Rattle.dom_model.specs.Effects.{changes}
-use Rattle.dom_model.specs.Output.{Output, says, replied, Value}
-use Rattle.std.specs.Prelude.{is_some, if◌then◌else◌}
 use Rattle.dom_base.specs.declared.Refusal.TheVariants.{Busy, Foreign, Unknown, WrongKind}
-use Rattle.dom_model.specs.Names.{owner_eq}
+use Rattle.dom_base.specs.declared.Owner.{Owner}
+use Rattle.dom_base.specs.declared.Kind.{Kind}
+use Rattle.dom_model.specs.Names.{Word, DomString, owner_eq}
+use Rattle.dom_model.specs.Changes.{Plan}
+use Rattle.dom_model.specs.Effects.{changes, answers}
+use Rattle.dom_model.specs.Output.{Output, says, replied, Value}
 use Rattle.dom_model.specs.Part.{Part, empty_part}
 use Rattle.dom_model.specs.Validity.{first_refusal}
-use Rattle.dom_model.proofs.OwnerLaws.{owner_eq-same, owner_eq-true}
 use Rattle.dom_model.specs.Runs.{Run}
 use Rattle.dom_model.specs.Turns.{opening_turn}
 use Rattle.dom_model.specs.World.{World, part_of, find_part, put_part, with_part, is_there}
 use Rattle.dom_model.specs.Command.{Command}
+use Rattle.dom_model.specs.CommandRefusals.{own_refusal, limit_on}
+use Rattle.dom_model.specs.CommandNames.{named}
+use Rattle.dom_model.specs.Tree.{node_in}
+use Rattle.dom_reader.specs.Views.{spelled_view}
 use Rattle.dom_model.specs.DocumentMachine.{effect_in, refusal, accepted, is_busy}
+use Rattle.dom_model.proofs.OwnerLaws.{owner_eq-same, owner_eq-true}
 use Rattle.dom_text.specs.Text.{output_text}
+use Rattle.dom_mutation.specs.Doc.{DocState, made}
 use Rattle.dom_engine.specs.declared.admission.Named.{Named}
-use Rattle.dom_engine.specs.Refusals.{has_foreign, are_there, are_fitting, early_refusal}
-use Rattle.dom_engine.specs.Handled.{IsHandled}
-use Rattle.dom_mutation.specs.Doc.{made}
-use Rattle.dom_engine.specs.Turned.{with_turn, opened_turn}
+use Rattle.dom_engine.specs.Making.{making}
+use Rattle.dom_engine.specs.Handled.{IsDone, IsHandled, let_pass}
+use Rattle.dom_engine.specs.Refusals.{accepts, node_named, has_foreign, are_there, are_fitting, early_refusal}
+use Rattle.dom_engine.specs.Turned.{with_turn, turned, opened_turn}
+use Rattle.dom_engine.proofs.Refusing.{IsNaming, refusal-of_names}
 use Rattle.dom_engine.proofs.Turned.{after_turned}
+
+-- ---- the tests that all commands share
+
+-- a line that passes has no early refusal
+pub passed : (e : Option Refusal) → let_pass e ≡ Ok tt → e ≡ None
+passed None h = refl
+passed (Some r) h = absurd cc
+
+-- the one node that a line names is of the kind that is asked for
+pub fitting : (w : World) (o : Owner) (n : Named) → let_pass (early_refusal w o (n ∷ [])) ≡ Ok tt → accepts n (node_in (part_of w o).trees (named (part_of w o) (spelled_view (node_named n)))).kind ≡ true
+fitting w o n e = cases (is_busy w o) (has_foreign (n ∷ [])) (is_there w o) (are_there (part_of w o) (n ∷ [])) (accepts n (node_in (part_of w o).trees (named (part_of w o) (spelled_view (node_named n)))).kind) (passed (early_refusal w o (n ∷ [])) e)
+  where
+    cases : (busy foreign there present fits : Bool) → first_refusal ((busy, Busy) ∷ (foreign, Foreign) ∷ (not there, Unknown) ∷ (not present, Unknown) ∷ (not (fits && true), WrongKind) ∷ []) ≡ None → fits ≡ true
+    cases true foreign there present fits h = absurd cc
+    cases false true there present fits h = absurd cc
+    cases false false false present fits h = absurd cc
+    cases false false true false fits h = absurd cc
+    cases false false true true true h = refl
+    cases false false true true false h = absurd cc
+
+-- a line that doesn't pass is refused, and nothing is changed
+pub refused : (w : World) (o : Owner) (c : Command) (names : List Named) (text : List ℕ) (f : Fault) → IsNaming c names → let_pass (early_refusal w o names) ≡ Err f →
+    IsHandled o c w w text text (Err f)
+refused w o c names text f is h = by (early_refusal w o names) (refusal-of_names w o c names is) f h
+  where
+    by : (e : Option Refusal) → refusal w o c ≡ option_or e (own_refusal (part_of w o) c) → (f : Fault) → let_pass e ≡ Err f → IsHandled o c w w text text (Err f)
+    by None is f h = absurd cc
+    by (Some r) is (Refused q) h =
+        let same : r ≡ q = cc in
+        (is ∙ ap Some same, refl, refl)
+    by (Some r) is Memory h = tt
+
+-- what is done by a command that passes is its own refusal, or its run
+pub handled : (w new : World) (o : Owner) (c : Command) (names : List Named) (before after : List ℕ) (r : Result (Unit {0}) Fault) → IsNaming c names →
+    let_pass (early_refusal w o names) ≡ Ok tt → IsDone (own_refusal (part_of w o) c) (accepted w o c) w new before after r → IsHandled o c w new before after r
+handled w new o c names before after r is pass done =
+    let own : refusal w o c ≡ own_refusal (part_of w o) c = refusal-of_names w o c names is ∙ ap (λ e. option_or e (own_refusal (part_of w o) c)) (passed (early_refusal w o names) pass) in
+    subst (λ e. IsDone e (accepted w o c) w new before after r) (sym own) done
+
+-- a command that makes a node
+pub makes_node : (w new : World) (o : Owner) (c : Command) (k : Kind) (a e : Word) (s u : DomString) (before after : List ℕ) (r : Result (Unit {0}) Fault) → IsNaming c [] →
+    let_pass (early_refusal w o []) ≡ Ok tt → own_refusal (part_of w o) c ≡ limit_on (part_of w o).node_count 1 → accepted w o c ≡ making o k e u w → a ≡ e → s ≡ u →
+    IsDone (limit_on (part_of w o).node_count 1) (making o k a s w) w new before after r → IsHandled o c w new before after r
+makes_node w new o c k a e s u before after r is pass own runs element text done =
+    let run : making o k a s w ≡ accepted w o c = ap (λ (b : Word). making o k b s w) element ∙ ap (λ (v : DomString). making o k e v w) text ∙ sym runs in
+    handled w new o c [] before after r is pass
+    (subst (λ q. IsDone q (accepted w o c) w new before after r) (sym own) (subst (λ (q : Run World). IsDone (limit_on (part_of w o).node_count 1) q w new before after r) run done))
+
+-- ---- the end of a command
+
+-- a refusal of a command's own, which changed nothing, or want of memory
+pub faulted : (own : Option Refusal) (run : Run World) (old new : World) (text : List ℕ) (f : Fault) → ((r : Refusal) → f ≡ Refused r → (own ≡ Some r) × (new ≡ old)) →
+    IsDone own run old new text text (Err f)
+faulted own run old new text (Refused r) h = let e = h r refl in (e.0, e.1, refl)
+faulted own run old new text Memory h = tt
+
+-- a command without a refusal of its own does what its ending does
+pub finished : (own : Option Refusal) (run goal : Run World) (old mid new : World) (before after : List ℕ) (r : Result (Unit {0}) Fault) → own ≡ None → run ≡ goal →
+    IsDone None run mid new before after r → IsDone own goal old new before after r
+finished own run goal old mid new before after (Ok x) none e h = (none, h.1 ∙ ap (λ (q : Run World). q.0) e, h.2 ∙ ap (λ (q : Run World). before ++ output_text q.1) e)
+finished own run goal old mid new before after (Err (Refused q)) none e h = let no : None ≡ Some q = h.0 in absurd cc
+finished own run goal old mid new before after (Err Memory) none e h = tt
+
+-- a command that is done
+abbrev pub done : Unit {0} → Result (Unit {0}) Fault
+done u = Ok u
+
+-- what was accepted has no refusal
+pub accepted_none : (u : Unit {0}) (v : Option Refusal) → ((r : Refusal) → v ≡ Some r → done u ≡ Err (Refused r)) → v ≡ None
+accepted_none u None h = refl
+accepted_none u (Some r) h = let no : done u ≡ Err (Refused r) = h r refl in absurd cc
+
+-- ---- commands that make a plan
 
 -- a turn is opened where none is open
 pub opened : (t : Option Owner) (w : World) (o : Owner) → opening_turn (with_turn t w) o ≡ with_turn (opened_turn t o) w
 opened None w o = refl
 opened (Some x) w o = refl
 
--- a plan is made, and a value answered
-pub changed : (t : Option Owner) (w : World) (o : Owner) (plan : Plan) (v : Value) →
-    effect_in (opening_turn (with_turn t w) o) o (changes (plan (part_of (opening_turn (with_turn t w) o) o)) v) ≡ (with_turn (opened_turn t o) (made o plan w), says o (replied v) ∷ [])
-changed t w o plan v =
-    let run : World → Run World = λ u. effect_in u o (changes (plan (part_of u o)) v) in
-    rw (opened t w o) (ap (λ (u : World). (u, says o (replied v) ∷ [])) (after_turned (opened_turn t o) o w (plan (part_of w o))))
+-- what an accepted command does that makes a plan, and answers
+abbrev pub planning : World → Owner → Plan → (Part → Value) → Run World
+planning w o plan v = let u = opening_turn w o in effect_in u o (changes (plan (part_of u o)) (v (part_of u o)))
 
--- a command that is refused changes nothing
-pub refused : (w : World) (o : Owner) (c : Command) (r : Refusal) (text : List ℕ) → refusal w o c ≡ Some r → IsHandled o c w w text text (Err (Refused r))
-refused w o c r text e = (e, refl, refl)
+-- the turn may be opened after the plan
+pub changed : (t : Option Owner) (w new : World) (o : Owner) (plan : Plan) (v : Part → Value) (reply : Value) → new ≡ made o plan w → reply ≡ v (part_of w o) →
+    (opening_turn (with_turn t new) o, says o (replied reply) ∷ []) ≡ planning (with_turn t w) o plan v
+changed t w new o plan v reply e is =
+    let run : World → List Output → Run World = λ u lines. (u, lines) in
+    rw (opened t w o) (ap (λ (u : World). run u (says o (replied reply) ∷ [])) (opened t new o ∙ ap (with_turn (opened_turn t o)) e ∙ sym (after_turned (opened_turn t o) o w (plan (part_of w o))))
+    ∙ ap (λ (a : Value). run (made o plan (with_turn (opened_turn t o) w)) (says o (replied a) ∷ [])) is)
 
--- a fault: a refusal that changed nothing, or want of memory
-pub faulted : (old new : World) (o : Owner) (c : Command) (text : List ℕ) (f : Fault) → ((r : Refusal) → f ≡ Refused r → (refusal old o c ≡ Some r) × (new ≡ old)) →
-    IsHandled o c old new text text (Err f)
-faulted old new o c text (Refused r) h = let e = h r refl in (e.0, e.1, refl)
-faulted old new o c text Memory h = tt
+-- In a state, a line that passes: its command names these nodes.
+module _ (t : Option Owner) (d s : DocState) (seen : turned t d ≡ s) (o : Owner) (c : Command) (names : List Named) (is : IsNaming c names)
+    (pass : let_pass (early_refusal s.world o names) ≡ Ok tt) where
+  -- what is done in the world of its documents is done in its world
+  in_state : (new : World) (before after : List ℕ) (r : Result (Unit {0}) Fault) →
+      IsDone (own_refusal (part_of d.world o) c) (accepted (with_turn t d.world) o c) (with_turn t d.world) new before after r → IsHandled o c s.world new before after r
+  in_state new before after r h =
+      let Done : DocState → Type 0 = λ u. IsDone (own_refusal (part_of u.world o) c) (accepted u.world o c) u.world new before after r in
+      handled s.world new o c names before after r is pass (subst Done seen h)
 
--- an accepted command whose reply may fail for memory
-pub handled : (old new : World) (o : Owner) (c : Command) (before after : List ℕ) (r : Result (Unit {0}) Fault) → refusal old o c ≡ None → new ≡ (accepted old o c).0 →
-    OnOk r (after ≡ before ++ output_text (accepted old o c).1) → IfErr r (λ f. f ≡ Memory) → IsHandled o c old new before after r
-handled old new o c before after (Ok x) none world text err = (none, world, text)
-handled old new o c before after (Err f) none world text err = out_of_memory f err
-  where
-    out_of_memory : (f : Fault) → f ≡ Memory → IsHandled o c old new before after (Err f)
-    out_of_memory f e = rw e tt
+  -- the command makes a plan
+  pub plans : (mid new : World) (plan : Plan) (v : Part → Value) (reply : Value) (before after : List ℕ) (r : Result (Unit {0}) Fault) →
+      accepted (with_turn t d.world) o c ≡ planning (with_turn t d.world) o plan v → own_refusal (part_of d.world o) c ≡ None → mid ≡ made o plan d.world →
+      reply ≡ v (part_of d.world o) → IsDone None (opening_turn (with_turn t mid) o, says o (replied reply) ∷ []) (with_turn t mid) new before after r → IsHandled o c s.world new before after r
+  plans mid new plan v reply before after r runs none e value ending =
+      in_state new before after r
+      (finished (own_refusal (part_of d.world o) c) (opening_turn (with_turn t mid) o, says o (replied reply) ∷ []) (accepted (with_turn t d.world) o c) (with_turn t d.world) (with_turn t mid) new before after r none
+      (changed t d.world mid o plan v reply e value ∙ sym runs) ending)
 
--- nothing is there
-pub none_of : {X : Type 0} (r : Option X) → ((x : X) → r ≡ Some x → ⊥) → r ≡ None
-none_of None h = refl
-none_of (Some x) h = absurd (h x refl)
+  -- the command is refused by tests of its own, which changed nothing, or memory was refused
+  pub faults : (mid : World) (text : List ℕ) (f : Fault) → ((r : Refusal) → f ≡ Refused r → (own_refusal (part_of d.world o) c ≡ Some r) × (mid ≡ d.world)) →
+      IsHandled o c s.world (with_turn t mid) text text (Err f)
+  faults mid text f h =
+      in_state (with_turn t mid) text text (Err f)
+      (faulted (own_refusal (part_of d.world o) c) (accepted (with_turn t d.world) o c) (with_turn t d.world) (with_turn t mid) text f (λ r e. ((h r e).0, ap (with_turn t) (h r e).1)))
+
+-- ---- commands that only answer
 
 -- an owner that may speak is there
-pub admitted : (w : World) (o : Owner) (names : List Named) → early_refusal w o names ≡ None → is_there w o ≡ true
-admitted w o names e = cases (is_busy w o) (has_foreign names) (is_there w o) e
+pub admitted : (w : World) (o : Owner) (names : List Named) → let_pass (early_refusal w o names) ≡ Ok tt → is_there w o ≡ true
+admitted w o names e = cases (is_busy w o) (has_foreign names) (is_there w o) (passed (early_refusal w o names) e)
   where
     cases : (busy foreign there : Bool) → first_refusal ((busy, Busy) ∷ (foreign, Foreign) ∷ (not there, Unknown) ∷ (not (are_there (part_of w o) names), Unknown)
         ∷ (not (are_fitting (part_of w o) names), WrongKind) ∷ []) ≡ None → there ≡ true
@@ -112,11 +202,23 @@ opened-part w o = cases w.turn
     cases None = refl
     cases (Some x) = refl
 
--- a command that is done
-abbrev pub done : Unit {0} → Result (Unit {0}) Fault
-done u = Ok u
+-- what an accepted command does that only answers
+abbrev pub answering_only : World → Owner → (Part → Value) → Run World
+answering_only w o v = let u = opening_turn w o in effect_in u o (answers (part_of u o) (v (part_of u o)))
 
--- what was accepted has no refusal
-pub accepted_none : (u : Unit {0}) (v : Option Refusal) → ((r : Refusal) → v ≡ Some r → done u ≡ Err (Refused r)) → v ≡ None
-accepted_none u None h = refl
-accepted_none u (Some r) h = let no : done u ≡ Err (Refused r) = h r refl in absurd cc
+-- its turn is open, and nothing else is changed
+pub answered : (w : World) (o : Owner) (v : Part → Value) (reply : Value) → is_there w o ≡ true → reply ≡ v (part_of w o) →
+    (opening_turn w o, says o (replied reply) ∷ []) ≡ answering_only w o v
+answered w o v reply there is =
+    let run : World → Value → Run World = λ u a. (u, says o (replied a) ∷ []) in
+    ap (λ (u : World). run u reply) (sym (with_part-same (opening_turn w o) o (opened-there w o there)))
+    ∙ ap (run (with_part (opening_turn w o) (part_of (opening_turn w o) o))) (is ∙ ap v (opened-part w o))
+
+-- a command that only answers
+pub reads : (w new : World) (o : Owner) (c : Command) (names : List Named) (v : Part → Value) (reply : Value) (before after : List ℕ) (r : Result (Unit {0}) Fault) →
+    IsNaming c names → accepted w o c ≡ answering_only w o v → let_pass (early_refusal w o names) ≡ Ok tt → own_refusal (part_of w o) c ≡ None → reply ≡ v (part_of w o) →
+    IsDone None (opening_turn w o, says o (replied reply) ∷ []) w new before after r → IsHandled o c w new before after r
+reads w new o c names v reply before after r is runs pass none value ending =
+    handled w new o c names before after r is pass
+    (finished (own_refusal (part_of w o) c) (opening_turn w o, says o (replied reply) ∷ []) (accepted w o c) w w new before after r none
+    (answered w o v reply (admitted w o names pass) value ∙ sym runs) ending)

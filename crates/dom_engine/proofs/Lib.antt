@@ -2,11 +2,13 @@ pub mod Finding
 pub mod Turned
 pub mod Refusing
 pub mod Handling
-pub mod TreeCommands
+pub mod Namings
+pub mod CommandPlans
 pub mod Spots
 pub mod SpotReads
 pub mod Standing
 pub mod Places
+pub mod Siblings
 pub mod Closing
 pub mod WriteLaws
 pub mod ViewLaws

@@ -1,6 +1,5 @@
 -- The isolation theorem for the text of runs.
-use Rattle.std.proofs.Common.{◌≡◌, ℕ, Bool, List, [], ◌++◌, map, Some, refl, sym, ap, ◌∙◌, append-nil}
-use Rattle.dom_base.specs.declared.Owner.TheVariants.{Page}
+use Rattle.std.proofs.Common.{◌≡◌, ℕ, List, ◌++◌, map, sym, ap, ◌∙◌, append-nil}
 use Rattle.dom_model.specs.DocumentMachine.{outputs_of}
 use Rattle.dom_model.specs.PageMachine.{page_outputs_of}
 use Rattle.dom_text.specs.Lines.{cut_of, last_line, lines_of, page_lines, text_of_lines}
@@ -9,7 +8,7 @@ use Rattle.dom_text.proofs.LineLaws.{lines_of-cut}
 use Rattle.dom_isolation.proofs.PlainTexts.{picked_lines-agree}
 use Rattle.dom_isolation.proofs.PlainLines.{offering-reads_plain_words}
 use Rattle.dom_engine.specs.Session.{is_offered, read_line}
-use Rattle.dom_engine.specs.Run.{answers_to_end, run_text}
+use Rattle.dom_engine.specs.Run.{answers_to_end}
 use Rattle.dom_engine.specs.PageLaws.{PageTextIsThePageMachines, SamePageText}
 use Rattle.dom_engine.proofs.RunLaws.{text-ended}
 

@@ -1,17 +1,32 @@
 -- The refusal of a command is that of its names, or else its own.
-use Rattle.std.proofs.Common.{◌≡◌, Bool, true, false, ◌&&◌, List, [], ◌∷◌, Option, Some, None, not, refl, ap, ◌∙◌}
+use Rattle.std.proofs.Common.{◌≡◌, ℕ, Bool, true, false, ◌&&◌, List, [], ◌∷◌, Option, not, refl}
 use Rattle.std.specs.Option.{option_or}
 use Rattle.dom_base.specs.declared.Owner.{Owner}
+use Rattle.dom_base.specs.declared.Owner.TheVariants.{Page, Component}
 use Rattle.dom_base.specs.declared.Refusal.{Refusal}
 use Rattle.dom_base.specs.declared.Refusal.TheVariants.{Syntax, Busy, Foreign, Unknown, WrongKind}
 use Rattle.dom_model.specs.Command.{Command}
 use Rattle.dom_model.specs.CommandNames.{names_foreign, nodes_exist, nodes_fit, thing_exists}
-use Rattle.dom_model.specs.CommandRefusals.{is_command_of, own_refusal, part_refusal}
+use Rattle.dom_model.specs.CommandRefusals.{is_command_of, own_refusal}
+use Rattle.dom_model.specs.Part.{Part}
 use Rattle.dom_model.specs.Validity.{first_refusal}
 use Rattle.dom_model.specs.World.{World, part_of, is_there}
 use Rattle.dom_model.specs.DocumentMachine.{is_busy, refusal}
 use Rattle.dom_engine.specs.declared.admission.Named.{Named}
 use Rattle.dom_engine.specs.Refusals.{has_foreign, are_there, are_fitting, early_refusal}
+
+-- a command of all owners that names these nodes, and no range, iterator, walker or observer
+pub record IsNaming (c : Command) (names : List Named) : Type 0 where
+  pub offered : (o : Owner) → is_command_of o c ≡ true
+  pub foreign : names_foreign c ≡ has_foreign names
+  pub exist : (p : Part) → nodes_exist p c ≡ are_there p names
+  pub thing : (p : Part) → thing_exists p c ≡ true
+  pub fit : (p : Part) → nodes_fit p c ≡ are_fitting p names
+
+-- what holds of the page and of each component holds of all owners
+pub by_owner : (P : Owner → Type 0) → P Page → ((k : ℕ) → P (Component k)) → (o : Owner) → P o
+by_owner P page component Page = page
+by_owner P page component (Component k) = component k
 
 -- two lists of tests, one after the other
 joined : (busy foreign absent unknown misfit : Bool) (own : Option Refusal) →
@@ -30,9 +45,7 @@ and_true true = refl
 and_true false = refl
 
 -- for a command that names these nodes
-pub refusal-of_names : (w : World) (o : Owner) (c : Command) (names : List Named) → is_command_of o c ≡ true → names_foreign c ≡ has_foreign names →
-    nodes_exist (part_of w o) c ≡ are_there (part_of w o) names → thing_exists (part_of w o) c ≡ true → nodes_fit (part_of w o) c ≡ are_fitting (part_of w o) names →
-    refusal w o c ≡ option_or (early_refusal w o names) (own_refusal (part_of w o) c)
-refusal-of_names w o c names command foreign exist thing fit =
-    rw (command, foreign, exist, thing, and_true (are_there (part_of w o) names), fit)
+pub refusal-of_names : (w : World) (o : Owner) (c : Command) (names : List Named) → IsNaming c names → refusal w o c ≡ option_or (early_refusal w o names) (own_refusal (part_of w o) c)
+refusal-of_names w o c names is =
+    rw (is.offered o, is.foreign, is.exist (part_of w o), is.thing (part_of w o), and_true (are_there (part_of w o) names), is.fit (part_of w o))
     (joined (is_busy w o) (has_foreign names) (not (is_there w o)) (not (are_there (part_of w o) names)) (not (are_fitting (part_of w o) names)) (own_refusal (part_of w o) c))

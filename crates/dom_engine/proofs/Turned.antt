@@ -1,5 +1,5 @@
 -- Steps do in a world with an open turn what they do in the world alone.
-use Rattle.std.proofs.Common.{◌≡◌, ℕ, Bool, true, false, List, [], ◌∷◌, Option, Some, None, fold, refl, ap, ◌∙◌}
+use Rattle.std.proofs.Common.{◌≡◌, Bool, true, false, List, [], ◌∷◌, Option, Some, None, fold, refl, ap, ◌∙◌}
 use Rattle.dom_base.specs.declared.Owner.{Owner}
 use Rattle.dom_base.specs.declared.NodeName.{NodeName}
 use Rattle.dom_model.specs.Names.{max_depth}
@@ -7,7 +7,7 @@ use Rattle.dom_model.specs.Tree.{parent_of}
 use Rattle.dom_model.specs.Steps.{Step, make, make_room, place, take_out, set_document, set_attribute, replace_data, split_at, join_at, set_range, queue_record, is_taken}
 use Rattle.dom_model.specs.Slots.{signals, with_signal}
 use Rattle.dom_model.specs.World.{World, part_of, components_below}
-use Rattle.dom_model.specs.WorldSteps.{world_step, world_after, stepped, with_signals, with_removal_signals, with_notify_if, with_shadow_document}
+use Rattle.dom_model.specs.WorldSteps.{world_step, world_after, stepped, with_removal_signals, with_notify_if, with_shadow_document}
 use Rattle.dom_engine.specs.Turned.{with_turn}
 
 module _ (t : Option Owner) where

@@ -1,6 +1,7 @@
 pub mod Session
 pub mod Turned
 pub mod Refusals
+pub mod Making
 pub mod Handled
 pub mod TreeText
 pub mod Streams

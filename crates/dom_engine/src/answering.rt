@@ -79,9 +79,34 @@ impl State {
     {
         match command {
             Command::NewElement(name) => self.new_element(owner, name, out),
+            Command::NewText(text) => self.new_text(owner, text, out),
+            Command::NewComment(text) => self.new_comment(owner, text, out),
+            Command::NewFragment => self.new_fragment(owner, out),
+            Command::NewDocument => self.new_document(owner, out),
             Command::Append(parent, node) => self.append(owner, parent, node, out),
+            Command::Insert(parent, node, child) => self.insert(owner, parent, node, child, out),
+            Command::Replace(parent, node, child) => self.replace(owner, parent, node, child, out),
             Command::Remove(node) => self.remove(owner, node, out),
+            Command::Adopt(document, node) => self.adopt(owner, document, node, out),
+            Command::SetAttribute(element, name, value) => {
+                self.set_attribute(owner, element, name, value, out)
+            }
+            Command::UnsetAttribute(element, name) => {
+                self.unset_attribute(owner, element, name, out)
+            }
+            Command::SetData(node, text) => self.set_data(owner, node, text, out),
+            Command::ReplaceData(node, offset, count, text) => {
+                self.replace_data(owner, node, offset, count, text, out)
+            }
+            Command::Split(node, offset) => self.split(owner, node, offset, out),
+            Command::SetText(node, text) => self.set_text(owner, node, text, out),
+            Command::Normalize(node) => self.normalize(owner, node, out),
             Command::Tree(node) => self.tree(owner, node, out),
+            Command::Attribute(element, name) => self.attribute(owner, element, name, out),
+            Command::Parent(node) => self.parent(owner, node, out),
+            Command::DocumentOf(node) => self.document_of(owner, node, out),
+            Command::Children(node) => self.children(owner, node, out),
+            Command::Contains(above, node) => self.contains(owner, above, node, out),
             Command::EndTurn => self.end_turn(owner, out),
             _ => unreachable!(),
         }
@@ -95,9 +120,28 @@ fn is_offered(command: &Command) -> bool
     matches!(
         command,
         Command::NewElement(_)
+            | Command::NewText(_)
+            | Command::NewComment(_)
+            | Command::NewFragment
+            | Command::NewDocument
             | Command::Append(_, _)
+            | Command::Insert(_, _, _)
+            | Command::Replace(_, _, _)
             | Command::Remove(_)
+            | Command::Adopt(_, _)
+            | Command::SetAttribute(_, _, _)
+            | Command::UnsetAttribute(_, _)
+            | Command::SetData(_, _)
+            | Command::ReplaceData(_, _, _, _)
+            | Command::Split(_, _)
+            | Command::SetText(_, _)
+            | Command::Normalize(_)
             | Command::Tree(_)
+            | Command::Attribute(_, _)
+            | Command::Parent(_)
+            | Command::DocumentOf(_)
+            | Command::Children(_)
+            | Command::Contains(_, _)
             | Command::EndTurn
     )
 }

@@ -53,14 +53,10 @@ impl State {
     pub(crate) fn end_turn(&mut self, owner: Owner, out: &mut Vec<u8>) -> Result<(), Fault>
         ensures { IsHandled owner end_turn self.old.world self.new.world out.old.items out.new.items result }
     {
-        if let Some(refusal) = self.early_refusal(owner, &[]) {
-            return Err(Fault::Refused(refusal));
-        }
+        self.admit(owner, &[])?;
         self.close_turn();
-        match put_reply(out, owner, &Value::Nothing) {
-            Ok(()) => Ok(()),
-            Err(_) => Err(Fault::Memory),
-        }
+        put_reply(out, owner, &Value::Nothing)?;
+        Ok(())
     }
 }
 

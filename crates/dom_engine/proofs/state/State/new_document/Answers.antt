@@ -1,17 +1,18 @@
-use Rattle.std.proofs.Common.{◌≡◌, true, sym, ap, ◌∙◌, Some, refl}
-use Rattle.dom_model.specs.Names.{node_of}
-use Rattle.dom_model.specs.Tree.{is_document, node_in}
-use Rattle.dom_model.specs.World.{part_of}
-use Rattle.dom_engine.proofs.Finding.{found-document, name-found}
+use Rattle.std.specs.Prelude.{string_bytes}
+use Rattle.std.proofs.Common.{[], refl, sym, ◌∙◌}
+use Rattle.std.proofs.lemmas.Result.{err_from_is_err_and}
+use Rattle.dom_model.specs.Command.{Command}
+use Rattle.dom_base.specs.declared.Kind.TheVariants.{Document}
+use Rattle.dom_engine.proofs.Handling.{refused, makes_node}
+use Rattle.dom_engine.proofs.Namings.{naming-new_document}
 use Rattle.dom_engine.proofs.state.State.new_document.Goals as goal
 
-pub returns-then-is_document-clause-value : goal.returns-then-is_document-clause-value
-returns-then-is_document-clause-value c =
-    let p = part_of c.args.self.now.world c.args.owner in
-    let x = node_of p.owner 0 in
-    let document : is_document (node_in p.trees x).kind ≡ true = sym (ap is_document c.kind.ensures) ∙ sym c.is_document.ensures ∙ c.if-is_document.true in
-    let found = found-document p.trees x c.find.result c.find.ensures.presence document in
-    rw document (name-found c.args.self.now.names x c.find.result c.find.ensures.found found)
+pub returns-in_err-admit : goal.returns-in_err-admit
+returns-in_err-admit c =
+    let p = err_from_is_err_and c.from_residual.result c.from_residual.ensures.1 in
+    rw (p.1, p.2) (refused c.args.self.now.world c.args.owner Command.new_document [] c.args.out.now.items c.in_err-admit.field-0.0 naming-new_document (sym c.admit.ensures ∙ c.in_err-admit.was))
 
-pub returns-then-is_document-clause-node : goal.returns-then-is_document-clause-node
-returns-then-is_document-clause-node c = λ k e. (c.find.ensures.found k e).0
+pub returns : goal.returns
+returns c =
+    makes_node c.args.self.now.world c.make.new.self.world c.args.owner Command.new_document Document (string_bytes c.new-element.result) [] (c.new-text.result.items) [] c.args.out.now.items c.make.new.out.items c.make.result naming-new_document
+    (sym c.admit.ensures ∙ c.in_ok-admit.was) refl refl c.new-element.ensures.bytes c.new-text.ensures.items c.make.ensures

@@ -1,4 +1,4 @@
-use Rattle.std.proofs.Common.{◌≡◌, ◌∙◌, sym, ap, subst, List}
+use Rattle.std.proofs.Common.{◌≡◌, ◌∙◌, ap, List}
 use Rattle.dom_base.specs.declared.NodeName.{NodeName}
 use Rattle.dom_model.specs.CommandNames.{named}
 use Rattle.dom_model.specs.Tree.{Trees, subtree}
@@ -7,7 +7,7 @@ use Rattle.dom_printer.specs.Steps.{steps_view, shown_steps}
 use Rattle.dom_tree.specs.Forest.{name_at}
 use Rattle.dom_tree.proofs.Owned.{read_own}
 use Rattle.dom_reader.specs.Views.{spelled_view}
-use Rattle.dom_engine.proofs.TreeCommands.{owner-named}
+use Rattle.dom_engine.proofs.Finding.{owner-named}
 use Rattle.dom_engine.proofs.state.State.put_tree.Goals as goal
 
 pub returns : goal.returns
