@@ -9,7 +9,7 @@ use Rattle.dom_model.specs.SelectorText.{Reader, read_all, read_type, read_simpl
 use Rattle.dom_selectors.specs.Reads.{behind_list, as_parts}
 
 -- the compound of some parts, with the units behind them
-abbrev some_of : {A : Type 0} → List A × DomString → Option (List A × DomString)
+abbrev pub some_of : {A : Type 0} → List A × DomString → Option (List A × DomString)
 some_of p = if is_empty p.0 then None else Some (p.0, p.1)
 
 -- parts that are seen in some way are some

@@ -9,3 +9,7 @@ pub mod Beside
 pub mod Passing
 pub mod JoinedLaws
 pub mod QueryLaws
+pub mod Sound
+pub mod SoundLists
+pub mod Complete
+pub mod CompleteLists

@@ -33,7 +33,7 @@ name_at [] h = cc
 name_at (c ∷ cs) h = name_from c cs h
 
 -- a text goes on at a unit that is its next one
-expect_at : (t : ℕ) (ts : List ℕ) (c : ℕ) (cs : List ℕ) → expect (t ∷ ts) (c ∷ cs) ≡ (if t == c then expect ts cs else None)
+pub expect_at : (t : ℕ) (ts : List ℕ) (c : ℕ) (cs : List ℕ) → expect (t ∷ ts) (c ∷ cs) ≡ (if t == c then expect ts cs else None)
 expect_at t ts c cs = elim (t == c) as (λ b. (if b && starts_with nat_eq cs ts then Some (drop (length ts) cs) else None) ≡ (if b then expect ts cs else None)) [ true ↦ refl | false ↦ refl ]
 
 -- at another one it is not there

@@ -1,5 +1,5 @@
 -- What a reader returned, seen as a reading of the definitions.
-use Rattle.std.specs.Prelude.{◌≡◌, List, ◌++◌, map, Option, None, option_map, Result, Ok, Err}
+use Rattle.std.specs.Prelude.{◌≡◌, List, ◌++◌, map, Option, option_map, Result, Ok, Err}
 use Rattle.dom_model.specs.Names.{DomString}
 use Rattle.dom_model.specs.Selectors.{Simple, CompoundPart, simple}
 use Rattle.std.specs.declared.alloc.AllocError.{AllocError}
@@ -12,10 +12,10 @@ abbrev pub Reads : {X Y : Type 0} → (X → Y) → Result (Option X) AllocError
 Reads view (Ok found) read = option_map view found ≡ read
 Reads view (Err e) read = Unit {0}
 
--- a refusal with `Selector` where nothing is read, or want of memory (own rule)
-abbrev pub IsRefusalOf : {Y : Type 0} → Option Y → Fault → Type 0
-IsRefusalOf read Memory = Unit {0}
-IsRefusalOf read (Refused refusal) = (refusal ≡ Selector) × (read ≡ None)
+-- a refusal with `Selector` where this holds, or want of memory (own rule)
+abbrev pub IsRefusalWhere : Type 0 → Fault → Type 0
+IsRefusalWhere holds Memory = Unit {0}
+IsRefusalWhere holds (Refused refusal) = (refusal ≡ Selector) × holds
 
 -- what was read first, before what was read behind it
 abbrev pub behind_list : {Y : Type 0} → List Y → List Y × DomString → List Y × DomString

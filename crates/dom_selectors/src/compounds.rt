@@ -1,10 +1,11 @@
 //! Compounds, complex selectors and lists of them, read from the front of units. A reader gives what it read and the
 //! units behind it, or nothing.
-ghost use Rattle.std.specs.Prelude.{◌≡◌, ◌∷◌, [], codes, map, length, option_map, IfOk, IfErr, Some, None};
+ghost use Rattle.std.specs.Prelude.{◌≡◌, ◌∷◌, [], codes, map, length, option_map, IfOk, IfErr, List, Some, None};
 ghost use Rattle.std.specs.Option.{option_and_then};
-ghost use Rattle.dom_model.specs.Selectors.{simple};
+ghost use Rattle.dom_model.specs.Selectors.{simple, Complex as ComplexSelector};
 ghost use Rattle.dom_model.specs.SelectorText.{expect as spec_expect, read_map, read_all, read_one_of, read_type as spec_read_type, read_compound_of, read_not as spec_read_not, read_simple as spec_read_simple, read_part as spec_read_part, read_compound as spec_read_compound, read_combinator as spec_read_combinator, read_link as spec_read_link, read_complex as spec_read_complex, read_next as spec_read_next, parse_selectors};
-ghost use Rattle.dom_selectors.specs.Reads.{Reads, IsRefusalOf, behind_list, as_parts};
+ghost use Rattle.dom_selectors.specs.Reads.{Reads, IsRefusalWhere, behind_list, as_parts};
+ghost use Rattle.dom_selectors.specs.Grammar.{IsSelector};
 ghost use Rattle.dom_selectors.specs.Texts.{combinator_signs};
 ghost use Rattle.dom_selectors.specs.Views.{simple_view, part_view, compound_view, combinator_view, link_view, complex_view, selector_view};
 
@@ -223,20 +224,33 @@ fn read_nexts(
     Ok((complexes, rest))
 }
 
+/// A list of complex selectors, where only white space is behind them.
+fn read_selector(alloc: Global, units: &[u16]) -> Result<Option<Selector>, AllocError>
+    ensures { Reads selector_view result (parse_selectors units.now) }
+{
+    let Some((first, rest)) = read_complex(alloc, units)? else {
+        return Ok(None);
+    };
+    let (complexes, rest) = read_nexts(alloc, first, rest)?;
+    if !skip_space(rest).is_empty() {
+        return Ok(None);
+    }
+    Ok(Some(Selector { complexes }))
+}
+
 impl Selector {
     /// The list of selectors that a text is (CSS Selectors Level 4, selector list, in this project's part). It is
     /// refused with `Selector` where the text is none, and with `Memory` where memory is refused.
+    #[tactic(auto, using(crate::proofs::CompleteLists::said_parsed, crate::proofs::CompleteLists::not_said, crate::proofs::SoundLists::parsed_says))]
     pub fn parse(alloc: Global, text: &[u16]) -> Result<Selector, Fault>
-        ensures parsed { IfOk result (λ s. parse_selectors text.now ≡ Some (selector_view s)) }
-        ensures refused { IfErr result (IsRefusalOf (parse_selectors text.now)) }
+        ensures said { IfOk result (λ s. IsSelector text.now (selector_view s)) }
+        ensures read { IfOk result (λ s. parse_selectors text.now ≡ Some (selector_view s)) }
+        ensures unsaid { IfErr result (IsRefusalWhere ((s : List ComplexSelector) → IsSelector text.now s → ⊥)) }
+        ensures unread { IfErr result (IsRefusalWhere (parse_selectors text.now ≡ None)) }
     {
-        let Some((first, rest)) = read_complex(alloc, text)? else {
-            return Err(Fault::Refused(Refusal::Selector));
-        };
-        let (complexes, rest) = read_nexts(alloc, first, rest)?;
-        if !skip_space(rest).is_empty() {
-            return Err(Fault::Refused(Refusal::Selector));
+        match read_selector(alloc, text)? {
+            Some(selector) => Ok(selector),
+            None => Err(Fault::Refused(Refusal::Selector)),
         }
-        Ok(Selector { complexes })
     }
 }

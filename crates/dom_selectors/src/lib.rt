@@ -5,6 +5,7 @@
 #![tactic(auto)]
 
 mod compounds;
+mod grammar;
 mod joined;
 mod matching;
 mod query;
@@ -14,4 +15,8 @@ mod simples;
 mod tokens;
 mod values;
 
+pub use grammar::texts_say_one_selector;
 pub use selector::Selector;
+
+#[cfg(test)]
+mod tests;
