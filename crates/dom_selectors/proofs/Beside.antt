@@ -1,13 +1,12 @@
 -- The siblings before a node and behind it, by the links.
-use Rattle.std.proofs.Common.{◌≡◌, ℕ, suc, ◌<◌, Bool, true, false, List, [], ◌∷◌, ◌++◌, length, Option, Some, None, refl, ap, sym, subst, ◌∙◌, append_assoc, arith, length-append, inl, inr, ◌⊎◌}
-use Rattle.std.specs.Prelude.{filter}
+use Rattle.std.proofs.Common.{◌≡◌, ℕ, suc, ◌<◌, List, [], ◌∷◌, ◌++◌, length, Option, Some, None, refl, ap, sym, subst, ◌∙◌, append_assoc, arith, length-append, inl, inr}
 use Rattle.std.specs.Option.{option_map, option_map_or}
 use Rattle.std.proofs.lemmas.Option.{none-some}
 use Rattle.dom_base.specs.declared.NodeName.{NodeName}
 use Rattle.dom_model.specs.Names.{name_eq, first_of, last_of, items_before, items_after}
 use Rattle.dom_model.specs.Tree.{Trees, none, tree, names_of, roots, trees_below, subtree, children_of, siblings, parent_of, previous_sibling, next_sibling}
 use Rattle.dom_tree.specs.Forest.{NamedTrees, name_at}
-use Rattle.dom_traversal.proofs.Lists.{In, In-left, In-right, Single, Single-right, Single-apart, split_at, before-split, after-split, not_before, name_eq-from, first_split, last_split, no_first, no_last}
+use Rattle.dom_traversal.proofs.Lists.{In, In-right, Single, Single-apart, split_at, before-split, after-split, first_split, last_split, no_first, no_last}
 use Rattle.dom_traversal.proofs.Shapes.{Has, Once, Once-subtree, subtree-present}
 use Rattle.dom_traversal.proofs.Children.{parent-of_child, child-of_parent}
 use Rattle.dom_traversal.proofs.Counts.{StandOnce, StandAlone, Once-forest, Has-forest}

@@ -1,6 +1,6 @@
 -- What is in the grammar is read: compounds, complex selectors and lists of them.
-use Rattle.std.proofs.Common.{◌≡◌, ℕ, zero, suc, ◌+◌, ◌<◌, Bool, true, false, List, [], ◌∷◌, ◌++◌, length, Option, Some, None, refl, ap, sym, subst, ◌∙◌, append_assoc, length-append, arith}
-use Rattle.std.specs.Prelude.{◌&&◌, ◌||◌, ◌==◌, map, fold, option_map, codes, nat_eq, nat_lt, if◌then◌else◌}
+use Rattle.std.proofs.Common.{◌≡◌, ℕ, ◌<◌, Bool, true, false, List, [], ◌∷◌, ◌++◌, length, Option, Some, None, refl, ap, sym, subst, ◌∙◌, append_assoc, length-append, arith}
+use Rattle.std.specs.Prelude.{◌||◌, ◌==◌, map, fold, option_map, codes, nat_lt, if◌then◌else◌}
 use Rattle.std.specs.Option.{option_and_then, option_or, option_map_or}
 use Rattle.std.specs.List.{list_all}
 use Rattle.std.proofs.lemmas.Bool.{cond-true, cond-false, cond_both, and_parts, or_parts, lt-ltb, false≢true}
@@ -9,14 +9,14 @@ use Rattle.std.proofs.lemmas.Option.{none-some}
 use Rattle.std.proofs.lemmas.Bool.Decides.{nat_tests}
 use Rattle.dom_model.specs.Names.{Word, DomString, begins_name, continues_name, is_name, is_empty}
 use Rattle.dom_model.specs.Selectors.{Simple, CompoundPart, Combinator, Complex, is_space, of_type, of_any_type, of_id, of_class, with_attribute, with_value, first_child, last_child, simple, is_not, descendant, child, next, later, alone}
-use Rattle.dom_model.specs.SelectorText.{Reader, skip_space, read_map, expect, closed_by, read_each, read_all, read_name, read_one_of, read_simple, read_type_name, read_type, read_compound_of, read_not, read_part, read_compound, read_combinator, read_link, read_complex, read_next, link, whole, parse_selectors}
-use Rattle.dom_selectors.specs.Grammar.{Form, IsSpaces, IsName, IsSimple, IsType, AreEach, IsCompoundOf, IsNegation, IsPart, IsCompound, IsSpaced, IsCombinator, IsLink, IsComplex, IsItem, IsSelector}
+use Rattle.dom_model.specs.SelectorText.{Reader, skip_space, read_map, expect, closed_by, read_all, read_one_of, read_simple, read_type_name, read_type, read_compound_of, read_not, read_part, read_compound, read_combinator, read_link, read_complex, read_next, link, whole, parse_selectors}
+use Rattle.dom_selectors.specs.Grammar.{Form, IsSpaces, IsSimple, IsType, AreEach, IsCompoundOf, IsPart, IsCompound, IsSpaced, IsCombinator, IsLink, IsComplex, IsSelector}
 use Rattle.dom_selectors.specs.Texts.{combinator_signs}
 use Rattle.dom_selectors.specs.Reads.{behind_list}
 use Rattle.dom_selectors.proofs.Shorter.{Shrinks, simple-ends, part-ends, link-ends, next-ends}
 use Rattle.dom_selectors.proofs.Repeats.{all-one, all-none}
 use Rattle.dom_selectors.proofs.FoundCompounds.{some_of}
-use Rattle.dom_selectors.proofs.Complete.{head_passes, skip-read, spaces-off, name-read, name-head, simple-read}
+use Rattle.dom_selectors.proofs.Complete.{head_passes, skip-read, name-read, name-head, simple-read}
 
 -- a unit with which a part begins: `#`, `.`, `[`, `:`
 abbrev begins_part : ℕ → Bool
@@ -196,8 +196,8 @@ module _ {A : Type 0} (part : Simple → A) (form : Form A) (read : Reader A) (s
     where
       at : (types : List Simple) (front : DomString) → IsType front types → all ≡ map part types ++ h.parts → Begins (front ++ (h.back ++ rest))
       at [] front t joined =
-        let head = back-head h.parts h.back rest h.each (sym (ap (is_empty {X = A}) joined) ∙ h.some) in
-        subst (λ f. Begins (f ++ (h.back ++ rest))) (sym t) (of_head (h.back ++ rest) head)
+          let head = back-head h.parts h.back rest h.each (sym (ap (is_empty {X = A}) joined) ∙ h.some) in
+          subst (λ f. Begins (f ++ (h.back ++ rest))) (sym t) (of_head (h.back ++ rest) head)
       at (of_type name ∷ []) front t joined = subst (λ f. Begins (f ++ (h.back ++ rest))) (sym t.0) (of_name name (h.back ++ rest) t.1)
       at (of_any_type ∷ []) front t joined = subst (λ f. Begins (f ++ (h.back ++ rest))) (sym t) (record { space = refl; sign = refl })
       at (of_type name ∷ y ∷ ys) front t joined = absurd t
@@ -362,8 +362,7 @@ split x (y ∷ ys) text h =
     let more = split y ys rest h.3 in
     let left = front.after ++ 44 ∷ rest in
     let shape : text ≡ front.before ++ (front.inner ++ left) =
-    h.4 ∙ ap (λ t. t ++ 44 ∷ rest) front.whole ∙ append_assoc front.before (front.inner ++ front.after) (44 ∷ rest) ∙ ap (λ t. front.before ++ t) (append_assoc front.inner front.after (44 ∷ rest)) in
-    (
+    h.4 ∙ ap (λ t. t ++ 44 ∷ rest) front.whole ∙ append_assoc front.before (front.inner ++ front.after) (44 ∷ rest) ∙ ap (λ t. front.before ++ t) (append_assoc front.inner front.after (44 ∷ rest)) in (
       more.0,
       more.1,
       left,

@@ -1,11 +1,11 @@
 -- Compounds, from NAME or `*` and the parts behind it.
-use Rattle.std.proofs.Common.{◌≡◌, ℕ, ◌+◌, false, List, [], ◌∷◌, ◌++◌, length, Option, Some, None, refl, ap, sym, ◌∙◌, arith}
+use Rattle.std.proofs.Common.{◌≡◌, false, List, [], ◌∷◌, length, Option, Some, None, refl, ap, sym, ◌∙◌}
 use Rattle.std.specs.Prelude.{map, if◌then◌else◌}
 use Rattle.std.proofs.lemmas.Bool.{cond-false}
 use Rattle.std.proofs.lemmas.List.{map-id}
 use Rattle.dom_model.specs.Names.{DomString, is_empty}
-use Rattle.dom_model.specs.Selectors.{Simple, CompoundPart, simple}
-use Rattle.dom_model.specs.SelectorText.{Reader, read_all, read_type, read_simple, read_part, read_compound, read_compound_of}
+use Rattle.dom_model.specs.Selectors.{Simple, CompoundPart}
+use Rattle.dom_model.specs.SelectorText.{read_all, read_type, read_simple, read_part, read_compound, read_compound_of}
 use Rattle.dom_selectors.specs.Reads.{behind_list, as_parts}
 
 -- the compound of some parts, with the units behind them

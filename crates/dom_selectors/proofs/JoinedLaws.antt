@@ -6,7 +6,7 @@ use Rattle.std.specs.Option.{option_map}
 use Rattle.std.proofs.lemmas.List.{map-append}
 use Rattle.std.proofs.lemmas.List.Sums.{fold-append}
 use Rattle.dom_base.specs.declared.NodeName.{NodeName}
-use Rattle.dom_model.specs.Selectors.{Complex, alone, complex_matches, compound_matches, combined_with}
+use Rattle.dom_model.specs.Selectors.{alone, complex_matches, compound_matches, combined_with}
 use Rattle.dom_model.specs.SelectorText.{link}
 use Rattle.dom_model.specs.Tree.{Trees, ancestors, parent_of}
 use Rattle.dom_tree.specs.Forest.{NamedTrees, name_at}

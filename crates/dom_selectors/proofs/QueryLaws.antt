@@ -1,5 +1,5 @@
 -- A walk through the tree below a node.
-use Rattle.std.proofs.Common.{◌≡◌, ℕ, ◌<◌, Bool, true, false, List, [], ◌∷◌, ◌++◌, length, refl, ap, sym, ◌∙◌, append_assoc}
+use Rattle.std.proofs.Common.{◌≡◌, ℕ, Bool, true, false, List, [], ◌∷◌, ◌++◌, ap, sym, ◌∙◌, append_assoc}
 use Rattle.std.specs.Prelude.{map, filter, drop}
 use Rattle.std.proofs.lemmas.List.{map-append}
 use Rattle.dom_base.specs.declared.NodeName.{NodeName}

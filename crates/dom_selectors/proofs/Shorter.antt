@@ -1,11 +1,11 @@
 -- What a reader leaves is shorter than what it was given.
-use Rattle.std.proofs.Common.{◌≡◌, ℕ, zero, suc, ◌+◌, ◌<◌, ◌≤◌, Bool, true, false, cond, List, [], ◌∷◌, length, take, drop, Option, Some, None, refl, ap, sym, subst, ◌∙◌, arith, length-drop}
+use Rattle.std.proofs.Common.{◌≡◌, ℕ, zero, suc, ◌<◌, ◌≤◌, Bool, List, [], ◌∷◌, length, drop, Option, Some, None, subst, arith, length-drop}
 use Rattle.std.specs.Prelude.{◌++◌, map, fold, option_map, take_while, codes, nat_eq, nat_lt, if◌then◌else◌}
 use Rattle.std.specs.Option.{option_and_then, option_or, option_map_or}
 use Rattle.std.specs.List.{starts_with}
 use Rattle.std.proofs.lemmas.Bool.{cond_both, ltb-true}
 use Rattle.dom_model.specs.Names.{Word, DomString, begins_name, continues_name, is_empty}
-use Rattle.dom_model.specs.Selectors.{Simple, CompoundPart, Combinator, Complex, AttributeTest, is_space, of_type, of_any_type, of_id, of_class, with_attribute, with_value, first_child, last_child, simple, is_not, descendant, child, next, later, equals, has_word, begins_with_dash, begins, ends, holds, alone}
+use Rattle.dom_model.specs.Selectors.{Simple, CompoundPart, Combinator, AttributeTest, is_space, of_type, of_any_type, of_id, of_class, with_value, first_child, last_child, simple, is_not, descendant, child, next, later, equals, has_word, begins_with_dash, begins, ends, holds, alone}
 use Rattle.dom_selectors.specs.Texts.{combinator_signs}
 use Rattle.dom_model.specs.SelectorText.{Reader, drop_while, skip_space, read_map, expect, closed_by, read_more, read_each, read_all, read_name, may_stand_quoted, read_quoted, read_value, read_one_of, signs, read_test_of, read_test, read_attribute, read_simple, read_type_name, read_type, read_compound_of, read_not, read_part, read_compound, read_combinator, read_link, read_complex, read_next, link}
 

@@ -1,17 +1,15 @@
 -- What is read is in the grammar.
-use Rattle.std.proofs.Common.{◌≡◌, ℕ, zero, suc, Bool, true, false, cond, List, [], ◌∷◌, ◌++◌, length, drop, Option, Some, None, refl, ap, sym, subst, ◌∙◌, append_assoc}
-use Rattle.std.specs.Prelude.{◌&&◌, ◌||◌, ◌==◌, map, fold, option_map, take_while, codes, nat_eq, nat_lt, if◌then◌else◌}
-use Rattle.std.specs.Option.{option_and_then, option_or, option_map_or}
-use Rattle.std.specs.List.{list_all, starts_with}
-use Rattle.std.proofs.lemmas.Bool.{cond_both, cond-true, cond-false, and_from, eqb-true, or_parts}
-use Rattle.std.proofs.lemmas.List.{append-nil}
+use Rattle.std.proofs.Common.{◌≡◌, ℕ, Bool, true, false, [], ◌∷◌, ◌++◌, Option, Some, None, refl, ap, sym, subst, ◌∙◌, append_assoc}
+use Rattle.std.specs.Prelude.{◌||◌, ◌==◌, option_map, take_while, codes}
+use Rattle.std.specs.Option.{option_and_then, option_or}
+use Rattle.std.specs.List.{list_all}
+use Rattle.std.proofs.lemmas.Bool.{cond_both, cond-true, cond-false, and_from, eqb-true}
 use Rattle.std.proofs.lemmas.List.Sums.{take_while-cons}
 use Rattle.std.proofs.lemmas.List.Folds.{list_all-append}
-use Rattle.dom_model.specs.Names.{Word, DomString, begins_name, continues_name, is_name, is_empty}
-use Rattle.dom_model.specs.Selectors.{Simple, CompoundPart, Combinator, Complex, AttributeTest, is_space, of_type, of_any_type, of_id, of_class, with_attribute, with_value, first_child, last_child, simple, is_not, descendant, child, next, later, equals, has_word, begins_with_dash, begins, ends, holds, alone}
-use Rattle.dom_model.specs.SelectorText.{Reader, drop_while, skip_space, read_map, expect, closed_by, read_more, read_each, read_all, read_name, may_stand_quoted, read_quoted, read_value, read_one_of, signs, read_test_of, read_test, read_attribute, read_simple, read_type_name, read_type, read_compound_of, read_not, read_part, read_compound, read_combinator, read_link, read_complex, read_next, link, whole, parse_selectors}
-use Rattle.dom_selectors.specs.Grammar.{Form, IsSpaces, IsName, IsQuoted, IsValue, plain, double, single, sign, IsBracketed, IsTested, IsSimple, IsType, AreEach, IsCompoundOf, IsNegation, IsPart, IsCompound, IsSpaced, IsCombinator, IsLink, IsComplex, IsItem, IsSelector}
-use Rattle.dom_selectors.specs.Texts.{combinator_signs}
+use Rattle.dom_model.specs.Names.{Word, DomString, begins_name, continues_name, is_name}
+use Rattle.dom_model.specs.Selectors.{Simple, AttributeTest, is_space, of_id, of_class, with_attribute, with_value, first_child, last_child, equals, has_word, begins_with_dash, begins, ends, holds}
+use Rattle.dom_model.specs.SelectorText.{Reader, drop_while, skip_space, read_map, expect, closed_by, read_name, may_stand_quoted, read_quoted, read_value, read_one_of, signs, read_test_of, read_test, read_attribute, read_simple}
+use Rattle.dom_selectors.specs.Grammar.{Form, IsSpaces, IsName, IsQuoted, IsValue, plain, double, single, sign, IsSimple}
 use Rattle.dom_selectors.proofs.TokenLaws.{expect_at}
 
 -- what was read stands in front, if anything was
@@ -38,19 +36,19 @@ while_split test [] = (refl, refl)
 while_split test (c ∷ cs) = at (test c) refl (while_split test cs)
   where
     at : (b : Bool) → test c ≡ b → (list_all test (take_while test cs) ≡ true) × (cs ≡ take_while test cs ++ drop_while test cs)
-      → (list_all test (take_while test (c ∷ cs)) ≡ true) × (c ∷ cs ≡ take_while test (c ∷ cs) ++ drop_while test (c ∷ cs))
+        → (list_all test (take_while test (c ∷ cs)) ≡ true) × (c ∷ cs ≡ take_while test (c ∷ cs) ++ drop_while test (c ∷ cs))
     at true e more =
-      let front : take_while test (c ∷ cs) ≡ c ∷ take_while test cs = take_while-cons test c cs ∙ cond-true (test c) (c ∷ take_while test cs) [] e in
-      let back : drop_while test (c ∷ cs) ≡ drop_while test cs = cond-true (test c) (drop_while test cs) (c ∷ cs) e in (
-        ap (list_all test) front ∙ and_from (test c) (list_all test (take_while test cs)) e more.0,
-        ap (λ t. c ∷ t) more.1 ∙ sym (ap (λ t. t ++ drop_while test (c ∷ cs)) front ∙ ap (λ t. (c ∷ take_while test cs) ++ t) back),
-      )
+        let front : take_while test (c ∷ cs) ≡ c ∷ take_while test cs = take_while-cons test c cs ∙ cond-true (test c) (c ∷ take_while test cs) [] e in
+        let back : drop_while test (c ∷ cs) ≡ drop_while test cs = cond-true (test c) (drop_while test cs) (c ∷ cs) e in (
+          ap (list_all test) front ∙ and_from (test c) (list_all test (take_while test cs)) e more.0,
+          ap (λ t. c ∷ t) more.1 ∙ sym (ap (λ t. t ++ drop_while test (c ∷ cs)) front ∙ ap (λ t. (c ∷ take_while test cs) ++ t) back),
+        )
     at false e more =
-      let front : take_while test (c ∷ cs) ≡ [] = take_while-cons test c cs ∙ cond-false (test c) (c ∷ take_while test cs) [] e in
-      let back : drop_while test (c ∷ cs) ≡ c ∷ cs = cond-false (test c) (drop_while test cs) (c ∷ cs) e in (
-        ap (list_all test) front,
-        sym (ap (λ t. t ++ drop_while test (c ∷ cs)) front ∙ back),
-      )
+        let front : take_while test (c ∷ cs) ≡ [] = take_while-cons test c cs ∙ cond-false (test c) (c ∷ take_while test cs) [] e in
+        let back : drop_while test (c ∷ cs) ≡ c ∷ cs = cond-false (test c) (drop_while test cs) (c ∷ cs) e in (
+          ap (list_all test) front,
+          sym (ap (λ t. t ++ drop_while test (c ∷ cs)) front ∙ back),
+        )
 
 -- white space, and what is behind it
 abbrev pub Skips : DomString → Type 0
@@ -116,9 +114,9 @@ quoted-says quote cs = at (expect (quote ∷ []) (drop_while (may_stand_quoted q
     at : (o : Option DomString) → Stands (quote ∷ []) (drop_while (may_stand_quoted quote) cs) o → Says (λ text v. IsQuoted quote (quote ∷ text) v) cs (option_map (λ rest'. (take_while (may_stand_quoted quote) cs, rest')) o)
     at None s = tt
     at (Some behind) s =
-      let split = while_split (may_stand_quoted quote) cs in
-      let v = take_while (may_stand_quoted quote) cs in
-      (v ++ quote ∷ [], (refl, split.0), put cs v (drop_while (may_stand_quoted quote) cs) (quote ∷ []) behind split.1 s)
+        let split = while_split (may_stand_quoted quote) cs in
+        let v = take_while (may_stand_quoted quote) cs in
+        (v ++ quote ∷ [], (refl, split.0), put cs v (drop_while (may_stand_quoted quote) cs) (quote ∷ []) behind split.1 s)
 
 -- a value
 value-says : (cs : DomString) → Says IsValue cs (read_value cs)
@@ -155,50 +153,50 @@ attribute-says : (cs : DomString) → Says (λ text s. IsSimple (codes "[" ++ te
 attribute-says cs = named (read_name (skip_space cs)) (name-says (skip_space cs))
   where
     bare : (a : Word) (rest : DomString) → is_name a ≡ true → skip_space cs ≡ a ++ rest → (o : Option DomString) → Stands (codes "]") (skip_space (skip_space rest)) o
-      → Says (λ text s. IsSimple (codes "[" ++ text) s) cs (option_map (λ behind. (with_attribute a, behind)) o)
+        → Says (λ text s. IsSimple (codes "[" ++ text) s) cs (option_map (λ behind. (with_attribute a, behind)) o)
     bare a rest n e None s = tt
     bare a rest n e (Some behind) s =
-      let first = skips cs in
-      let middle = skips rest in
-      let last = skips (skip_space rest) in
-      let after = middle.0 ++ last.0 in (
-        first.0 ++ (a ++ (after ++ codes "]")),
-        record { before = first.0; after = after; spaces_before = first.1; spaces_after = more_spaces middle.0 last.0 middle.1 last.1; named = n; whole = refl },
-        put cs first.0 (skip_space cs) (a ++ (after ++ codes "]")) behind first.2
-        (put (skip_space cs) a rest (after ++ codes "]") behind e
-        (put rest after (skip_space (skip_space rest)) (codes "]") behind (put rest middle.0 (skip_space rest) last.0 (skip_space (skip_space rest)) middle.2 last.2) s)),
-      )
+        let first = skips cs in
+        let middle = skips rest in
+        let last = skips (skip_space rest) in
+        let after = middle.0 ++ last.0 in (
+          first.0 ++ (a ++ (after ++ codes "]")),
+          record { before = first.0; after = after; spaces_before = first.1; spaces_after = more_spaces middle.0 last.0 middle.1 last.1; named = n; whole = refl },
+          put cs first.0 (skip_space cs) (a ++ (after ++ codes "]")) behind first.2
+              (put (skip_space cs) a rest (after ++ codes "]") behind e
+              (put rest after (skip_space (skip_space rest)) (codes "]") behind (put rest middle.0 (skip_space rest) last.0 (skip_space (skip_space rest)) middle.2 last.2) s)),
+        )
 
     closed : (a : Word) (t : AttributeTest) (rest behind left : DomString) (v said : DomString) → is_name a ≡ true → skip_space cs ≡ a ++ rest → skip_space rest ≡ sign t ++ behind → IsValue said v → skip_space behind ≡ said ++ left
-      → (o : Option DomString) → Stands (codes "]") (skip_space left) o → Says (λ text s. IsSimple (codes "[" ++ text) s) cs (option_map (λ b. (with_value a t v, b)) o)
+        → (o : Option DomString) → Stands (codes "]") (skip_space left) o → Says (λ text s. IsSimple (codes "[" ++ text) s) cs (option_map (λ b. (with_value a t v, b)) o)
     closed a t rest behind left v said n e g value h None s = tt
     closed a t rest behind left v said n e g value h (Some b) s =
-      let one = skips cs in
-      let two = skips rest in
-      let three = skips behind in
-      let four = skips left in
-      let end = four.0 ++ codes "]" in
-      let end_is = put left four.0 (skip_space left) (codes "]") b four.2 s in
-      let said_is = put (skip_space behind) said left end b h end_is in
-      let behind_is = put behind three.0 (skip_space behind) (said ++ end) b three.2 said_is in
-      let sign_is = put (skip_space rest) (sign t) behind (three.0 ++ (said ++ end)) b g behind_is in
-      let rest_is = put rest two.0 (skip_space rest) (sign t ++ (three.0 ++ (said ++ end))) b two.2 sign_is in
-      let name_is = put (skip_space cs) a rest (two.0 ++ (sign t ++ (three.0 ++ (said ++ end)))) b e rest_is in (
-        one.0 ++ (a ++ (two.0 ++ (sign t ++ (three.0 ++ (said ++ end))))),
-        record { before = one.0; between = two.0; behind = three.0; after = four.0; said = said; spaces_before = one.1; spaces_between = two.1; spaces_behind = three.1; spaces_after = four.1; named = n; valued = value; whole = refl },
-        put cs one.0 (skip_space cs) (a ++ (two.0 ++ (sign t ++ (three.0 ++ (said ++ end))))) b one.2 name_is,
-      )
+        let one = skips cs in
+        let two = skips rest in
+        let three = skips behind in
+        let four = skips left in
+        let end = four.0 ++ codes "]" in
+        let end_is = put left four.0 (skip_space left) (codes "]") b four.2 s in
+        let said_is = put (skip_space behind) said left end b h end_is in
+        let behind_is = put behind three.0 (skip_space behind) (said ++ end) b three.2 said_is in
+        let sign_is = put (skip_space rest) (sign t) behind (three.0 ++ (said ++ end)) b g behind_is in
+        let rest_is = put rest two.0 (skip_space rest) (sign t ++ (three.0 ++ (said ++ end))) b two.2 sign_is in
+        let name_is = put (skip_space cs) a rest (two.0 ++ (sign t ++ (three.0 ++ (said ++ end)))) b e rest_is in (
+          one.0 ++ (a ++ (two.0 ++ (sign t ++ (three.0 ++ (said ++ end))))),
+          record { before = one.0; between = two.0; behind = three.0; after = four.0; said = said; spaces_before = one.1; spaces_between = two.1; spaces_behind = three.1; spaces_after = four.1; named = n; valued = value; whole = refl },
+          put cs one.0 (skip_space cs) (a ++ (two.0 ++ (sign t ++ (three.0 ++ (said ++ end))))) b one.2 name_is,
+        )
 
     valued : (a : Word) (t : AttributeTest) (rest behind : DomString) → is_name a ≡ true → skip_space cs ≡ a ++ rest → skip_space rest ≡ sign t ++ behind → (r : Option (DomString × DomString)) → Says IsValue (skip_space behind) r
-      → Says (λ text s. IsSimple (codes "[" ++ text) s) cs (closed_by (codes "]") (read_map (with_value a t) r))
+        → Says (λ text s. IsSimple (codes "[" ++ text) s) cs (closed_by (codes "]") (read_map (with_value a t) r))
     valued a t rest behind n e g None h = tt
     valued a t rest behind n e g (Some r) h = closed a t rest behind r.1 r.0 h.0 n e g h.1 h.2 (expect (codes "]") (skip_space r.1)) (expect-stands (codes "]") (skip_space r.1))
 
     tested : (a : Word) (rest : DomString) → is_name a ≡ true → skip_space cs ≡ a ++ rest → (o : Option (AttributeTest × DomString)) → Says (λ text t. text ≡ sign t) (skip_space rest) o
-      → Says (λ text s. IsSimple (codes "[" ++ text) s) cs (closed_by (codes "]") (read_test_of a (skip_space rest) o))
+        → Says (λ text s. IsSimple (codes "[" ++ text) s) cs (closed_by (codes "]") (read_test_of a (skip_space rest) o))
     tested a rest n e None h = bare a rest n e (expect (codes "]") (skip_space (skip_space rest))) (expect-stands (codes "]") (skip_space (skip_space rest)))
     tested a rest n e (Some t) h =
-      valued a t.0 rest t.1 n e (h.2 ∙ ap (λ x. x ++ t.1) h.1) (read_value (skip_space t.1)) (value-says (skip_space t.1))
+        valued a t.0 rest t.1 n e (h.2 ∙ ap (λ x. x ++ t.1) h.1) (read_value (skip_space t.1)) (value-says (skip_space t.1))
 
     named : (r : Option (Word × DomString)) → Says IsName (skip_space cs) r → Says (λ text s. IsSimple (codes "[" ++ text) s) cs (closed_by (codes "]") (option_and_then (λ (a, rest). read_test a (skip_space rest)) r))
     named None h = tt

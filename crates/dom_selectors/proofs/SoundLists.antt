@@ -2,15 +2,15 @@
 use Rattle.std.proofs.Common.{◌≡◌, ℕ, zero, suc, Bool, true, false, List, [], ◌∷◌, ◌++◌, length, Option, Some, None, refl, ap, sym, subst, ◌∙◌, ◌<◌, arith, append_assoc}
 use Rattle.std.specs.Prelude.{map, fold, option_map, codes, nat_lt, if◌then◌else◌}
 use Rattle.std.specs.Option.{option_and_then, option_or, option_map_or}
-use Rattle.std.proofs.lemmas.Bool.{cond_both, ltb-true, cond-false, cond-true}
+use Rattle.std.proofs.lemmas.Bool.{cond_both, ltb-true}
 use Rattle.std.proofs.lemmas.List.{append-nil}
 use Rattle.std.proofs.lemmas.Option.{none-some, same_Some}
-use Rattle.dom_model.specs.Names.{Word, DomString, is_empty}
+use Rattle.dom_model.specs.Names.{DomString, is_empty}
 use Rattle.dom_model.specs.Selectors.{Simple, CompoundPart, Combinator, Complex, of_type, of_any_type, simple, is_not, descendant, child, next, later, alone}
 use Rattle.dom_model.specs.SelectorText.{Reader, skip_space, read_map, expect, closed_by, read_more, read_each, read_all, read_name, read_one_of, read_simple, read_type_name, read_type, read_compound_of, read_not, read_part, read_compound, read_combinator, read_link, read_complex, read_next, link, whole, parse_selectors}
-use Rattle.dom_selectors.specs.Grammar.{Form, IsSpaces, IsName, IsSimple, IsType, AreEach, IsCompoundOf, IsNegation, IsPart, IsCompound, IsSpaced, IsCombinator, IsLink, IsComplex, IsItem, IsSelector}
+use Rattle.dom_selectors.specs.Grammar.{Form, IsSpaces, IsName, IsSimple, IsType, AreEach, IsCompoundOf, IsPart, IsCompound, IsSpaced, IsCombinator, IsLink, IsComplex, IsSelector}
 use Rattle.dom_selectors.specs.Texts.{combinator_signs}
-use Rattle.dom_selectors.proofs.Sound.{Says, Stands, put, more_spaces, skips, expect-stands, says-or, says-map, says-means, says-then, name-says, simple-says}
+use Rattle.dom_selectors.proofs.Sound.{Says, Stands, put, skips, expect-stands, says-or, says-map, says-means, says-then, name-says, simple-says}
 
 -- what was read, with what it is read from
 abbrev Reads : {A : Type 0} → Form A → DomString → A × DomString → Type 0
@@ -63,16 +63,16 @@ not-says : (cs : DomString) → Says IsPart cs (read_not cs)
 not-says cs = says-then IsPart (codes ":not(") cs (λ rest. closed_by (codes ")") (read_map is_not (read_compound_of (λ s. s) read_simple (skip_space rest)))) (λ rest. at rest (read_compound_of (λ s. s) read_simple (skip_space rest)) (compound-says (λ s. s) IsSimple read_simple simple-says (skip_space rest)))
   where
     closed : (rest inner : DomString) (r : List Simple × DomString) → IsCompoundOf (λ s. s) IsSimple inner r.0 → skip_space rest ≡ inner ++ r.1 → (o : Option DomString) → Stands (codes ")") (skip_space r.1) o
-      → Says (λ text p. IsPart (codes ":not(" ++ text) p) rest (option_map (λ behind. (is_not r.0, behind)) o)
+        → Says (λ text p. IsPart (codes ":not(" ++ text) p) rest (option_map (λ behind. (is_not r.0, behind)) o)
     closed rest inner r h e None s = tt
     closed rest inner r h e (Some behind) s =
-      let first = skips rest in
-      let last = skips r.1 in
-      let end_is = put r.1 last.0 (skip_space r.1) (codes ")") behind last.2 s in (
-        first.0 ++ (inner ++ (last.0 ++ codes ")")),
-        record { before = first.0; inner = inner; after = last.0; spaces_before = first.1; spaces_after = last.1; negated = h; whole = refl },
-        put rest first.0 (skip_space rest) (inner ++ (last.0 ++ codes ")")) behind first.2 (put (skip_space rest) inner r.1 (last.0 ++ codes ")") behind e end_is),
-      )
+        let first = skips rest in
+        let last = skips r.1 in
+        let end_is = put r.1 last.0 (skip_space r.1) (codes ")") behind last.2 s in (
+          first.0 ++ (inner ++ (last.0 ++ codes ")")),
+          record { before = first.0; inner = inner; after = last.0; spaces_before = first.1; spaces_after = last.1; negated = h; whole = refl },
+          put rest first.0 (skip_space rest) (inner ++ (last.0 ++ codes ")")) behind first.2 (put (skip_space rest) inner r.1 (last.0 ++ codes ")") behind e end_is),
+        )
 
     at : (rest : DomString) (r : Option (List Simple × DomString)) → Says (IsCompoundOf (λ s. s) IsSimple) (skip_space rest) r → Says (λ text p. IsPart (codes ":not(" ++ text) p) rest (closed_by (codes ")") (read_map is_not r))
     at rest None h = tt
@@ -112,20 +112,20 @@ combinator-says cs =
   where
     spaced : (text : DomString) (how : Combinator) (rest : DomString) → Bare text how → skip_space cs ≡ text ++ rest → Says IsCombinator cs (Some (how, skip_space rest))
     spaced text how rest h e =
-      let first = skips cs in
-      let last = skips rest in
-      let said : IsSpaced (first.0 ++ (text ++ last.0)) text = record { before = first.0; after = last.0; spaces_before = first.1; spaces_after = last.1; whole = refl } in
-      (first.0 ++ (text ++ last.0), of_bare (first.0 ++ (text ++ last.0)) text how h said, put cs first.0 (skip_space cs) (text ++ last.0) (skip_space rest) first.2 (put (skip_space cs) text rest last.0 (skip_space rest) e last.2))
+        let first = skips cs in
+        let last = skips rest in
+        let said : IsSpaced (first.0 ++ (text ++ last.0)) text = record { before = first.0; after = last.0; spaces_before = first.1; spaces_after = last.1; whole = refl } in
+        (first.0 ++ (text ++ last.0), of_bare (first.0 ++ (text ++ last.0)) text how h said, put cs first.0 (skip_space cs) (text ++ last.0) (skip_space rest) first.2 (put (skip_space cs) text rest last.0 (skip_space rest) e last.2))
 
     some_space : nat_lt (length (skip_space cs)) (length cs) ≡ true → Says IsCombinator cs (Some (descendant, skip_space cs))
     some_space e =
-      let first = skips cs in
-      (first.0, (first.1, not_empty first.0 (skip_space cs) cs first.2 (ltb-true (length (skip_space cs)) (length cs) e)), first.2)
+        let first = skips cs in
+        (first.0, (first.1, not_empty first.0 (skip_space cs) cs first.2 (ltb-true (length (skip_space cs)) (length cs) e)), first.2)
 
     at : (sign : Option (Combinator × DomString)) → Says (λ text how. Bare text how) (skip_space cs) sign
-      → Says IsCombinator cs (option_map (λ (how, rest). (how, skip_space rest)) (option_or sign (if nat_lt (length (skip_space cs)) (length cs) then Some (descendant, cs) else None)))
+        → Says IsCombinator cs (option_map (λ (how, rest). (how, skip_space rest)) (option_or sign (if nat_lt (length (skip_space cs)) (length cs) then Some (descendant, cs) else None)))
     at None h =
-      cond_both (nat_lt (length (skip_space cs)) (length cs)) (Some (descendant, cs)) None (λ o. Says IsCombinator cs (option_map (λ (how, rest). (how, skip_space rest)) o)) some_space (λ _. tt)
+        cond_both (nat_lt (length (skip_space cs)) (length cs)) (Some (descendant, cs)) None (λ o. Says IsCombinator cs (option_map (λ (how, rest). (how, skip_space rest)) o)) some_space (λ _. tt)
     at (Some r) h = spaced h.0 r.0 r.1 h.1 h.2
 
 -- a combinator with a compound
@@ -148,16 +148,16 @@ complex-says : (cs : DomString) → Says IsSpacedComplex cs (read_complex cs)
 complex-says cs = at (read_compound (skip_space cs)) (compound-says simple IsPart read_part part-says (skip_space cs))
   where
     at : (r : Option (List CompoundPart × DomString)) → Says IsCompound (skip_space cs) r
-      → Says IsSpacedComplex cs (option_map (λ (c, rest). let links : List (Combinator × List CompoundPart) × DomString = read_all read_link rest in (fold link (alone c) links.0, links.1)) r)
+        → Says IsSpacedComplex cs (option_map (λ (c, rest). let links : List (Combinator × List CompoundPart) × DomString = read_all read_link rest in (fold link (alone c) links.0, links.1)) r)
     at None h = tt
     at (Some r) h =
-      let first = skips cs in
-      let back = each-says IsLink read_link link-says (length r.1) r.1 in
-      let links : List (Combinator × List CompoundPart) × DomString = read_all read_link r.1 in (
-        first.0 ++ (h.0 ++ back.0),
-        (first.0, h.0 ++ back.0, first.1, record { front = h.0; back = back.0; first = r.0; links = links.0; compound = h.1; linked = back.1; joined = refl; whole = refl }, refl),
-        put cs first.0 (skip_space cs) (h.0 ++ back.0) links.1 first.2 (put (skip_space cs) h.0 r.1 back.0 links.1 h.2 back.2),
-      )
+        let first = skips cs in
+        let back = each-says IsLink read_link link-says (length r.1) r.1 in
+        let links : List (Combinator × List CompoundPart) × DomString = read_all read_link r.1 in (
+          first.0 ++ (h.0 ++ back.0),
+          (first.0, h.0 ++ back.0, first.1, record { front = h.0; back = back.0; first = r.0; links = links.0; compound = h.1; linked = back.1; joined = refl; whole = refl }, refl),
+          put cs first.0 (skip_space cs) (h.0 ++ back.0) links.1 first.2 (put (skip_space cs) h.0 r.1 back.0 links.1 h.2 back.2),
+        )
 
 -- `,` with a complex selector, and white space before both
 abbrev IsNext : Form Complex
@@ -169,8 +169,8 @@ next-says cs = at (expect (codes ",") (skip_space cs)) (expect-stands (codes ","
     on : (rest : DomString) → skip_space cs ≡ 44 ∷ rest → (r : Option (Complex × DomString)) → Says IsSpacedComplex rest r → Says IsNext cs r
     on rest e None h = tt
     on rest e (Some r) h =
-      let first = skips cs in
-      (first.0 ++ 44 ∷ h.0, (first.0, h.0, first.1, h.1, refl), put cs first.0 (skip_space cs) (44 ∷ h.0) r.1 first.2 (e ∙ ap (λ t. 44 ∷ t) h.2))
+        let first = skips cs in
+        (first.0 ++ 44 ∷ h.0, (first.0, h.0, first.1, h.1, refl), put cs first.0 (skip_space cs) (44 ∷ h.0) r.1 first.2 (e ∙ ap (λ t. 44 ∷ t) h.2))
 
     at : (o : Option DomString) → Stands (codes ",") (skip_space cs) o → Says IsNext cs (option_and_then read_complex o)
     at None s = tt
@@ -189,15 +189,14 @@ listed x [] cs one others end h each spaces e =
       whole = e ∙ ap (λ t. one ++ (t ++ end)) each ∙ ap (λ t. t ++ end) h.4 ∙ append_assoc h.0 h.1 end;
     }
 listed x (y ∷ ys) cs one others end h each spaces e =
-    let first = each.2 in
-    (
+    let first = each.2 in (
       one ++ first.0,
       first.1 ++ (each.1 ++ end),
       record { before = h.0; inner = h.1; after = first.0; spaces_before = h.2; spaces_after = first.2; complex = h.3; whole = ap (λ t. t ++ first.0) h.4 ∙ append_assoc h.0 h.1 first.0 },
       listed y ys (first.1 ++ (each.1 ++ end)) first.1 each.1 end first.3 each.3 spaces refl,
       e ∙ ap (λ t. one ++ (t ++ end)) (each.4 ∙ ap (λ t. t ++ each.1) first.4)
-      ∙ ap (λ t. one ++ t) (append_assoc (first.0 ++ 44 ∷ first.1) each.1 end ∙ append_assoc first.0 (44 ∷ first.1) (each.1 ++ end))
-      ∙ sym (append_assoc one first.0 (44 ∷ (first.1 ++ (each.1 ++ end)))),
+          ∙ ap (λ t. one ++ t) (append_assoc (first.0 ++ 44 ∷ first.1) each.1 end ∙ append_assoc first.0 (44 ∷ first.1) (each.1 ++ end))
+          ∙ sym (append_assoc one first.0 (44 ∷ (first.1 ++ (each.1 ++ end)))),
     )
 
 -- only white space is left
@@ -215,14 +214,14 @@ pub parsed_says : (cs : DomString) (s : List Complex) → parse_selectors cs ≡
 parsed_says cs s = at (read_complex cs) (complex-says cs)
   where
     ended : (x : Complex) (one rest : DomString) (xs : List Complex) (others left : DomString) → IsSpacedComplex one x → cs ≡ one ++ rest → AreEach IsNext others xs → rest ≡ others ++ left
-      → (b : Bool) → is_empty (skip_space left) ≡ b → (if b then Some (x ∷ xs) else None) ≡ Some s → IsSelector cs s
+        → (b : Bool) → is_empty (skip_space left) ≡ b → (if b then Some (x ∷ xs) else None) ≡ Some s → IsSelector cs s
     ended x one rest xs others left h e each g true f is = subst (IsSelector cs) (same_Some _ _ is) (listed x xs cs one others left h each (only_spaces left f) (e ∙ ap (λ t. one ++ t) g))
     ended x one rest xs others left h e each g false f is = absurd (none-some s is)
 
     at : (r : Option (Complex × DomString)) → Says IsSpacedComplex cs r
-      → option_and_then (λ (c, rest). let more : List Complex × DomString = read_all read_next rest in whole (c ∷ more.0, more.1)) r ≡ Some s → IsSelector cs s
+        → option_and_then (λ (c, rest). let more : List Complex × DomString = read_all read_next rest in whole (c ∷ more.0, more.1)) r ≡ Some s → IsSelector cs s
     at None h is = absurd (none-some s is)
     at (Some r) h is =
-      let more = each-says IsNext read_next next-says (length r.1) r.1 in
-      let found : List Complex × DomString = read_all read_next r.1 in
-      ended r.0 h.0 r.1 found.0 more.0 found.1 h.1 h.2 more.1 more.2 (is_empty (skip_space found.1)) refl is
+        let more = each-says IsNext read_next next-says (length r.1) r.1 in
+        let found : List Complex × DomString = read_all read_next r.1 in
+        ended r.0 h.0 r.1 found.0 more.0 found.1 h.1 h.2 more.1 more.2 (is_empty (skip_space found.1)) refl is

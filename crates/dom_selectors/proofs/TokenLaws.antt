@@ -1,9 +1,9 @@
 -- What the readers of the definitions do at the first units.
-use Rattle.std.proofs.Common.{◌≡◌, ℕ, zero, suc, ◌+◌, ◌<◌, ◌≤◌, Bool, true, false, cond, List, [], ◌∷◌, length, take, drop, get_or, Option, Some, None, one-add, refl, ap, sym, subst, ◌∙◌, arith}
-use Rattle.std.specs.Prelude.{not, ◌&&◌, ◌||◌, ◌==◌, nat_eq, take_while, slice_index_or, if◌then◌else◌}
+use Rattle.std.proofs.Common.{◌≡◌, ℕ, suc, ◌+◌, Bool, true, false, cond, List, [], ◌∷◌, length, take, drop, Some, None, one-add, refl, ap, sym, ◌∙◌}
+use Rattle.std.specs.Prelude.{◌&&◌, ◌||◌, ◌==◌, nat_eq, slice_index_or, if◌then◌else◌}
 use Rattle.std.specs.List.{prefix_len, starts_with}
 use Rattle.std.proofs.lemmas.Bool.{or_left, cond-true, cond-false, ne_eqb}
-use Rattle.dom_model.specs.Names.{Word, DomString, begins_name, continues_name, is_digit}
+use Rattle.dom_model.specs.Names.{DomString, begins_name, continues_name, is_digit}
 use Rattle.dom_model.specs.SelectorText.{drop_while, expect, read_name}
 
 -- the units behind those that pass are those behind their number

@@ -1,5 +1,5 @@
 -- What was read, seen as the model's selectors.
-use Rattle.std.specs.Prelude.{ℕ, List, map, fold, string_bytes}
+use Rattle.std.specs.Prelude.{List, map, fold, string_bytes}
 use Rattle.dom_model.specs.Selectors as model
 use Rattle.dom_model.specs.SelectorText.{link}
 use Rattle.dom_selectors.specs.declared.selector.AttributeTest.{AttributeTest}

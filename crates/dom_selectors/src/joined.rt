@@ -1,4 +1,5 @@
-//! Which elements match complex selectors, from the right by links.
+//! Which elements match complex selectors, from the right by links. Only left of white space and of `~` is there more
+//! than one node to try: the ancestors and the elements before, the nearest first.
 ghost use Rattle.std.specs.Prelude.{◌≡◌, ◌<◌, length};
 ghost use Rattle.std.specs.List.{list_any};
 ghost use Rattle.std.specs.Option.{option_map, ForSome};

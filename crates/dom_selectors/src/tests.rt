@@ -100,7 +100,11 @@ fn check_match(
     wanted: bool,
 ) -> Result<(), Fail> {
     let key = key_of(rt, forest, Owner::Page, number);
-    assert_eq!(rt; selector(alloc, text)?.matches(forest, key), wanted, "{text} at {number}");
+    assert_eq!(rt;
+        selector(alloc, text)?.matches(forest, key),
+        wanted,
+        "{text} at {number}"
+    );
     Ok(())
 }
 
@@ -108,9 +112,30 @@ fn check_match(
 fn two_paragraphs(rt: &impl Abort, alloc: Global) -> Result<Forest, Fail> {
     let mut forest = Forest::new(alloc);
     forest.add(Owner::Page, node(alloc, Kind::Document, "")?)?;
-    add_below(rt, &mut forest, Owner::Page, 0, 1, node(alloc, Kind::Element, "div")?)?;
-    add_below(rt, &mut forest, Owner::Page, 1, 2, node(alloc, Kind::Element, "p")?)?;
-    add_below(rt, &mut forest, Owner::Page, 1, 3, node(alloc, Kind::Element, "p")?)?;
+    add_below(
+        rt,
+        &mut forest,
+        Owner::Page,
+        0,
+        1,
+        node(alloc, Kind::Element, "div")?,
+    )?;
+    add_below(
+        rt,
+        &mut forest,
+        Owner::Page,
+        1,
+        2,
+        node(alloc, Kind::Element, "p")?,
+    )?;
+    add_below(
+        rt,
+        &mut forest,
+        Owner::Page,
+        1,
+        3,
+        node(alloc, Kind::Element, "p")?,
+    )?;
     set(rt, alloc, &mut forest, 1, "class", "a b")?;
     set(rt, alloc, &mut forest, 2, "lang", "en-GB")?;
     Ok(forest)
@@ -121,8 +146,24 @@ fn queries_give_descendants_in_order(rt: HostRuntime) -> Result<(), Fail> {
     let alloc = rt.alloc();
     let page = Owner::Page;
     let forest = two_paragraphs(&rt, alloc)?;
-    check_query(&rt, alloc, &forest, page, 1, "div.a > p:not([lang|=en])", &[3])?;
-    check_query(&rt, alloc, &forest, page, 1, "p + p, p:first-child", &[2, 3])?;
+    check_query(
+        &rt,
+        alloc,
+        &forest,
+        page,
+        1,
+        "div.a > p:not([lang|=en])",
+        &[3],
+    )?;
+    check_query(
+        &rt,
+        alloc,
+        &forest,
+        page,
+        1,
+        "p + p, p:first-child",
+        &[2, 3],
+    )?;
     check_query(&rt, alloc, &forest, page, 0, "*", &[1, 2, 3])?;
     check_query(&rt, alloc, &forest, page, 1, "div", &[])?;
     check_query(&rt, alloc, &forest, page, 2, "*", &[])?;
@@ -135,11 +176,26 @@ fn a_tree_ends_at_its_root(rt: HostRuntime) -> Result<(), Fail> {
     let component = Owner::Component(1);
     let mut forest = two_paragraphs(&rt, alloc)?;
     forest.add(component, node(alloc, Kind::Shadow, "")?)?;
-    add_below(&rt, &mut forest, component, 0, 1, node(alloc, Kind::Element, "b")?)?;
+    add_below(
+        &rt,
+        &mut forest,
+        component,
+        0,
+        1,
+        node(alloc, Kind::Element, "b")?,
+    )?;
     check_query(&rt, alloc, &forest, Owner::Page, 0, "b", &[])?;
     check_query(&rt, alloc, &forest, component, 0, "b", &[1])?;
     check_query(&rt, alloc, &forest, component, 0, "div b", &[])?;
-    check_query(&rt, alloc, &forest, component, 0, ":first-child:last-child", &[1])
+    check_query(
+        &rt,
+        alloc,
+        &forest,
+        component,
+        0,
+        ":first-child:last-child",
+        &[1],
+    )
 }
 
 #[test]

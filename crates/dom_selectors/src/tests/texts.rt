@@ -92,7 +92,10 @@ fn check(rt: &impl Abort, alloc: Global, text: &str, is_selector: bool) -> Resul
     match Selector::parse(alloc, units.as_slice()) {
         Ok(_) => assert!(rt; is_selector, "{text}"),
         Err(fault) => {
-            assert!(rt; !is_selector && fault == Fault::Refused(Refusal::Selector), "{text}");
+            assert!(rt;
+                !is_selector && fault == Fault::Refused(Refusal::Selector),
+                "{text}"
+            );
         }
     }
     Ok(())

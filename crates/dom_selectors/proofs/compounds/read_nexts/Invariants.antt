@@ -1,5 +1,5 @@
 -- Those so far, and those read from here on, are all.
-use Rattle.std.proofs.Common.{◌≡◌, length, List, [], ◌∷◌}
+use Rattle.std.proofs.Common.{◌≡◌, length, [], ◌∷◌}
 use Rattle.std.specs.Prelude.{map}
 use Rattle.dom_model.specs.SelectorText.{read_all, read_next}
 use Rattle.dom_selectors.specs.Reads.{behind_list}

@@ -1,5 +1,5 @@
 -- Nodes that are no elements are passed.
-use Rattle.std.proofs.Common.{◌≡◌, Bool, ap, sym, ◌∙◌}
+use Rattle.std.proofs.Common.{Bool, ap, sym, ◌∙◌}
 use Rattle.std.specs.Prelude.{filter}
 use Rattle.std.specs.Option.{option_map}
 use Rattle.dom_base.specs.declared.NodeName.{NodeName}
