@@ -1,0 +1,25 @@
+-- Tests of lists whose items are seen in some way.
+use Rattle.std.proofs.Common.{◌≡◌, ℕ, Bool, List, [], ◌∷◌, Option, Some, None, refl, ap, sym}
+use Rattle.std.specs.Prelude.{not, ◌&&◌, ◌||◌, map}
+use Rattle.std.specs.List.{list_any, list_all}
+use Rattle.std.specs.Option.{option_map, is_some}
+use Rattle.std.proofs.lemmas.Option.{none-some}
+use Rattle.dom_base.specs.declared.NodeName.{NodeName}
+use Rattle.dom_model.specs.Names.{last_of, is_empty}
+use Rattle.dom_traversal.proofs.Lists.{no_last}
+
+-- all that are seen pass where all pass as they are seen
+pub all_seen : {X Y : Type 0} (test : Y → Bool) (view : X → Y) (xs : List X) → list_all (λ x. test (view x)) xs ≡ list_all test (map view xs)
+all_seen test view [] = refl
+all_seen test view (x ∷ xs) = ap (λ b. test (view x) && b) (all_seen test view xs)
+
+-- some that is seen passes where some passes as it is seen
+pub any_seen : {X Y : Type 0} (test : Y → Bool) (view : X → Y) (xs : List X) → list_any (λ x. test (view x)) xs ≡ list_any test (map view xs)
+any_seen test view [] = refl
+any_seen test view (x ∷ xs) = ap (λ b. test (view x) || b) (any_seen test view xs)
+
+-- there is no last of a list where it is empty
+pub no_last_seen : (name : ℕ → NodeName) (o : Option ℕ) (xs : List NodeName) → option_map name o ≡ last_of xs → not (is_some o) ≡ is_empty xs
+no_last_seen name None xs e = sym (ap is_empty (no_last xs (sym e)))
+no_last_seen name (Some k) [] e = absurd (none-some (name k) (sym e))
+no_last_seen name (Some k) (x ∷ xs) e = refl

@@ -1,0 +1,149 @@
+-- The siblings before a node and behind it, by the links.
+use Rattle.std.proofs.Common.{◌≡◌, ℕ, suc, ◌<◌, List, [], ◌∷◌, ◌++◌, length, Option, Some, None, refl, ap, sym, subst, ◌∙◌, append_assoc, arith, length-append, inl, inr}
+use Rattle.std.specs.Option.{option_map, option_map_or}
+use Rattle.std.proofs.lemmas.Option.{none-some}
+use Rattle.dom_base.specs.declared.NodeName.{NodeName}
+use Rattle.dom_model.specs.Names.{name_eq, first_of, last_of, items_before, items_after}
+use Rattle.dom_model.specs.Tree.{Trees, none, tree, names_of, roots, trees_below, subtree, children_of, siblings, parent_of, previous_sibling, next_sibling}
+use Rattle.dom_tree.specs.Forest.{NamedTrees, name_at}
+use Rattle.dom_traversal.proofs.Lists.{In, In-right, Single, Single-apart, split_at, before-split, after-split, first_split, last_split, no_first, no_last}
+use Rattle.dom_traversal.proofs.Shapes.{Has, Once, Once-subtree, subtree-present}
+use Rattle.dom_traversal.proofs.Children.{parent-of_child, child-of_parent}
+use Rattle.dom_traversal.proofs.Counts.{StandOnce, StandAlone, Once-forest, Has-forest}
+
+-- the siblings before a node
+abbrev pub before_list : Trees → NodeName → List NodeName
+before_list ts x = items_before name_eq x (siblings ts x)
+
+-- the siblings behind a node
+abbrev pub after_list : Trees → NodeName → List NodeName
+after_list ts x = items_after name_eq x (siblings ts x)
+
+-- the siblings up to a node; none where there is no node
+abbrev pub up_to : Trees → Option NodeName → List NodeName
+up_to ts None = []
+up_to ts (Some x) = before_list ts x ++ x ∷ []
+
+-- the siblings from a node on; none where there is no node
+abbrev pub from : Trees → Option NodeName → List NodeName
+from ts None = []
+from ts (Some x) = x ∷ after_list ts x
+
+-- a root stands in the trees
+has_root : (ts : Trees) (x : NodeName) → In x (names_of (roots ts)) → Has ts x
+has_root none x i = i
+has_root (tree n c r) x (inl e) = inl (sym e)
+has_root (tree n c r) x (inr i) = inr (inr (has_root r x i))
+
+-- no root stands twice
+single_roots : (ts : Trees) → Once ts → Single (names_of (roots ts))
+single_roots none once = tt
+single_roots (tree n c r) once = (λ i. once.1 (has_root r n.name i), single_roots r once.4)
+
+-- no child stands twice
+single_children : (ts : Trees) (p : NodeName) → Once ts → Has ts p → Single (children_of ts p)
+single_children ts p once h =
+    let w = subtree-present ts p h in
+    let mine : Once (subtree ts p) = Once-subtree ts p once h in
+    let its = subst Once w.2 mine in
+    subst (λ (us : Trees). Single (names_of (roots (trees_below us)))) (sym w.2) (single_roots w.1 its.3)
+
+-- how the children of a node's parent split at it
+record Splits (ts : Trees) (x p : NodeName) : Type 0 where
+  all : siblings ts x ≡ children_of ts p
+  parts : children_of ts p ≡ before_list ts x ++ x ∷ after_list ts x
+  single : Single (children_of ts p)
+  its : (s : NodeName) → In s (children_of ts p) → siblings ts s ≡ children_of ts p
+
+-- the siblings of a child
+siblings_are : (ts : Trees) (x p : NodeName) → parent_of ts x ≡ Some p → siblings ts x ≡ children_of ts p
+siblings_are ts x p up = ap (λ o. option_map_or (children_of ts) o (x ∷ [])) up
+
+splits : (ts : Trees) (x p : NodeName) → Once ts → Has ts x → parent_of ts x ≡ Some p → Splits ts x p
+splits ts x p once h up =
+    let child = child-of_parent ts x p once h up in
+    let same = siblings_are ts x p up in
+    record {
+      all = same;
+      parts = sym same ∙ split_at x (siblings ts x) (subst (In x) (sym same) child.1);
+      single = single_children ts p once child.0;
+      its = λ s i. siblings_are ts s p (parent-of_child ts p s once child.0 i).0;
+    }
+
+-- the siblings of a root are itself alone
+root_before : (ts : Trees) (x : NodeName) → parent_of ts x ≡ None → (before_list ts x ≡ []) × (after_list ts x ≡ [])
+root_before ts x up =
+    let alone : siblings ts x ≡ x ∷ [] = ap (λ o. option_map_or (children_of ts) o (x ∷ [])) up in (
+      ap (items_before name_eq x) alone ∙ before-split x [] [] (λ i. i),
+      ap (items_after name_eq x) alone ∙ after-split x [] [] (λ i. i),
+    )
+
+-- the siblings before a node are those up to the sibling just before it
+pub before-previous : (ts : Trees) (x : NodeName) → Once ts → Has ts x → before_list ts x ≡ up_to ts (previous_sibling ts x)
+before-previous ts x once h = by (last_of (before_list ts x)) refl
+  where
+    child : (s p : NodeName) → last_of (before_list ts x) ≡ Some s → parent_of ts x ≡ Some p → before_list ts x ≡ before_list ts s ++ s ∷ []
+    child s p e up =
+        let at = splits ts x p once h up in
+        let front = last_split (before_list ts x) s e in
+        let whole : children_of ts p ≡ front.0 ++ s ∷ (x ∷ after_list ts x) = at.parts ∙ (ap (λ xs. xs ++ x ∷ after_list ts x) front.1 ∙ append_assoc front.0 (s ∷ []) (x ∷ after_list ts x)) in
+        let among : In s (children_of ts p) = subst (In s) (sym whole) (In-right s front.0 (s ∷ (x ∷ after_list ts x)) (inl refl)) in
+        let apart : In s front.0 → ⊥ = λ i. Single-apart s front.0 (s ∷ (x ∷ after_list ts x)) (subst Single whole at.single) i (inl refl) in
+        let mine : before_list ts s ≡ front.0 = ap (items_before name_eq s) (at.its s among ∙ whole) ∙ before-split s front.0 (x ∷ after_list ts x) apart in
+        front.1 ∙ ap (λ xs. xs ++ s ∷ []) (sym mine)
+
+    has_parent : (s : NodeName) → last_of (before_list ts x) ≡ Some s → (o : Option NodeName) → parent_of ts x ≡ o → before_list ts x ≡ before_list ts s ++ s ∷ []
+    has_parent s e None up = absurd (none-some s (sym (ap last_of (root_before ts x up).0) ∙ e))
+    has_parent s e (Some p) up = child s p e up
+
+    by : (o : Option NodeName) → last_of (before_list ts x) ≡ o → before_list ts x ≡ up_to ts (last_of (before_list ts x))
+    by None e = no_last (before_list ts x) e ∙ ap (up_to ts) (sym e)
+    by (Some s) e = has_parent s e (parent_of ts x) refl ∙ ap (up_to ts) (sym e)
+
+-- the siblings behind a node are those from the sibling just behind it on
+pub after-next : (ts : Trees) (x : NodeName) → Once ts → Has ts x → after_list ts x ≡ from ts (next_sibling ts x)
+after-next ts x once h = by (first_of (after_list ts x)) refl
+  where
+    child : (s p : NodeName) → first_of (after_list ts x) ≡ Some s → parent_of ts x ≡ Some p → after_list ts x ≡ s ∷ after_list ts s
+    child s p e up =
+        let at = splits ts x p once h up in
+        let back = first_split (after_list ts x) s e in
+        let front = before_list ts x ++ x ∷ [] in
+        let whole : children_of ts p ≡ front ++ s ∷ back.0 = at.parts ∙ (ap (λ xs. before_list ts x ++ x ∷ xs) back.1 ∙ sym (append_assoc (before_list ts x) (x ∷ []) (s ∷ back.0))) in
+        let among : In s (children_of ts p) = subst (In s) (sym whole) (In-right s front (s ∷ back.0) (inl refl)) in
+        let apart : In s front → ⊥ = λ i. Single-apart s front (s ∷ back.0) (subst Single whole at.single) i (inl refl) in
+        let mine : after_list ts s ≡ back.0 = ap (items_after name_eq s) (at.its s among ∙ whole) ∙ after-split s front back.0 apart in
+        back.1 ∙ ap (λ xs. s ∷ xs) (sym mine)
+
+    has_parent : (s : NodeName) → first_of (after_list ts x) ≡ Some s → (o : Option NodeName) → parent_of ts x ≡ o → after_list ts x ≡ s ∷ after_list ts s
+    has_parent s e None up = absurd (none-some s (sym (ap first_of (root_before ts x up).1) ∙ e))
+    has_parent s e (Some p) up = child s p e up
+
+    by : (o : Option NodeName) → first_of (after_list ts x) ≡ o → after_list ts x ≡ from ts (first_of (after_list ts x))
+    by None e = no_first (after_list ts x) e ∙ ap (from ts) (sym e)
+    by (Some s) e = has_parent s e (parent_of ts x) refl ∙ ap (from ts) (sym e)
+
+-- the same by keys
+pub previous_step : (f : NamedTrees) → StandOnce f → StandAlone f → (k : ℕ) (o : Option ℕ) → k < length f.names → option_map (name_at f.names) o ≡ previous_sibling f.trees (name_at f.names k)
+    → before_list f.trees (name_at f.names k) ≡ up_to f.trees (option_map (name_at f.names) o)
+previous_step f once only k o node is = before-previous f.trees (name_at f.names k) (Once-forest f once only) (Has-forest f once k node) ∙ ap (up_to f.trees) (sym is)
+
+-- the same the other way
+pub next_step : (f : NamedTrees) → StandOnce f → StandAlone f → (k : ℕ) (o : Option ℕ) → k < length f.names → option_map (name_at f.names) o ≡ next_sibling f.trees (name_at f.names k)
+    → after_list f.trees (name_at f.names k) ≡ from f.trees (option_map (name_at f.names) o)
+next_step f once only k o node is = after-next f.trees (name_at f.names k) (Once-forest f once only) (Has-forest f once k node) ∙ ap (from f.trees) (sym is)
+
+-- there are fewer before a node than up to it
+pub previous_less : (f : NamedTrees) (k : ℕ) (at o : Option ℕ) → at ≡ Some k → before_list f.trees (name_at f.names k) ≡ up_to f.trees (option_map (name_at f.names) o)
+    → length (up_to f.trees (option_map (name_at f.names) o)) < length (up_to f.trees (option_map (name_at f.names) at))
+previous_less f k at o is e =
+    let front = before_list f.trees (name_at f.names k) in
+    let longer : length (up_to f.trees (option_map (name_at f.names) at)) ≡ length (front ++ name_at f.names k ∷ []) = ap (λ o'. length (up_to f.trees (option_map (name_at f.names) o'))) is in
+    omega (arith, longer, length-append front (name_at f.names k ∷ []), ap (length {A = NodeName}) e)
+
+-- there are fewer behind a node than from it on
+pub next_less : (f : NamedTrees) (k : ℕ) (at o : Option ℕ) → at ≡ Some k → after_list f.trees (name_at f.names k) ≡ from f.trees (option_map (name_at f.names) o)
+    → length (from f.trees (option_map (name_at f.names) o)) < length (from f.trees (option_map (name_at f.names) at))
+next_less f k at o is e =
+    let longer : length (from f.trees (option_map (name_at f.names) at)) ≡ suc (length (after_list f.trees (name_at f.names k))) = ap (λ o'. length (from f.trees (option_map (name_at f.names) o'))) is in
+    omega (arith, longer, ap (length {A = NodeName}) e)

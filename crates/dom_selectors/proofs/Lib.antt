@@ -1,0 +1,15 @@
+pub mod TokenLaws
+pub mod NameLaws
+pub mod Shorter
+pub mod Repeats
+pub mod FoundCompounds
+pub mod Anywhere
+pub mod ValueLaws
+pub mod Beside
+pub mod Passing
+pub mod JoinedLaws
+pub mod QueryLaws
+pub mod Sound
+pub mod SoundLists
+pub mod Complete
+pub mod CompleteLists

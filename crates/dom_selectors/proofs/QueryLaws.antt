@@ -1,0 +1,26 @@
+-- A walk through the tree below a node.
+use Rattle.std.proofs.Common.{◌≡◌, ℕ, Bool, true, false, List, [], ◌∷◌, ◌++◌, ap, sym, ◌∙◌, append_assoc}
+use Rattle.std.specs.Prelude.{map, filter, drop}
+use Rattle.std.proofs.lemmas.List.{map-append}
+use Rattle.dom_base.specs.declared.NodeName.{NodeName}
+use Rattle.dom_model.specs.Tree.{Trees, descendants}
+use Rattle.dom_traversal.specs.Within.{behind}
+use Rattle.dom_traversal.proofs.Lists.{filter-yes, filter-no}
+use Rattle.dom_traversal.proofs.Order.{IsWithin}
+use Rattle.dom_traversal.proofs.Steps.{ordered, top_places}
+
+-- the nodes behind the top are those below it
+pub behind_top : (ts : Trees) (top : NodeName) → IsWithin ts top top → behind ts top top ≡ descendants ts top
+behind_top ts top w = sym (ap (drop 1) (ordered ts top top w ∙ ap (λ xs. xs ++ top ∷ behind ts top top) (top_places ts top w).0))
+
+module _ (name : ℕ → NodeName) (test : NodeName → Bool) (found : List ℕ) (k : ℕ) (rest : List NodeName) where
+  -- a node that passes is taken
+  pub taken : test (name k) ≡ true → map name (found ++ k ∷ []) ++ filter test rest ≡ map name found ++ filter test (name k ∷ rest)
+  taken h =
+      ap (λ xs. xs ++ filter test rest) (map-append name found (k ∷ []))
+      ∙ append_assoc (map name found) (name k ∷ []) (filter test rest)
+      ∙ ap (λ xs. map name found ++ xs) (sym (filter-yes test (name k) rest h))
+
+  -- another one is left
+  pub left_out : test (name k) ≡ false → map name found ++ filter test rest ≡ map name found ++ filter test (name k ∷ rest)
+  left_out h = ap (λ xs. map name found ++ xs) (sym (filter-no test (name k) rest h))

@@ -1,0 +1,58 @@
+-- Readers that read one after another.
+use Rattle.std.proofs.Common.{◌≡◌, ℕ, zero, suc, ◌<◌, ◌≤◌, List, [], ◌∷◌, ◌++◌, length, Option, Some, None, refl, ap, sym, ◌∙◌, arith, append_assoc}
+use Rattle.std.specs.Prelude.{map}
+use Rattle.std.proofs.lemmas.List.{map-append}
+use Rattle.dom_model.specs.Names.{DomString}
+use Rattle.dom_model.specs.SelectorText.{Reader, read_more, read_each, read_all}
+use Rattle.dom_selectors.specs.Reads.{behind_list}
+use Rattle.dom_selectors.proofs.Shorter.{Shrinks, Shrinks-rest, Ends}
+
+-- rounds at the end of the units read nothing
+each-nil : {A : Type 0} (read : Reader A) → Shrinks read → (k : ℕ) → read_each k read [] ≡ ([], [])
+each-nil read s zero = refl
+each-nil {A} read s (suc k) = at (read []) (s.shorter [])
+  where
+    at : (r : Option (A × DomString)) → Ends 0 r → read_more (λ rest. read_each k read rest) [] r ≡ ([], [])
+    at None e = refl
+    at (Some r) e = absurd (omega (arith, e))
+
+-- what is read behind one, in more rounds than are needed
+more-enough : {A : Type 0} (read : Reader A) (j k : ℕ) (cs : DomString) (r : Option (A × DomString)) → Ends (length cs) r
+    → ((rest : DomString) → length rest < length cs → read_each j read rest ≡ read_each k read rest)
+    → read_more (λ rest. read_each j read rest) cs r ≡ read_more (λ rest. read_each k read rest) cs r
+more-enough read j k cs None e same = refl
+more-enough {A} read j k cs (Some r) e same =
+    let put : List A × DomString → List A × DomString = λ more. (r.0 ∷ more.0, more.1) in
+    ap put (same r.1 e)
+
+-- no more rounds are needed than there are units
+each-enough : {A : Type 0} (read : Reader A) → Shrinks read → (j k : ℕ) (cs : DomString) → length cs ≤ j → length cs ≤ k → read_each j read cs ≡ read_each k read cs
+each-enough read s j k [] h g = each-nil read s j ∙ sym (each-nil read s k)
+each-enough read s zero k (c ∷ cs) h g = absurd (omega (arith, h))
+each-enough read s (suc j) zero (c ∷ cs) h g = absurd (omega (arith, g))
+each-enough read s (suc j) (suc k) (c ∷ cs) h g =
+    more-enough read j k (c ∷ cs) (read (c ∷ cs)) (s.shorter (c ∷ cs)) (λ rest short. each-enough read s j k rest (omega (arith, short, h)) (omega (arith, short, g)))
+
+-- where one is read, the others stand behind it
+pub all-one : {A : Type 0} (read : Reader A) → Shrinks read → (cs : DomString) (r : A × DomString) → read cs ≡ Some r → read_all read cs ≡ behind_list (r.0 ∷ []) (read_all read r.1)
+all-one read s [] r h = absurd (omega (arith, Shrinks-rest read s [] r h))
+all-one {A} read s (c ∷ cs) r h =
+    let short = Shrinks-rest read s (c ∷ cs) r h in
+    let put : List A × DomString → List A × DomString = λ more. (r.0 ∷ more.0, more.1) in
+    ap (read_more (λ rest. read_each (length cs) read rest) (c ∷ cs)) h
+    ∙ ap put (each-enough read s (length cs) (length r.1) r.1 (omega (arith, short)) (omega arith))
+
+-- where none is read, there are none
+pub all-none : {A : Type 0} (read : Reader A) (cs : DomString) → read cs ≡ None → read_all read cs ≡ ([], cs)
+all-none read [] h = refl
+all-none read (c ∷ cs) h = ap (read_more (λ rest. read_each (length cs) read rest) (c ∷ cs)) h
+
+-- one more is read, and put behind those so far
+pub one_more : {X A : Type 0} (read : Reader A) → Shrinks read → (view : X → A) (before : List X) (x : X) (cs behind : DomString) → read cs ≡ Some (view x, behind)
+    → behind_list (map view (before ++ x ∷ [])) (read_all read behind) ≡ behind_list (map view before) (read_all read cs)
+one_more {X} {A} read s view before x cs behind h =
+    let more = read_all read behind in
+    let front : List A → List A × DomString = λ ys. (ys ++ more.0, more.1) in
+    ap front (map-append view before (x ∷ []))
+    ∙ ap (λ ys. (ys, more.1)) (append_assoc (map view before) (view x ∷ []) more.0)
+    ∙ sym (ap (behind_list (map view before)) (all-one read s cs (view x, behind) h))

@@ -1,0 +1,13 @@
+-- Those so far, and those read from here on, are all.
+use Rattle.std.proofs.Common.{◌≡◌, length}
+use Rattle.std.specs.Prelude.{map}
+use Rattle.dom_model.specs.SelectorText.{read_all, read_part}
+use Rattle.dom_selectors.specs.Reads.{behind_list}
+use Rattle.dom_selectors.specs.Views.{part_view}
+use Rattle.dom_selectors.proofs.compounds.read_parts.Given as goal
+
+abbrev pub invariant-loop-parts : goal.invariant-loop-parts
+invariant-loop-parts l = behind_list (map part_view l.parts.items) (read_all read_part l.rest) ≡ behind_list (map part_view l.fn.parts.items) (read_all read_part l.units)
+
+abbrev pub decreases-loop-parts : goal.decreases-loop-parts
+decreases-loop-parts l = length l.rest

@@ -1,0 +1,17 @@
+-- All are seen.
+use Rattle.std.proofs.Common.{sym, ap, ◌∙◌}
+use Rattle.std.specs.Prelude.{◌&&◌}
+use Rattle.std.specs.List.{list_all}
+use Rattle.dom_model.specs.Selectors.{part_matches}
+use Rattle.dom_tree.specs.Forest.{name_at}
+use Rattle.dom_selectors.specs.Views.{part_view, compound_view}
+use Rattle.dom_selectors.proofs.Anywhere.{all_seen}
+use Rattle.dom_selectors.proofs.matching.compound_matches.Goals as goal
+
+pub returns-then-is_element : goal.returns-then-is_element
+returns-then-is_element c =
+    let f = c.args.forest.now in
+    let x = name_at f.names c.args.key in
+    c.all_parts_match.ensures
+    ∙ all_seen (part_matches f.trees x) part_view c.args.parts.now
+    ∙ sym (ap (λ b. b && list_all (part_matches f.trees x) (compound_view c.args.parts.now)) (sym c.is_element.ensures ∙ c.if-is_element.true))

@@ -1,0 +1,16 @@
+-- All are seen.
+use Rattle.std.proofs.Common.{sym, ap, ◌∙◌}
+use Rattle.std.specs.Prelude.{not}
+use Rattle.std.specs.List.{list_all}
+use Rattle.dom_model.specs.Selectors.{simple_matches, part_matches}
+use Rattle.dom_tree.specs.Forest.{name_at}
+use Rattle.dom_selectors.specs.Views.{simple_view, part_view}
+use Rattle.dom_selectors.proofs.Anywhere.{all_seen}
+use Rattle.dom_selectors.proofs.matching.part_matches.Goals as goal
+
+pub returns-in-IsNot : goal.returns-in-IsNot
+returns-in-IsNot c =
+    let f = c.args.forest.now in
+    let x = name_at f.names c.args.key in
+    ap not (c.all_simple_match.ensures ∙ ap (list_all (λ s. simple_matches f.trees x (simple_view s))) c.deref.ensures.value ∙ all_seen (simple_matches f.trees x) simple_view c.in-IsNot.simples.items)
+    ∙ sym (ap (λ p. part_matches f.trees x (part_view p)) c.in-IsNot.is)

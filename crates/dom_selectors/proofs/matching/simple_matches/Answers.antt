@@ -1,0 +1,16 @@
+-- There is no last element before a node where there is none.
+use Rattle.std.proofs.Common.{ap, arith}
+use Rattle.dom_model.specs.Selectors.{simple_matches, elements_before}
+use Rattle.dom_tree.specs.Forest.{name_at}
+use Rattle.dom_selectors.specs.Views.{simple_view}
+use Rattle.dom_selectors.proofs.Anywhere.{no_last_seen}
+use Rattle.dom_selectors.proofs.matching.simple_matches.Goals as goal
+
+pub returns-in-FirstChild : goal.returns-in-FirstChild
+returns-in-FirstChild c =
+    let f = c.args.forest.now in
+    let x = name_at f.names c.args.key in
+    let empty = no_last_seen (name_at f.names) c.element_before.result (elements_before f.trees x) c.element_before.ensures.value in
+    let none = c.is_none.ensures in
+    let same = ap (λ s. simple_matches f.trees x (simple_view s)) c.in-FirstChild.is in
+    grind (arith, empty, none, same)

@@ -1,0 +1,16 @@
+-- Some is seen.
+use Rattle.std.proofs.Common.{ap, ◌∙◌}
+use Rattle.std.specs.List.{list_any}
+use Rattle.dom_model.specs.Selectors.{complex_matches}
+use Rattle.dom_tree.specs.Forest.{name_at}
+use Rattle.dom_selectors.specs.Views.{complex_view}
+use Rattle.dom_selectors.proofs.Anywhere.{any_seen}
+use Rattle.dom_selectors.proofs.selector.Selector.matches.Goals as goal
+
+pub returns : goal.returns
+returns c =
+    let f = c.args.forest.now in
+    let x = name_at f.names c.args.key in
+    c.some_complex_matches.ensures
+    ∙ ap (list_any (λ d. complex_matches f.trees (complex_view d) x)) c.as_slice.ensures.value
+    ∙ any_seen (λ d. complex_matches f.trees d x) complex_view c.args.self.now.complexes.items

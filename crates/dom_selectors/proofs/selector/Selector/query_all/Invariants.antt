@@ -1,0 +1,19 @@
+-- Those found and those still to be found are all.
+use Rattle.std.proofs.Common.{◌≡◌, ◌<◌, ◌++◌, length}
+use Rattle.std.specs.Prelude.{filter, map, All}
+use Rattle.std.specs.Option.{option_map, ForSome}
+use Rattle.dom_model.specs.Selectors.{selector_matches, query_all}
+use Rattle.dom_tree.specs.Forest.{name_at}
+use Rattle.dom_traversal.specs.Within.{from_node, StandsIn}
+use Rattle.dom_selectors.specs.Views.{selector_view}
+use Rattle.dom_selectors.proofs.selector.Selector.query_all.Given as goal
+
+abbrev pub invariant-loop-at : goal.invariant-loop-at
+invariant-loop-at l = record {
+  stands : ForSome l.at (StandsIn l.forest l.top);
+  nodes : All (λ k. k < length l.forest.names) l.found.items;
+  all : map (name_at l.forest.names) l.found.items ++ filter (selector_matches l.forest.trees (selector_view l.self)) (from_node l.forest.trees (name_at l.forest.names l.top) (option_map (name_at l.forest.names) l.at)) ≡ query_all l.forest.trees (selector_view l.self) (name_at l.forest.names l.top);
+}
+
+abbrev pub decreases-loop-at : goal.decreases-loop-at
+decreases-loop-at l = length (from_node l.forest.trees (name_at l.forest.names l.top) (option_map (name_at l.forest.names) l.at))

@@ -1,0 +1,12 @@
+-- The words that are left have it where those at the start have.
+use Rattle.std.proofs.Common.{◌≡◌, [], length}
+use Rattle.std.specs.List.{list_any}
+use Rattle.dom_model.specs.Names.{text_eq}
+use Rattle.dom_model.specs.Selectors.{words_from}
+use Rattle.dom_selectors.proofs.values.has_word.Given as goal
+
+abbrev pub invariant-loop-behind : goal.invariant-loop-behind
+invariant-loop-behind l = list_any (text_eq l.word) (words_from [] l.rest) ≡ list_any (text_eq l.word) (words_from [] l.text)
+
+abbrev pub decreases-loop-behind : goal.decreases-loop-behind
+decreases-loop-behind l = length l.rest

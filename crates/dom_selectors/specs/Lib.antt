@@ -1,0 +1,5 @@
+pub mod Views
+pub mod Reads
+pub mod Texts
+pub mod Grammar
+pub mod Laws

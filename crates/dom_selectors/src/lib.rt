@@ -1,0 +1,22 @@
+//! Selectors: how their text is read, which elements match them, and queries (CSS Selectors Level 4, in this project's
+//! part; DOM Standard, 1.3 Selectors).
+//!
+//! A selector's text is taken as it is: no code unit of it is replaced (own rule).
+#![tactic(auto)]
+
+mod compounds;
+mod grammar;
+mod joined;
+mod matching;
+mod query;
+mod selector;
+mod siblings;
+mod simples;
+mod tokens;
+mod values;
+
+pub use grammar::texts_say_one_selector;
+pub use selector::Selector;
+
+#[cfg(test)]
+mod tests;

@@ -1,0 +1,94 @@
+//! Which elements match simple selectors and compounds.
+ghost use Rattle.std.specs.Prelude.{◌≡◌, ◌<◌, ◌&&◌, length, map, string_bytes};
+ghost use Rattle.std.specs.List.{list_all};
+ghost use Rattle.dom_model.specs.Names.{text_eq};
+ghost use Rattle.dom_model.specs.Tree.{node_in};
+ghost use Rattle.dom_model.specs.Selectors.{attribute_passes as spec_attribute_passes, simple_matches as spec_simple_matches, part_matches as spec_part_matches, compound_matches as spec_compound_matches};
+ghost use Rattle.dom_tree.specs.Forest.{name_at};
+ghost use Rattle.dom_selectors.specs.Views.{test_view, simple_view, part_view, compound_view};
+
+use crate::selector::{AttributeTest, Part, Simple};
+use crate::siblings::{element_before, element_behind, is_element};
+use crate::values::value_passes;
+use dom_tree::Forest;
+use node_arena::Key;
+
+/// Whether a node has an attribute with a value as a test asks.
+fn attribute_passes(
+    forest: &Forest,
+    key: Key,
+    name: &str,
+    test: AttributeTest,
+    value: &[u16],
+) -> bool
+    requires { key < length forest.now.names }
+    ensures { result ≡ spec_attribute_passes (node_in forest.now.trees (name_at forest.now.names key)) name.now (test_view test) value.now }
+{
+    match forest.attr(key, name) {
+        Some(text) => value_passes(test, value, text),
+        None => false,
+    }
+}
+
+/// Whether two names are the same.
+fn is_same_name(name: &str, other: &str) -> bool
+    ensures { result ≡ text_eq name.now other.now }
+{
+    name == other
+}
+
+/// Whether an element matches a simple selector.
+fn simple_matches(forest: &Forest, simple: &Simple, key: Key) -> bool
+    requires { key < length forest.now.names }
+    ensures { result ≡ spec_simple_matches forest.now.trees (name_at forest.now.names key) (simple_view simple.now) }
+{
+    match simple {
+        Simple::OfType(name) => is_same_name(forest.element(key), name.as_str()),
+        Simple::OfAnyType => true,
+        Simple::OfId(id) => attribute_passes(forest, key, "id", AttributeTest::Equals, id),
+        Simple::OfClass(class) => {
+            attribute_passes(forest, key, "class", AttributeTest::HasWord, class)
+        }
+        Simple::WithAttribute(name) => forest.attr(key, name.as_str()).is_some(),
+        Simple::WithValue(name, test, value) => {
+            attribute_passes(forest, key, name.as_str(), *test, value)
+        }
+        Simple::FirstChild => element_before(forest, key).is_none(),
+        Simple::LastChild => element_behind(forest, key).is_none(),
+    }
+}
+
+/// Whether an element matches all of some simple selectors.
+fn all_simple_match(forest: &Forest, simples: &[Simple], key: Key) -> bool
+    requires { key < length forest.now.names }
+    ensures { result ≡ list_all (λ s. spec_simple_matches forest.now.trees (name_at forest.now.names key) (simple_view s)) simples.now }
+{
+    simples.iter().all(|s| simple_matches(forest, s, key))
+}
+
+/// Whether an element matches a part of a compound.
+fn part_matches(forest: &Forest, part: &Part, key: Key) -> bool
+    requires { key < length forest.now.names }
+    ensures { result ≡ spec_part_matches forest.now.trees (name_at forest.now.names key) (part_view part.now) }
+{
+    match part {
+        Part::Is(simple) => simple_matches(forest, simple, key),
+        Part::IsNot(simples) => !all_simple_match(forest, simples, key),
+    }
+}
+
+/// Whether an element matches all of some parts of a compound.
+fn all_parts_match(forest: &Forest, parts: &[Part], key: Key) -> bool
+    requires { key < length forest.now.names }
+    ensures { result ≡ list_all (λ p. spec_part_matches forest.now.trees (name_at forest.now.names key) (part_view p)) parts.now }
+{
+    parts.iter().all(|p| part_matches(forest, p, key))
+}
+
+/// Whether a node is an element that matches a compound.
+pub(crate) fn compound_matches(forest: &Forest, parts: &[Part], key: Key) -> bool
+    requires { key < length forest.now.names }
+    ensures { result ≡ spec_compound_matches forest.now.trees (compound_view parts.now) (name_at forest.now.names key) }
+{
+    is_element(forest, key) && all_parts_match(forest, parts, key)
+}
