@@ -1,0 +1,4 @@
+pub mod Hosts
+pub mod Shadows
+pub mod Kept
+pub mod Fields
