@@ -1,2 +1,6 @@
 pub mod Kept
 pub mod Shown
+pub mod Named
+pub mod Walks
+pub mod Hosted
+pub mod Siblings

@@ -2,6 +2,8 @@
 ghost use Rattle.std.specs.Prelude.{◌≡◌, ◌++◌, ◌∷◌, [], None, OnOk, OnErr};
 ghost use Rattle.dom_slots.specs.Hosts.{host_of_root, root_of_host};
 
+mod assigned;
+
 use dom_base::Owner;
 use indexmap::IndexMap;
 use node_arena::Key;
