@@ -4,3 +4,5 @@ pub mod Named
 pub mod Walks
 pub mod Hosted
 pub mod Siblings
+pub mod Tables
+pub mod Signalled

@@ -1,7 +1,9 @@
 -- How the fields of a `Slots` stand for what a contract sees of it.
 use Rattle.std.specs.Prelude.{◌≡◌, ℕ, List, map}
 use Rattle.dom_slots.specs.declared.slots.Attached.{Attached}
+use Rattle.dom_slots.specs.declared.slots.Begun.{Begun}
 use Rattle.dom_slots.specs.Hosts.{ShadowHost}
+use Rattle.dom_slots.specs.Kept.{BegunStep}
 
 -- a host from its entry
 abbrev pub host_in : ℕ × Attached → ShadowHost
@@ -14,3 +16,7 @@ hosts_in es = map host_in es
 -- the entries by root are those of the hosts
 abbrev pub RootsAgree : List (ℕ × Attached) → List (ℕ × ℕ) → Type 0
 RootsAgree es roots = roots ≡ map (λ (e : ℕ × Attached). (e.1.root, e.0)) es
+
+-- a step that was begun
+abbrev pub begun_in : Begun → BegunStep
+begun_in b = record { step = b.step; left = b.left; slot = b.slot }

@@ -1,7 +1,45 @@
 -- What a contract sees of a `Slots`.
-use Rattle.std.specs.Prelude.{List}
-use Rattle.dom_slots.specs.Hosts.{ShadowHost}
+use Rattle.std.specs.Prelude.{◌≡◌, ℕ, ◌<◌, List, length, Option, Some, option_map}
+use Rattle.std.specs.Option.{ForSome}
+use Rattle.dom_model.specs.Tree.{Trees}
+use Rattle.dom_tree.specs.Forest.{NamedTrees, name_at}
+use Rattle.dom_slots.specs.declared.step.Step.{Step}
+use Rattle.dom_slots.specs.Hosts.{ShadowHost, HostsAreNodes}
+use Rattle.dom_slots.specs.Shadows.{shadows, shadow_trees, slot_at}
+use Rattle.dom_slots.specs.Steps.{step_node, left_by, StepHasNodes, IsStepFrom}
+use Rattle.dom_slots.specs.Tables.{SlotTable, IsTableOf}
 
--- the hosts, in the order of attaching
+-- A step that was begun, with the parent from which a node is removed, and the slot of the step's node at that time.
+pub record BegunStep : Type 0 where
+  pub step : Step
+  pub left : Option ℕ
+  pub slot : Option ℕ
+
+-- the hosts, in the order of attaching, the nodes assigned to each slot, and the step that was begun, if one was
 pub record SlotsNow : Type 0 where
   pub hosts : List ShadowHost
+  pub table : SlotTable
+  pub begun : Option BegunStep
+
+-- the slots of a forest when no step is begun
+pub record AreSlotsOf (f : NamedTrees) (s : SlotsNow) : Type 0 where
+  pub hosts : HostsAreNodes f.names s.hosts
+  pub table : IsTableOf f s.hosts s.table
+
+-- a step that was just begun: of a removal with the parent that is to be left, and with the slot that its node has
+pub record IsBegun (f : NamedTrees) (hosts : List ShadowHost) (step : Step) (b : BegunStep) : Type 0 where
+  pub same : b.step ≡ step
+  pub left : option_map (name_at f.names) b.left ≡ left_by f.names f.trees step
+  pub left_node : ForSome b.left (λ k. k < length f.names)
+  pub slot : option_map (name_at f.names) b.slot ≡ slot_at (shadows f hosts) (name_at f.names (step_node step))
+  pub slot_node : ForSome b.slot (λ k. k < length f.names)
+
+-- a step was begun when the trees of a forest were others, and this step alone made them what they are
+pub record IsEndOf (was : Trees) (f : NamedTrees) (s : SlotsNow) (b : BegunStep) : Type 0 where
+  pub begun : s.begun ≡ Some b
+  pub nodes : StepHasNodes f.names b.step
+  pub left : ForSome b.left (λ k. k < length f.names)
+  pub slot_node : ForSome b.slot (λ k. k < length f.names)
+  pub slot : option_map (name_at f.names) b.slot ≡ slot_at (shadow_trees f.names was s.hosts) (name_at f.names (step_node b.step))
+  pub step : IsStepFrom f.names was f.trees b.step b.left
+  pub slots : AreSlotsOf record { names = f.names; trees = was } s

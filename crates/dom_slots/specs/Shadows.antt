@@ -46,22 +46,24 @@ module _ (s : ShadowTrees) where
   abbrev pub is_bare_at : NodeName → Bool
   is_bare_at y = is_slot_element (node_in s.trees y) && (is_some (s.host_of (root_of s.trees y)) && is_empty (assigned_at y))
 
+-- The slots that are signalled around a node, where p tells whose assigned nodes are others and x had this slot before (own
+-- rule; DOM Standard, concept: signal a slot change). In order: the old and the new slot of x; the node around, where a
+-- child was placed or removed and it is a slot without assigned nodes; the slots of the tree around; those of the tree of
+-- x. Each once, and all but the second only where p holds.
+abbrev pub signalled_by : (NodeName → Bool) → ShadowTrees → Option NodeName → NodeName → NodeName → Bool → List NodeName
+signalled_by p now old_slot x around is_move =
+    let bare = if is_move && is_bare_at now around then around ∷ [] else [] in
+    distinct name_eq (filter p (option_to_list old_slot ++ option_to_list (slot_at now x)) ++ bare
+    ++ filter p (slots_among (subtree now.trees (root_of now.trees around)) ++ slots_among (subtree now.trees x)))
+
 module _ (was now : ShadowTrees) where
   -- whether a slot's assigned nodes are others than they were
   abbrev pub is_changed_at : NodeName → Bool
   is_changed_at y = not (list_eq name_eq (assigned_at was y) (assigned_at now y))
 
-  -- the slots of these whose assigned nodes are others
-  abbrev pub changed_among : List NodeName → List NodeName
-  changed_among ys = filter is_changed_at ys
-
-  -- the slots that a step signals, in order: x was placed or removed below a parent, or had an attribute changed (own
-  -- rule; DOM Standard, concept: signal a slot change)
+  -- the slots that a step signals: x was placed or removed below a parent, or had an attribute changed
   abbrev pub signals_at : NodeName → NodeName → Bool → List NodeName
-  signals_at x around is_move =
-      let bare = if is_move && is_bare_at now around then around ∷ [] else [] in
-      distinct name_eq (changed_among (option_to_list (slot_at was x) ++ option_to_list (slot_at now x)) ++ bare
-      ++ changed_among (slots_among (subtree now.trees (root_of now.trees around)) ++ slots_among (subtree now.trees x)))
+  signals_at x around is_move = signalled_by is_changed_at now (slot_at was x) x around is_move
 
 -- A world has just these trees, each owner its own, and just these hosts: the shadow root of each host is node 0 of the
 -- component that was made for it.

@@ -3,7 +3,10 @@ ghost use Rattle.std.specs.Prelude.{◌≡◌, ◌++◌, ◌∷◌, [], None, On
 ghost use Rattle.dom_slots.specs.Hosts.{host_of_root, root_of_host};
 
 mod assigned;
+mod signals;
 
+use crate::step::Step;
+use crate::table::Table;
 use dom_base::Owner;
 use indexmap::IndexMap;
 use node_arena::Key;
@@ -17,11 +20,21 @@ struct Attached {
     owner: Owner,
 }
 
-/// The hosts of shadow trees, in the order of attaching.
+/// A step that was begun, with the parent from which a node is removed, and the slot that the step's node then had.
+#[derive(Clone, Copy)]
+struct Begun {
+    step: Step,
+    left: Option<Key>,
+    slot: Option<Key>,
+}
+
+/// The hosts of shadow trees, in the order of attaching, and the nodes assigned to the slots of their trees.
 #[derive(Drop)]
 pub struct Slots {
     hosts: IndexMap<Key, Attached>,
     roots: IndexMap<Key, Key>,
+    table: Table,
+    begun: Option<Begun>,
     alloc: Global,
 }
 
@@ -30,9 +43,11 @@ impl Model for Slots {
 
     ghost Value = { SlotsNow };
 
-    ghost use Rattle.dom_slots.specs.Fields.{hosts_in, RootsAgree};
+    ghost use Rattle.dom_slots.specs.Fields.{hosts_in, begun_in, RootsAgree};
 
-    ghost view = { λ s. record { hosts = hosts_in s.hosts.entries } };
+    ghost use Rattle.std.specs.Option.{option_map};
+
+    ghost view = { λ s. record { hosts = hosts_in s.hosts.entries; table = s.table; begun = option_map begun_in s.begun } };
 
     ghost invariant = { λ s. RootsAgree s.hosts.entries s.roots.entries };
 }
@@ -40,11 +55,13 @@ impl Model for Slots {
 impl Slots {
     /// No hosts. Takes no memory yet; later calls take theirs from `alloc`.
     pub fn new(alloc: Global) -> Self
-        ensures { result ≡ record { hosts = [] } }
+        ensures { result ≡ record { hosts = []; table = []; begun = None } }
     {
         Slots {
             hosts: IndexMap::new(alloc),
             roots: IndexMap::new(alloc),
+            table: Table::new(alloc),
+            begun: None,
             alloc,
         }
     }
@@ -52,9 +69,12 @@ impl Slots {
     /// Makes a node the host of a shadow root, which belongs to a component (DOM Standard, concept: attach a shadow
     /// root). Where memory is refused, all is as it was.
     pub fn attach(&mut self, host: Key, root: Key, owner: Owner) -> Result<(), AllocError>
+        requires free { self.old.begun ≡ None }
         requires new_host { root_of_host self.old.hosts host ≡ None }
         requires new_root { host_of_root self.old.hosts root ≡ None }
         ensures hosts { OnOk result (self.new.hosts ≡ self.old.hosts ++ record { host = host; root = root; owner = owner } ∷ []) }
+        ensures table { OnOk result (self.new.table ≡ self.old.table) }
+        ensures begun { OnOk result (self.new.begun ≡ None) }
         ensures err { OnErr result (self.new ≡ self.old) }
     {
         self.roots.reserve(1)?;
