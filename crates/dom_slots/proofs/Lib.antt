@@ -6,3 +6,4 @@ pub mod Hosted
 pub mod Siblings
 pub mod Tables
 pub mod Signalled
+pub mod Entering
