@@ -7,3 +7,5 @@ pub mod Siblings
 pub mod Tables
 pub mod Signalled
 pub mod Entering
+pub mod Ended
+pub mod Hostless

@@ -58,6 +58,11 @@ impl Slots {
         ensures free { OnOk result (self.new.begun ≡ None) }
         ensures slots { OnOk result (AreSlotsOf forest.now self.new) }
     {
+        forest.nodes_stand_once();
+        if self.hosts.is_empty() {
+            self.begun = None;
+            return Ok(Vec::new(self.alloc));
+        }
         let now = self.table_of(forest)?;
         let was = mem::replace(&mut self.table, now);
         match self.begun.take() {
@@ -67,12 +72,7 @@ impl Slots {
     }
 
     /// The slots that a step signals, where the table is that of the forest now and another was that before.
-    fn signals(
-        &self,
-        forest: &Forest,
-        was: &Table,
-        begun: Begun,
-    ) -> Result<Vec<Key>, AllocError>
+    fn signals(&self, forest: &Forest, was: &Table, begun: Begun) -> Result<Vec<Key>, AllocError>
         requires slots { AreSlotsOf forest.now self.now }
         requires nodes { StepHasNodes forest.now.names begun.step }
         requires left { ForSome begun.left (λ k. k < length forest.now.names) }
