@@ -125,14 +125,15 @@ module _ (f : NamedTrees) (hosts : List ShadowHost) where
   from_parent y z n none None e = cc
   from_parent y z n none (Some p) e = from_root y z p n none (root_named f.names hosts p) refl e
 
-  unassigned : (y : NodeName) → NoneHas y hosts → (x : NodeName) → is_assigned_at (shadows f hosts) y x ≡ false
+  -- nothing is assigned to a node that is no slot of the hosts' trees
+  pub unassigned : (y : NodeName) → NoneHas y hosts → (x : NodeName) → is_assigned_at (shadows f hosts) y x ≡ false
   unassigned y none x = by (slot_at (shadows f hosts) x) (λ z e. from_parent y z (node_in f.trees x) none (parent_of f.trees x) e)
     where
       by : (o : Option NodeName) → ((z : NodeName) → o ≡ Some z → name_eq y z ≡ false) → is_in name_eq y (option_to_list o) ≡ false
       by None h = refl
       by (Some z) h = ap (λ b. b || false) (h z refl)
 
-  -- so nothing is assigned to a node that is no slot of the hosts' trees
+  -- so its list is empty
   pub unslotted : (y : NodeName) → NoneHas y hosts → [] ≡ assigned_at (shadows f hosts) y
   unslotted y none = by ((shadows f hosts).host_of (root_of f.trees y))
     where

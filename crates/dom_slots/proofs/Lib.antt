@@ -9,3 +9,4 @@ pub mod Signalled
 pub mod Entering
 pub mod Ended
 pub mod Hostless
+pub mod Attaching

@@ -1,7 +1,9 @@
 -- What a contract sees of a `Slots`.
-use Rattle.std.specs.Prelude.{◌≡◌, ℕ, ◌<◌, List, length, Option, Some, option_map}
+use Rattle.std.specs.Prelude.{◌≡◌, ℕ, ◌<◌, true, count_by, slice_get, List, length, Option, Some, option_map}
 use Rattle.std.specs.Option.{ForSome}
-use Rattle.dom_model.specs.Tree.{Trees}
+use Rattle.dom_base.specs.declared.NodeName.{NodeName}
+use Rattle.dom_model.specs.Names.{name_eq}
+use Rattle.dom_model.specs.Tree.{Trees, nodes, has_node}
 use Rattle.dom_tree.specs.Forest.{NamedTrees, name_at}
 use Rattle.dom_slots.specs.declared.step.Step.{Step}
 use Rattle.dom_slots.specs.Hosts.{ShadowHost, HostsAreNodes}
@@ -20,6 +22,11 @@ pub record SlotsNow : Type 0 where
   pub hosts : List ShadowHost
   pub table : SlotTable
   pub begun : Option BegunStep
+
+-- the nodes of a forest stand in its trees, each once, and no others: what a forest's `nodes_stand_once` says
+pub record StandsOnce (f : NamedTrees) : Type 0 where
+  pub once : (k : ℕ) → k < length f.names → count_by (λ n. name_eq n.name (name_at f.names k)) (nodes f.trees) ≡ 1
+  pub only : (x : NodeName) → has_node f.trees x ≡ true → (k : ℕ) × (slice_get f.names k ≡ Some x)
 
 -- the slots of a forest when no step is begun
 pub record AreSlotsOf (f : NamedTrees) (s : SlotsNow) : Type 0 where

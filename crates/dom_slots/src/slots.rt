@@ -1,6 +1,10 @@
 //! The hosts of shadow trees.
-ghost use Rattle.std.specs.Prelude.{◌≡◌, ◌++◌, ◌∷◌, [], None, OnOk, OnErr};
+ghost use Rattle.std.specs.Prelude.{◌≡◌, ◌<◌, ◌++◌, ◌∷◌, [], length, None, OnOk, OnErr};
+ghost use Rattle.dom_model.specs.Slots.{slots_among};
+ghost use Rattle.dom_model.specs.Tree.{subtree};
+ghost use Rattle.dom_tree.specs.Forest.{NamedTrees, name_at};
 ghost use Rattle.dom_slots.specs.Hosts.{host_of_root, root_of_host};
+ghost use Rattle.dom_slots.specs.Kept.{AreSlotsOf, StandsOnce};
 
 mod assigned;
 mod signals;
@@ -44,6 +48,7 @@ impl Model for Slots {
     ghost Value = { SlotsNow };
 
     ghost use Rattle.dom_slots.specs.Fields.{hosts_in, begun_in, RootsAgree};
+
     ghost use Rattle.std.specs.Option.{option_map};
 
     ghost view = { λ s. record { hosts = hosts_in s.hosts.entries; table = s.table; begun = option_map begun_in s.begun } };
@@ -54,7 +59,9 @@ impl Model for Slots {
 impl Slots {
     /// No hosts. Takes no memory yet; later calls take theirs from `alloc`.
     pub fn new(alloc: Global) -> Self
-        ensures { result ≡ record { hosts = []; table = []; begun = None } }
+        ensures value { result ≡ record { hosts = []; table = []; begun = None } }
+        // They are the slots of every forest.
+        ensures slots { (f : NamedTrees) → AreSlotsOf f result }
     {
         Slots {
             hosts: IndexMap::new(alloc),
@@ -74,6 +81,8 @@ impl Slots {
         ensures hosts { OnOk result (self.new.hosts ≡ self.old.hosts ++ record { host = host; root = root; owner = owner } ∷ []) }
         ensures table { OnOk result (self.new.table ≡ self.old.table) }
         ensures begun { OnOk result (self.new.begun ≡ None) }
+        // They stay the slots of a forest, if no slot stands in the tree of the root.
+        ensures slots { OnOk result ((f : NamedTrees) → StandsOnce f → AreSlotsOf f self.old → host < length f.names → root < length f.names → slots_among (subtree f.trees (name_at f.names root)) ≡ [] → AreSlotsOf f self.new) }
         ensures err { OnErr result (self.new ≡ self.old) }
     {
         self.roots.reserve(1)?;
