@@ -8,7 +8,9 @@ mod laws;
 mod slots;
 mod step;
 mod table;
+#[cfg(test)]
+mod tests;
 
-pub use laws::slots_are_of_worlds;
+pub use laws::{slots_are_of_worlds, steps_end};
 pub use slots::Slots;
 pub use step::Step;

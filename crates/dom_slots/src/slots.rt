@@ -48,7 +48,6 @@ impl Model for Slots {
     ghost Value = { SlotsNow };
 
     ghost use Rattle.dom_slots.specs.Fields.{hosts_in, begun_in, RootsAgree};
-
     ghost use Rattle.std.specs.Option.{option_map};
 
     ghost view = { λ s. record { hosts = hosts_in s.hosts.entries; table = s.table; begun = option_map begun_in s.begun } };

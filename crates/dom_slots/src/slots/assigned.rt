@@ -1,8 +1,9 @@
 //! The slot of a node, and the nodes assigned to a slot.
-ghost use Rattle.std.specs.Prelude.{◌≡◌, ◌<◌, map, length, IfOk, All};
+ghost use Rattle.std.specs.Prelude.{◌≡◌, ◌<◌, None, map, length, IfOk, All};
 ghost use Rattle.std.specs.Option.{option_map, ForSome};
 ghost use Rattle.dom_tree.specs.Forest.{name_at};
 ghost use Rattle.dom_slots.specs.Hosts.{HostsAreNodes};
+ghost use Rattle.dom_slots.specs.Kept.{AreSlotsOf};
 ghost use Rattle.dom_slots.specs.Shadows.{shadows, slot_at, assigned_at, assigned_under};
 
 use crate::Slots;
@@ -16,6 +17,29 @@ impl Slots {
     /// concept: find a slot). Takes no memory.
     pub fn slot_of(&self, forest: &Forest, node: Key) -> Option<Key>
         requires node_is_node { node < length forest.now.names }
+        requires free { self.now.begun ≡ None }
+        requires slots { AreSlotsOf forest.now self.now }
+        ensures value { option_map (name_at forest.now.names) result ≡ slot_at (shadows forest.now self.now.hosts) (name_at forest.now.names node) }
+        ensures node { ForSome result (λ k. k < length forest.now.names) }
+    {
+        self.slot_now(forest, node)
+    }
+
+    /// The nodes assigned to a slot, in the order of their host's children; none to a node outside of shadow trees (DOM
+    /// Standard, concept: assigned nodes).
+    pub fn assigned(&self, forest: &Forest, slot: Key) -> Result<Vec<Key>, AllocError>
+        requires slot_is_node { slot < length forest.now.names }
+        requires free { self.now.begun ≡ None }
+        requires slots { AreSlotsOf forest.now self.now }
+        ensures value { IfOk result (λ keys. map (name_at forest.now.names) keys.items ≡ assigned_at (shadows forest.now self.now.hosts) (name_at forest.now.names slot)) }
+        ensures nodes { IfOk result (λ keys. All (λ k. k < length forest.now.names) keys.items) }
+    {
+        self.assigned_now(forest, slot)
+    }
+
+    /// The same, also in a forest that is not that of the table.
+    pub(super) fn slot_now(&self, forest: &Forest, node: Key) -> Option<Key>
+        requires node_is_node { node < length forest.now.names }
         requires hosts { HostsAreNodes forest.now.names self.now.hosts }
         ensures value { option_map (name_at forest.now.names) result ≡ slot_at (shadows forest.now self.now.hosts) (name_at forest.now.names node) }
         ensures node { ForSome result (λ k. k < length forest.now.names) }
@@ -27,9 +51,8 @@ impl Slots {
         slot_named(forest, root, name)
     }
 
-    /// The nodes assigned to a slot, in the order of their host's children; none to a node outside of shadow trees (DOM
-    /// Standard, concept: assigned nodes).
-    pub fn assigned(&self, forest: &Forest, slot: Key) -> Result<Vec<Key>, AllocError>
+    /// The nodes assigned to a slot, also in a forest that is not that of the table.
+    pub(super) fn assigned_now(&self, forest: &Forest, slot: Key) -> Result<Vec<Key>, AllocError>
         requires slot_is_node { slot < length forest.now.names }
         requires hosts { HostsAreNodes forest.now.names self.now.hosts }
         ensures value { IfOk result (λ keys. map (name_at forest.now.names) keys.items ≡ assigned_at (shadows forest.now self.now.hosts) (name_at forest.now.names slot)) }
@@ -54,7 +77,7 @@ impl Slots {
         let mut keys = Vec::new(self.alloc);
         let mut at = forest.first(host);
         while let Some(child) = at {
-            if self.slot_of(forest, child) == Some(slot) {
+            if self.slot_now(forest, child) == Some(slot) {
                 keys.push(child)?;
             }
             at = forest.next(child);

@@ -39,7 +39,7 @@ impl Slots {
             Step::Removal(node) => forest.parent(node),
             _ => None,
         };
-        let slot = self.slot_of(forest, step.node());
+        let slot = self.slot_now(forest, step.node());
         self.begun = Some(Begun {
             step: kept,
             left,
@@ -103,7 +103,7 @@ impl Slots {
     {
         forest.nodes_stand_once();
         let node = begun.step.node();
-        let new_slot = self.slot_of(forest, node);
+        let new_slot = self.slot_now(forest, node);
         let beside = slots_below(self.alloc, forest, forest.root(around))?;
         let below = slots_below(self.alloc, forest, node)?;
         let mut signals = Vec::new(self.alloc);
@@ -166,7 +166,7 @@ impl Slots {
         forest.nodes_stand_once();
         let slots = slots_below(self.alloc, forest, root)?;
         for slot in &slots {
-            let list = self.assigned(forest, *slot)?;
+            let list = self.assigned_now(forest, *slot)?;
             table.insert(*slot, list)?;
         }
         Ok(())

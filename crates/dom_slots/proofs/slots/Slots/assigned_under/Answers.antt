@@ -28,8 +28,8 @@ loop-at-init c =
       left = ap (λ ks. map (name_at f.names) ks ++ filter test (from_item (children_of f.trees h) (option_map (name_at f.names) c.first-at.result))) c.new-keys.ensures.items ∙ ap (filter test) step.0;
     }
 
-pub slot_of-requires-clause-node_is_node : goal.slot_of-requires-clause-node_is_node
-slot_of-requires-clause-node_is_node c = (c.loop-at.invariant.child c.in-Some.child c.in-Some.is).node
+pub slot_now-requires-clause-node_is_node : goal.slot_now-requires-clause-node_is_node
+slot_now-requires-clause-node_is_node c = (c.loop-at.invariant.child c.in-Some.child c.in-Some.is).node
 
 pub next-at-requires : goal.next-at-requires
 next-at-requires c = (c.loop-at.invariant.child c.in-Some.child c.in-Some.is).node
@@ -58,8 +58,8 @@ loop-at-preserved c =
     let left : map (name_at f.names) c.loop-at.keys.items ++ filter test (name_at f.names k ∷ xs) ≡ all =
     ap (λ o. map (name_at f.names) c.loop-at.keys.items ++ filter test (from_item (children_of f.trees h) (option_map (name_at f.names) o))) (sym c.in-Some.is) ∙ c.loop-at.invariant.left in
     let new = c.if-eq.keys.items in
-    let tested : option_eq KeyImpl.ghosts.eq c.slot_of.result (Some c.args.slot) ≡ test (name_at f.names k) =
-    found-test f.names e.distinct c.slot_of.result c.args.slot c.slot_of.ensures.node c.requires.slot_is_node ∙ ap (λ o. is_in name_eq (name_at f.names c.args.slot) (option_to_list o)) c.slot_of.ensures.value in
+    let tested : option_eq KeyImpl.ghosts.eq c.slot_now.result (Some c.args.slot) ≡ test (name_at f.names k) =
+    found-test f.names e.distinct c.slot_now.result c.args.slot c.slot_now.ensures.node c.requires.slot_is_node ∙ ap (λ o. is_in name_eq (name_at f.names c.args.slot) (option_to_list o)) c.slot_now.ensures.value in
     let is : All (λ j. j < length f.names) new × (map (name_at f.names) new ++ filter test xs ≡ all) = elim c.if-eq.branch [
       | then-eq+in_ok-push w ↦ collect-yes f.names test c.loop-at.keys.items k child.node xs all c.loop-at.invariant.nodes left new (ap (λ v. v.items) w.keys-is ∙ w.in_ok-push.ensures.items) (sym (w.if-eq.ensures ∙ tested))
       | else-eq w ↦ collect-no f.names test c.loop-at.keys.items k child.node xs all c.loop-at.invariant.nodes left new (ap (λ v. v.items) w.keys-is) (sym (w.if-eq.ensures ∙ tested))

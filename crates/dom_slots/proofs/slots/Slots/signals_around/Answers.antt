@@ -35,7 +35,7 @@ returns-clause-nodes c =
     let P : ℕ → Type 0 = λ k. k < n in
     let added : (keys slots new : List ℕ) → new ≡ fold (append_once nat_eq) keys (filter test slots) → All P keys → All P slots → All P new = λ keys slots new e h i. subst (All P) (sym e) (nodes_added n test keys slots h i) in
     let old_one : All P c.as_slice.result.now = subst (All P) (sym (listed c.args.begun.slot c.as_slice.result.now c.as_slice.ensures)) (listed-nodes n c.args.begun.slot c.requires.slot) in
-    let new_one : All P c.as_slice-2.result.now = subst (All P) (sym (listed c.slot_of-new_slot.result c.as_slice-2.result.now c.as_slice-2.ensures)) (listed-nodes n c.slot_of-new_slot.result c.slot_of-new_slot.ensures.node) in
+    let new_one : All P c.as_slice-2.result.now = subst (All P) (sym (listed c.slot_now-new_slot.result c.as_slice-2.result.now c.as_slice-2.ensures)) (listed-nodes n c.slot_now-new_slot.result c.slot_now-new_slot.ensures.node) in
     let none : All P c.new-signals.result.items = subst (All P) (sym c.new-signals.ensures.items) (All-nil P) in
     let first = added c.new-signals.result.items c.as_slice.result.now c.add_changed.new.signals.items c.in_ok-add_changed.ensures none old_one in
     let second = added c.add_changed.new.signals.items c.as_slice-2.result.now c.add_changed-2.new.signals.items c.in_ok-add_changed-2.ensures first new_one in
@@ -61,7 +61,7 @@ returns-clause-value c =
     let test : ℕ → Bool = has_other_list c.args.was.now c.self.inside.table in
     let told : (k : ℕ) → k < n → p (name k) ≡ test k = λ k h. agree k h ∙ ap (λ (t : SlotsNow). has_other_list c.args.was.now t.table k) (sym c.self.view_is) in
     let old_is = listed c.args.begun.slot c.as_slice.result.now c.as_slice.ensures in
-    let new_is = listed c.slot_of-new_slot.result c.as_slice-2.result.now c.as_slice-2.ensures in
+    let new_is = listed c.slot_now-new_slot.result c.as_slice-2.result.now c.as_slice-2.ensures in
     let a = map name c.as_slice.result.now in
     let b = map name c.as_slice-2.result.now in
     let d = map name c.deref.result.now in
@@ -69,7 +69,7 @@ returns-clause-value c =
     let bare = if is_move c.args.begun.step && is_bare_at s around then around ∷ [] else [] in
     let none = none_signalled f.names apart c.new-signals.result.items c.new-signals.ensures.items in
     let first = more_signalled f.names apart p test told [] c.new-signals.result.items c.add_changed.new.signals.items c.as_slice.result.now none (subst (All P) (sym old_is) (listed-nodes n c.args.begun.slot c.requires.slot)) c.in_ok-add_changed.ensures in
-    let second = more_signalled f.names apart p test told (filter p a) c.add_changed.new.signals.items c.add_changed-2.new.signals.items c.as_slice-2.result.now first (subst (All P) (sym new_is) (listed-nodes n c.slot_of-new_slot.result c.slot_of-new_slot.ensures.node)) c.in_ok-add_changed-2.ensures in
+    let second = more_signalled f.names apart p test told (filter p a) c.add_changed.new.signals.items c.add_changed-2.new.signals.items c.as_slice-2.result.now first (subst (All P) (sym new_is) (listed-nodes n c.slot_now-new_slot.result c.slot_now-new_slot.ensures.node)) c.in_ok-add_changed-2.ensures in
     let two = filter p a ++ filter p b in
     let kept : (new : List ℕ) → new ≡ c.add_changed-2.new.signals.items → [] ≡ bare → AreSignalled f.names apart (two ++ bare) new = λ new is none_bare. subst (λ xs. AreSignalled f.names apart (two ++ xs) new) none_bare
     (subst (λ xs. AreSignalled f.names apart xs new) (sym (append-nil two)) (subst (AreSignalled f.names apart two) (sym is) second)) in
@@ -88,8 +88,8 @@ returns-clause-value c =
     let fifth = more_signalled f.names apart p test told ((two ++ bare) ++ filter p d) c.add_changed-3.new.signals.items c.add_changed-4.new.signals.items c.deref-2.result.now fourth (subst (All P) (sym c.deref-2.ensures.value) c.in_ok-below.ensures.nodes) c.in_ok-add_changed-4.ensures in
     let own_are : a ++ b ≡ option_to_list (option_map name c.args.begun.slot) ++ option_to_list (slot_at s (name (step_node c.args.begun.step))) =
     ap (λ xs. xs ++ b) (ap (map name) old_is ∙ listed-named f.names c.args.begun.slot)
-    ∙ ap (λ xs. option_to_list (option_map name c.args.begun.slot) ++ xs) (ap (map name) new_is ∙ (listed-named f.names c.slot_of-new_slot.result
-    ∙ (ap option_to_list c.slot_of-new_slot.ensures.value ∙ ap (λ k. option_to_list (slot_at s (name k))) c.node-node.ensures))) in
+    ∙ ap (λ xs. option_to_list (option_map name c.args.begun.slot) ++ xs) (ap (map name) new_is ∙ (listed-named f.names c.slot_now-new_slot.result
+    ∙ (ap option_to_list c.slot_now-new_slot.ensures.value ∙ ap (λ k. option_to_list (slot_at s (name k))) c.node-node.ensures))) in
     let others_are : d ++ e ≡ slots_among (subtree f.trees (root_of f.trees around)) ++ slots_among (subtree f.trees (name (step_node c.args.begun.step))) =
     ap (λ xs. xs ++ e) (ap (map name) c.deref.ensures.value ∙ (c.in_ok-beside.ensures.value ∙ ap (λ y. slots_among (subtree f.trees y)) c.root.ensures.value))
     ∙ ap (λ xs. slots_among (subtree f.trees (root_of f.trees around)) ++ xs) (ap (map name) c.deref-2.ensures.value ∙ (c.in_ok-below.ensures.value ∙ ap (λ k. slots_among (subtree f.trees (name k))) c.node-node.ensures)) in

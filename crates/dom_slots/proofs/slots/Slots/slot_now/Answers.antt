@@ -3,7 +3,7 @@ use Rattle.std.specs.Option.{option_map}
 use Rattle.dom_tree.specs.Forest.{name_at}
 use Rattle.dom_slots.specs.Shadows.{shadows}
 use Rattle.dom_slots.proofs.Hosted.{root-named, root-node, slot-no_root, slot-searched}
-use Rattle.dom_slots.proofs.slots.Slots.slot_of.Goals as goal
+use Rattle.dom_slots.proofs.slots.Slots.slot_now.Goals as goal
 
 pub returns-in_err-root-clause-value : goal.returns-in_err-root-clause-value
 returns-in_err-root-clause-value c =

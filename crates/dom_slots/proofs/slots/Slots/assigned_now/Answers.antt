@@ -6,7 +6,7 @@ use Rattle.dom_tree.specs.Forest.{name_at}
 use Rattle.dom_slots.specs.Hosts.{host_named}
 use Rattle.dom_slots.specs.Shadows.{shadows, assigned_under}
 use Rattle.dom_slots.proofs.Hosted.{host-named, host-node}
-use Rattle.dom_slots.proofs.slots.Slots.assigned.Goals as goal
+use Rattle.dom_slots.proofs.slots.Slots.assigned_now.Goals as goal
 
 pub assigned_under-requires-clause-host_is_node : goal.assigned_under-requires-clause-host_is_node
 assigned_under-requires-clause-host_is_node c = host-node c.args.forest.now.names c.args.self.now.hosts c.requires.hosts c.root.result c.in-Some.host (sym c.host_of.ensures ∙ c.in-Some.is)
