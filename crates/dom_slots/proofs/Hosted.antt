@@ -1,0 +1,80 @@
+-- Hosts by their keys and by their names, and the slot of a node by the way in which it is looked for.
+use Rattle.std.proofs.Common.{◌≡◌, ◌≢◌, inl, inr, ℕ, ◌<◌, Bool, true, false, ◌||◌, List, [], ◌∷◌, length, Option, Some, None, refl, sym, ap, ◌∙◌, arith}
+use Rattle.std.specs.Prelude.{nat_eq, find, option_to_list}
+use Rattle.std.specs.Option.{option_map, option_and_then, option_eq, ForSome}
+use Rattle.std.proofs.lemmas.Bool.{cases_Bool, eqb-true, eq-eqb, both_ways}
+use Rattle.dom_base.specs.declared.NodeName.{NodeName}
+use Rattle.dom_model.specs.Names.{DomString, name_eq, is_in}
+use Rattle.dom_model.specs.Tree.{Trees, Node, node_in, nodes, parent_of, subtree}
+use Rattle.dom_model.specs.Slots.{has_slot_name, slottable_name, slot_in}
+use Rattle.dom_tree.specs.Forest.{NamedTrees, name_at}
+use Rattle.dom_traversal.proofs.Lists.{name_eq-from, name_eq-other}
+use Rattle.node_arena.specs.contracts.key.KeyPartialEq.TheImpl as KeyImpl
+use Rattle.dom_slots.specs.Hosts.{ShadowHost, HostsAreNodes, host_of_root, root_of_host, host_named, root_named}
+use Rattle.dom_slots.specs.Shadows.{ShadowTrees, slot_at}
+
+-- names tell nodes apart
+abbrev pub AreDistinct : List NodeName → Type 0
+AreDistinct names = (j k : ℕ) → j < length names → k < length names → name_at names j ≡ name_at names k → j ≡ k
+
+module _ (names : List NodeName) (distinct : AreDistinct names) where
+  -- the test of keys is that of names
+  pub key-test : (j k : ℕ) → j < length names → k < length names → nat_eq j k ≡ name_eq (name_at names j) (name_at names k)
+  key-test j k h i = elim (cases_Bool (nat_eq j k)) [
+    | inl e ↦ e ∙ sym (name_eq-from (name_at names j) (name_at names k) (ap (name_at names) (eqb-true j k e)))
+    | inr e ↦ e ∙ sym (name_eq-other (name_at names j) (name_at names k) (λ same. both_ways _ e (eq-eqb j k (distinct j k h i same))))
+  ]
+
+  -- the host of a root by keys is that by names
+  pub host-named : (hosts : List ShadowHost) → HostsAreNodes names hosts → (k : ℕ) → k < length names → option_map (name_at names) (host_of_root hosts k) ≡ host_named names hosts (name_at names k)
+  host-named [] h k i = refl
+  host-named (x ∷ hosts) h k i =
+      let same = key-test k x.root i h.1 in
+      elim (cases_Bool (nat_eq k x.root)) [ inl e ↦ rw (sym same ∙ e, e) refl | inr e ↦ rw (sym same ∙ e, e) (host-named hosts h.2 k i) ]
+
+  -- and so the root of a host
+  pub root-named : (hosts : List ShadowHost) → HostsAreNodes names hosts → (k : ℕ) → k < length names → option_map (name_at names) (root_of_host hosts k) ≡ root_named names hosts (name_at names k)
+  root-named [] h k i = refl
+  root-named (x ∷ hosts) h k i =
+      let same = key-test k x.host i h.0 in
+      elim (cases_Bool (nat_eq k x.host)) [ inl e ↦ rw (sym same ∙ e, e) refl | inr e ↦ rw (sym same ∙ e, e) (root-named hosts h.2 k i) ]
+
+  -- whether a key is the one found, by names
+  pub found-test : (o : Option ℕ) (k : ℕ) → ForSome o (λ j. j < length names) → k < length names → option_eq KeyImpl.ghosts.eq o (Some k) ≡ is_in name_eq (name_at names k) (option_to_list (option_map (name_at names) o))
+  found-test None k h i = refl
+  found-test (Some j) k h i = elim (cases_Bool (nat_eq j k)) [
+    | inl e ↦ e ∙ sym (ap (λ b. b || false) (name_eq-from (name_at names k) (name_at names j) (ap (name_at names) (sym (eqb-true j k e)))))
+    | inr e ↦ e ∙ sym (ap (λ b. b || false) (name_eq-other (name_at names k) (name_at names j) (λ same. both_ways _ e (eq-eqb j k (sym (distinct k j i (h j refl) same))))))
+  ]
+
+-- a root that is found is a node
+pub root-node : (names : List NodeName) (hosts : List ShadowHost) → HostsAreNodes names hosts → (k r : ℕ) → root_of_host hosts k ≡ Some r → r < length names
+root-node names [] h k r e = cc
+root-node names (x ∷ hosts) h k r e = elim (cases_Bool (nat_eq k x.host)) [
+  | inl is ↦ let same : Some x.root ≡ Some r = rw is at e in let at : x.root ≡ r = cc in rw (← at) h.1
+  | inr is ↦ root-node names hosts h.2 k r (rw is at e)
+]
+
+-- so is a host
+pub host-node : (names : List NodeName) (hosts : List ShadowHost) → HostsAreNodes names hosts → (k r : ℕ) → host_of_root hosts k ≡ Some r → r < length names
+host-node names [] h k r e = cc
+host-node names (x ∷ hosts) h k r e = elim (cases_Bool (nat_eq k x.root)) [
+  | inl is ↦ let same : Some x.host ≡ Some r = rw is at e in let at : x.host ≡ r = cc in rw (← at) h.0
+  | inr is ↦ host-node names hosts h.2 k r (rw is at e)
+]
+
+-- a node is looked for in the shadow tree of its parent
+module _ (s : ShadowTrees) (x p : NodeName) (up : Some p ≡ parent_of s.trees x) where
+  -- a parent without a shadow root
+  pub slot-no_root : None ≡ s.shadow_of p → None ≡ slot_at s x
+  slot-no_root e =
+      ap (option_and_then (λ r. slot_in (subtree s.trees r) (node_in s.trees x))) e
+      ∙ ap (λ o. option_and_then (λ r. slot_in (subtree s.trees r) (node_in s.trees x)) (option_and_then s.shadow_of o)) up
+
+  -- the first slot of its name
+  pub slot-searched : (r : NodeName) (name : DomString) → Some r ≡ s.shadow_of p → Some name ≡ slottable_name (node_in s.trees x)
+      → option_map (λ (n : Node). n.name) (find (has_slot_name name) (nodes (subtree s.trees r))) ≡ slot_at s x
+  slot-searched r name e is =
+      ap (option_and_then (λ a. option_map (λ (n : Node). n.name) (find (has_slot_name a) (nodes (subtree s.trees r))))) is
+      ∙ (ap (option_and_then (λ q. slot_in (subtree s.trees q) (node_in s.trees x))) e
+      ∙ ap (λ o. option_and_then (λ q. slot_in (subtree s.trees q) (node_in s.trees x)) (option_and_then s.shadow_of o)) up)

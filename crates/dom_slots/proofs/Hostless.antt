@@ -1,0 +1,42 @@
+-- Where there are no hosts, nothing is assigned and no slot is signalled.
+use Rattle.std.proofs.Common.{◌≡◌, Bool, true, false, ◌&&◌, List, [], ◌∷◌, ◌++◌, Option, None, Some, filter, refl, sym, ap, ◌∙◌}
+use Rattle.std.specs.Prelude.{ℕ, if◌then◌else◌, is_some, option_to_list}
+use Rattle.std.specs.Option.{option_map_or}
+use Rattle.dom_tree.specs.Forest.{name_at}
+use Rattle.dom_base.specs.declared.NodeName.{NodeName}
+use Rattle.dom_model.specs.Names.{name_eq, distinct, is_empty}
+use Rattle.dom_model.specs.Slots.{is_slot_element, slots_among}
+use Rattle.dom_model.specs.Tree.{Trees, node_in, root_of, subtree}
+use Rattle.dom_slots.specs.Shadows.{ShadowTrees, shadow_trees, slot_at, assigned_at, is_changed_at, is_bare_at, signals_at}
+use Rattle.dom_slots.specs.Steps.{step_node, around_of, is_move, step_signals}
+use Rattle.dom_slots.specs.declared.step.Step.{Step}
+
+filter_none : (p : NodeName → Bool) → ((x : NodeName) → p x ≡ false) → (xs : List NodeName) → filter p xs ≡ []
+filter_none p h [] = refl
+filter_none p h (x ∷ xs) = rw (h x) (filter_none p h xs)
+
+no_choice : (a b c : Bool) → c ≡ false → (a && (b && c)) ≡ false
+no_choice true true c e = e
+no_choice true false c e = refl
+no_choice false b c e = refl
+
+-- around any node
+hostless-around : (names : List NodeName) (was now : Trees) (x around : NodeName) (is_move : Bool) → [] ≡ signals_at (shadow_trees names was []) (shadow_trees names now []) x around is_move
+hostless-around names was now x around is_move =
+    let s : ShadowTrees = shadow_trees names was [] in
+    let t : ShadowTrees = shadow_trees names now [] in
+    let p : NodeName → Bool = is_changed_at s t in
+    let own = option_to_list (slot_at s x) ++ option_to_list (slot_at t x) in
+    let others = slots_among (subtree now (root_of now around)) ++ slots_among (subtree now x) in
+    let bare : (is_move && is_bare_at t around) ≡ false = no_choice is_move (is_slot_element (node_in now around)) (is_some (t.host_of (root_of now around)) && is_empty (assigned_at t around)) refl in
+    sym (ap (λ xs. distinct name_eq (xs ++ (if is_move && is_bare_at t around then around ∷ [] else []) ++ filter p others)) (filter_none p (λ y. refl) own)
+    ∙ (ap (λ (b : Bool). distinct name_eq ([] ++ (if b then around ∷ [] else []) ++ filter p others)) bare
+    ∙ ap (distinct name_eq) (filter_none p (λ y. refl) others)))
+
+-- at any step
+pub hostless-signals : (names : List NodeName) (was now : Trees) (step : Step) (left : Option ℕ) → [] ≡ step_signals names (shadow_trees names was []) (shadow_trees names now []) step left
+hostless-signals names was now step left = by (around_of step left)
+  where
+    by : (o : Option ℕ) → [] ≡ option_map_or (λ around. signals_at (shadow_trees names was []) (shadow_trees names now []) (name_at names (step_node step)) (name_at names around) (is_move step)) o []
+    by None = refl
+    by (Some around) = hostless-around names was now (name_at names (step_node step)) (name_at names around) (is_move step)

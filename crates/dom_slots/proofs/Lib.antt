@@ -1,0 +1,12 @@
+pub mod Kept
+pub mod Shown
+pub mod Named
+pub mod Walks
+pub mod Hosted
+pub mod Siblings
+pub mod Tables
+pub mod Signalled
+pub mod Entering
+pub mod Ended
+pub mod Hostless
+pub mod Attaching

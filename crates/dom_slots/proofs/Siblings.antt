@@ -1,0 +1,97 @@
+-- A walk along the children of a node.
+use Rattle.std.proofs.Common.{◌≡◌, inl, inr, ℕ, ◌<◌, List, [], ◌∷◌, ◌++◌, length, Option, Some, None, suc, refl, sym, ap, subst, ◌∙◌, append_assoc, arith}
+use Rattle.std.specs.List.{flat_map}
+use Rattle.std.specs.Option.{option_map, option_map_or, ForSome}
+use Rattle.std.proofs.lemmas.List.Concat.{flat_map-cons}
+use Rattle.dom_base.specs.declared.NodeName.{NodeName}
+use Rattle.dom_model.specs.Names.{name_eq, first_of, items_after, items_before}
+use Rattle.dom_model.specs.Tree.{Trees, parent_of, children_of, siblings, next_sibling, inclusive_descendants, inclusive_ancestors, subtree}
+use Rattle.dom_tree.specs.Forest.{NamedTrees, name_at}
+use Rattle.dom_traversal.proofs.Lists.{In, In-left, In-right, Single, Single-right, Single-apart, no_first, first_split, split_at, after-split, after-in, name_eq-from}
+use Rattle.dom_traversal.proofs.Shapes.{Once, Has, above-present, below-from_above}
+use Rattle.dom_traversal.proofs.Children.{In-names, Single-names, parent-of_child, child-of_parent, descendants-children}
+use Rattle.dom_traversal.proofs.Order.{IsWithin, all_single}
+
+-- the items from one on; none where there is none
+abbrev pub from_item : List NodeName → Option NodeName → List NodeName
+from_item xs None = []
+from_item xs (Some x) = x ∷ items_after name_eq x xs
+
+-- from the first on are all
+pub from-first : (xs : List NodeName) → from_item xs (first_of xs) ≡ xs
+from-first [] = refl
+from-first (x ∷ xs) = rw (name_eq-from x x refl) refl
+
+-- behind an item comes the next one, with all behind that one
+pub from-next : (x : NodeName) (xs : List NodeName) → Single xs → In x xs → (o : Option NodeName) → o ≡ first_of (items_after name_eq x xs) → items_after name_eq x xs ≡ from_item xs o
+from-next x xs single i None e = no_first (items_after name_eq x xs) (sym e)
+from-next x xs single i (Some y) e =
+    let s = first_split (items_after name_eq x xs) y (sym e) in
+    let front = items_before name_eq x xs ++ x ∷ [] in
+    let whole : xs ≡ front ++ y ∷ s.0 =
+    split_at x xs i ∙ (ap (λ ys. items_before name_eq x xs ++ x ∷ ys) s.1 ∙ sym (append_assoc (items_before name_eq x xs) (x ∷ []) (y ∷ s.0))) in
+    let apart : In y front → ⊥ = λ j. Single-apart y front (y ∷ s.0) (subst Single whole single) j (inl refl) in
+    s.1 ∙ ap (λ ys. y ∷ ys) (sym (ap (items_after name_eq y) whole ∙ after-split y front s.0 apart))
+
+in_flat : (f : NodeName → List NodeName) (y : NodeName) (xs : List NodeName) → In y xs → In y (f y) → In y (flat_map f xs)
+in_flat f y [] h i = h
+in_flat f y (x ∷ xs) (inl e) i = subst (In y) (sym (flat_map-cons f x xs)) (In-left y (f x) (flat_map f xs) (subst (λ z. In y (f z)) e i))
+in_flat f y (x ∷ xs) (inr h) i = subst (In y) (sym (flat_map-cons f x xs)) (In-right y (f x) (flat_map f xs) (in_flat f y xs h i))
+
+single_from_flat : (f : NodeName → List NodeName) (xs : List NodeName) → ((y : NodeName) → In y xs → In y (f y)) → Single (flat_map f xs) → Single xs
+single_from_flat f [] own s = tt
+single_from_flat f (x ∷ xs) own s =
+    let t : Single (f x ++ flat_map f xs) = subst Single (flat_map-cons f x xs) s in (
+      λ i. Single-apart x (f x) (flat_map f xs) t (own x (inl refl)) (in_flat f x xs i (own x (inl refl))),
+      single_from_flat f xs (λ y i. own y (inr i)) (Single-right (f x) (flat_map f xs) t),
+    )
+
+-- a node in its own tree
+itself : (ts : Trees) (x : NodeName) → Once ts → Has ts x → In x (inclusive_descendants ts x)
+itself ts x once h = In-names (subtree ts x) x (below-from_above ts x x once h (subst (In x) (sym (above-present ts x h).1) (inl refl)))
+
+-- no child stands twice among the children
+pub children-single : (ts : Trees) (p : NodeName) → Once ts → Has ts p → Single (children_of ts p)
+children-single ts p once h =
+    let w : IsWithin ts p p = record { once = once; top_stands = h; stands = below-from_above ts p p once h (subst (In p) (sym (above-present ts p h).1) (inl refl)) } in
+    let all : Single (p ∷ flat_map (inclusive_descendants ts) (children_of ts p)) = subst Single (descendants-children ts p once h) (all_single ts p p w) in
+    single_from_flat (inclusive_descendants ts) (children_of ts p) (λ y i. itself ts y once (parent-of_child ts p y once h i).1) all.1
+
+-- a key of a child of h
+pub record IsChild (f : NamedTrees) (h : NodeName) (k : ℕ) : Type 0 where
+  pub node : k < length f.names
+  pub parent : parent_of f.trees (name_at f.names k) ≡ Some h
+
+module _ (f : NamedTrees) (once : Once f.trees) (h : NodeName) (stands : Has f.trees h) where
+  -- the key of a child found by its name
+  child_found : (o : Option ℕ) → ForSome o (λ k. k < length f.names) → ((y : NodeName) → option_map (name_at f.names) o ≡ Some y → In y (children_of f.trees h)) → ForSome o (IsChild f h)
+  child_found o node among = λ k e. record { node = node k e; parent = (parent-of_child f.trees h (name_at f.names k) once stands (among (name_at f.names k) (ap (option_map (name_at f.names)) e))).0 }
+
+  -- from the first child on are all
+  pub first_step : (o : Option ℕ) → option_map (name_at f.names) o ≡ first_of (children_of f.trees h) → ForSome o (λ k. k < length f.names)
+      → (from_item (children_of f.trees h) (option_map (name_at f.names) o) ≡ children_of f.trees h) × ForSome o (IsChild f h)
+  first_step o e node = (
+    ap (from_item (children_of f.trees h)) e ∙ from-first (children_of f.trees h),
+    child_found o node (λ y is. let s = first_split (children_of f.trees h) y (sym e ∙ is) in subst (In y) (sym s.1) (inl refl)),
+  )
+
+  -- behind a child come the next one and all behind that one
+  pub next_step : (k : ℕ) → IsChild f h k → Has f.trees (name_at f.names k) → (next : Option ℕ) → option_map (name_at f.names) next ≡ next_sibling f.trees (name_at f.names k) → ForSome next (λ j. j < length f.names)
+      → (items_after name_eq (name_at f.names k) (children_of f.trees h) ≡ from_item (children_of f.trees h) (option_map (name_at f.names) next)) × ForSome next (IsChild f h)
+  next_step k child at next e node =
+      let x = name_at f.names k in
+      let all : siblings f.trees x ≡ children_of f.trees h = ap (λ o. option_map_or (children_of f.trees) o (x ∷ [])) child.parent in
+      let first : option_map (name_at f.names) next ≡ first_of (items_after name_eq x (children_of f.trees h)) = e ∙ ap (λ xs. first_of (items_after name_eq x xs)) all in
+      let among = (child-of_parent f.trees x h once at child.parent).1 in (
+        from-next x (children_of f.trees h) (children-single f.trees h once stands) among (option_map (name_at f.names) next) first,
+        child_found next node (λ y is. let s = first_split (items_after name_eq x (children_of f.trees h)) y (sym first ∙ is) in after-in x y (children_of f.trees h) (subst (In y) (sym s.1) (inl refl))),
+      )
+
+-- what is left is less
+pub length-next : (f : NamedTrees) (h : NodeName) (k : ℕ) (at next : Option ℕ) → at ≡ Some k
+    → items_after name_eq (name_at f.names k) (children_of f.trees h) ≡ from_item (children_of f.trees h) (option_map (name_at f.names) next)
+    → length (from_item (children_of f.trees h) (option_map (name_at f.names) next)) < length (from_item (children_of f.trees h) (option_map (name_at f.names) at))
+length-next f h k at next is e =
+    let longer : length (from_item (children_of f.trees h) (option_map (name_at f.names) at)) ≡ suc (length (items_after name_eq (name_at f.names k) (children_of f.trees h))) =
+    ap (λ o. length (from_item (children_of f.trees h) (option_map (name_at f.names) o))) is in
+    omega (arith, longer, ap (length {A = NodeName}) e)

@@ -1,0 +1,48 @@
+-- A walk through the tree of a node, from its top on.
+use Rattle.std.proofs.Common.{◌≡◌, ℕ, ◌<◌, Bool, true, false, List, [], ◌∷◌, ◌++◌, All, map, length, Option, Some, None, filter, refl, sym, ap, subst, ◌∙◌, append_assoc}
+use Rattle.std.proofs.lemmas.List.{map-append}
+use Rattle.std.proofs.lemmas.List.Elements.{All-push}
+use Rattle.std.specs.Option.{option_map, ForSome}
+use Rattle.dom_base.specs.declared.NodeName.{NodeName}
+use Rattle.dom_model.specs.Tree.{Trees, inclusive_descendants}
+use Rattle.dom_tree.specs.Forest.{NamedTrees, name_at}
+use Rattle.dom_traversal.specs.Within.{behind, from_node, StandsIn}
+use Rattle.dom_traversal.proofs.Lists.{filter-yes, filter-no}
+use Rattle.dom_traversal.proofs.Counts.{StandOnce, StandAlone, above-within}
+use Rattle.dom_traversal.proofs.Steps.{ordered, top_places}
+use Rattle.dom_traversal.proofs.Searching.{IsWithin-itself}
+
+module _ (f : NamedTrees) (once : StandOnce f) (only : StandAlone f) (top : ℕ) (node : top < length f.names) where
+  -- from the top on are all
+  pub from-top : from_node f.trees (name_at f.names top) (Some (name_at f.names top)) ≡ inclusive_descendants f.trees (name_at f.names top)
+  from-top =
+      let w = IsWithin-itself f once only top node in
+      let x = name_at f.names top in
+      sym (ordered f.trees x x w ∙ ap (λ xs. xs ++ x ∷ behind f.trees x x) (top_places f.trees x w).0)
+
+  -- and the top stands in its tree
+  pub stands-top : (o : Option ℕ) → o ≡ Some top → ForSome o (StandsIn f top)
+  stands-top o e =
+      λ k is.
+      let same : k ≡ top = cc in
+      rw same record { node = node; within = above-within f.trees (name_at f.names top) (name_at f.names top) (IsWithin-itself f once only top node) }
+
+-- Keys of nodes are collected along a list of names: those found so far and those that are left make the whole.
+module _ (names : List NodeName) (p : NodeName → Bool) (found : List ℕ) (k : ℕ) (node : k < length names) (xs all : List NodeName)
+    (nodes : All (λ j. j < length names) found) (left : map (name_at names) found ++ filter p (name_at names k ∷ xs) ≡ all) where
+  -- a node that passes the test is collected
+  pub collect-yes : (new : List ℕ) → new ≡ found ++ k ∷ [] → p (name_at names k) ≡ true → All (λ j. j < length names) new × (map (name_at names) new ++ filter p xs ≡ all)
+  collect-yes new e hit = (
+    subst (All (λ j. j < length names)) (sym e) (All-push (λ j. j < length names) found k nodes node),
+    ap (λ ks. map (name_at names) ks ++ filter p xs) e
+        ∙ (ap (λ ys. ys ++ filter p xs) (map-append (name_at names) found (k ∷ []))
+        ∙ (append_assoc (map (name_at names) found) (name_at names k ∷ []) (filter p xs)
+        ∙ (ap (λ ys. map (name_at names) found ++ ys) (sym (filter-yes p (name_at names k) xs hit)) ∙ left))),
+  )
+
+  -- any other is passed
+  pub collect-no : (new : List ℕ) → new ≡ found → p (name_at names k) ≡ false → All (λ j. j < length names) new × (map (name_at names) new ++ filter p xs ≡ all)
+  collect-no new e miss = (
+    subst (All (λ j. j < length names)) (sym e) nodes,
+    ap (λ ks. map (name_at names) ks ++ filter p xs) e ∙ (ap (λ ys. map (name_at names) found ++ ys) (sym (filter-no p (name_at names k) xs miss)) ∙ left),
+  )

@@ -1,0 +1,61 @@
+use Rattle.std.proofs.Common.{◌≡◌, ◌<◌, ◌∷◌, ◌++◌, Bool, Some, None, All, length, map, refl, sym, ap, subst, ◌∙◌, arith}
+use Rattle.std.specs.Prelude.{filter}
+use Rattle.std.specs.Option.{option_map}
+use Rattle.std.proofs.lemmas.List.{append-nil}
+use Rattle.dom_base.specs.declared.NodeName.{NodeName}
+use Rattle.dom_model.specs.Slots.{is_slot_element}
+use Rattle.dom_model.specs.Tree.{node_in, inclusive_descendants}
+use Rattle.dom_tree.specs.Forest.{name_at}
+use Rattle.dom_traversal.specs.Within.{from_node, behind}
+use Rattle.dom_traversal.proofs.Counts.{Once-forest}
+use Rattle.dom_traversal.proofs.Searching.{following_step, length-behind}
+use Rattle.dom_slots.proofs.Named.{named-filter}
+use Rattle.dom_slots.proofs.Walks.{from-top, stands-top, collect-yes, collect-no}
+use Rattle.dom_slots.proofs.find.slots_below.Goals as goal
+use Rattle.dom_slots.proofs.find.slots_below.Goals.{then-is_slot+in_ok-push, else-is_slot}
+
+pub loop-at-init : goal.loop-at-init
+loop-at-init c =
+    let f = c.args.forest.now in
+    let e = c.nodes_stand_once.ensures in
+    record {
+      stands = stands-top f e.once e.only c.args.top c.requires (Some c.args.top) refl;
+      nodes = subst (All (λ j. j < length f.names)) (sym c.new-keys.ensures.items) (λ k d h. absurd (omega arith));
+      left = ap (λ ks. map (name_at f.names) ks ++ filter (λ y. is_slot_element (node_in f.trees y)) (from_node f.trees (name_at f.names c.args.top) (Some (name_at f.names c.args.top)))) c.new-keys.ensures.items
+          ∙ ap (filter (λ y. is_slot_element (node_in f.trees y))) (from-top f e.once e.only c.args.top c.requires);
+    }
+
+pub loop-at-smaller : goal.loop-at-smaller
+loop-at-smaller c =
+    let f = c.args.forest.now in
+    let e = c.nodes_stand_once.ensures in
+    let step = following_step f e.once e.only c.args.top c.in-Some.key c.following-at.result (c.loop-at.invariant.stands c.in-Some.key c.in-Some.is) c.following-at.ensures.value c.following-at.ensures.node in
+    length-behind f c.args.top c.in-Some.key c.loop-at.at c.following-at.result c.in-Some.is step.0
+
+pub loop-at-preserved : goal.loop-at-preserved
+loop-at-preserved c =
+    let f = c.args.forest.now in
+    let e = c.nodes_stand_once.ensures in
+    let step = following_step f e.once e.only c.args.top c.in-Some.key c.following-at.result (c.loop-at.invariant.stands c.in-Some.key c.in-Some.is) c.following-at.ensures.value c.following-at.ensures.node in
+    let test : NodeName → Bool = λ y. is_slot_element (node_in f.trees y) in
+    let all = filter test (inclusive_descendants f.trees (name_at f.names c.args.top)) in
+    let xs = behind f.trees (name_at f.names c.args.top) (name_at f.names c.in-Some.key) in
+    let node = (c.loop-at.invariant.stands c.in-Some.key c.in-Some.is).node in
+    let left : map (name_at f.names) c.loop-at.keys.items ++ filter test (name_at f.names c.in-Some.key ∷ xs) ≡ all =
+    ap (λ o. map (name_at f.names) c.loop-at.keys.items ++ filter test (from_node f.trees (name_at f.names c.args.top) (option_map (name_at f.names) o))) (sym c.in-Some.is) ∙ c.loop-at.invariant.left in
+    let new = c.if-is_slot.keys.items in
+    let is : All (λ j. j < length f.names) new × (map (name_at f.names) new ++ filter test xs ≡ all) = elim c.if-is_slot.branch [
+      | then-is_slot+in_ok-push w ↦
+          collect-yes f.names test c.loop-at.keys.items c.in-Some.key node xs all c.loop-at.invariant.nodes left new (ap (λ v. v.items) w.keys-is ∙ w.in_ok-push.ensures.items) (sym w.if-is_slot.ensures)
+      | else-is_slot w ↦ collect-no f.names test c.loop-at.keys.items c.in-Some.key node xs all c.loop-at.invariant.nodes left new (ap (λ v. v.items) w.keys-is) (sym w.if-is_slot.ensures)
+    ] in
+    record { stands = step.1; nodes = is.0; left = ap (λ ys. map (name_at f.names) new ++ filter test ys) (sym step.0) ∙ is.1 }
+
+pub returns-clause-value : goal.returns-clause-value
+returns-clause-value c =
+    let f = c.args.forest.now in
+    let e = c.nodes_stand_once.ensures in
+    let test : NodeName → Bool = λ y. is_slot_element (node_in f.trees y) in
+    sym (append-nil (map (name_at f.names) c.loop-at.keys.items))
+    ∙ (ap (λ o. map (name_at f.names) c.loop-at.keys.items ++ filter test (from_node f.trees (name_at f.names c.args.top) (option_map (name_at f.names) o))) (sym c.in_default.is)
+    ∙ (c.loop-at.invariant.left ∙ sym (named-filter f.trees (Once-forest f e.once e.only) is_slot_element (name_at f.names c.args.top))))

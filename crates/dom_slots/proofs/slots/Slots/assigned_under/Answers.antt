@@ -1,0 +1,75 @@
+use Rattle.std.proofs.Common.{◌≡◌, ◌<◌, ◌∷◌, ◌++◌, Bool, Some, None, All, length, map, refl, sym, ap, subst, ◌∙◌, arith}
+use Rattle.std.specs.Prelude.{filter, option_to_list}
+use Rattle.std.specs.Option.{option_map, option_eq}
+use Rattle.node_arena.specs.contracts.key.KeyPartialEq.TheImpl as KeyImpl
+use Rattle.std.proofs.lemmas.List.{append-nil}
+use Rattle.dom_base.specs.declared.NodeName.{NodeName}
+use Rattle.dom_model.specs.Names.{name_eq, is_in, items_after}
+use Rattle.dom_model.specs.Tree.{children_of}
+use Rattle.dom_tree.specs.Forest.{name_at}
+use Rattle.dom_traversal.proofs.Counts.{Once-forest, Has-forest}
+use Rattle.dom_slots.specs.Shadows.{shadows, is_assigned_at}
+use Rattle.dom_slots.proofs.Hosted.{found-test}
+use Rattle.dom_slots.proofs.Siblings.{from_item, first_step, next_step, length-next}
+use Rattle.dom_slots.proofs.Walks.{collect-yes, collect-no}
+use Rattle.dom_slots.proofs.slots.Slots.assigned_under.Goals as goal
+use Rattle.dom_slots.proofs.slots.Slots.assigned_under.Goals.{then-eq+in_ok-push, else-eq}
+
+pub loop-at-init : goal.loop-at-init
+loop-at-init c =
+    let f = c.args.forest.now in
+    let h = name_at f.names c.args.host in
+    let e = c.nodes_stand_once.ensures in
+    let test : NodeName → Bool = is_assigned_at (shadows f c.args.self.now.hosts) (name_at f.names c.args.slot) in
+    let step = first_step f (Once-forest f e.once e.only) h (Has-forest f e.once c.args.host c.requires.host_is_node) c.first-at.result c.first-at.ensures.value c.first-at.ensures.node in
+    record {
+      child = step.1;
+      nodes = subst (All (λ j. j < length f.names)) (sym c.new-keys.ensures.items) (λ k d i. absurd (omega arith));
+      left = ap (λ ks. map (name_at f.names) ks ++ filter test (from_item (children_of f.trees h) (option_map (name_at f.names) c.first-at.result))) c.new-keys.ensures.items ∙ ap (filter test) step.0;
+    }
+
+pub slot_now-requires-clause-node_is_node : goal.slot_now-requires-clause-node_is_node
+slot_now-requires-clause-node_is_node c = (c.loop-at.invariant.child c.in-Some.child c.in-Some.is).node
+
+pub next-at-requires : goal.next-at-requires
+next-at-requires c = (c.loop-at.invariant.child c.in-Some.child c.in-Some.is).node
+
+pub loop-at-smaller : goal.loop-at-smaller
+loop-at-smaller c =
+    let f = c.args.forest.now in
+    let h = name_at f.names c.args.host in
+    let e = c.nodes_stand_once.ensures in
+    let k = c.in-Some.child in
+    let child = c.loop-at.invariant.child k c.in-Some.is in
+    let step = next_step f (Once-forest f e.once e.only) h (Has-forest f e.once c.args.host c.requires.host_is_node) k child (Has-forest f e.once k child.node) c.next-at.result c.next-at.ensures.value c.next-at.ensures.node in
+    length-next f h k c.loop-at.at c.next-at.result c.in-Some.is step.0
+
+pub loop-at-preserved : goal.loop-at-preserved
+loop-at-preserved c =
+    let f = c.args.forest.now in
+    let h = name_at f.names c.args.host in
+    let e = c.nodes_stand_once.ensures in
+    let k = c.in-Some.child in
+    let child = c.loop-at.invariant.child k c.in-Some.is in
+    let step = next_step f (Once-forest f e.once e.only) h (Has-forest f e.once c.args.host c.requires.host_is_node) k child (Has-forest f e.once k child.node) c.next-at.result c.next-at.ensures.value c.next-at.ensures.node in
+    let test : NodeName → Bool = is_assigned_at (shadows f c.args.self.now.hosts) (name_at f.names c.args.slot) in
+    let all = filter test (children_of f.trees h) in
+    let xs = items_after name_eq (name_at f.names k) (children_of f.trees h) in
+    let left : map (name_at f.names) c.loop-at.keys.items ++ filter test (name_at f.names k ∷ xs) ≡ all =
+    ap (λ o. map (name_at f.names) c.loop-at.keys.items ++ filter test (from_item (children_of f.trees h) (option_map (name_at f.names) o))) (sym c.in-Some.is) ∙ c.loop-at.invariant.left in
+    let new = c.if-eq.keys.items in
+    let tested : option_eq KeyImpl.ghosts.eq c.slot_now.result (Some c.args.slot) ≡ test (name_at f.names k) =
+    found-test f.names e.distinct c.slot_now.result c.args.slot c.slot_now.ensures.node c.requires.slot_is_node ∙ ap (λ o. is_in name_eq (name_at f.names c.args.slot) (option_to_list o)) c.slot_now.ensures.value in
+    let is : All (λ j. j < length f.names) new × (map (name_at f.names) new ++ filter test xs ≡ all) = elim c.if-eq.branch [
+      | then-eq+in_ok-push w ↦ collect-yes f.names test c.loop-at.keys.items k child.node xs all c.loop-at.invariant.nodes left new (ap (λ v. v.items) w.keys-is ∙ w.in_ok-push.ensures.items) (sym (w.if-eq.ensures ∙ tested))
+      | else-eq w ↦ collect-no f.names test c.loop-at.keys.items k child.node xs all c.loop-at.invariant.nodes left new (ap (λ v. v.items) w.keys-is) (sym (w.if-eq.ensures ∙ tested))
+    ] in
+    record { child = step.1; nodes = is.0; left = ap (λ ys. map (name_at f.names) new ++ filter test ys) (sym step.0) ∙ is.1 }
+
+pub returns-clause-value : goal.returns-clause-value
+returns-clause-value c =
+    let f = c.args.forest.now in
+    let h = name_at f.names c.args.host in
+    let test : NodeName → Bool = is_assigned_at (shadows f c.args.self.now.hosts) (name_at f.names c.args.slot) in
+    sym (append-nil (map (name_at f.names) c.loop-at.keys.items))
+    ∙ (ap (λ o. map (name_at f.names) c.loop-at.keys.items ++ filter test (from_item (children_of f.trees h) (option_map (name_at f.names) o))) (sym c.in_default.is) ∙ c.loop-at.invariant.left)

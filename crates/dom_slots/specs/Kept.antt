@@ -1,0 +1,52 @@
+-- What a contract sees of a `Slots`.
+use Rattle.std.specs.Prelude.{◌≡◌, ℕ, ◌<◌, true, count_by, slice_get, List, length, Option, Some, option_map}
+use Rattle.std.specs.Option.{ForSome}
+use Rattle.dom_base.specs.declared.NodeName.{NodeName}
+use Rattle.dom_model.specs.Names.{name_eq}
+use Rattle.dom_model.specs.Tree.{Trees, nodes, has_node}
+use Rattle.dom_tree.specs.Forest.{NamedTrees, name_at}
+use Rattle.dom_slots.specs.declared.step.Step.{Step}
+use Rattle.dom_slots.specs.Hosts.{ShadowHost, HostsAreNodes}
+use Rattle.dom_slots.specs.Shadows.{shadows, shadow_trees, slot_at}
+use Rattle.dom_slots.specs.Steps.{step_node, left_by, StepHasNodes, IsStepFrom}
+use Rattle.dom_slots.specs.Tables.{SlotTable, IsTableOf}
+
+-- A step that was begun, with the parent from which a node is removed, and the slot of the step's node at that time.
+pub record BegunStep : Type 0 where
+  pub step : Step
+  pub left : Option ℕ
+  pub slot : Option ℕ
+
+-- the hosts, in the order of attaching, the nodes assigned to each slot, and the step that was begun, if one was
+pub record SlotsNow : Type 0 where
+  pub hosts : List ShadowHost
+  pub table : SlotTable
+  pub begun : Option BegunStep
+
+-- the nodes of a forest stand in its trees, each once, and no others: what a forest's `nodes_stand_once` says
+pub record StandsOnce (f : NamedTrees) : Type 0 where
+  pub once : (k : ℕ) → k < length f.names → count_by (λ n. name_eq n.name (name_at f.names k)) (nodes f.trees) ≡ 1
+  pub only : (x : NodeName) → has_node f.trees x ≡ true → (k : ℕ) × (slice_get f.names k ≡ Some x)
+
+-- the slots of a forest when no step is begun
+pub record AreSlotsOf (f : NamedTrees) (s : SlotsNow) : Type 0 where
+  pub hosts : HostsAreNodes f.names s.hosts
+  pub table : IsTableOf f s.hosts s.table
+
+-- a step that was just begun: of a removal with the parent that is to be left, and with the slot that its node has
+pub record IsBegun (f : NamedTrees) (hosts : List ShadowHost) (step : Step) (b : BegunStep) : Type 0 where
+  pub same : b.step ≡ step
+  pub left : option_map (name_at f.names) b.left ≡ left_by f.names f.trees step
+  pub left_node : ForSome b.left (λ k. k < length f.names)
+  pub slot : option_map (name_at f.names) b.slot ≡ slot_at (shadows f hosts) (name_at f.names (step_node step))
+  pub slot_node : ForSome b.slot (λ k. k < length f.names)
+
+-- a step was begun when the trees of a forest were others, and this step alone made them what they are
+pub record IsEndOf (was : Trees) (f : NamedTrees) (s : SlotsNow) (b : BegunStep) : Type 0 where
+  pub begun : s.begun ≡ Some b
+  pub nodes : StepHasNodes f.names b.step
+  pub left : ForSome b.left (λ k. k < length f.names)
+  pub slot_node : ForSome b.slot (λ k. k < length f.names)
+  pub slot : option_map (name_at f.names) b.slot ≡ slot_at (shadow_trees f.names was s.hosts) (name_at f.names (step_node b.step))
+  pub step : IsStepFrom f.names was f.trees b.step b.left
+  pub slots : AreSlotsOf record { names = f.names; trees = was } s

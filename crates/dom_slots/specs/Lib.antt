@@ -1,0 +1,7 @@
+pub mod Hosts
+pub mod Shadows
+pub mod Tables
+pub mod Lists
+pub mod Steps
+pub mod Kept
+pub mod Fields

@@ -1,0 +1,104 @@
+//! Slots by their names.
+ghost use Rattle.std.specs.Prelude.{◌≡◌, ◌<◌, map, length, find, IfOk, All};
+ghost use Rattle.std.specs.Option.{option_map, ForSome};
+ghost use Rattle.dom_model.specs.Slots.{is_slot_element, has_slot_name, slottable_name, slot_name, slots_among};
+ghost use Rattle.dom_model.specs.Names.{text_eq};
+ghost use Rattle.dom_model.specs.Tree.{Node, node_in, nodes, subtree};
+ghost use Rattle.dom_tree.specs.Forest.{name_at};
+
+use dom_base::Kind;
+use dom_tree::Forest;
+use node_arena::Key;
+use std::alloc::{AllocError, Global};
+
+/// The first slot of a name in the tree of `top`.
+pub(crate) fn slot_named(forest: &Forest, top: Key, name: &[u16]) -> Option<Key>
+    requires { top < length forest.now.names }
+    ensures value { option_map (name_at forest.now.names) result ≡ option_map (λ (n : Node). n.name) (find (has_slot_name name.now) (nodes (subtree forest.now.trees (name_at forest.now.names top)))) }
+    ensures node { ForSome result (λ k. k < length forest.now.names) }
+{
+    forest.nodes_stand_once();
+    let mut at = Some(top);
+    while let Some(key) = at {
+        if has_name(forest, key, name) {
+            return Some(key);
+        }
+        at = forest.following(key, top);
+    }
+    None
+}
+
+/// The elements named `slot` in the tree of `top`, in tree order.
+pub(crate) fn slots_below(alloc: Global, forest: &Forest, top: Key) -> Result<Vec<Key>, AllocError>
+    requires { top < length forest.now.names }
+    ensures value { IfOk result (λ keys. map (name_at forest.now.names) keys.items ≡ slots_among (subtree forest.now.trees (name_at forest.now.names top))) }
+    ensures nodes { IfOk result (λ keys. All (λ k. k < length forest.now.names) keys.items) }
+{
+    forest.nodes_stand_once();
+    let mut keys = Vec::new(alloc);
+    let mut at = Some(top);
+    while let Some(key) = at {
+        if is_slot(forest, key) {
+            keys.push(key)?;
+        }
+        at = forest.following(key, top);
+    }
+    Ok(keys)
+}
+
+/// Whether a node is an element named `slot` (DOM Standard, concept: slot).
+pub(crate) fn is_slot(forest: &Forest, key: Key) -> bool
+    requires { key < length forest.now.names }
+    ensures { result ≡ is_slot_element (node_in forest.now.trees (name_at forest.now.names key)) }
+{
+    matches!(forest.kind(key), Kind::Element) && is_word(forest.element(key), "slot")
+}
+
+/// Whether a node is a slot of this name.
+fn has_name(forest: &Forest, key: Key, name: &[u16]) -> bool
+    requires { key < length forest.now.names }
+    ensures { result ≡ has_slot_name name.now (node_in forest.now.trees (name_at forest.now.names key)) }
+{
+    is_slot(forest, key) && is_same(slot_name(forest, key), name)
+}
+
+/// The name of a slot, empty without the attribute (DOM Standard, concept: slot, name).
+fn slot_name(forest: &Forest, key: Key) -> &[u16]
+    requires { key < length forest.now.names }
+    ensures { result.now ≡ slot_name (node_in forest.now.trees (name_at forest.now.names key)) }
+{
+    match forest.attr(key, "name") {
+        Some(name) => name,
+        None => &[],
+    }
+}
+
+/// The name by which an element or a Text looks for its slot; other nodes are no slottables (DOM Standard, concept:
+/// slottable, name).
+pub(crate) fn slottable_name(forest: &Forest, key: Key) -> Option<&[u16]>
+    requires { key < length forest.now.names }
+    ensures { option_map (λ name. name.now) result ≡ slottable_name (node_in forest.now.trees (name_at forest.now.names key)) }
+{
+    match forest.kind(key) {
+        Kind::Element => match forest.attr(key, "slot") {
+            Some(name) => Some(name),
+            None => Some(&[]),
+        },
+        Kind::Text => Some(&[]),
+        _ => None,
+    }
+}
+
+/// Whether two texts are the same.
+fn is_word(text: &str, other: &str) -> bool
+    ensures { result ≡ text_eq text.now other.now }
+{
+    text == other
+}
+
+/// Whether two strings of code units are the same.
+fn is_same(text: &[u16], other: &[u16]) -> bool
+    ensures { result ≡ text_eq text.now other.now }
+{
+    text == other
+}

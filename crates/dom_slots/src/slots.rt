@@ -1,0 +1,108 @@
+//! The hosts of shadow trees.
+ghost use Rattle.std.specs.Prelude.{◌≡◌, ◌<◌, ◌++◌, ◌∷◌, [], length, None, OnOk, OnErr};
+ghost use Rattle.dom_model.specs.Slots.{slots_among};
+ghost use Rattle.dom_model.specs.Tree.{subtree};
+ghost use Rattle.dom_tree.specs.Forest.{NamedTrees, name_at};
+ghost use Rattle.dom_slots.specs.Hosts.{host_of_root, root_of_host};
+ghost use Rattle.dom_slots.specs.Kept.{AreSlotsOf, StandsOnce};
+
+mod assigned;
+mod signals;
+
+use crate::step::Step;
+use crate::table::Table;
+use dom_base::Owner;
+use indexmap::IndexMap;
+use node_arena::Key;
+use std::alloc::{AllocError, Global};
+use std::marker::Model;
+
+/// What is kept of a host: its shadow root, and the component to which that root belongs.
+#[derive(Clone, Copy)]
+struct Attached {
+    root: Key,
+    owner: Owner,
+}
+
+/// A step that was begun, with the parent from which a node is removed, and the slot that the step's node then had.
+#[derive(Clone, Copy)]
+struct Begun {
+    step: Step,
+    left: Option<Key>,
+    slot: Option<Key>,
+}
+
+/// The hosts of shadow trees, in the order of attaching, and the nodes assigned to the slots of their trees.
+#[derive(Drop)]
+pub struct Slots {
+    hosts: IndexMap<Key, Attached>,
+    roots: IndexMap<Key, Key>,
+    table: Table,
+    begun: Option<Begun>,
+    alloc: Global,
+}
+
+impl Model for Slots {
+    ghost use Rattle.dom_slots.specs.Kept.{SlotsNow};
+
+    ghost Value = { SlotsNow };
+
+    ghost use Rattle.dom_slots.specs.Fields.{hosts_in, begun_in, RootsAgree};
+    ghost use Rattle.std.specs.Option.{option_map};
+
+    ghost view = { λ s. record { hosts = hosts_in s.hosts.entries; table = s.table; begun = option_map begun_in s.begun } };
+
+    ghost invariant = { λ s. RootsAgree s.hosts.entries s.roots.entries };
+}
+
+impl Slots {
+    /// No hosts. Takes no memory yet; later calls take theirs from `alloc`.
+    pub fn new(alloc: Global) -> Self
+        ensures value { result ≡ record { hosts = []; table = []; begun = None } }
+        // They are the slots of every forest.
+        ensures slots { (f : NamedTrees) → AreSlotsOf f result }
+    {
+        Slots {
+            hosts: IndexMap::new(alloc),
+            roots: IndexMap::new(alloc),
+            table: Table::new(alloc),
+            begun: None,
+            alloc,
+        }
+    }
+
+    /// Makes a node the host of a shadow root, which belongs to a component (DOM Standard, concept: attach a shadow
+    /// root). Where memory is refused, all is as it was.
+    pub fn attach(&mut self, host: Key, root: Key, owner: Owner) -> Result<(), AllocError>
+        requires free { self.old.begun ≡ None }
+        requires new_host { root_of_host self.old.hosts host ≡ None }
+        requires new_root { host_of_root self.old.hosts root ≡ None }
+        ensures hosts { OnOk result (self.new.hosts ≡ self.old.hosts ++ record { host = host; root = root; owner = owner } ∷ []) }
+        ensures table { OnOk result (self.new.table ≡ self.old.table) }
+        ensures begun { OnOk result (self.new.begun ≡ None) }
+        // They stay the slots of a forest, if no slot stands in the tree of the root.
+        ensures slots { OnOk result ((f : NamedTrees) → StandsOnce f → AreSlotsOf f self.old → host < length f.names → root < length f.names → slots_among (subtree f.trees (name_at f.names root)) ≡ [] → AreSlotsOf f self.new) }
+        ensures err { OnErr result (self.new ≡ self.old) }
+    {
+        self.roots.reserve(1)?;
+        let _ = self.hosts.insert(host, Attached { root, owner })?;
+        let _ = self.roots.insert(root, host)?;
+        Ok(())
+    }
+
+    /// The host of a shadow root, none of another node (DOM Standard, concept: host). It is found without a walk.
+    pub fn host_of(&self, root: Key) -> Option<Key>
+        ensures { result ≡ host_of_root self.now.hosts root }
+    {
+        self.roots.get(&root).copied()
+    }
+
+    /// The shadow root of a host, none of another node (DOM Standard, concept: shadow root of an element). It is found
+    /// without a walk.
+    pub fn root_of(&self, host: Key) -> Option<Key>
+        ensures { result ≡ root_of_host self.now.hosts host }
+    {
+        let attached = self.hosts.get(&host)?;
+        Some(attached.root)
+    }
+}

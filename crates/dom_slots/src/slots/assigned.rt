@@ -1,0 +1,87 @@
+//! The slot of a node, and the nodes assigned to a slot.
+ghost use Rattle.std.specs.Prelude.{◌≡◌, ◌<◌, None, map, length, IfOk, All};
+ghost use Rattle.std.specs.Option.{option_map, ForSome};
+ghost use Rattle.dom_tree.specs.Forest.{name_at};
+ghost use Rattle.dom_slots.specs.Hosts.{HostsAreNodes};
+ghost use Rattle.dom_slots.specs.Kept.{AreSlotsOf};
+ghost use Rattle.dom_slots.specs.Shadows.{shadows, slot_at, assigned_at, assigned_under};
+
+use crate::Slots;
+use crate::find::{slot_named, slottable_name};
+use dom_tree::Forest;
+use node_arena::Key;
+use std::alloc::AllocError;
+
+impl Slots {
+    /// The slot to which a node is assigned: the first one of its name in the shadow tree of its parent (DOM Standard,
+    /// concept: find a slot). Takes no memory.
+    pub fn slot_of(&self, forest: &Forest, node: Key) -> Option<Key>
+        requires node_is_node { node < length forest.now.names }
+        requires free { self.now.begun ≡ None }
+        requires slots { AreSlotsOf forest.now self.now }
+        ensures value { option_map (name_at forest.now.names) result ≡ slot_at (shadows forest.now self.now.hosts) (name_at forest.now.names node) }
+        ensures node { ForSome result (λ k. k < length forest.now.names) }
+    {
+        self.slot_now(forest, node)
+    }
+
+    /// The nodes assigned to a slot, in the order of their host's children; none to a node outside of shadow trees (DOM
+    /// Standard, concept: assigned nodes).
+    pub fn assigned(&self, forest: &Forest, slot: Key) -> Result<Vec<Key>, AllocError>
+        requires slot_is_node { slot < length forest.now.names }
+        requires free { self.now.begun ≡ None }
+        requires slots { AreSlotsOf forest.now self.now }
+        ensures value { IfOk result (λ keys. map (name_at forest.now.names) keys.items ≡ assigned_at (shadows forest.now self.now.hosts) (name_at forest.now.names slot)) }
+        ensures nodes { IfOk result (λ keys. All (λ k. k < length forest.now.names) keys.items) }
+    {
+        self.assigned_now(forest, slot)
+    }
+
+    /// The same, also in a forest that is not that of the table.
+    pub(super) fn slot_now(&self, forest: &Forest, node: Key) -> Option<Key>
+        requires node_is_node { node < length forest.now.names }
+        requires hosts { HostsAreNodes forest.now.names self.now.hosts }
+        ensures value { option_map (name_at forest.now.names) result ≡ slot_at (shadows forest.now self.now.hosts) (name_at forest.now.names node) }
+        ensures node { ForSome result (λ k. k < length forest.now.names) }
+    {
+        forest.nodes_stand_once();
+        let parent = forest.parent(node)?;
+        let root = self.root_of(parent)?;
+        let name = slottable_name(forest, node)?;
+        slot_named(forest, root, name)
+    }
+
+    /// The nodes assigned to a slot, also in a forest that is not that of the table.
+    pub(super) fn assigned_now(&self, forest: &Forest, slot: Key) -> Result<Vec<Key>, AllocError>
+        requires slot_is_node { slot < length forest.now.names }
+        requires hosts { HostsAreNodes forest.now.names self.now.hosts }
+        ensures value { IfOk result (λ keys. map (name_at forest.now.names) keys.items ≡ assigned_at (shadows forest.now self.now.hosts) (name_at forest.now.names slot)) }
+        ensures nodes { IfOk result (λ keys. All (λ k. k < length forest.now.names) keys.items) }
+    {
+        forest.nodes_stand_once();
+        match self.host_of(forest.root(slot)) {
+            Some(host) => self.assigned_under(forest, host, slot),
+            None => Ok(Vec::new(self.alloc)),
+        }
+    }
+
+    /// The children of a host whose slot this one is.
+    fn assigned_under(&self, forest: &Forest, host: Key, slot: Key) -> Result<Vec<Key>, AllocError>
+        requires host_is_node { host < length forest.now.names }
+        requires slot_is_node { slot < length forest.now.names }
+        requires hosts { HostsAreNodes forest.now.names self.now.hosts }
+        ensures value { IfOk result (λ keys. map (name_at forest.now.names) keys.items ≡ assigned_under (shadows forest.now self.now.hosts) (name_at forest.now.names slot) (name_at forest.now.names host)) }
+        ensures nodes { IfOk result (λ keys. All (λ k. k < length forest.now.names) keys.items) }
+    {
+        forest.nodes_stand_once();
+        let mut keys = Vec::new(self.alloc);
+        let mut at = forest.first(host);
+        while let Some(child) = at {
+            if self.slot_now(forest, child) == Some(slot) {
+                keys.push(child)?;
+            }
+            at = forest.next(child);
+        }
+        Ok(keys)
+    }
+}
