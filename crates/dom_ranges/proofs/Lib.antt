@@ -1,0 +1,5 @@
+pub mod Lists
+pub mod Holding
+pub mod Writing
+pub mod Moving
+pub mod Places

@@ -1,0 +1,8 @@
+//! The live ranges of all owners, and what each step of a change does to their boundary points (DOM Standard, 5 Ranges).
+#![tactic(auto)]
+
+mod change;
+mod numbers;
+mod table;
+
+pub use table::{Points, RangeTable};

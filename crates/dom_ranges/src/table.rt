@@ -1,0 +1,182 @@
+//! The live ranges of all owners.
+ghost use Rattle.std.specs.Prelude.{◌≡◌, ℕ, ◌≤◌, ◌<◌, ◌+◌, ◌++◌, ◌∷◌, [], ◌↔◌, ◌⊎◌, true, length, slice_set, is_some, IsSome, Some, None, IfOk, IfErr, OnOk, OnErr};
+ghost use Rattle.std.specs.Option.{option_map, ForSome};
+ghost use Rattle.dom_base.specs.declared.Owner.{Owner as Owners};
+ghost use Rattle.dom_model.specs.CommandRefusals.{past_limit};
+ghost use Rattle.dom_model.specs.Place.{Boundary};
+ghost use Rattle.dom_model.specs.Ranges.{at, from_to, map_ends};
+ghost use Rattle.slab.specs.Slab.{get, Updates};
+ghost use Rattle.dom_ranges.specs.Rules.{rule_of, CanMove};
+ghost use Rattle.dom_ranges.specs.Tables.{ranges_of, range_in, with_ranges, range_from, ends_by, EachRange, BothEnds, collapsed_range};
+
+use crate::change::Change;
+use crate::numbers::Numbers;
+use dom_base::{Fault, MAX_NODES, Owner, Refusal};
+use node_arena::Key;
+use slab::Slab;
+use std::alloc::{AllocError, Global};
+use std::marker::Model;
+
+/// The boundary points of a range, each a node and an offset (DOM Standard, 5.2 Boundary points).
+#[derive(Clone, Copy, PartialEq, Eq, Debug)]
+pub struct Points {
+    pub start: (Key, usize),
+    pub end: (Key, usize),
+}
+
+/// The live ranges of all owners (DOM Standard, interface Range). An owner's ranges are numbered in the order in which
+/// it made them. Changes of the trees are told to the table step by step.
+#[derive(Drop)]
+pub struct RangeTable {
+    live: Slab<Points>,
+    numbers: Numbers,
+}
+
+impl Model for RangeTable {
+    ghost use Rattle.dom_ranges.specs.Tables.{RangeLists};
+
+    ghost Value = { RangeLists };
+
+    ghost use Rattle.dom_ranges.specs.Held.{shown, IsHeld};
+
+    ghost view = { λ t. shown t.live t.numbers };
+
+    ghost invariant = { λ t. IsHeld t.live t.numbers };
+}
+
+impl RangeTable {
+    /// A table without ranges, which takes no memory yet. It will take its memory from `alloc`.
+    pub fn new(alloc: Global) -> Self
+        ensures { (o : Owners) → ranges_of result o ≡ [] }
+    {
+        RangeTable {
+            live: Slab::new(alloc),
+            numbers: Numbers::new(alloc),
+        }
+    }
+
+    /// Makes a range with both ends at offset 0 of a node, and gives its number, the owner's next (DOM Standard, new
+    /// Range()). It is refused with `Limit` where the owner has made a million ranges, removed ones counted, and with
+    /// `Memory` where memory is refused (own rules); then the table is as it was.
+    pub fn make(&mut self, owner: Owner, node: Key) -> Result<u32, Fault>
+        ensures number { IfOk result (λ number. number ≡ length (ranges_of self.old owner)) }
+        ensures made { OnOk result ((o : Owners) → ranges_of self.new o ≡ with_ranges self.old owner (ranges_of self.old owner ++ Some (from_to (at node 0) (at node 0)) ∷ []) o) }
+        ensures limit { (result ≡ Err (Fault.Refused Refusal.Limit)) ↔ (past_limit (length (ranges_of self.old owner)) 1 ≡ true) }
+        ensures other { IfErr result (λ fault. (fault ≡ Fault.Refused Refusal.Limit) ⊎ (fault ≡ Fault.Memory)) }
+        ensures err { OnErr result ((o : Owners) → ranges_of self.new o ≡ ranges_of self.old o) }
+    {
+        if self.count(owner) >= MAX_NODES as usize {
+            return Err(Fault::Refused(Refusal::Limit));
+        }
+        Ok(self.add(owner, node)?)
+    }
+
+    /// How many ranges an owner has made, removed ones counted.
+    fn count(&self, owner: Owner) -> usize
+        ensures { result ≡ length (ranges_of self.now owner) }
+    {
+        self.numbers.of(owner).len()
+    }
+
+    /// Makes a range with both ends at offset 0 of a node.
+    fn add(&mut self, owner: Owner, node: Key) -> Result<u32, AllocError>
+        requires { length (ranges_of self.old owner) < MAX_NODES }
+        ensures number { IfOk result (λ number. number ≡ length (ranges_of self.old owner)) }
+        ensures made { OnOk result ((o : Owners) → ranges_of self.new o ≡ with_ranges self.old owner (ranges_of self.old owner ++ Some (from_to (at node 0) (at node 0)) ∷ []) o) }
+        ensures err { OnErr result ((o : Owners) → ranges_of self.new o ≡ ranges_of self.old o) }
+    {
+        let number = self.numbers.of(owner).len();
+        self.numbers.reserve(owner)?;
+        let slot = self.live.insert(Points {
+            start: (node, 0),
+            end: (node, 0),
+        })?;
+        self.numbers.push(owner, slot);
+        Ok(number as u32)
+    }
+
+    /// Drops a range, whose number is not given again (own rule). Answers whether it was there.
+    pub fn remove(&mut self, owner: Owner, number: u32) -> bool
+        ensures there { result ≡ is_some (range_in (ranges_of self.old owner) number) }
+        ensures table { (o : Owners) → ranges_of self.new o ≡ with_ranges self.old owner (slice_set (ranges_of self.old owner) number None) o }
+    {
+        let Some(slot) = self.numbers.slot(owner, number) else {
+            return false;
+        };
+        self.numbers.clear(owner, number);
+        let _ = self.live.try_remove(slot);
+        true
+    }
+
+    /// The ends of a range that is there (DOM Standard, interface AbstractRange).
+    pub fn points(&self, owner: Owner, number: u32) -> Option<Points>
+        ensures { option_map range_from result ≡ range_in (ranges_of self.now owner) number }
+    {
+        let slot = self.numbers.slot(owner, number)?;
+        self.live.get(slot).copied()
+    }
+
+    /// Sets both ends of a range to its start, or to its end (DOM Standard, collapse). Answers whether it is there.
+    pub fn collapse(&mut self, owner: Owner, number: u32, to_start: bool) -> bool
+        ensures there { result ≡ is_some (range_in (ranges_of self.old owner) number) }
+        ensures table { (o : Owners) → ranges_of self.new o ≡ with_ranges self.old owner (slice_set (ranges_of self.old owner) number (option_map (collapsed_range to_start) (range_in (ranges_of self.old owner) number))) o }
+    {
+        let Some(points) = self.points(owner, number) else {
+            return false;
+        };
+        let point = if to_start {
+            points.start
+        } else {
+            points.end
+        };
+        let (node, offset) = point;
+        self.write(owner, number, Points {
+            start: (node, offset),
+            end: (node, offset),
+        });
+        true
+    }
+
+    /// Gives a range that is there other ends.
+    fn write(&mut self, owner: Owner, number: u32, points: Points)
+        requires { IsSome (range_in (ranges_of self.old owner) number) }
+        ensures { (o : Owners) → ranges_of self.new o ≡ with_ranges self.old owner (slice_set (ranges_of self.old owner) number (Some (range_from points))) o }
+    {
+        if let Some(slot) = self.numbers.slot(owner, number) {
+            put(&mut self.live, slot, points);
+        }
+    }
+
+    /// Rewrites the ends of all ranges for a step of a change.
+    fn apply(&mut self, change: &Change<'_>)
+        requires { (o : Owners) → EachRange (BothEnds (CanMove change.now)) (ranges_of self.old o) }
+        ensures { (o : Owners) → ranges_of self.new o ≡ ends_by (rule_of change.now) (ranges_of self.old o) }
+    {
+        move_ends(&mut self.live, change);
+    }
+}
+
+/// Writes a slot that holds a range.
+fn put(live: &mut Slab<Points>, slot: usize, points: Points)
+    requires { IsSome (get live.old slot) }
+    ensures { Updates live.old live.new slot (Some points) }
+{
+    if let Some(kept) = live.get_mut(slot) {
+        *kept = points;
+    }
+}
+
+/// Rewrites the ends of the ranges in all slots.
+fn move_ends(live: &mut Slab<Points>, change: &Change<'_>)
+    requires { (slot : ℕ) → ForSome (get live.old slot) (λ p. BothEnds (CanMove change.now) (range_from p)) }
+    ensures { (slot : ℕ) → option_map range_from (get live.new slot) ≡ option_map (λ p. map_ends (rule_of change.now) (range_from p)) (get live.old slot) }
+{
+    for slot in 0..live.capacity() {
+        if let Some(points) = live.get_mut(slot) {
+            let (start, from) = points.start;
+            let (end, to) = points.end;
+            points.start = change.moved(start, from);
+            points.end = change.moved(end, to);
+        }
+    }
+}
