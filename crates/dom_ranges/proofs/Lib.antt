@@ -3,3 +3,5 @@ pub mod Holding
 pub mod Writing
 pub mod Moving
 pub mod Places
+pub mod Before
+pub mod Climbing

@@ -1,14 +1,14 @@
 -- Where nodes stand, as lists of numbers, in trees in which each name stands once.
 use Rattle.std.proofs.Common.{◌≡◌, ◌⊎◌, inl, inr, ℕ, ◌+◌, ◌≤◌, ◌<◌, List, [], ◌∷◌, ◌++◌, length, Option, Some, None, true, false, refl, sym, ap, subst, ◌∙◌, arith, zero-add}
-use Rattle.std.specs.Prelude.{drop}
-use Rattle.std.specs.Option.{option_map, option_or}
+use Rattle.std.specs.Prelude.{drop, unwrap_or}
+use Rattle.std.specs.Option.{option_map, option_or, option_map_or}
 use Rattle.std.proofs.lemmas.Option.{same_Some, none-some}
 use Rattle.dom_base.specs.declared.NodeName.{NodeName}
-use Rattle.dom_model.specs.Names.{name_eq, first_of, items_before}
-use Rattle.dom_model.specs.Place.{place_from}
-use Rattle.dom_model.specs.Tree.{Trees, none, tree, Node, names_of, roots, subtree, trees_below, inclusive_ancestors, parent_of, children_of}
-use Rattle.dom_traversal.proofs.Lists.{same_or_not, name_eq-from, name_eq-other}
-use Rattle.dom_traversal.proofs.Shapes.{Has, Once, has_or_not, subtree-here, subtree-below, subtree-beside, above-here, above-below, above-beside, above-present, above-parent}
+use Rattle.dom_model.specs.Names.{name_eq, first_of, last_of, items_before}
+use Rattle.dom_model.specs.Place.{place_from, place_of, same_root}
+use Rattle.dom_model.specs.Tree.{Trees, none, tree, Node, names_of, roots, subtree, trees_below, inclusive_ancestors, parent_of, root_of, index_of, children_of}
+use Rattle.dom_traversal.proofs.Lists.{name_eq-from, name_eq-other, name_eq-true, last_of-end}
+use Rattle.dom_traversal.proofs.Shapes.{Has, Once, subtree-here, subtree-below, subtree-beside, above-here, above-below, above-beside, above-present, above-parent, above-root}
 
 -- a name that stands nowhere has no place
 place-absent : (ts : Trees) (k : ℕ) (x : NodeName) → (Has ts x → ⊥) → place_from k ts x ≡ None
@@ -151,3 +151,65 @@ place-child (tree n c r) k x p once (inr (inr h)) e =
       place-beside n c r k p once there ∙ w.1,
       place-beside n c r k x once h ∙ (w.2 ∙ ap (λ xs. Some (w.0 ++ length (items_before name_eq x xs) ∷ [])) (sym kids)),
     )
+
+-- ---- the root's number
+
+-- a node's place begins with the number of its root
+abbrev pub BeginsAtRoot : ℕ → Trees → NodeName → Type 0
+BeginsAtRoot k ts x = (m : ℕ) × (path : List ℕ) × (place_from k ts x ≡ Some (m ∷ path)) × (place_from k ts (root_of ts x) ≡ Some (m ∷ [])) × Has ts (root_of ts x)
+
+pub place-at_root : (ts : Trees) (k : ℕ) (x : NodeName) → Once ts → Has ts x → BeginsAtRoot k ts x
+place-at_root none k x once h = absurd h
+place-at_root (tree n c r) k x once (inl e) =
+    let same : root_of (tree n c r) x ≡ x = ap (λ path. unwrap_or (last_of path) x) (above-here n c r x e) in
+    (k, [], place-here n c r k x e, place-here n c r k _ (e ∙ sym same), inl (e ∙ sym same))
+place-at_root (tree n c r) k x once (inr (inl h)) =
+    let w = place-present c 0 x once.3 h in
+    let same : root_of (tree n c r) x ≡ n.name =
+    ap (λ path. unwrap_or (last_of path) x) (above-below n c r x once h) ∙ ap (λ (o : Option NodeName). unwrap_or o x) (last_of-end (inclusive_ancestors c x) n.name) in
+    (k, w.0 ∷ w.1, place-below n c r k x (w.0 ∷ w.1) once h w.2, place-here n c r k _ (sym same), inl (sym same))
+place-at_root (tree n c r) k x once (inr (inr h)) =
+    let w = place-at_root r (k + 1) x once.4 h in
+    let same : root_of (tree n c r) x ≡ root_of r x = ap (λ path. unwrap_or (last_of path) x) (above-beside n c r x once h) in
+    let there : Has r (root_of (tree n c r) x) = subst (Has r) (sym same) w.4 in (
+      w.0,
+      w.1,
+      place-beside n c r k x once h ∙ w.2,
+      place-beside n c r k (root_of (tree n c r) x) once there ∙ (ap (place_from (k + 1) r) same ∙ w.3),
+      inr (inr there),
+    )
+
+-- ---- the same of `place_of`
+
+module _ (ts : Trees) (once : Once ts) where
+  -- a node's place, as it is known
+  pub known : (x : NodeName) (path : List ℕ) → place_from 0 ts x ≡ Some path → place_of ts x ≡ path
+  known x path e = ap (λ (o : Option (List ℕ)). unwrap_or o []) e
+
+  -- a child's place
+  pub path-child : (x p : NodeName) → Has ts x → parent_of ts x ≡ Some p → place_of ts x ≡ place_of ts p ++ index_of ts x ∷ []
+  path-child x p h e =
+      let w = place-child ts 0 x p once h e in
+      let index : index_of ts x ≡ length (items_before name_eq x (children_of ts p)) = ap (λ (o : Option NodeName). length (items_before name_eq x (option_map_or (children_of ts) o (x ∷ [])))) e in
+      known x _ w.2 ∙ (ap (λ path. path ++ length (items_before name_eq x (children_of ts p)) ∷ []) (sym (known p w.0 w.1)) ∙ ap (λ i. place_of ts p ++ i ∷ []) (sym index))
+
+  -- a root's place
+  pub path-root : (x : NodeName) → Has ts x → parent_of ts x ≡ None → (m : ℕ) × (place_of ts x ≡ m ∷ [])
+  path-root x h e = (_, known x _ (place-root ts 0 x once h (above-root ts x h e)))
+
+  -- nodes at one place are one
+  pub path-same : (x y : NodeName) → Has ts x → Has ts y → place_of ts x ≡ place_of ts y → x ≡ y
+  path-same x y h i e =
+      let v = place-present ts 0 x once h in
+      let w = place-present ts 0 y once i in
+      place-same ts 0 x y once h i (v.2 ∙ (ap Some (sym (known x _ v.2) ∙ (e ∙ known y _ w.2)) ∙ sym w.2))
+
+  -- nodes of one tree stand at places with the same first number
+  pub path-tree : (x y : NodeName) → Has ts x → Has ts y → same_root ts x y ≡ true → first_of (place_of ts x) ≡ first_of (place_of ts y)
+  path-tree x y h i e =
+      let v = place-at_root ts 0 x once h in
+      let w = place-at_root ts 0 y once i in
+      let same : root_of ts x ≡ root_of ts y = name_eq-true (root_of ts x) (root_of ts y) e in
+      let f : Some (v.0 ∷ []) ≡ Some (w.0 ∷ []) = sym v.3 ∙ (ap (place_from 0 ts) same ∙ w.3) in
+      let g : v.0 ≡ w.0 = cc in
+      ap first_of (known x _ v.2) ∙ (ap Some g ∙ sym (ap first_of (known y _ w.2)))

@@ -1,3 +1,4 @@
 pub mod Tables
 pub mod Held
 pub mod Rules
+pub mod Climbs

@@ -1,193 +1,144 @@
-//! What a step of a change does to a boundary point.
-ghost use Rattle.std.specs.Prelude.{◌≡◌, ◌<◌, length, nat_eq};
+//! What each step of a change does to a boundary point (DOM Standard, 5.3 and 5.5).
+ghost use Rattle.std.specs.Prelude.{◌≡◌, ℕ, ◌<◌, length, nat_eq};
+ghost use Rattle.dom_model.specs.Place.{Boundary};
 ghost use Rattle.dom_model.specs.Ranges.{at, after_insert, after_removal, after_replace_data, after_split, after_join};
-ghost use Rattle.dom_ranges.specs.Rules.{rule_of, CanRead, CanMove, Fits, is_inside};
+ghost use Rattle.dom_ranges.specs.Rules.{Fits, IsAtNode, is_inside};
 
 use dom_tree::Forest;
 use node_arena::Key;
 
-/// A step of a change, by what it does to boundary points (DOM Standard, 5.3 and 5.5).
-pub(crate) enum Change<'a> {
-    /// `count` nodes come into `parent` before its child at `index`.
-    Insertion {
-        parent: Key,
-        index: usize,
-        count: usize,
-    },
-    /// `node`, the child of `parent` at `index`, leaves it. It is still linked in the forest.
-    Removal {
-        forest: &'a Forest,
-        node: Key,
-        parent: Key,
-        index: usize,
-    },
-    /// From `offset` on, `count` code units of `node` give way to `length` others.
-    Replacement {
-        node: Key,
-        offset: usize,
-        count: usize,
-        length: usize,
-    },
-    /// What `node`, the child of `parent` at `index`, has past `offset` goes to the Text `new`.
-    Split {
-        node: Key,
-        offset: usize,
-        new: Key,
-        parent: Key,
-        index: usize,
-    },
-    /// The data of the Text `next`, the child of `parent` at `index`, are joined to those of `first` at `length`.
-    Join {
-        first: Key,
-        length: usize,
-        next: Key,
-        parent: Key,
-        index: usize,
-    },
+/// A step of a change, by its rule for boundary points.
+pub(crate) trait Change {
+    ghost rule: { Self → Boundary ℕ → Boundary ℕ };
+
+    ghost can_move: { Self → Boundary ℕ → Type 0 };
+
+    /// The boundary point after the step.
+    fn moved(&self, node: Key, offset: usize) -> (Key, usize)
+        requires { can_move self.now (at node offset) }
+        ensures { at result.0 result.1 ≡ rule self.now (at node offset) };
 }
 
-impl Change<'_> {
-    /// The boundary point after the change.
-    pub(crate) fn moved(&self, node: Key, offset: usize) -> (Key, usize)
-        requires { CanMove self.now (at node offset) }
-        ensures { at result.0 result.1 ≡ rule_of self.now (at node offset) }
-    {
-        match self {
-            Change::Insertion {
-                parent,
-                index,
-                count,
-            } => after_insert(*parent, *index, *count, node, offset),
-            Change::Removal {
-                forest,
-                node: removed,
-                parent,
-                index,
-            } => after_removal(forest, *removed, *parent, *index, node, offset),
-            Change::Replacement {
-                node: changed,
-                offset: from,
-                count,
-                length,
-            } => after_replace_data(*changed, *from, *count, *length, node, offset),
-            Change::Split {
-                node: split,
-                offset: from,
-                new,
-                parent,
-                index,
-            } => after_split(*split, *from, *new, *parent, *index, node, offset),
-            Change::Join {
-                first,
-                length,
-                next,
-                parent,
-                index,
-            } => after_join(*first, *length, *next, *parent, *index, node, offset),
+/// `count` nodes come into `parent` before its child at `index`.
+#[derive(Clone, Copy)]
+pub(crate) struct Insertion {
+    pub(crate) parent: Key,
+    pub(crate) index: usize,
+    pub(crate) count: usize,
+}
+
+impl Change for Insertion {
+    ghost rule = { λ s. after_insert nat_eq s.parent s.index s.count };
+
+    ghost can_move = { λ s b. Fits (after_insert nat_eq s.parent s.index s.count b) };
+
+    fn moved(&self, node: Key, offset: usize) -> (Key, usize) {
+        if node == self.parent && self.index < offset {
+            return (self.parent, offset + self.count);
         }
+        (node, offset)
     }
 }
 
-/// An offset in the parent that is greater than the child's index grows by the count.
-fn after_insert(
-    parent: Key,
-    index: usize,
-    count: usize,
-    node: Key,
-    offset: usize,
-) -> (Key, usize)
-    requires { Fits (after_insert nat_eq parent index count (at node offset)) }
-    ensures { at result.0 result.1 ≡ after_insert nat_eq parent index count (at node offset) }
-{
-    if node == parent && index < offset {
-        return (parent, offset + count);
-    }
-    (node, offset)
+/// `node`, the child of `parent` at `index`, leaves it. It is still linked in the forest.
+#[derive(Clone, Copy)]
+pub(crate) struct Removal<'a> {
+    pub(crate) forest: &'a Forest,
+    pub(crate) node: Key,
+    pub(crate) parent: Key,
+    pub(crate) index: usize,
 }
 
-/// A point inside what leaves goes to where it stood, and a greater offset in the parent drops by one.
-fn after_removal(
-    forest: &Forest,
-    removed: Key,
-    parent: Key,
-    index: usize,
-    node: Key,
-    offset: usize,
-) -> (Key, usize)
-    requires removed_is_node { removed < length forest.now.names }
-    requires node_is_node { node < length forest.now.names }
-    ensures { at result.0 result.1 ≡ after_removal nat_eq (is_inside forest.now removed) parent index (at node offset) }
-{
-    if forest.is_inclusive_ancestor(removed, node) {
-        return (parent, index);
+impl Change for Removal<'_> {
+    ghost rule = { λ s. after_removal nat_eq (is_inside s.forest.now s.node) s.parent s.index };
+
+    ghost can_move = { λ s b. (s.node < length s.forest.now.names) × IsAtNode s.forest.now b };
+
+    fn moved(&self, node: Key, offset: usize) -> (Key, usize) {
+        if self.forest.is_inclusive_ancestor(self.node, node) {
+            return (self.parent, self.index);
+        }
+        if node == self.parent && self.index < offset {
+            return (self.parent, offset - 1);
+        }
+        (node, offset)
     }
-    if node == parent && index < offset {
-        return (parent, offset - 1);
-    }
-    (node, offset)
 }
 
-/// An offset among the replaced code units goes to their beginning, and one behind them moves with what follows.
-fn after_replace_data(
-    changed: Key,
-    from: usize,
-    count: usize,
-    length: usize,
-    node: Key,
-    offset: usize,
-) -> (Key, usize)
-    requires { Fits (after_replace_data nat_eq changed from count length (at node offset)) }
-    ensures { at result.0 result.1 ≡ after_replace_data nat_eq changed from count length (at node offset) }
-{
-    if node != changed || offset <= from {
-        return (node, offset);
-    }
-    if offset - from <= count {
-        return (changed, from);
-    }
-    (changed, offset - count + length)
+/// From `offset` on, `count` code units of `node` give way to `length` others.
+#[derive(Clone, Copy)]
+pub(crate) struct Replacement {
+    pub(crate) node: Key,
+    pub(crate) offset: usize,
+    pub(crate) count: usize,
+    pub(crate) length: usize,
 }
 
-/// A point past the offset goes to the new Text, and the one just behind the split Text behind the new one.
-fn after_split(
-    split: Key,
-    from: usize,
-    new: Key,
-    parent: Key,
-    index: usize,
-    node: Key,
-    offset: usize,
-) -> (Key, usize)
-    requires { Fits (after_split nat_eq split from new parent index (at node offset)) }
-    ensures { at result.0 result.1 ≡ after_split nat_eq split from new parent index (at node offset) }
-{
-    if node == split && from < offset {
-        return (new, offset - from);
+impl Change for Replacement {
+    ghost rule = { λ s. after_replace_data nat_eq s.node s.offset s.count s.length };
+
+    ghost can_move = { λ s b. Fits (after_replace_data nat_eq s.node s.offset s.count s.length b) };
+
+    fn moved(&self, node: Key, offset: usize) -> (Key, usize) {
+        if node != self.node || offset <= self.offset {
+            return (node, offset);
+        }
+        if offset - self.offset <= self.count {
+            return (self.node, self.offset);
+        }
+        (self.node, offset - self.count + self.length)
     }
-    if node == parent && offset > index && offset - index == 1 {
-        return (parent, offset + 1);
-    }
-    (node, offset)
 }
 
-/// A point in the joined Text goes to the first one, and so does the point just before the joined Text.
-fn after_join(
-    first: Key,
-    length: usize,
-    next: Key,
-    parent: Key,
-    index: usize,
-    node: Key,
-    offset: usize,
-) -> (Key, usize)
-    requires { Fits (after_join nat_eq first length next parent index (at node offset)) }
-    ensures { at result.0 result.1 ≡ after_join nat_eq first length next parent index (at node offset) }
-{
-    if node == next {
-        return (first, offset + length);
+/// What the Text `node`, the child of `parent` at `index`, has past `offset` is in the Text `new`.
+#[derive(Clone, Copy)]
+pub(crate) struct Split {
+    pub(crate) node: Key,
+    pub(crate) offset: usize,
+    pub(crate) new: Key,
+    pub(crate) parent: Key,
+    pub(crate) index: usize,
+}
+
+impl Change for Split {
+    ghost rule = { λ s. after_split nat_eq s.node s.offset s.new s.parent s.index };
+
+    ghost can_move = { λ s b. Fits (after_split nat_eq s.node s.offset s.new s.parent s.index b) };
+
+    fn moved(&self, node: Key, offset: usize) -> (Key, usize) {
+        if node == self.node && self.offset < offset {
+            return (self.new, offset - self.offset);
+        }
+        if node == self.parent && self.index < offset && offset - self.index == 1 {
+            return (self.parent, offset + 1);
+        }
+        (node, offset)
     }
-    if node == parent && offset == index {
-        return (first, length);
+}
+
+/// The data of the Text `next`, the child of `parent` at `index`, were put behind those of the Text `first`, which had
+/// `length` code units.
+#[derive(Clone, Copy)]
+pub(crate) struct Join {
+    pub(crate) first: Key,
+    pub(crate) length: usize,
+    pub(crate) next: Key,
+    pub(crate) parent: Key,
+    pub(crate) index: usize,
+}
+
+impl Change for Join {
+    ghost rule = { λ s. after_join nat_eq s.first s.length s.next s.parent s.index };
+
+    ghost can_move = { λ s b. Fits (after_join nat_eq s.first s.length s.next s.parent s.index b) };
+
+    fn moved(&self, node: Key, offset: usize) -> (Key, usize) {
+        if node == self.next {
+            return (self.first, offset + self.length);
+        }
+        if node == self.parent && offset == self.index {
+            return (self.first, self.length);
+        }
+        (node, offset)
     }
-    (node, offset)
 }

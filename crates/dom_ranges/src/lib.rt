@@ -3,6 +3,8 @@
 
 mod change;
 mod numbers;
+mod order;
 mod table;
 
+pub use order::is_before;
 pub use table::{Points, RangeTable};

@@ -1,17 +1,20 @@
 //! The live ranges of all owners.
-ghost use Rattle.std.specs.Prelude.{◌≡◌, ℕ, ◌≤◌, ◌<◌, ◌+◌, ◌++◌, ◌∷◌, [], ◌↔◌, ◌⊎◌, true, length, slice_set, is_some, IsSome, Some, None, IfOk, IfErr, OnOk, OnErr};
+ghost use Rattle.std.specs.Prelude.{◌≡◌, ℕ, ◌≤◌, ◌<◌, ◌+◌, ◌++◌, ◌∷◌, [], ◌↔◌, ◌⊎◌, true, length, slice_set, nat_eq, is_some, IsSome, Some, None, IfOk, IfErr, OnOk, OnErr};
 ghost use Rattle.std.specs.Option.{option_map, ForSome};
 ghost use Rattle.dom_base.specs.declared.Owner.{Owner as Owners};
 ghost use Rattle.dom_model.specs.CommandRefusals.{past_limit};
 ghost use Rattle.dom_model.specs.Place.{Boundary};
-ghost use Rattle.dom_model.specs.Ranges.{at, from_to, map_ends};
+ghost use Rattle.dom_model.specs.Ranges.{at, from_to, map_ends, after_insert, after_removal, after_replace_data, after_split, after_join};
+ghost use Rattle.dom_model.specs.Tree.{parent_of, index_of};
+ghost use Rattle.dom_tree.specs.Forest.{name_at};
 ghost use Rattle.slab.specs.Slab.{get, Updates};
-ghost use Rattle.dom_ranges.specs.Rules.{rule_of, CanMove};
+ghost use Rattle.dom_ranges.specs.Rules.{Fits, IsAtNode, is_inside};
 ghost use Rattle.dom_ranges.specs.Tables.{ranges_of, range_in, with_ranges, range_from, ends_by, EachRange, BothEnds, collapsed_range};
 
-use crate::change::Change;
+use crate::change::{Change, Insertion, Join, Removal, Replacement, Split};
 use crate::numbers::Numbers;
 use dom_base::{Fault, MAX_NODES, Owner, Refusal};
+use dom_tree::Forest;
 use node_arena::Key;
 use slab::Slab;
 use std::alloc::{AllocError, Global};
@@ -147,10 +150,94 @@ impl RangeTable {
         }
     }
 
+    /// Tells the table that `count` nodes are to come into `parent` before its child at `index` (DOM Standard, concept:
+    /// insert): offsets in the parent that are greater than the index grow by the count.
+    pub fn on_insert(&mut self, parent: Key, index: usize, count: usize)
+        requires { (o : Owners) → EachRange (BothEnds (λ b. Fits (after_insert nat_eq parent index count b))) (ranges_of self.old o) }
+        ensures { (o : Owners) → ranges_of self.new o ≡ ends_by (after_insert nat_eq parent index count) (ranges_of self.old o) }
+    {
+        self.apply(&Insertion {
+            parent,
+            index,
+            count,
+        });
+    }
+
+    /// Tells the table that a node is to leave its parent, in whose tree it is still linked (DOM Standard, concept:
+    /// remove): the boundary points inside it go to where it stands, and greater offsets in the parent drop by one. Of
+    /// a root, nothing.
+    pub fn on_remove(&mut self, forest: &Forest, node: Key)
+        requires node_is_node { node < length forest.now.names }
+        requires ends { (o : Owners) → EachRange (BothEnds (IsAtNode forest.now)) (ranges_of self.old o) }
+        ensures root { parent_of forest.now.trees (name_at forest.now.names node) ≡ None → (o : Owners) → ranges_of self.new o ≡ ranges_of self.old o }
+        ensures child { (parent : ℕ) → parent < length forest.now.names → parent_of forest.now.trees (name_at forest.now.names node) ≡ Some (name_at forest.now.names parent) → (o : Owners) → ranges_of self.new o ≡ ends_by (after_removal nat_eq (is_inside forest.now node) parent (index_of forest.now.trees (name_at forest.now.names node))) (ranges_of self.old o) }
+    {
+        forest.nodes_stand_once();
+        if let Some(parent) = forest.parent(node) {
+            let index = forest.index(node);
+            self.apply(&Removal {
+                forest,
+                node,
+                parent,
+                index,
+            });
+        }
+    }
+
+    /// Tells the table that from `offset` on, `count` code units of a node give way to `length` others (DOM Standard,
+    /// concept: replace data): a boundary point among them goes to `offset`, and one behind them moves with what follows.
+    pub fn on_replace_data(&mut self, node: Key, offset: usize, count: usize, length: usize)
+        requires { (o : Owners) → EachRange (BothEnds (λ b. Fits (after_replace_data nat_eq node offset count length b))) (ranges_of self.old o) }
+        ensures { (o : Owners) → ranges_of self.new o ≡ ends_by (after_replace_data nat_eq node offset count length) (ranges_of self.old o) }
+    {
+        self.apply(&Replacement {
+            node,
+            offset,
+            count,
+            length,
+        });
+    }
+
+    /// Tells the table that a Text was split at `offset`, and what was past it is in the Text `new` (DOM Standard,
+    /// concept: split a Text node). Of a Text that is the child of a parent at an index, the boundary points past
+    /// `offset` go to the new Text, and those just behind the split Text go behind the new one. Of a root, nothing.
+    pub fn on_split(&mut self, node: Key, offset: usize, new: Key, place: Option<(Key, usize)>)
+        requires { ForSome place (λ p. (o : Owners) → EachRange (BothEnds (λ b. Fits (after_split nat_eq node offset new p.0 p.1 b))) (ranges_of self.old o)) }
+        ensures root { place ≡ None → (o : Owners) → ranges_of self.new o ≡ ranges_of self.old o }
+        ensures child { ForSome place (λ p. (o : Owners) → ranges_of self.new o ≡ ends_by (after_split nat_eq node offset new p.0 p.1) (ranges_of self.old o)) }
+    {
+        if let Some(at) = place {
+            let (parent, index) = at;
+            self.apply(&Split {
+                node,
+                offset,
+                new,
+                parent,
+                index,
+            });
+        }
+    }
+
+    /// Tells the table that the data of the Text `next`, the child of `parent` at `index`, were put behind those of the
+    /// Text `first`, which had `length` code units (DOM Standard, normalize()): the boundary points in `next`, and the
+    /// one just before it, go to `first`.
+    pub fn on_join(&mut self, first: Key, length: usize, next: Key, parent: Key, index: usize)
+        requires { (o : Owners) → EachRange (BothEnds (λ b. Fits (after_join nat_eq first length next parent index b))) (ranges_of self.old o) }
+        ensures { (o : Owners) → ranges_of self.new o ≡ ends_by (after_join nat_eq first length next parent index) (ranges_of self.old o) }
+    {
+        self.apply(&Join {
+            first,
+            length,
+            next,
+            parent,
+            index,
+        });
+    }
+
     /// Rewrites the ends of all ranges for a step of a change.
-    fn apply(&mut self, change: &Change<'_>)
-        requires { (o : Owners) → EachRange (BothEnds (CanMove change.now)) (ranges_of self.old o) }
-        ensures { (o : Owners) → ranges_of self.new o ≡ ends_by (rule_of change.now) (ranges_of self.old o) }
+    fn apply<C: Change>(&mut self, change: &C)
+        requires { (o : Owners) → EachRange (BothEnds (C.can_move change.now)) (ranges_of self.old o) }
+        ensures { (o : Owners) → ranges_of self.new o ≡ ends_by (C.rule change.now) (ranges_of self.old o) }
     {
         move_ends(&mut self.live, change);
     }
@@ -167,9 +254,9 @@ fn put(live: &mut Slab<Points>, slot: usize, points: Points)
 }
 
 /// Rewrites the ends of the ranges in all slots.
-fn move_ends(live: &mut Slab<Points>, change: &Change<'_>)
-    requires { (slot : ℕ) → ForSome (get live.old slot) (λ p. BothEnds (CanMove change.now) (range_from p)) }
-    ensures { (slot : ℕ) → option_map range_from (get live.new slot) ≡ option_map (λ p. map_ends (rule_of change.now) (range_from p)) (get live.old slot) }
+fn move_ends<C: Change>(live: &mut Slab<Points>, change: &C)
+    requires { (slot : ℕ) → ForSome (get live.old slot) (λ p. BothEnds (C.can_move change.now) (range_from p)) }
+    ensures { (slot : ℕ) → option_map range_from (get live.new slot) ≡ option_map (λ p. map_ends (C.rule change.now) (range_from p)) (get live.old slot) }
 {
     for slot in 0..live.capacity() {
         if let Some(points) = live.get_mut(slot) {
