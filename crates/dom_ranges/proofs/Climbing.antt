@@ -56,6 +56,24 @@ module _ (f : NamedTrees) (once : StandOnce f) (only : StandAlone f) where
         r.2.1 ∙ (ap (λ path. path ++ r.2.0) (path-up child top r.0 (sym r.1)) ∙ append_assoc (path_at f top) (i ∷ []) r.2.0),
       )
 
+  -- the path through a child of what is reached
+  pub path-through : (key top child : ℕ) → Reaches f key top (Some child) → (rest : List ℕ) × (path_at f key ≡ path_at f top ++ index_of f.trees (name_at f.names child) ∷ rest)
+  path-through key top child r =
+      let i = index_of f.trees (name_at f.names child) in
+      (r.2.0, r.2.1 ∙ (ap (λ path. path ++ r.2.0) (path-up child top r.0 (sym r.1)) ∙ append_assoc (path_at f top) (i ∷ []) r.2.0))
+
+  -- what is above by a level is less deep
+  pub reached-deep : (key top child : ℕ) → Reaches f key top (Some child) → depth_at f top < depth_at f key
+  reached-deep key top child r =
+      let w = path-through key top child r in
+      let long = ap (length {A = ℕ}) w.1 ∙ length-append (path_at f top) (index_of f.trees (name_at f.names child) ∷ w.0) in
+      omega (arith, long)
+
+  -- what is reached and as deep is the node itself
+  pub reached-here : (key top : ℕ) (child : Option ℕ) → Reaches f key top child → depth_at f key ≡ depth_at f top → key ≡ top
+  reached-here key top None e level = e
+  reached-here key top (Some child) r level = absurd (omega (arith, level, reached-deep key top child r))
+
   -- one level more
   pub reached-up : (key top above : ℕ) (child : Option ℕ) → top < length f.names → Some (name_at f.names above) ≡ parent_of f.trees (name_at f.names top) → Reaches f key top child → Reaches f key above (Some top)
   reached-up key top above child node e r = (node, sym e, path-reached key top child r)

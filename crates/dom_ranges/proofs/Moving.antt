@@ -24,8 +24,8 @@ module _ (f : Range ℕ → Range ℕ) (old now after : Slab Points) (slot : ℕ
       record {
         below = λ s l. elim (cases_eq s slot) [
           | inl e ↦
-            let was : get old s ≡ Some p = sym (before.above s (omega (arith, e))) ∙ (ap (get now) e ∙ here) in
-            ap (option_map range_from) (ap (get after) e ∙ u.changed) ∙ (ap Some is ∙ ap (option_map (λ (r : Points). f (range_from r))) (sym was))
+              let was : get old s ≡ Some p = sym (before.above s (omega (arith, e))) ∙ (ap (get now) e ∙ here) in
+              ap (option_map range_from) (ap (get after) e ∙ u.changed) ∙ (ap Some is ∙ ap (option_map (λ (r : Points). f (range_from r))) (sym was))
           | inr off ↦ ap (option_map range_from) (u.others s off) ∙ before.below s (below_other s off l)
         ];
         above = λ s l. u.others s (λ e. omega (arith, e, l)) ∙ before.above s (omega (arith, l));
@@ -40,8 +40,8 @@ module _ (f : Range ℕ → Range ℕ) (old now after : Slab Points) (slot : ℕ
       record {
         below = λ s l. elim (cases_eq s slot) [
           | inl e ↦
-            let was : get old s ≡ None = sym (before.above s (omega (arith, e))) ∙ (ap (get now) e ∙ here) in
-            ap (option_map range_from) (ap (λ (t : Slab Points). get t s) same ∙ (ap (get now) e ∙ here)) ∙ ap (option_map (λ (r : Points). f (range_from r))) (sym was)
+              let was : get old s ≡ None = sym (before.above s (omega (arith, e))) ∙ (ap (get now) e ∙ here) in
+              ap (option_map range_from) (ap (λ (t : Slab Points). get t s) same ∙ (ap (get now) e ∙ here)) ∙ ap (option_map (λ (r : Points). f (range_from r))) (sym was)
           | inr off ↦ ap (λ (t : Slab Points). option_map range_from (get t s)) same ∙ before.below s (below_other s off l)
         ];
         above = λ s l. ap (λ (t : Slab Points). get t s) same ∙ before.above s (omega (arith, l));

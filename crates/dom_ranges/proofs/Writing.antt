@@ -157,7 +157,7 @@ HoldSame-moved f live after moved s = by (get after s) (get live s) (moved s)
 -- ---- a slot more
 
 module _ (live after : Slab Points) (n m : Numbers) (slot : ℕ) (owner : Owner) (q : Points) (h : IsHeld live n) (free : get live slot ≡ None) (u : Updates live after slot (Some q))
-  (lists : (o : Owner) → slots_of m o ≡ (if owner_eq owner o then slots_of n o ++ Some slot ∷ [] else slots_of n o)) where
+    (lists : (o : Owner) → slots_of m o ≡ (if owner_eq owner o then slots_of n o ++ Some slot ∷ [] else slots_of n o)) where
   -- the new slot stood nowhere
   stood_nowhere : (o : Owner) (k : ℕ) → StandsUnder n slot o k → ⊥
   stood_nowhere o k e = true≢false (sym (h.held o k slot e) ∙ ap is_some free)
@@ -174,9 +174,9 @@ module _ (live after : Slab Points) (n m : Numbers) (slot : ℕ) (owner : Owner)
   under-kept : (o : Owner) (k s : ℕ) → StandsUnder n s o k → StandsUnder m s o k
   under-kept o k s e = elim (cases_Bool (owner_eq owner o)) [
     | inl f ↦
-      let same = owner_eq-true owner o f in
-      subst (λ (p : Owner). StandsUnder m s p k) same
-      (ap (λ (ss : List (Option ℕ)). slice_get ss k) list-own ∙ append-kept (slots_of n owner) (Some slot ∷ []) (Some s) k (subst (λ (p : Owner). StandsUnder n s p k) (sym same) e))
+        let same = owner_eq-true owner o f in
+        subst (λ (p : Owner). StandsUnder m s p k) same
+        (ap (λ (ss : List (Option ℕ)). slice_get ss k) list-own ∙ append-kept (slots_of n owner) (Some slot ∷ []) (Some s) k (subst (λ (p : Owner). StandsUnder n s p k) (sym same) e))
     | inr f ↦ ap (λ (ss : List (Option ℕ)). slice_get ss k) (list-other o f) ∙ e
   ]
 
@@ -184,13 +184,13 @@ module _ (live after : Slab Points) (n m : Numbers) (slot : ℕ) (owner : Owner)
   under-cases : (o : Owner) (k s : ℕ) → StandsUnder m s o k → StandsUnder n s o k ⊎ ((s ≡ slot) × (o ≡ owner) × (k ≡ length (slots_of n owner)))
   under-cases o k s e = elim (cases_Bool (owner_eq owner o)) [
     | inl f ↦
-      let same = owner_eq-true owner o f in
-      let here : slice_get (slots_of n owner ++ Some slot ∷ []) k ≡ Some (Some s) =
-      ap (λ (ss : List (Option ℕ)). slice_get ss k) (sym list-own) ∙ subst (λ (p : Owner). StandsUnder m s p k) (sym same) e in
-      elim (append-cases (slots_of n owner) (Some slot) (Some s) k here) [
-        | inl g ↦ inl (subst (λ (p : Owner). StandsUnder n s p k) same g)
-        | inr g ↦ inr (same_Some _ _ g.1, sym same, g.0)
-      ]
+        let same = owner_eq-true owner o f in
+        let here : slice_get (slots_of n owner ++ Some slot ∷ []) k ≡ Some (Some s) =
+        ap (λ (ss : List (Option ℕ)). slice_get ss k) (sym list-own) ∙ subst (λ (p : Owner). StandsUnder m s p k) (sym same) e in
+        elim (append-cases (slots_of n owner) (Some slot) (Some s) k here) [
+          | inl g ↦ inl (subst (λ (p : Owner). StandsUnder n s p k) same g)
+          | inr g ↦ inr (same_Some _ _ g.1, sym same, g.0)
+        ]
     | inr f ↦ inl (ap (λ (ss : List (Option ℕ)). slice_get ss k) (sym (list-other o f)) ∙ e)
   ]
 
@@ -235,7 +235,7 @@ module _ (live after : Slab Points) (n m : Numbers) (slot : ℕ) (owner : Owner)
 -- ---- a slot emptied
 
 module _ (live after : Slab Points) (n m : Numbers) (slot k : ℕ) (owner : Owner) (h : IsHeld live n) (at : StandsUnder n slot owner k) (u : Updates live after slot None)
-  (lists : (o : Owner) → slots_of m o ≡ (if owner_eq owner o then slice_set (slots_of n o) k None else slots_of n o)) where
+    (lists : (o : Owner) → slots_of m o ≡ (if owner_eq owner o then slice_set (slots_of n o) k None else slots_of n o)) where
   -- the owner's list without it
   left-own : slots_of m owner ≡ slice_set (slots_of n owner) k None
   left-own = lists owner ∙ ap (λ b. cond b (slice_set (slots_of n owner) k None) (slots_of n owner)) (owner_eq-same owner)
@@ -248,25 +248,25 @@ module _ (live after : Slab Points) (n m : Numbers) (slot k : ℕ) (owner : Owne
   under-left : (o : Owner) (j s : ℕ) → StandsUnder m s o j → StandsUnder n s o j × (s ≢ slot)
   under-left o j s e = elim (cases_Bool (owner_eq owner o)) [
     | inl f ↦
-      let same = owner_eq-true owner o f in
-      let here : slice_get (slice_set (slots_of n owner) k None) j ≡ Some (Some s) =
-      ap (λ (ss : List (Option ℕ)). slice_get ss j) (sym left-own) ∙ subst (λ (p : Owner). StandsUnder m s p j) (sym same) e in
-      let off : (j ≡ k → ⊥) = λ g. none-some s (sym (set-at (slots_of n owner) k None (Some s) (subst (λ i. slice_get (slice_set (slots_of n owner) k None) i ≡ Some (Some s)) g here))) in
-      let stood : StandsUnder n s owner j = sym (set-other (slots_of n owner) k None j off) ∙ here in
-      (subst (λ (p : Owner). StandsUnder n s p j) same stood, λ g. off (h.apart owner owner j k slot (subst (λ t. StandsUnder n t owner j) g stood) at).1)
+        let same = owner_eq-true owner o f in
+        let here : slice_get (slice_set (slots_of n owner) k None) j ≡ Some (Some s) =
+        ap (λ (ss : List (Option ℕ)). slice_get ss j) (sym left-own) ∙ subst (λ (p : Owner). StandsUnder m s p j) (sym same) e in
+        let off : (j ≡ k → ⊥) = λ g. none-some s (sym (set-at (slots_of n owner) k None (Some s) (subst (λ i. slice_get (slice_set (slots_of n owner) k None) i ≡ Some (Some s)) g here))) in
+        let stood : StandsUnder n s owner j = sym (set-other (slots_of n owner) k None j off) ∙ here in
+        (subst (λ (p : Owner). StandsUnder n s p j) same stood, λ g. off (h.apart owner owner j k slot (subst (λ t. StandsUnder n t owner j) g stood) at).1)
     | inr f ↦
-      let stood : StandsUnder n s o j = ap (λ (ss : List (Option ℕ)). slice_get ss j) (sym (left-other o f)) ∙ e in
-      (stood, λ g. owner_eq-false owner o f (sym (h.apart o owner j k slot (subst (λ t. StandsUnder n t o j) g stood) at).0))
+        let stood : StandsUnder n s o j = ap (λ (ss : List (Option ℕ)). slice_get ss j) (sym (left-other o f)) ∙ e in
+        (stood, λ g. owner_eq-false owner o f (sym (h.apart o owner j k slot (subst (λ t. StandsUnder n t o j) g stood) at).0))
   ]
 
   -- another slot stands where it stood
   under-stays : (o : Owner) (j s : ℕ) → s ≢ slot → StandsUnder n s o j → StandsUnder m s o j
   under-stays o j s other e = elim (cases_Bool (owner_eq owner o)) [
     | inl f ↦
-      let same = owner_eq-true owner o f in
-      let stood : StandsUnder n s owner j = subst (λ (p : Owner). StandsUnder n s p j) (sym same) e in
-      let off : (j ≡ k → ⊥) = λ g. other (same_Some _ _ (same_Some _ _ (sym (subst (λ i. StandsUnder n s owner i) g stood) ∙ at))) in
-      subst (λ (p : Owner). StandsUnder m s p j) same (ap (λ (ss : List (Option ℕ)). slice_get ss j) left-own ∙ (set-other (slots_of n owner) k None j off ∙ stood))
+        let same = owner_eq-true owner o f in
+        let stood : StandsUnder n s owner j = subst (λ (p : Owner). StandsUnder n s p j) (sym same) e in
+        let off : (j ≡ k → ⊥) = λ g. other (same_Some _ _ (same_Some _ _ (sym (subst (λ i. StandsUnder n s owner i) g stood) ∙ at))) in
+        subst (λ (p : Owner). StandsUnder m s p j) same (ap (λ (ss : List (Option ℕ)). slice_get ss j) left-own ∙ (set-other (slots_of n owner) k None j off ∙ stood))
     | inr f ↦ ap (λ (ss : List (Option ℕ)). slice_get ss j) (left-other o f) ∙ e
   ]
 

@@ -2,3 +2,4 @@ pub mod Tables
 pub mod Held
 pub mod Rules
 pub mod Climbs
+pub mod Settings

@@ -4,6 +4,7 @@
 mod change;
 mod numbers;
 mod order;
+mod setting;
 mod table;
 
 pub use order::is_before;

@@ -117,3 +117,13 @@ fn part(forest: &Forest, first: Key, second: Key) -> (Key, Key)
         other = beside;
     }
 }
+
+/// Whether two nodes have one root (DOM Standard, concept: root).
+pub(crate) fn share_root(forest: &Forest, first: Key, second: Key) -> bool
+    requires first_is_node { first < length forest.now.names }
+    requires second_is_node { second < length forest.now.names }
+    ensures { result ≡ same_root forest.now.trees (name_at forest.now.names first) (name_at forest.now.names second) }
+{
+    forest.nodes_stand_once();
+    forest.root(first) == forest.root(second)
+}

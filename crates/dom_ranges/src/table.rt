@@ -4,15 +4,17 @@ ghost use Rattle.std.specs.Option.{option_map, ForSome};
 ghost use Rattle.dom_base.specs.declared.Owner.{Owner as Owners};
 ghost use Rattle.dom_model.specs.CommandRefusals.{past_limit};
 ghost use Rattle.dom_model.specs.Place.{Boundary};
-ghost use Rattle.dom_model.specs.Ranges.{at, from_to, map_ends, after_insert, after_removal, after_replace_data, after_split, after_join};
-ghost use Rattle.dom_model.specs.Tree.{parent_of, index_of};
+ghost use Rattle.dom_model.specs.Ranges.{at, from_to, map_ends, after_insert, after_removal, after_replace_data, after_split, after_join, with_start, with_end};
+ghost use Rattle.dom_model.specs.Tree.{parent_of, index_of, length_of};
 ghost use Rattle.dom_tree.specs.Forest.{name_at};
 ghost use Rattle.slab.specs.Slab.{get, Updates};
 ghost use Rattle.dom_ranges.specs.Rules.{Fits, IsAtNode, is_inside};
+ghost use Rattle.dom_ranges.specs.Settings.{start_set, end_set, named_ranges, with_named};
 ghost use Rattle.dom_ranges.specs.Tables.{ranges_of, range_in, with_ranges, range_from, ends_by, EachRange, BothEnds, collapsed_range};
 
 use crate::change::{Change, Insertion, Join, Removal, Replacement, Split};
 use crate::numbers::Numbers;
+use crate::setting::{with_end, with_start};
 use dom_base::{Fault, MAX_NODES, Owner, Refusal};
 use dom_tree::Forest;
 use node_arena::Key;
@@ -119,6 +121,77 @@ impl RangeTable {
         self.live.get(slot).copied()
     }
 
+    /// Gives a range another start (DOM Standard, setStart()): the end goes there too where it stands in another tree or
+    /// would be before it. It is refused with `Unknown` where the range is not there (own rule), and then with
+    /// `IndexSize` where the offset is past the node's length; then the table is as it was.
+    pub fn set_start(
+        &mut self,
+        owner: Owner,
+        number: u32,
+        forest: &Forest,
+        node: Key,
+        offset: usize,
+    ) -> Result<(), Refusal>
+        requires node_is_node { node < length forest.now.names }
+        requires ends { EachRange (BothEnds (IsAtNode forest.now)) (ranges_of self.old owner) }
+        ensures unknown { (result ≡ Err Refusal.Unknown) ↔ (range_in (ranges_of self.old owner) number ≡ None) }
+        ensures index_size { (result ≡ Err Refusal.IndexSize) ↔ (IsSome (range_in (ranges_of self.old owner) number) × (length_of forest.now.trees (name_at forest.now.names node) < offset)) }
+        ensures other { IfErr result (λ refusal. (refusal ≡ Refusal.Unknown) ⊎ (refusal ≡ Refusal.IndexSize)) }
+        ensures set { OnOk result ((o : Owners) → ranges_of self.new o ≡ with_ranges self.old owner (slice_set (ranges_of self.old owner) number (option_map (start_set forest.now (at node offset)) (range_in (ranges_of self.old owner) number))) o) }
+        ensures named { OnOk result ((o : Owners) → named_ranges forest.now.names (ranges_of self.new o) ≡ with_named forest.now.names self.old owner number (with_start forest.now.trees (at (name_at forest.now.names node) offset)) o) }
+        ensures err { OnErr result ((o : Owners) → ranges_of self.new o ≡ ranges_of self.old o) }
+    {
+        let points = self.check(owner, number, forest, node, offset)?;
+        self.write(owner, number, with_start(forest, points, node, offset));
+        Ok(())
+    }
+
+    /// Gives a range another end (DOM Standard, setEnd()): the start goes there too where it stands in another tree or
+    /// would be after it. It is refused as `set_start` is.
+    pub fn set_end(
+        &mut self,
+        owner: Owner,
+        number: u32,
+        forest: &Forest,
+        node: Key,
+        offset: usize,
+    ) -> Result<(), Refusal>
+        requires node_is_node { node < length forest.now.names }
+        requires ends { EachRange (BothEnds (IsAtNode forest.now)) (ranges_of self.old owner) }
+        ensures unknown { (result ≡ Err Refusal.Unknown) ↔ (range_in (ranges_of self.old owner) number ≡ None) }
+        ensures index_size { (result ≡ Err Refusal.IndexSize) ↔ (IsSome (range_in (ranges_of self.old owner) number) × (length_of forest.now.trees (name_at forest.now.names node) < offset)) }
+        ensures other { IfErr result (λ refusal. (refusal ≡ Refusal.Unknown) ⊎ (refusal ≡ Refusal.IndexSize)) }
+        ensures set { OnOk result ((o : Owners) → ranges_of self.new o ≡ with_ranges self.old owner (slice_set (ranges_of self.old owner) number (option_map (end_set forest.now (at node offset)) (range_in (ranges_of self.old owner) number))) o) }
+        ensures named { OnOk result ((o : Owners) → named_ranges forest.now.names (ranges_of self.new o) ≡ with_named forest.now.names self.old owner number (with_end forest.now.trees (at (name_at forest.now.names node) offset)) o) }
+        ensures err { OnErr result ((o : Owners) → ranges_of self.new o ≡ ranges_of self.old o) }
+    {
+        let points = self.check(owner, number, forest, node, offset)?;
+        self.write(owner, number, with_end(forest, points, node, offset));
+        Ok(())
+    }
+
+    /// The ends of a range that is there, where a node has an offset.
+    fn check(
+        &self,
+        owner: Owner,
+        number: u32,
+        forest: &Forest,
+        node: Key,
+        offset: usize,
+    ) -> Result<Points, Refusal>
+        requires { node < length forest.now.names }
+        ensures unknown { (result ≡ Err Refusal.Unknown) ↔ (range_in (ranges_of self.now owner) number ≡ None) }
+        ensures index_size { (result ≡ Err Refusal.IndexSize) ↔ (IsSome (range_in (ranges_of self.now owner) number) × (length_of forest.now.trees (name_at forest.now.names node) < offset)) }
+        ensures other { IfErr result (λ refusal. (refusal ≡ Refusal.Unknown) ⊎ (refusal ≡ Refusal.IndexSize)) }
+        ensures points { IfOk result (λ points. range_in (ranges_of self.now owner) number ≡ Some (range_from points)) }
+    {
+        let points = self.points(owner, number).ok_or(Refusal::Unknown)?;
+        if forest.length(node) < offset {
+            return Err(Refusal::IndexSize);
+        }
+        Ok(points)
+    }
+
     /// Sets both ends of a range to its start, or to its end (DOM Standard, collapse). Answers whether it is there.
     pub fn collapse(&mut self, owner: Owner, number: u32, to_start: bool) -> bool
         ensures there { result ≡ is_some (range_in (ranges_of self.old owner) number) }
@@ -127,16 +200,16 @@ impl RangeTable {
         let Some(points) = self.points(owner, number) else {
             return false;
         };
-        let point = if to_start {
-            points.start
-        } else {
-            points.end
-        };
+        let point = if to_start { points.start } else { points.end };
         let (node, offset) = point;
-        self.write(owner, number, Points {
-            start: (node, offset),
-            end: (node, offset),
-        });
+        self.write(
+            owner,
+            number,
+            Points {
+                start: (node, offset),
+                end: (node, offset),
+            },
+        );
         true
     }
 
