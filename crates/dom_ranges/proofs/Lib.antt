@@ -5,3 +5,4 @@ pub mod Moving
 pub mod Places
 pub mod Before
 pub mod Climbing
+pub mod Naming

@@ -3,3 +3,4 @@ pub mod Held
 pub mod Rules
 pub mod Climbs
 pub mod Settings
+pub mod Naming

@@ -1,5 +1,6 @@
 -- What the calls that are told of a change ask of boundary points.
-use Rattle.std.specs.Prelude.{ℕ, ◌<◌, ◌^◌, Bool, length}
+use Rattle.std.specs.Prelude.{ℕ, ◌<◌, ◌^◌, Bool, List, length}
+use Rattle.dom_base.specs.declared.NodeName.{NodeName}
 use Rattle.dom_model.specs.Place.{Boundary}
 use Rattle.dom_model.specs.Tree.{is_inclusive_ancestor}
 use Rattle.dom_tree.specs.Forest.{NamedTrees, name_at}
@@ -8,9 +9,9 @@ use Rattle.dom_tree.specs.Forest.{NamedTrees, name_at}
 abbrev pub Fits : Boundary ℕ → Type 0
 Fits b = b.offset < 2 ^ 64
 
--- its node is a node of the forest
-abbrev pub IsAtNode : NamedTrees → Boundary ℕ → Type 0
-IsAtNode f b = b.node < length f.names
+-- its node is one of those with these names
+abbrev pub IsAtNode : List NodeName → Boundary ℕ → Type 0
+IsAtNode names b = b.node < length names
 
 -- whether a key's node is an inclusive descendant of another key's
 abbrev pub is_inside : NamedTrees → ℕ → ℕ → Bool

@@ -1,11 +1,12 @@
 -- A range with another start or end, by keys, and what it is by the names of their nodes.
 use Rattle.std.specs.Prelude.{◌≡◌, ℕ, Bool, not, ◌&&◌, List, map, slice_get, slice_set, Option, option_map, if◌then◌else◌}
-use Rattle.std.specs.Option.{option_flatten}
+use Rattle.std.specs.Option.{option_flatten, option_map_or}
 use Rattle.dom_base.specs.declared.Owner.{Owner}
 use Rattle.dom_base.specs.declared.NodeName.{NodeName}
-use Rattle.dom_model.specs.Names.{owner_eq}
+use Rattle.dom_model.specs.Names.{owner_eq, name_eq}
 use Rattle.dom_model.specs.Place.{Boundary, is_before, same_root}
-use Rattle.dom_model.specs.Ranges.{Range, at, from_to, with_start, with_end}
+use Rattle.dom_model.specs.Ranges.{Range, at, from_to, map_ends, after_removal, with_start, with_end}
+use Rattle.dom_model.specs.Tree.{is_inclusive_ancestor, parent_of, index_of}
 use Rattle.dom_tree.specs.Forest.{NamedTrees, name_at}
 use Rattle.dom_ranges.specs.Tables.{RangeList, RangeLists, ranges_of}
 
@@ -42,3 +43,9 @@ abbrev pub with_named : List NodeName → RangeLists → Owner → ℕ → (Rang
 with_named names t owner k f o =
     let rs = named_ranges names (ranges_of t o) in
     if owner_eq owner o then slice_set rs k (option_map f (option_flatten (slice_get rs k))) else rs
+
+-- live ranges by names after a node with this name has left its parent; a root leaves none
+abbrev pub without_named : NamedTrees → NodeName → List (Option (Range NodeName)) → List (Option (Range NodeName))
+without_named f x rs =
+    let left = λ (parent : NodeName). map (option_map (map_ends (after_removal name_eq (is_inclusive_ancestor f.trees x) parent (index_of f.trees x)))) rs in
+    option_map_or left (parent_of f.trees x) rs

@@ -52,7 +52,7 @@ pub(crate) struct Removal<'a> {
 impl Change for Removal<'_> {
     ghost rule = { λ s. after_removal nat_eq (is_inside s.forest.now s.node) s.parent s.index };
 
-    ghost can_move = { λ s b. (s.node < length s.forest.now.names) × IsAtNode s.forest.now b };
+    ghost can_move = { λ s b. (s.node < length s.forest.now.names) × IsAtNode s.forest.now.names b };
 
     fn moved(&self, node: Key, offset: usize) -> (Key, usize) {
         if self.forest.is_inclusive_ancestor(self.node, node) {

@@ -13,7 +13,7 @@ use node_arena::Key;
 /// The range with this start. The end stays where it is in the same tree and not before the start, and else goes there.
 pub(crate) fn with_start(forest: &Forest, points: Points, node: Key, offset: usize) -> Points
     requires node_is_node { node < length forest.now.names }
-    requires ends { BothEnds (IsAtNode forest.now) (range_from points) }
+    requires ends { BothEnds (IsAtNode forest.now.names) (range_from points) }
     ensures { range_from result ≡ start_set forest.now (at node offset) (range_from points) }
 {
     let (end, to) = points.end;
@@ -28,7 +28,7 @@ pub(crate) fn with_start(forest: &Forest, points: Points, node: Key, offset: usi
 /// The range with this end. The start stays where it is in the same tree and not after the end, and else goes there.
 pub(crate) fn with_end(forest: &Forest, points: Points, node: Key, offset: usize) -> Points
     requires node_is_node { node < length forest.now.names }
-    requires ends { BothEnds (IsAtNode forest.now) (range_from points) }
+    requires ends { BothEnds (IsAtNode forest.now.names) (range_from points) }
     ensures { range_from result ≡ end_set forest.now (at node offset) (range_from points) }
 {
     let (start, from) = points.start;

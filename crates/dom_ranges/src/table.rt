@@ -9,7 +9,7 @@ ghost use Rattle.dom_model.specs.Tree.{parent_of, index_of, length_of};
 ghost use Rattle.dom_tree.specs.Forest.{name_at};
 ghost use Rattle.slab.specs.Slab.{get, Updates};
 ghost use Rattle.dom_ranges.specs.Rules.{Fits, IsAtNode, is_inside};
-ghost use Rattle.dom_ranges.specs.Settings.{start_set, end_set, named_ranges, with_named};
+ghost use Rattle.dom_ranges.specs.Settings.{start_set, end_set, named_ranges, with_named, without_named};
 ghost use Rattle.dom_ranges.specs.Tables.{ranges_of, range_in, with_ranges, range_from, ends_by, EachRange, BothEnds, collapsed_range};
 
 use crate::change::{Change, Insertion, Join, Removal, Replacement, Split};
@@ -133,7 +133,7 @@ impl RangeTable {
         offset: usize,
     ) -> Result<(), Refusal>
         requires node_is_node { node < length forest.now.names }
-        requires ends { EachRange (BothEnds (IsAtNode forest.now)) (ranges_of self.old owner) }
+        requires ends { EachRange (BothEnds (IsAtNode forest.now.names)) (ranges_of self.old owner) }
         ensures unknown { (result ≡ Err Refusal.Unknown) ↔ (range_in (ranges_of self.old owner) number ≡ None) }
         ensures index_size { (result ≡ Err Refusal.IndexSize) ↔ (IsSome (range_in (ranges_of self.old owner) number) × (length_of forest.now.trees (name_at forest.now.names node) < offset)) }
         ensures other { IfErr result (λ refusal. (refusal ≡ Refusal.Unknown) ⊎ (refusal ≡ Refusal.IndexSize)) }
@@ -157,7 +157,7 @@ impl RangeTable {
         offset: usize,
     ) -> Result<(), Refusal>
         requires node_is_node { node < length forest.now.names }
-        requires ends { EachRange (BothEnds (IsAtNode forest.now)) (ranges_of self.old owner) }
+        requires ends { EachRange (BothEnds (IsAtNode forest.now.names)) (ranges_of self.old owner) }
         ensures unknown { (result ≡ Err Refusal.Unknown) ↔ (range_in (ranges_of self.old owner) number ≡ None) }
         ensures index_size { (result ≡ Err Refusal.IndexSize) ↔ (IsSome (range_in (ranges_of self.old owner) number) × (length_of forest.now.trees (name_at forest.now.names node) < offset)) }
         ensures other { IfErr result (λ refusal. (refusal ≡ Refusal.Unknown) ⊎ (refusal ≡ Refusal.IndexSize)) }
@@ -241,9 +241,10 @@ impl RangeTable {
     /// a root, nothing.
     pub fn on_remove(&mut self, forest: &Forest, node: Key)
         requires node_is_node { node < length forest.now.names }
-        requires ends { (o : Owners) → EachRange (BothEnds (IsAtNode forest.now)) (ranges_of self.old o) }
+        requires ends { (o : Owners) → EachRange (BothEnds (IsAtNode forest.now.names)) (ranges_of self.old o) }
         ensures root { parent_of forest.now.trees (name_at forest.now.names node) ≡ None → (o : Owners) → ranges_of self.new o ≡ ranges_of self.old o }
         ensures child { (parent : ℕ) → parent < length forest.now.names → parent_of forest.now.trees (name_at forest.now.names node) ≡ Some (name_at forest.now.names parent) → (o : Owners) → ranges_of self.new o ≡ ends_by (after_removal nat_eq (is_inside forest.now node) parent (index_of forest.now.trees (name_at forest.now.names node))) (ranges_of self.old o) }
+        ensures named { (o : Owners) → named_ranges forest.now.names (ranges_of self.new o) ≡ without_named forest.now (name_at forest.now.names node) (named_ranges forest.now.names (ranges_of self.old o)) }
     {
         forest.nodes_stand_once();
         if let Some(parent) = forest.parent(node) {
