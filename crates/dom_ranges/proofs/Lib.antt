@@ -6,3 +6,4 @@ pub mod Places
 pub mod Before
 pub mod Climbing
 pub mod Naming
+pub mod Standing

@@ -3,7 +3,7 @@ use Rattle.std.proofs.Common.{◌≡◌, ◌⊎◌, inl, inr, ℕ, zero, suc, �
 use Rattle.std.specs.Prelude.{slice_get, slice_set, slice_index_or, ◌&&◌, ◌||◌, ◌==◌, if◌then◌else◌}
 use Rattle.std.specs.Option.{option_map, option_flatten}
 use Rattle.std.proofs.lemmas.Bool.{cases_Bool, eqb-true, eq-eqb}
-use Rattle.std.proofs.lemmas.List.{map-set, length-append}
+use Rattle.std.proofs.lemmas.List.{map-set, map-append, length-append}
 use Rattle.std.proofs.lemmas.Option.{same_Some, none-some, slice_get-map}
 use Rattle.dom_base.specs.declared.Owner.{Owner}
 use Rattle.dom_base.specs.declared.Owner.TheVariants.{Page}
@@ -15,10 +15,10 @@ use Rattle.dom_model.specs.Ranges.{Range, at, from_to, map_ends, boundary_eq, af
 use Rattle.dom_model.specs.Tree.{is_inclusive_ancestor}
 use Rattle.dom_tree.specs.Forest.{NamedTrees, name_at}
 use Rattle.dom_tree.proofs.Names.{name_eq-other}
-use Rattle.dom_ranges.specs.Naming.{AreApart, StandAtNodes, IsNamedRule, KeepsNodes, InsertNamed, RemovalNamed, ReplaceDataNamed, SplitNamed, JoinNamed, StartNamed, EndNamed, GrownNamed, named_ends_by}
+use Rattle.dom_ranges.specs.Naming.{AreApart, StandAtNodes, IsNamedRule, KeepsNodes, InsertNamed, RemovalNamed, ReplaceDataNamed, SplitNamed, JoinNamed, StartNamed, EndNamed, GrownNamed, MadeNamed, RemovedNamed, RewrittenNamed, CollapsedNamed, named_ends_by}
 use Rattle.dom_ranges.specs.Rules.{IsAtNode, is_inside}
 use Rattle.dom_ranges.specs.Settings.{named_boundary, named_range, named_ranges, start_set, end_set, with_named, have_one_root, is_key_before}
-use Rattle.dom_ranges.specs.Tables.{RangeList, RangeLists, EachRange, BothEnds, ends_by, ranges_of, range_in, with_ranges}
+use Rattle.dom_ranges.specs.Tables.{RangeList, RangeLists, EachRange, BothEnds, ends_by, ranges_of, range_in, with_ranges, collapsed_range}
 use Rattle.dom_ranges.proofs.Lists.{map_kept, map_twice, cons_same}
 
 -- ---- lists of ranges, each rewritten
@@ -169,25 +169,37 @@ grown-named names more rs each = (by rs each, λ k r e. let p = each k r e in (l
         (ap (λ b. Some (from_to b (named_boundary (names ++ more) r.end))) (point r.start p.0) ∙ ap (λ b. Some (from_to (named_boundary names r.start) b)) (point r.end p.1))
         (by ss (λ k s e. h (suc k) s e))
 
--- ---- one range of a table
+-- ---- one range of a list
 
--- the table with one range rewritten, named
-pub with-named : (names : List NodeName) (t : RangeLists) (owner : Owner) (k : ℕ) (f : Range ℕ → Range ℕ) (g : Range NodeName → Range NodeName) → ((r : Range ℕ) → named_range names (f r) ≡ g (named_range names r))
-    → (o : Owner) → named_ranges names (with_ranges t owner (slice_set (ranges_of t owner) k (option_map f (range_in (ranges_of t owner) k))) o) ≡ with_named names t owner k g o
-with-named names t owner k f g law o = by (owner_eq owner o) refl
+pub made-named : MadeNamed
+made-named names rs node = map-append (option_map (named_range names)) rs (Some (from_to (at node 0) (at node 0)) ∷ [])
+
+pub removed-named : RemovedNamed
+removed-named names rs k = map-set (option_map (named_range names)) rs k None
+
+pub rewritten-named : RewrittenNamed
+rewritten-named names f g law rs k =
+    map-set (option_map (named_range names)) rs k (option_map f (range_in rs k))
+    ∙ ap (slice_set (named_ranges names rs) k) (one (slice_get rs k) ∙ ap (λ r. option_map g (option_flatten r)) (sym (slice_get-map (option_map (named_range names)) rs k)))
   where
     one : (r : Option (Option (Range ℕ))) → option_map (named_range names) (option_map f (option_flatten r)) ≡ option_map g (option_flatten (option_map (option_map (named_range names)) r))
     one None = refl
     one (Some None) = refl
     one (Some (Some r)) = ap Some (law r)
 
-    here : (rs : RangeList) → named_ranges names (slice_set rs k (option_map f (range_in rs k))) ≡ slice_set (named_ranges names rs) k (option_map g (option_flatten (slice_get (named_ranges names rs) k)))
-    here rs =
-        map-set (option_map (named_range names)) rs k (option_map f (range_in rs k))
-        ∙ ap (slice_set (named_ranges names rs) k) (one (slice_get rs k) ∙ ap (λ r. option_map g (option_flatten r)) (sym (slice_get-map (option_map (named_range names)) rs k)))
+pub collapsed-named : CollapsedNamed
+collapsed-named names true r = refl
+collapsed-named names false r = refl
 
+-- the table with one range rewritten, named
+pub with-named : (names : List NodeName) (t : RangeLists) (owner : Owner) (k : ℕ) (f : Range ℕ → Range ℕ) (g : Range NodeName → Range NodeName) → ((r : Range ℕ) → named_range names (f r) ≡ g (named_range names r))
+    → (o : Owner) → named_ranges names (with_ranges t owner (slice_set (ranges_of t owner) k (option_map f (range_in (ranges_of t owner) k))) o) ≡ with_named names t owner k g o
+with-named names t owner k f g law o = by (owner_eq owner o) refl
+  where
     by : (b : Bool) → owner_eq owner o ≡ b
         → named_ranges names (cond b (slice_set (ranges_of t owner) k (option_map f (range_in (ranges_of t owner) k))) (ranges_of t o))
         ≡ cond b (slice_set (named_ranges names (ranges_of t o)) k (option_map g (option_flatten (slice_get (named_ranges names (ranges_of t o)) k)))) (named_ranges names (ranges_of t o))
-    by true e = here (ranges_of t owner) ∙ ap (λ (p : Owner). slice_set (named_ranges names (ranges_of t p)) k (option_map g (option_flatten (slice_get (named_ranges names (ranges_of t p)) k)))) (owner_eq-true owner o e)
+    by true e =
+        rewritten-named names f g law (ranges_of t owner) k
+        ∙ ap (λ (p : Owner). slice_set (named_ranges names (ranges_of t p)) k (option_map g (option_flatten (slice_get (named_ranges names (ranges_of t p)) k)))) (owner_eq-true owner o e)
     by false e = refl

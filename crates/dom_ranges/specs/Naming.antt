@@ -1,14 +1,15 @@
 -- The table of ranges read in names: each rule over keys, with the names put in, is the same rule over names.
-use Rattle.std.specs.Prelude.{◌≡◌, ℕ, ◌<◌, List, ◌++◌, map, length, nat_eq, Option, option_map}
+use Rattle.std.specs.Prelude.{◌≡◌, ℕ, ◌<◌, Bool, List, [], ◌∷◌, ◌++◌, map, length, slice_get, slice_set, nat_eq, Option, Some, None, option_map}
+use Rattle.std.specs.Option.{option_flatten}
 use Rattle.dom_base.specs.declared.NodeName.{NodeName}
 use Rattle.dom_model.specs.Names.{name_eq}
 use Rattle.dom_model.specs.Place.{Boundary}
-use Rattle.dom_model.specs.Ranges.{Range, map_ends, after_insert, after_removal, after_replace_data, after_split, after_join, with_start, with_end}
+use Rattle.dom_model.specs.Ranges.{Range, at, from_to, map_ends, after_insert, after_removal, after_replace_data, after_split, after_join, with_start, with_end}
 use Rattle.dom_model.specs.Tree.{is_inclusive_ancestor}
 use Rattle.dom_tree.specs.Forest.{NamedTrees, name_at}
 use Rattle.dom_ranges.specs.Rules.{IsAtNode, is_inside}
 use Rattle.dom_ranges.specs.Settings.{named_boundary, named_range, named_ranges, start_set, end_set}
-use Rattle.dom_ranges.specs.Tables.{RangeList, EachRange, BothEnds, ends_by}
+use Rattle.dom_ranges.specs.Tables.{RangeList, EachRange, BothEnds, ends_by, range_in, collapsed_range}
 
 -- names tell keys apart
 abbrev pub AreApart : List NodeName → Type 0
@@ -70,3 +71,21 @@ EndNamed = (f : NamedTrees) (b : Boundary ℕ) (r : Range ℕ) → named_range f
 -- more names leave the named table as it is
 abbrev pub GrownNamed : Type 0
 GrownNamed = (names more : List NodeName) (rs : RangeList) → StandAtNodes names rs → (named_ranges (names ++ more) rs ≡ named_ranges names rs) × StandAtNodes (names ++ more) rs
+
+-- a range that was made
+abbrev pub MadeNamed : Type 0
+MadeNamed = (names : List NodeName) (rs : RangeList) (node : ℕ)
+    → named_ranges names (rs ++ Some (from_to (at node 0) (at node 0)) ∷ []) ≡ named_ranges names rs ++ Some (from_to (at (name_at names node) 0) (at (name_at names node) 0)) ∷ []
+
+-- a range that was removed
+abbrev pub RemovedNamed : Type 0
+RemovedNamed = (names : List NodeName) (rs : RangeList) (k : ℕ) → named_ranges names (slice_set rs k None) ≡ slice_set (named_ranges names rs) k None
+
+-- a range that was rewritten, as by `collapsed_range`
+abbrev pub RewrittenNamed : Type 0
+RewrittenNamed = (names : List NodeName) (f : Range ℕ → Range ℕ) (g : Range NodeName → Range NodeName) → ((r : Range ℕ) → named_range names (f r) ≡ g (named_range names r))
+    → (rs : RangeList) (k : ℕ) → named_ranges names (slice_set rs k (option_map f (range_in rs k))) ≡ slice_set (named_ranges names rs) k (option_map g (option_flatten (slice_get (named_ranges names rs) k)))
+
+-- a range that was collapsed
+abbrev pub CollapsedNamed : Type 0
+CollapsedNamed = (names : List NodeName) (to_start : Bool) (r : Range ℕ) → named_range names (collapsed_range to_start r) ≡ collapsed_range to_start (named_range names r)

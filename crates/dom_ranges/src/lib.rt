@@ -9,3 +9,6 @@ mod table;
 
 pub use order::is_before;
 pub use table::{Points, RangeTable};
+
+#[cfg(test)]
+mod tests;
