@@ -79,6 +79,22 @@ module _ (P : Boundary ℕ → Type 0) where
       by true = each
       by false = all o
 
+  -- a table after a range was made
+  pub table-made : (t new : RangeLists) (owner : Owner) (node : ℕ) → ((o : Owner) → ranges_of new o ≡ with_ranges t owner (ranges_of t owner ++ Some (from_to (at node 0) (at node 0)) ∷ []) o) → P (at node 0)
+      → ((o : Owner) → EachRange (BothEnds P) (ranges_of t o)) → (o : Owner) → EachRange (BothEnds P) (ranges_of new o)
+  table-made t new owner node e here all o =
+      subst (EachRange (BothEnds P)) (sym (e o)) (stand-with t owner (ranges_of t owner ++ Some (from_to (at node 0) (at node 0)) ∷ []) (stand-made (ranges_of t owner) (from_to (at node 0) (at node 0)) (here, here) (all owner)) all o)
+
+  -- a table after a range was rewritten
+  pub table-rewritten : (t new : RangeLists) (owner : Owner) (k : ℕ) (f : Range ℕ → Range ℕ) → ((o : Owner) → ranges_of new o ≡ with_ranges t owner (slice_set (ranges_of t owner) k (option_map f (range_in (ranges_of t owner) k))) o)
+      → ((r : Range ℕ) → BothEnds P r → BothEnds P (f r)) → ((o : Owner) → EachRange (BothEnds P) (ranges_of t o)) → (o : Owner) → EachRange (BothEnds P) (ranges_of new o)
+  table-rewritten t new owner k f e keeps all o =
+      subst (EachRange (BothEnds P)) (sym (e o)) (stand-with t owner (slice_set (ranges_of t owner) k (option_map f (range_in (ranges_of t owner) k))) (stand-rewritten f keeps (ranges_of t owner) k (all owner)) all o)
+
+-- what is weaker holds too
+pub EachRange-weaker : (P Q : Boundary ℕ → Type 0) → ((b : Boundary ℕ) → P b → Q b) → (rs : RangeList) → EachRange (BothEnds P) rs → EachRange (BothEnds Q) rs
+EachRange-weaker P Q step rs each k r e = let both = each k r e in (step r.start both.0, step r.end both.1)
+
 -- ---- offsets that fit
 
 -- a choice of points

@@ -33,7 +33,7 @@ impl Change for Insertion {
     ghost can_move = { λ s b. Fits (after_insert nat_eq s.parent s.index s.count b) };
 
     fn moved(&self, node: Key, offset: usize) -> (Key, usize) {
-        if node == self.parent && self.index < offset {
+        if node == self.parent && offset > self.index {
             return (self.parent, offset + self.count);
         }
         (node, offset)

@@ -42,7 +42,11 @@ fn node(alloc: Global, units: usize) -> Result<NodeData, AllocError>
         text.push(b'x' as u16)?;
     }
     Ok(NodeData {
-        kind: if units == 0 { Kind::Element } else { Kind::Text },
+        kind: if units == 0 {
+            Kind::Element
+        } else {
+            Kind::Text
+        },
         element: String::new(alloc),
         attributes: IndexMap::new(alloc),
         text,
@@ -87,15 +91,60 @@ fn trees(rt: &impl Abort, alloc: Global) -> Result<Forest, Fail> {
 }
 
 // Makes a range with both ends at a boundary point.
-fn place(rt: &impl Abort, table: &mut RangeTable, forest: &Forest, number: u32, offset: usize) -> Result<u32, Fail>
+fn place(rt: &impl Abort, table: &mut RangeTable, forest: &Forest, at: Place) -> Result<u32, Fail>
     requires { (o : Owners) → EachRange (BothEnds (IsSmallAt forest.now.names)) (ranges_of table.old o) }
     ensures { OnOk result ((o : Owners) → EachRange (BothEnds (IsSmallAt forest.now.names)) (ranges_of table.new o)) }
 {
-    let node = key_of(rt, forest, number);
-    assert!(rt; offset < 1000);
-    let range = table.make(Owner::Page, node)?;
-    assert!(rt; table.set_start(Owner::Page, range, forest, node, offset).is_ok());
+    let (number, _) = at;
+    let range = table.make(Owner::Page, key_of(rt, forest, number))?;
+    give_start(rt, table, forest, range, at)?;
     Ok(range)
+}
+
+// Gives a range of the page another start.
+fn give_start(
+    rt: &impl Abort,
+    table: &mut RangeTable,
+    forest: &Forest,
+    range: u32,
+    at: Place,
+) -> Result<(), Fail>
+    requires { (o : Owners) → EachRange (BothEnds (IsSmallAt forest.now.names)) (ranges_of table.old o) }
+    ensures { OnOk result ((o : Owners) → EachRange (BothEnds (IsSmallAt forest.now.names)) (ranges_of table.new o)) }
+{
+    let (number, offset) = at;
+    assert!(rt; offset < 1000);
+    table.set_start(
+        Owner::Page,
+        range,
+        forest,
+        key_of(rt, forest, number),
+        offset,
+    )?;
+    Ok(())
+}
+
+// Gives a range of the page another end.
+fn give_end(
+    rt: &impl Abort,
+    table: &mut RangeTable,
+    forest: &Forest,
+    range: u32,
+    at: Place,
+) -> Result<(), Fail>
+    requires { (o : Owners) → EachRange (BothEnds (IsSmallAt forest.now.names)) (ranges_of table.old o) }
+    ensures { OnOk result ((o : Owners) → EachRange (BothEnds (IsSmallAt forest.now.names)) (ranges_of table.new o)) }
+{
+    let (number, offset) = at;
+    assert!(rt; offset < 1000);
+    table.set_end(
+        Owner::Page,
+        range,
+        forest,
+        key_of(rt, forest, number),
+        offset,
+    )?;
+    Ok(())
 }
 
 // A table with a range for each row.
@@ -104,8 +153,7 @@ fn placed(rt: &impl Abort, alloc: Global, forest: &Forest, rows: &[Row]) -> Resu
 {
     let mut table = RangeTable::new(alloc);
     for (before, _) in rows {
-        let (node, offset) = *before;
-        place(rt, &mut table, forest, node, offset)?;
+        place(rt, &mut table, forest, *before)?;
     }
     Ok(table)
 }
@@ -120,7 +168,8 @@ fn are_moved(rt: &impl Abort, table: &RangeTable, forest: &Forest, rows: &[Row])
             start: (key, offset),
             end: (key, offset),
         };
-        assert!(rt; table.points(Owner::Page, number as u32) == Some(ends));
+        let number = u32::try_from(number).expect(rt, "there are too many rows");
+        assert!(rt; table.points(Owner::Page, number) == Some(ends));
     }
 }
 
@@ -166,11 +215,7 @@ fn removals_leave_nothing_inside(rt: HostRuntime) -> Result<(), Fail> {
     Ok(())
 }
 
-const ROOT_REMOVED: [Row; 3] = [
-    ((6, 0), (6, 0)),
-    ((6, 1), (6, 1)),
-    ((7, 2), (7, 2)),
-];
+const ROOT_REMOVED: [Row; 3] = [((6, 0), (6, 0)), ((6, 1), (6, 1)), ((7, 2), (7, 2))];
 
 #[test]
 fn a_root_leaves_nothing(rt: HostRuntime) -> Result<(), Fail> {
@@ -218,7 +263,12 @@ fn split_texts_share_their_points(rt: HostRuntime) -> Result<(), Fail> {
     let forest = trees(&rt, rt.alloc())?;
     let mut table = placed(&rt, rt.alloc(), &forest, &SPLIT)?;
     let parent = key_of(&rt, &forest, 0);
-    table.on_split(key_of(&rt, &forest, 1), 2, key_of(&rt, &forest, 8), Some((parent, 0)));
+    table.on_split(
+        key_of(&rt, &forest, 1),
+        2,
+        key_of(&rt, &forest, 8),
+        Some((parent, 0)),
+    );
     are_moved(&rt, &table, &forest, &SPLIT);
     Ok(())
 }
@@ -250,7 +300,13 @@ fn joined_texts_take_their_points(rt: HostRuntime) -> Result<(), Fail> {
     let forest = trees(&rt, rt.alloc())?;
     let mut table = placed(&rt, rt.alloc(), &forest, &JOINED)?;
     let parent = key_of(&rt, &forest, 0);
-    table.on_join(key_of(&rt, &forest, 4), 3, key_of(&rt, &forest, 5), parent, 3);
+    table.on_join(
+        key_of(&rt, &forest, 4),
+        3,
+        key_of(&rt, &forest, 5),
+        parent,
+        3,
+    );
     are_moved(&rt, &table, &forest, &JOINED);
     Ok(())
 }
@@ -281,30 +337,23 @@ const ENDS: [Setting; 7] = [
     ((1, 2), (1, 4), (7, 0), ((7, 0), (7, 0))),
 ];
 
-// Gives a range another start or end, where nothing stands in the way.
-fn set(rt: &impl Abort, table: &mut RangeTable, forest: &Forest, range: u32, at: Place, is_start: bool)
-    requires { (o : Owners) → EachRange (BothEnds (IsSmallAt forest.now.names)) (ranges_of table.old o) }
-    ensures { (o : Owners) → EachRange (BothEnds (IsSmallAt forest.now.names)) (ranges_of table.new o) }
-{
-    let (number, offset) = at;
-    let node = key_of(rt, forest, number);
-    assert!(rt; offset < 1000);
-    let answer = if is_start {
-        table.set_start(Owner::Page, range, forest, node, offset)
-    } else {
-        table.set_end(Owner::Page, range, forest, node, offset)
-    };
-    assert!(rt; answer.is_ok());
-}
-
 // Each range is the wanted one once it has the other start or end.
-fn are_set(rt: &impl Abort, alloc: Global, forest: &Forest, settings: &[Setting], is_start: bool) -> Result<(), Fail> {
+fn are_set(
+    rt: &impl Abort,
+    alloc: Global,
+    forest: &Forest,
+    settings: &[Setting],
+    is_start: bool,
+) -> Result<(), Fail> {
     for (from, to, at, wanted) in settings {
         let mut table = RangeTable::new(alloc);
-        let (number, offset) = *from;
-        let range = place(rt, &mut table, forest, number, offset)?;
-        set(rt, &mut table, forest, range, *to, false);
-        set(rt, &mut table, forest, range, *at, is_start);
+        let range = place(rt, &mut table, forest, *from)?;
+        give_end(rt, &mut table, forest, range, *to)?;
+        if is_start {
+            give_start(rt, &mut table, forest, range, *at)?;
+        } else {
+            give_end(rt, &mut table, forest, range, *at)?;
+        }
         let ((start, from), (end, to)) = *wanted;
         let points = Points {
             start: (key_of(rt, forest, start), from),
@@ -327,27 +376,59 @@ fn the_start_follows_the_end(rt: HostRuntime) -> Result<(), Fail> {
     are_set(&rt, rt.alloc(), &forest, &ENDS, false)
 }
 
+// A new start of a range from (1, 2) to (1, 2) is refused, and the range stays.
+fn start_is_refused(
+    rt: &impl Abort,
+    alloc: Global,
+    forest: &Forest,
+    owner: Owner,
+    offset: usize,
+    refusal: Refusal,
+) -> Result<(), Fail> {
+    let mut table = RangeTable::new(alloc);
+    let range = place(rt, &mut table, forest, (1, 2))?;
+    let before = table.points(Owner::Page, range);
+    let node = key_of(rt, forest, 1);
+    assert!(rt; table.set_start(owner, range, forest, node, offset) == Err(refusal));
+    assert!(rt; table.points(Owner::Page, range) == before);
+    Ok(())
+}
+
+// A new end of a range from (1, 2) to (1, 2) is refused, and the range stays.
+fn end_is_refused(
+    rt: &impl Abort,
+    alloc: Global,
+    forest: &Forest,
+    owner: Owner,
+    offset: usize,
+    refusal: Refusal,
+) -> Result<(), Fail> {
+    let mut table = RangeTable::new(alloc);
+    let range = place(rt, &mut table, forest, (1, 2))?;
+    let before = table.points(Owner::Page, range);
+    let node = key_of(rt, forest, 1);
+    assert!(rt; table.set_end(owner, range, forest, node, offset) == Err(refusal));
+    assert!(rt; table.points(Owner::Page, range) == before);
+    Ok(())
+}
+
 #[test]
 fn refused_settings_change_nothing(rt: HostRuntime) -> Result<(), Fail> {
     let forest = trees(&rt, rt.alloc())?;
-    let mut table = RangeTable::new(rt.alloc());
-    let range = place(&rt, &mut table, &forest, 1, 2)?;
-    let before = table.points(Owner::Page, range);
-    let node = key_of(&rt, &forest, 1);
-    assert!(rt; table.set_start(Owner::Page, range, &forest, node, 7) == Err(Refusal::IndexSize));
-    assert!(rt; table.set_end(Owner::Page, range, &forest, node, 7) == Err(Refusal::IndexSize));
-    assert!(rt; table.set_start(Owner::Page, 1, &forest, node, 7) == Err(Refusal::Unknown));
-    assert!(rt; table.set_end(Owner::Component(1), range, &forest, node, 0) == Err(Refusal::Unknown));
-    assert!(rt; table.points(Owner::Page, range) == before);
-    Ok(())
+    let page = Owner::Page;
+    let other = Owner::Component(1);
+    start_is_refused(&rt, rt.alloc(), &forest, page, 7, Refusal::IndexSize)?;
+    start_is_refused(&rt, rt.alloc(), &forest, other, 7, Refusal::Unknown)?;
+    end_is_refused(&rt, rt.alloc(), &forest, page, 7, Refusal::IndexSize)?;
+    end_is_refused(&rt, rt.alloc(), &forest, other, 0, Refusal::Unknown)
 }
 
 #[test]
 fn ranges_are_dropped_and_collapsed(rt: HostRuntime) -> Result<(), Fail> {
     let forest = trees(&rt, rt.alloc())?;
     let mut table = RangeTable::new(rt.alloc());
-    let range = place(&rt, &mut table, &forest, 1, 2)?;
-    set(&rt, &mut table, &forest, range, (3, 1), false);
+    let range = place(&rt, &mut table, &forest, (1, 2))?;
+    give_end(&rt, &mut table, &forest, range, (3, 1))?;
     let node = key_of(&rt, &forest, 3);
     let other = table.make(Owner::Component(7), node)?;
     assert!(rt; range == 0 && other == 0);
@@ -371,10 +452,10 @@ fn an_owner_makes_a_million_ranges(rt: HostRuntime) -> Result<(), Fail> {
     let node = key_of(&rt, &forest, 1);
     let mut table = RangeTable::new(rt.alloc());
     for number in 0..1_000_000 {
-        assert!(rt; table.make(Owner::Component(3), node)? == number);
-        assert!(rt; table.remove(Owner::Component(3), number));
+        assert!(rt; table.make(Owner::Page, node)? == number);
+        assert!(rt; table.remove(Owner::Page, number));
     }
-    assert!(rt; table.make(Owner::Component(3), node) == Err(Fault::Refused(Refusal::Limit)));
+    assert!(rt; table.make(Owner::Page, node) == Err(Fault::Refused(Refusal::Limit)));
     assert!(rt; table.make(Owner::Component(4), node) == Ok(0));
     Ok(())
 }
