@@ -1,25 +1,24 @@
 -- The laws of the table read in names.
-use Rattle.std.proofs.Common.{◌≡◌, ◌⊎◌, inl, inr, ℕ, zero, suc, ◌+◌, ◌-◌, ◌<◌, ◌≤◌, Bool, true, false, not, cond, List, [], ◌∷◌, ◌++◌, map, length, eqb, nat_lt, nat_le, Option, Some, None, refl, sym, ap, subst, ◌∙◌, arith, true≢false}
-use Rattle.std.specs.Prelude.{slice_get, slice_set, slice_index_or, ◌&&◌, ◌||◌, ◌==◌, if◌then◌else◌}
+use Rattle.std.proofs.Common.{◌≡◌, inl, inr, ℕ, zero, suc, ◌+◌, ◌-◌, ◌<◌, Bool, true, false, not, cond, List, [], ◌∷◌, ◌++◌, length, eqb, nat_lt, nat_le, Option, Some, None, refl, sym, ap, subst, ◌∙◌, arith, true≢false}
+use Rattle.std.specs.Prelude.{slice_get, slice_set, ◌&&◌, ◌||◌, ◌==◌}
 use Rattle.std.specs.Option.{option_map, option_flatten}
 use Rattle.std.proofs.lemmas.Bool.{cases_Bool, eqb-true, eq-eqb}
 use Rattle.std.proofs.lemmas.List.{map-set, map-append, length-append}
 use Rattle.std.proofs.lemmas.Option.{same_Some, none-some, slice_get-map}
 use Rattle.dom_base.specs.declared.Owner.{Owner}
-use Rattle.dom_base.specs.declared.Owner.TheVariants.{Page}
 use Rattle.dom_base.specs.declared.NodeName.{NodeName}
-use Rattle.dom_model.specs.Names.{name_eq, node_of, owner_eq}
+use Rattle.dom_model.specs.Names.{name_eq, owner_eq}
 use Rattle.dom_model.proofs.OwnerLaws.{name_eq-same, owner_eq-true}
-use Rattle.dom_model.specs.Place.{Boundary, is_before, same_root}
-use Rattle.dom_model.specs.Ranges.{Range, at, from_to, map_ends, boundary_eq, after_insert, after_removal, after_replace_data, after_split, after_join, with_start, with_end}
+use Rattle.dom_model.specs.Place.{Boundary}
+use Rattle.dom_model.specs.Ranges.{Range, at, from_to, map_ends, boundary_eq, after_insert, after_removal, after_replace_data, after_split, after_join}
 use Rattle.dom_model.specs.Tree.{is_inclusive_ancestor}
-use Rattle.dom_tree.specs.Forest.{NamedTrees, name_at}
+use Rattle.dom_tree.specs.Forest.{name_at}
 use Rattle.dom_tree.proofs.Names.{name_eq-other}
-use Rattle.dom_ranges.specs.Naming.{AreApart, StandAtNodes, IsNamedRule, KeepsNodes, InsertNamed, RemovalNamed, ReplaceDataNamed, SplitNamed, JoinNamed, StartNamed, EndNamed, GrownNamed, MadeNamed, RemovedNamed, RewrittenNamed, CollapsedNamed, named_ends_by}
+use Rattle.dom_ranges.specs.Naming.{AreApart, StandAtNodes, IsNamedRule, InsertNamed, RemovalNamed, ReplaceDataNamed, SplitNamed, JoinNamed, StartNamed, EndNamed, GrownNamed, MadeNamed, RemovedNamed, RewrittenNamed, CollapsedNamed, named_ends_by}
 use Rattle.dom_ranges.specs.Rules.{IsAtNode, is_inside}
-use Rattle.dom_ranges.specs.Settings.{named_boundary, named_range, named_ranges, start_set, end_set, with_named, have_one_root, is_key_before}
-use Rattle.dom_ranges.specs.Tables.{RangeList, RangeLists, EachRange, BothEnds, ends_by, ranges_of, range_in, with_ranges, collapsed_range}
-use Rattle.dom_ranges.proofs.Lists.{map_kept, map_twice, cons_same}
+use Rattle.dom_ranges.specs.Settings.{named_boundary, named_range, named_ranges, with_named, have_one_root, is_key_before}
+use Rattle.dom_ranges.specs.Tables.{RangeList, RangeLists, EachRange, BothEnds, ends_by, ranges_of, range_in, with_ranges}
+use Rattle.dom_ranges.proofs.Lists.{cons_same}
 
 -- ---- lists of ranges, each rewritten
 

@@ -1,12 +1,12 @@
 -- Where nodes stand, as lists of numbers, in trees in which each name stands once.
-use Rattle.std.proofs.Common.{◌≡◌, ◌⊎◌, inl, inr, ℕ, ◌+◌, ◌≤◌, ◌<◌, List, [], ◌∷◌, ◌++◌, length, Option, Some, None, true, false, refl, sym, ap, subst, ◌∙◌, arith, zero-add}
+use Rattle.std.proofs.Common.{◌≡◌, inl, inr, ℕ, ◌+◌, ◌≤◌, ◌<◌, List, [], ◌∷◌, ◌++◌, length, Option, Some, None, true, false, refl, sym, ap, subst, ◌∙◌, arith, zero-add}
 use Rattle.std.specs.Prelude.{drop, unwrap_or}
-use Rattle.std.specs.Option.{option_map, option_or, option_map_or}
+use Rattle.std.specs.Option.{option_map_or}
 use Rattle.std.proofs.lemmas.Option.{same_Some, none-some}
 use Rattle.dom_base.specs.declared.NodeName.{NodeName}
 use Rattle.dom_model.specs.Names.{name_eq, first_of, last_of, items_before}
 use Rattle.dom_model.specs.Place.{place_from, place_of, same_root}
-use Rattle.dom_model.specs.Tree.{Trees, none, tree, Node, names_of, roots, subtree, trees_below, inclusive_ancestors, parent_of, root_of, index_of, children_of}
+use Rattle.dom_model.specs.Tree.{Trees, none, tree, Node, names_of, roots, trees_below, inclusive_ancestors, parent_of, root_of, index_of, children_of}
 use Rattle.dom_traversal.proofs.Lists.{name_eq-from, name_eq-other, name_eq-true, last_of-end}
 use Rattle.dom_traversal.proofs.Shapes.{Has, Once, subtree-here, subtree-below, subtree-beside, above-here, above-below, above-beside, above-present, above-parent, above-root}
 

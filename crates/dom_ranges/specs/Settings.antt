@@ -1,11 +1,11 @@
 -- A range with another start or end, by keys, and what it is by the names of their nodes.
-use Rattle.std.specs.Prelude.{◌≡◌, ℕ, Bool, not, ◌&&◌, List, map, slice_get, slice_set, Option, option_map, if◌then◌else◌}
+use Rattle.std.specs.Prelude.{ℕ, Bool, not, ◌&&◌, List, map, slice_get, slice_set, Option, option_map, if◌then◌else◌}
 use Rattle.std.specs.Option.{option_flatten, option_map_or}
 use Rattle.dom_base.specs.declared.Owner.{Owner}
 use Rattle.dom_base.specs.declared.NodeName.{NodeName}
 use Rattle.dom_model.specs.Names.{owner_eq, name_eq}
 use Rattle.dom_model.specs.Place.{Boundary, is_before, same_root}
-use Rattle.dom_model.specs.Ranges.{Range, at, from_to, map_ends, after_removal, with_start, with_end}
+use Rattle.dom_model.specs.Ranges.{Range, at, from_to, map_ends, after_removal}
 use Rattle.dom_model.specs.Tree.{is_inclusive_ancestor, parent_of, index_of}
 use Rattle.dom_tree.specs.Forest.{NamedTrees, name_at}
 use Rattle.dom_ranges.specs.Tables.{RangeList, RangeLists, ranges_of}

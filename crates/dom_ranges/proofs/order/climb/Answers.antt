@@ -1,4 +1,4 @@
-use Rattle.std.proofs.Common.{◌≡◌, sym, refl, arith, ℕ}
+use Rattle.std.proofs.Common.{refl, arith}
 use Rattle.dom_ranges.proofs.Climbing.{depth-node, depth-up, depth-root, reached-up}
 use Rattle.dom_ranges.proofs.order.climb.Goals as goal
 

@@ -1,4 +1,4 @@
-use Rattle.std.proofs.Common.{◌≡◌, ◌<◌, ◌≤◌, ◌+◌, length}
+use Rattle.std.proofs.Common.{◌≡◌, ◌<◌, ◌+◌, length}
 use Rattle.dom_ranges.specs.Climbs.{depth_at, Reaches}
 use Rattle.dom_ranges.proofs.order.climb.Given as goal
 

@@ -1,4 +1,4 @@
-use Rattle.std.proofs.Common.{◌≡◌, inl, inr, refl, arith}
+use Rattle.std.proofs.Common.{inl, inr, refl, arith}
 use Rattle.dom_ranges.proofs.Climbing.{depth-up, depth-root}
 use Rattle.dom_ranges.proofs.order.climb_together.Goals as goal
 

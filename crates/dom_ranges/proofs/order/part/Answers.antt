@@ -1,8 +1,7 @@
-use Rattle.std.proofs.Common.{◌≡◌, ◌++◌, ◌∷◌, [], refl, sym, ap, subst, ◌∙◌, arith, true≢false, Some, Option}
+use Rattle.std.proofs.Common.{◌≡◌, ◌++◌, ◌∷◌, [], refl, sym, ap, ◌∙◌, arith, true≢false, Some}
 use Rattle.std.proofs.lemmas.Bool.{eqb-true, eq-eqb}
 use Rattle.std.proofs.lemmas.List.{append_assoc}
-use Rattle.dom_base.specs.declared.NodeName.{NodeName}
-use Rattle.dom_model.specs.Tree.{parent_of, index_of}
+use Rattle.dom_model.specs.Tree.{index_of}
 use Rattle.dom_tree.specs.Forest.{name_at}
 use Rattle.dom_ranges.specs.Climbs.{path_at}
 use Rattle.dom_ranges.proofs.Climbing.{depth-up, depth-root, path-up, first-through, roots-same, beside-here}

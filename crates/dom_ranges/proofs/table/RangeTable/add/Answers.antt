@@ -1,10 +1,9 @@
 use Rattle.std.proofs.Common.{◌≡◌, ℕ, refl, ap, ◌∙◌, length, Option, Result, Ok, Err, OnErr, arith}
 use Rattle.slab.specs.Slab.{get, Slab}
-use Rattle.dom_base.specs.declared.Owner.{Owner}
 use Rattle.dom_ranges.specs.declared.table.Points.{Points}
 use Rattle.dom_ranges.specs.Tables.{ranges_of}
 use Rattle.dom_ranges.specs.Held.{IsHeld}
-use Rattle.dom_ranges.proofs.Writing.{Shows, Shows-view, Shows-same, HoldSame, IsHeld-same, IsHeld-pushed, ranges-shown, ranges-pushed, length-ranges}
+use Rattle.dom_ranges.proofs.Writing.{Shows, Shows-view, Shows-same, IsHeld-same, IsHeld-pushed, ranges-shown, ranges-pushed, length-ranges}
 use Rattle.dom_ranges.proofs.table.RangeTable.add.Goals as goal
 
 -- a fact holds of a refused call too

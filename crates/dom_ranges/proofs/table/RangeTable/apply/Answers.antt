@@ -1,4 +1,4 @@
-use Rattle.std.proofs.Common.{◌≡◌, Some, IsSome, is_some, ap}
+use Rattle.std.proofs.Common.{is_some, ap}
 use Rattle.dom_model.specs.Ranges.{map_ends}
 use Rattle.dom_ranges.specs.Tables.{range_from}
 use Rattle.dom_ranges.proofs.Writing.{Shows-view, range-standing, ranges-moved}

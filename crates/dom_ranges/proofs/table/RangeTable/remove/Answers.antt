@@ -1,7 +1,6 @@
-use Rattle.std.proofs.Common.{◌≡◌, ℕ, Option, None, is_some, IsSome, ap, sym, ◌∙◌, arith}
+use Rattle.std.proofs.Common.{◌≡◌, None, is_some, ap, sym, ◌∙◌}
 use Rattle.std.proofs.lemmas.Option.{slice_get_within}
 use Rattle.slab.specs.Slab.{get}
-use Rattle.dom_ranges.specs.declared.table.Points.{Points}
 use Rattle.dom_ranges.specs.Tables.{ranges_of, range_in}
 use Rattle.dom_ranges.specs.Held.{range_kept, slots_of, StandsUnder}
 use Rattle.dom_ranges.proofs.Writing.{Shows-view, range_in-held, slot-under, not_there, is_some-kept, IsHeld-cleared, ranges-cleared}

@@ -1,4 +1,4 @@
-use Rattle.std.proofs.Common.{◌≡◌, None, is_some, ap, sym, ◌∙◌, true≢false}
+use Rattle.std.proofs.Common.{is_some, ap, sym, ◌∙◌, true≢false}
 use Rattle.dom_ranges.specs.Held.{range_kept}
 use Rattle.dom_ranges.proofs.Writing.{Shows-view, range_in-held, slot-under, ranges-written}
 use Rattle.dom_ranges.proofs.table.RangeTable.write.Goals as goal
