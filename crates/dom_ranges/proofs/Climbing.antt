@@ -1,0 +1,118 @@
+-- Going up from keys' nodes in a forest, by their places.
+use Rattle.std.proofs.Common.{◌≡◌, ◌≢◌, ℕ, ◌+◌, ◌<◌, true, List, [], ◌∷◌, ◌++◌, length, Option, Some, None, refl, sym, ap, ◌∙◌, arith}
+use Rattle.std.proofs.lemmas.List.{append-nil, append_assoc, length-append}
+use Rattle.dom_model.specs.Names.{first_of}
+use Rattle.dom_model.specs.Place.{same_root}
+use Rattle.dom_model.specs.Tree.{parent_of, index_of}
+use Rattle.dom_tree.specs.Forest.{NamedTrees, name_at}
+use Rattle.dom_traversal.proofs.Counts.{StandOnce, StandAlone, Once-forest, Has-forest}
+use Rattle.dom_ranges.specs.Climbs.{path_at, depth_at, Reaches, AreBeside}
+use Rattle.dom_ranges.proofs.Places.{place-present, known, path-child, path-root, path-same, path-tree}
+
+-- names tell a forest's nodes apart
+abbrev pub TellApart : NamedTrees → Type 0
+TellApart f = (j k : ℕ) → j < length f.names → k < length f.names → name_at f.names j ≡ name_at f.names k → j ≡ k
+
+-- a list of one item
+one-item : (xs : List ℕ) → length xs ≡ 1 → (n : ℕ) × (xs ≡ n ∷ [])
+one-item [] e = absurd (omega (arith, e))
+one-item (x ∷ []) e = (x, refl)
+one-item (x ∷ y ∷ xs) e = absurd (omega (arith, e))
+
+-- the first item stays where others come behind
+first-append : (xs ys : List ℕ) → 0 < length xs → first_of (xs ++ ys) ≡ first_of xs
+first-append [] ys l = absurd (omega (arith, l))
+first-append (x ∷ xs) ys l = refl
+
+module _ (f : NamedTrees) (once : StandOnce f) (only : StandAlone f) where
+  -- each node has a place
+  pub depth-node : (k : ℕ) → k < length f.names → 0 < depth_at f k
+  depth-node k node =
+      let single = Once-forest f once only in
+      let w = place-present f.trees 0 (name_at f.names k) single (Has-forest f once k node) in
+      let long : length (path_at f k) ≡ length (w.0 ∷ w.1) = ap (length {A = ℕ}) (known f.trees single (name_at f.names k) (w.0 ∷ w.1) w.2) in
+      omega (arith, long)
+
+  -- a child's path
+  pub path-up : (k p : ℕ) → k < length f.names → Some (name_at f.names p) ≡ parent_of f.trees (name_at f.names k) → path_at f k ≡ path_at f p ++ index_of f.trees (name_at f.names k) ∷ []
+  path-up k p node e = path-child f.trees (Once-forest f once only) (name_at f.names k) (name_at f.names p) (Has-forest f once k node) (sym e)
+
+  -- a child is one level deeper
+  pub depth-up : (k p : ℕ) → k < length f.names → Some (name_at f.names p) ≡ parent_of f.trees (name_at f.names k) → depth_at f k ≡ depth_at f p + 1
+  depth-up k p node e = ap (length {A = ℕ}) (path-up k p node e) ∙ length-append (path_at f p) (index_of f.trees (name_at f.names k) ∷ [])
+
+  -- a root is at the top
+  pub depth-root : (k : ℕ) → k < length f.names → None ≡ parent_of f.trees (name_at f.names k) → depth_at f k ≡ 1
+  depth-root k node e =
+      let w = path-root f.trees (Once-forest f once only) (name_at f.names k) (Has-forest f once k node) (sym e) in
+      ap (length {A = ℕ}) w.1
+
+  -- the path through what is reached
+  pub path-reached : (key top : ℕ) (child : Option ℕ) → Reaches f key top child → (rest : List ℕ) × (path_at f key ≡ path_at f top ++ rest)
+  path-reached key top None e = ([], ap (path_at f) e ∙ sym (append-nil (path_at f top)))
+  path-reached key top (Some child) r =
+      let i = index_of f.trees (name_at f.names child) in (
+        i ∷ r.2.0,
+        r.2.1 ∙ (ap (λ path. path ++ r.2.0) (path-up child top r.0 (sym r.1)) ∙ append_assoc (path_at f top) (i ∷ []) r.2.0),
+      )
+
+  -- the path through a child of what is reached
+  pub path-through : (key top child : ℕ) → Reaches f key top (Some child) → (rest : List ℕ) × (path_at f key ≡ path_at f top ++ index_of f.trees (name_at f.names child) ∷ rest)
+  path-through key top child r =
+      let i = index_of f.trees (name_at f.names child) in
+      (r.2.0, r.2.1 ∙ (ap (λ path. path ++ r.2.0) (path-up child top r.0 (sym r.1)) ∙ append_assoc (path_at f top) (i ∷ []) r.2.0))
+
+  -- what is above by a level is less deep
+  pub reached-deep : (key top child : ℕ) → Reaches f key top (Some child) → depth_at f top < depth_at f key
+  reached-deep key top child r =
+      let w = path-through key top child r in
+      let long = ap (length {A = ℕ}) w.1 ∙ length-append (path_at f top) (index_of f.trees (name_at f.names child) ∷ w.0) in
+      omega (arith, long)
+
+  -- what is reached and as deep is the node itself
+  pub reached-here : (key top : ℕ) (child : Option ℕ) → Reaches f key top child → depth_at f key ≡ depth_at f top → key ≡ top
+  reached-here key top None e level = e
+  reached-here key top (Some child) r level = absurd (omega (arith, level, reached-deep key top child r))
+
+  -- one level more
+  pub reached-up : (key top above : ℕ) (child : Option ℕ) → top < length f.names → Some (name_at f.names above) ≡ parent_of f.trees (name_at f.names top) → Reaches f key top child → Reaches f key above (Some top)
+  reached-up key top above child node e r = (node, sym e, path-reached key top child r)
+
+  -- the first number of a path is that of all paths through it
+  pub first-through : (key top : ℕ) (rest : List ℕ) → top < length f.names → path_at f key ≡ path_at f top ++ rest → first_of (path_at f key) ≡ first_of (path_at f top)
+  first-through key top rest node e = ap first_of e ∙ first-append (path_at f top) rest (depth-node top node)
+
+  -- nodes of one tree have paths with one first number
+  pub first-same : (j k : ℕ) → j < length f.names → k < length f.names → same_root f.trees (name_at f.names j) (name_at f.names k) ≡ true → first_of (path_at f j) ≡ first_of (path_at f k)
+  first-same j k node other e = path-tree f.trees (Once-forest f once only) (name_at f.names j) (name_at f.names k) (Has-forest f once j node) (Has-forest f once k other) e
+
+  module _ (distinct : TellApart f) where
+    -- nodes at one path are one
+    pub key-same : (j k : ℕ) → j < length f.names → k < length f.names → path_at f j ≡ path_at f k → j ≡ k
+    key-same j k node other e =
+        distinct j k node other (path-same f.trees (Once-forest f once only) (name_at f.names j) (name_at f.names k) (Has-forest f once j node) (Has-forest f once k other) e)
+
+    -- two roots of one tree are one
+    pub roots-same : (j k : ℕ) → j < length f.names → k < length f.names → depth_at f j ≡ 1 → depth_at f k ≡ 1 → first_of (path_at f j) ≡ first_of (path_at f k) → j ≡ k
+    roots-same j k node other d e first =
+        let v = one-item (path_at f j) d in
+        let w = one-item (path_at f k) e in
+        let same : Some v.0 ≡ Some w.0 = ap first_of (sym v.1) ∙ (first ∙ ap first_of w.1) in
+        let n : v.0 ≡ w.0 = cc in
+        key-same j k node other (v.1 ∙ (ap (λ m. m ∷ []) n ∙ sym w.1))
+
+    -- children of one node stand beside each other
+    pub beside-here : (first second low other above : ℕ) (xs ys : List ℕ) → low < length f.names → other < length f.names → low ≢ other
+        → Some (name_at f.names above) ≡ parent_of f.trees (name_at f.names low) → Some (name_at f.names above) ≡ parent_of f.trees (name_at f.names other)
+        → path_at f first ≡ path_at f low ++ xs → path_at f second ≡ path_at f other ++ ys → AreBeside f first second low other
+    beside-here first second low other above xs ys node other_node apart up over e g =
+        let i = index_of f.trees (name_at f.names low) in
+        let j = index_of f.trees (name_at f.names other) in
+        record {
+          path = path_at f above;
+          first_rest = xs;
+          second_rest = ys;
+          first_path = e ∙ (ap (λ path. path ++ xs) (path-up low above node up) ∙ append_assoc (path_at f above) (i ∷ []) xs);
+          second_path = g ∙ (ap (λ path. path ++ ys) (path-up other above other_node over) ∙ append_assoc (path_at f above) (j ∷ []) ys);
+          apart = λ same. apart (key-same low other node other_node (path-up low above node up ∙ (ap (λ n. path_at f above ++ n ∷ []) same ∙ sym (path-up other above other_node over))));
+        }

@@ -1,0 +1,14 @@
+use Rattle.std.proofs.Common.{◌≡◌, ◌<◌, ◌+◌, length}
+use Rattle.dom_ranges.specs.Climbs.{depth_at, Reaches}
+use Rattle.dom_ranges.proofs.order.climb.Given as goal
+
+abbrev pub invariant-up : goal.invariant-up
+invariant-up l = record {
+  top_is_node : l.top < length l.forest.names;
+  left_is_node : l.left < length l.forest.names;
+  depth : depth_at l.forest l.top + depth_at l.forest l.fn.gauge ≡ depth_at l.forest l.fn.key + depth_at l.forest l.left;
+  reached : Reaches l.forest l.fn.key l.top l.child;
+}
+
+abbrev pub decreases-up : goal.decreases-up
+decreases-up l = depth_at l.forest l.top

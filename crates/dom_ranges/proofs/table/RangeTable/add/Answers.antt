@@ -1,0 +1,51 @@
+use Rattle.std.proofs.Common.{◌≡◌, ℕ, refl, ap, ◌∙◌, length, Option, Result, Ok, Err, OnErr, arith}
+use Rattle.slab.specs.Slab.{get, Slab}
+use Rattle.dom_ranges.specs.declared.table.Points.{Points}
+use Rattle.dom_ranges.specs.Tables.{ranges_of}
+use Rattle.dom_ranges.specs.Held.{IsHeld}
+use Rattle.dom_ranges.proofs.Writing.{Shows, Shows-view, Shows-same, IsHeld-same, IsHeld-pushed, ranges-shown, ranges-pushed, length-ranges}
+use Rattle.dom_ranges.proofs.table.RangeTable.add.Goals as goal
+
+-- a fact holds of a refused call too
+on_err : {T E : Type 0} (r : Result T E) (P : Type 0) → P → OnErr r P
+on_err (Ok x) P p = tt
+on_err (Err e) P p = p
+
+pub returns-in_err-reserve-clause-err : goal.returns-in_err-reserve-clause-err
+returns-in_err-reserve-clause-err c =
+    on_err c.from_residual.result _ (λ o. ranges-shown c.self.inside.live c.reserve.new.self _
+    (Shows-same c.self.inside.live c.self.inside.live c.self.inside.numbers c.reserve.new.self _ (Shows-view c.self.inside.live c.self.inside.numbers _ c.self.view_is) (λ s. refl) c.reserve.ensures.slots) o)
+
+pub returns-in_err-slot-clause-err : goal.returns-in_err-slot-clause-err
+returns-in_err-slot-clause-err c =
+    on_err c.from_residual-in_err-slot.result _ (λ o. ranges-shown c.insert.new.self c.reserve.new.self _
+    (Shows-same c.self.inside.live c.insert.new.self c.self.inside.numbers c.reserve.new.self _ (Shows-view c.self.inside.live c.self.inside.numbers _ c.self.view_is)
+    (λ s. ap (λ (t : Slab Points). get t s) c.in_err-slot.ensures.err) c.reserve.ensures.slots) o)
+
+-- the number that is given
+counted : (c : goal.After-push) → length c.of-number.result.now ≡ length (ranges_of c.args.self.now c.args.owner)
+counted c =
+    ap (length {A = Option ℕ}) c.of-number.ensures
+    ∙ length-ranges c.self.inside.live c.self.inside.numbers _ (Shows-view c.self.inside.live c.self.inside.numbers _ c.self.view_is) c.args.owner
+
+-- the lists with their room
+roomy : (c : goal.After-push) → Shows c.self.inside.live c.reserve.new.self c.args.self.now × IsHeld c.self.inside.live c.reserve.new.self
+roomy c = (
+  Shows-same c.self.inside.live c.self.inside.live c.self.inside.numbers c.reserve.new.self _ (Shows-view c.self.inside.live c.self.inside.numbers _ c.self.view_is) (λ s. refl) c.reserve.ensures.slots,
+  IsHeld-same c.self.inside.live c.self.inside.live c.self.inside.numbers c.reserve.new.self (λ s. (λ i. i, λ i. i)) c.reserve.ensures.slots c.self.invariant,
+)
+
+pub overflow_cast-result : goal.overflow_cast-result
+overflow_cast-result c = omega (arith, counted c)
+
+pub invariant_of-self-2 : goal.invariant_of-self-2
+invariant_of-self-2 c =
+    IsHeld-pushed c.self.inside.live c.insert.new.self c.reserve.new.self c.push.new.self c.in_ok-slot.slot c.args.owner _ (roomy c).1 c.in_ok-slot.ensures.was_vacant c.in_ok-slot.ensures.updates c.push.ensures
+
+pub returns-clause-number : goal.returns-clause-number
+returns-clause-number c = counted c
+
+pub returns-clause-made : goal.returns-clause-made
+returns-clause-made c =
+    ranges-pushed c.self.inside.live c.insert.new.self c.reserve.new.self c.push.new.self c.in_ok-slot.slot c.args.owner _ (roomy c).1 c.in_ok-slot.ensures.was_vacant c.in_ok-slot.ensures.updates c.push.ensures
+    c.args.self.now (roomy c).0

@@ -1,0 +1,7 @@
+use Rattle.std.proofs.Common.{ap, ◌∙◌, map}
+use Rattle.dom_ranges.specs.Held.{range_kept}
+use Rattle.dom_ranges.proofs.Holding.{ranges_of-shown}
+use Rattle.dom_ranges.proofs.table.RangeTable.new.Goals as goal
+
+pub returns : goal.returns
+returns c = λ o. ranges_of-shown c.new.result c.new-2.result o ∙ ap (map (range_kept c.new.result)) (c.new-2.ensures o)

@@ -1,0 +1,23 @@
+use Rattle.std.proofs.Common.{ℕ, Option, refl, ap, ◌∙◌}
+use Rattle.std.specs.Option.{option_map_or}
+use Rattle.dom_base.specs.declared.NodeName.{NodeName}
+use Rattle.dom_model.specs.Names.{name_eq}
+use Rattle.dom_model.specs.Ranges.{after_removal}
+use Rattle.dom_model.specs.Tree.{is_inclusive_ancestor, index_of}
+use Rattle.dom_tree.specs.Forest.{name_at}
+use Rattle.dom_ranges.specs.Naming.{named_ends_by}
+use Rattle.dom_ranges.specs.Settings.{named_ranges}
+use Rattle.dom_ranges.specs.Tables.{ranges_of}
+use Rattle.dom_ranges.proofs.Naming.{removal-named}
+use Rattle.dom_ranges.proofs.table.RangeTable.on_remove.Goals as goal
+
+pub returns-in-Some-clause-named : goal.returns-in-Some-clause-named
+returns-in-Some-clause-named c =
+    λ o.
+    let f = c.args.forest.now in
+    let x = name_at f.names c.args.node in
+    let rs = named_ranges f.names (ranges_of c.args.self.now o) in
+    ap (named_ranges f.names) (c.apply.ensures o)
+    ∙ ((removal-named f c.nodes_stand_once.ensures.distinct c.args.node c.in-Some.parent c.index-index.result (c.in-Some.ensures.node c.in-Some.parent refl)).0 (ranges_of c.args.self.now o) (c.requires.ends o)
+    ∙ (ap (λ (i : ℕ). named_ends_by (after_removal name_eq (is_inclusive_ancestor f.trees x) (name_at f.names c.in-Some.parent) i) rs) c.index-index.ensures
+    ∙ ap (λ (p : Option NodeName). option_map_or (λ parent. named_ends_by (after_removal name_eq (is_inclusive_ancestor f.trees x) parent (index_of f.trees x)) rs) p rs) c.in-Some.ensures.value))

@@ -1,0 +1,41 @@
+use Rattle.std.proofs.Common.{◌≡◌, None, is_some, ap, sym, ◌∙◌}
+use Rattle.std.proofs.lemmas.Option.{slice_get_within}
+use Rattle.slab.specs.Slab.{get}
+use Rattle.dom_ranges.specs.Tables.{ranges_of, range_in}
+use Rattle.dom_ranges.specs.Held.{range_kept, slots_of, StandsUnder}
+use Rattle.dom_ranges.proofs.Writing.{Shows-view, range_in-held, slot-under, not_there, is_some-kept, IsHeld-cleared, ranges-cleared}
+use Rattle.dom_ranges.proofs.table.RangeTable.remove.Goals as goal
+
+-- no range has this number
+absent : (c : goal.In_default) → range_in (ranges_of c.args.self.now c.args.owner) c.args.number ≡ None
+absent c =
+    range_in-held c.self.inside.live c.self.inside.numbers _ (Shows-view c.self.inside.live c.self.inside.numbers _ c.self.view_is) c.args.owner c.args.number
+    ∙ ap (range_kept c.self.inside.live) (sym c.in_default.ensures)
+
+pub returns-in_default-clause-there : goal.returns-in_default-clause-there
+returns-in_default-clause-there c = ap is_some (sym (absent c))
+
+pub returns-in_default-clause-table : goal.returns-in_default-clause-table
+returns-in_default-clause-table c = not_there c.args.self.now c.args.owner c.args.number (absent c)
+
+pub clear-requires : goal.clear-requires
+clear-requires c = slice_get_within (slots_of c.self.inside.numbers c.args.owner) c.args.number _ (slot-under c.self.inside.numbers c.args.owner c.args.number c.in-Some.slot c.in-Some.ensures)
+
+-- the slot stands under the number
+under : (c : goal.After-try_remove) → StandsUnder c.self.inside.numbers c.in-Some.slot c.args.owner c.args.number
+under c = slot-under c.self.inside.numbers c.args.owner c.args.number c.in-Some.slot c.in-Some.ensures
+
+pub invariant_of-self : goal.invariant_of-self
+invariant_of-self c =
+    IsHeld-cleared c.self.inside.live c.try_remove.new.self c.self.inside.numbers c.clear.new.self c.in-Some.slot c.args.number c.args.owner c.self.invariant (under c) c.try_remove.ensures.updates c.clear.ensures
+
+pub returns-clause-there : goal.returns-clause-there
+returns-clause-there c =
+    sym (ap is_some (range_in-held c.self.inside.live c.self.inside.numbers _ (Shows-view c.self.inside.live c.self.inside.numbers _ c.self.view_is) c.args.owner c.args.number
+    ∙ ap (range_kept c.self.inside.live) (sym c.in-Some.ensures))
+    ∙ is_some-kept (get c.self.inside.live c.in-Some.slot) (c.self.invariant.held c.args.owner c.args.number c.in-Some.slot (under c)))
+
+pub returns-clause-table : goal.returns-clause-table
+returns-clause-table c =
+    ranges-cleared c.self.inside.live c.try_remove.new.self c.self.inside.numbers c.clear.new.self c.in-Some.slot c.args.number c.args.owner c.self.invariant (under c) c.try_remove.ensures.updates c.clear.ensures
+    c.args.self.now (Shows-view c.self.inside.live c.self.inside.numbers _ c.self.view_is)

@@ -1,0 +1,6 @@
+pub mod Tables
+pub mod Held
+pub mod Rules
+pub mod Climbs
+pub mod Settings
+pub mod Naming

@@ -1,0 +1,144 @@
+//! What each step of a change does to a boundary point (DOM Standard, 5.3 and 5.5).
+ghost use Rattle.std.specs.Prelude.{◌≡◌, ℕ, ◌<◌, length, nat_eq};
+ghost use Rattle.dom_model.specs.Place.{Boundary};
+ghost use Rattle.dom_model.specs.Ranges.{at, after_insert, after_removal, after_replace_data, after_split, after_join};
+ghost use Rattle.dom_ranges.specs.Rules.{Fits, IsAtNode, is_inside};
+
+use dom_tree::Forest;
+use node_arena::Key;
+
+/// A step of a change, by its rule for boundary points.
+pub(crate) trait Change {
+    ghost rule: { Self → Boundary ℕ → Boundary ℕ };
+
+    ghost can_move: { Self → Boundary ℕ → Type 0 };
+
+    /// The boundary point after the step.
+    fn moved(&self, node: Key, offset: usize) -> (Key, usize)
+        requires { can_move self.now (at node offset) }
+        ensures { at result.0 result.1 ≡ rule self.now (at node offset) };
+}
+
+/// `count` nodes come into `parent` before its child at `index`.
+#[derive(Clone, Copy)]
+pub(crate) struct Insertion {
+    pub(crate) parent: Key,
+    pub(crate) index: usize,
+    pub(crate) count: usize,
+}
+
+impl Change for Insertion {
+    ghost rule = { λ s. after_insert nat_eq s.parent s.index s.count };
+
+    ghost can_move = { λ s b. Fits (after_insert nat_eq s.parent s.index s.count b) };
+
+    fn moved(&self, node: Key, offset: usize) -> (Key, usize) {
+        if node == self.parent && offset > self.index {
+            return (self.parent, offset + self.count);
+        }
+        (node, offset)
+    }
+}
+
+/// `node`, the child of `parent` at `index`, leaves it. It is still linked in the forest.
+#[derive(Clone, Copy)]
+pub(crate) struct Removal<'a> {
+    pub(crate) forest: &'a Forest,
+    pub(crate) node: Key,
+    pub(crate) parent: Key,
+    pub(crate) index: usize,
+}
+
+impl Change for Removal<'_> {
+    ghost rule = { λ s. after_removal nat_eq (is_inside s.forest.now s.node) s.parent s.index };
+
+    ghost can_move = { λ s b. (s.node < length s.forest.now.names) × IsAtNode s.forest.now.names b };
+
+    fn moved(&self, node: Key, offset: usize) -> (Key, usize) {
+        if self.forest.is_inclusive_ancestor(self.node, node) {
+            return (self.parent, self.index);
+        }
+        if node == self.parent && self.index < offset {
+            return (self.parent, offset - 1);
+        }
+        (node, offset)
+    }
+}
+
+/// From `offset` on, `count` code units of `node` give way to `length` others.
+#[derive(Clone, Copy)]
+pub(crate) struct Replacement {
+    pub(crate) node: Key,
+    pub(crate) offset: usize,
+    pub(crate) count: usize,
+    pub(crate) length: usize,
+}
+
+impl Change for Replacement {
+    ghost rule = { λ s. after_replace_data nat_eq s.node s.offset s.count s.length };
+
+    ghost can_move = { λ s b. Fits (after_replace_data nat_eq s.node s.offset s.count s.length b) };
+
+    fn moved(&self, node: Key, offset: usize) -> (Key, usize) {
+        if node != self.node || offset <= self.offset {
+            return (node, offset);
+        }
+        if offset - self.offset <= self.count {
+            return (self.node, self.offset);
+        }
+        (self.node, offset - self.count + self.length)
+    }
+}
+
+/// What the Text `node`, the child of `parent` at `index`, has past `offset` is in the Text `new`.
+#[derive(Clone, Copy)]
+pub(crate) struct Split {
+    pub(crate) node: Key,
+    pub(crate) offset: usize,
+    pub(crate) new: Key,
+    pub(crate) parent: Key,
+    pub(crate) index: usize,
+}
+
+impl Change for Split {
+    ghost rule = { λ s. after_split nat_eq s.node s.offset s.new s.parent s.index };
+
+    ghost can_move = { λ s b. Fits (after_split nat_eq s.node s.offset s.new s.parent s.index b) };
+
+    fn moved(&self, node: Key, offset: usize) -> (Key, usize) {
+        if node == self.node && self.offset < offset {
+            return (self.new, offset - self.offset);
+        }
+        if node == self.parent && self.index < offset && offset - self.index == 1 {
+            return (self.parent, offset + 1);
+        }
+        (node, offset)
+    }
+}
+
+/// The data of the Text `next`, the child of `parent` at `index`, were put behind those of the Text `first`, which had
+/// `length` code units.
+#[derive(Clone, Copy)]
+pub(crate) struct Join {
+    pub(crate) first: Key,
+    pub(crate) length: usize,
+    pub(crate) next: Key,
+    pub(crate) parent: Key,
+    pub(crate) index: usize,
+}
+
+impl Change for Join {
+    ghost rule = { λ s. after_join nat_eq s.first s.length s.next s.parent s.index };
+
+    ghost can_move = { λ s b. Fits (after_join nat_eq s.first s.length s.next s.parent s.index b) };
+
+    fn moved(&self, node: Key, offset: usize) -> (Key, usize) {
+        if node == self.next {
+            return (self.first, offset + self.length);
+        }
+        if node == self.parent && offset == self.index {
+            return (self.first, self.length);
+        }
+        (node, offset)
+    }
+}

@@ -1,0 +1,14 @@
+//! The live ranges of all owners, and what each step of a change does to their boundary points (DOM Standard, 5 Ranges).
+#![tactic(auto)]
+
+mod change;
+mod numbers;
+mod order;
+mod setting;
+mod table;
+
+pub use order::is_before;
+pub use table::{Points, RangeTable};
+
+#[cfg(test)]
+mod tests;

@@ -1,0 +1,129 @@
+//! The order of boundary points (DOM Standard, 5.2 Boundary points).
+ghost use Rattle.std.specs.Prelude.{◌≡◌, ◌≢◌, ◌<◌, ◌≤◌, ◌+◌, ◌⊎◌, length, true};
+ghost use Rattle.dom_model.specs.Names.{first_of};
+ghost use Rattle.dom_model.specs.Place.{same_root, is_before};
+ghost use Rattle.dom_model.specs.Ranges.{at};
+ghost use Rattle.dom_tree.specs.Forest.{name_at};
+ghost use Rattle.dom_ranges.specs.Climbs.{depth_at, path_at, Reaches, AreBeside};
+
+use dom_tree::Forest;
+use node_arena::Key;
+
+/// Whether a boundary point, a node and an offset, is before another one in the same tree (DOM Standard, concept:
+/// boundary point, before). The steps taken are as many as the nodes above the two nodes, and the siblings where they
+/// part.
+pub fn is_before(forest: &Forest, first: (Key, usize), second: (Key, usize)) -> bool
+    requires first_is_node { first.0 < length forest.now.names }
+    requires second_is_node { second.0 < length forest.now.names }
+    requires one_tree { same_root forest.now.trees (name_at forest.now.names first.0) (name_at forest.now.names second.0) ≡ true }
+    ensures { result ≡ is_before forest.now.trees (at (name_at forest.now.names first.0) first.1) (at (name_at forest.now.names second.0) second.1) }
+{
+    forest.nodes_stand_once();
+    let (first_node, first_offset) = first;
+    let (second_node, second_offset) = second;
+    let (first_gauge, second_gauge) = climb_together(forest, first_node, second_node);
+    let (first_top, first_child) = climb(forest, first_node, first_gauge);
+    let (second_top, second_child) = climb(forest, second_node, second_gauge);
+    if first_top != second_top {
+        let (first_side, second_side) = part(forest, first_top, second_top);
+        return forest.index(first_side) < forest.index(second_side);
+    }
+    match (first_child, second_child) {
+        (Some(child), _) => forest.index(child) < second_offset,
+        (None, Some(child)) => first_offset <= forest.index(child),
+        (None, None) => first_offset < second_offset,
+    }
+}
+
+/// The nodes reached from two nodes by going up from both at once, until one of them is a root: the other one is then
+/// as deep as the one node was deeper.
+fn climb_together(forest: &Forest, first: Key, second: Key) -> (Key, Key)
+    requires first_is_node { first < length forest.now.names }
+    requires second_is_node { second < length forest.now.names }
+    ensures first_is_node { result.0 < length forest.now.names }
+    ensures second_is_node { result.1 < length forest.now.names }
+    ensures difference { depth_at forest.now result.0 + depth_at forest.now second ≡ depth_at forest.now first + depth_at forest.now result.1 }
+    ensures first_above { depth_at forest.now result.0 ≤ depth_at forest.now first }
+    ensures second_above { depth_at forest.now result.1 ≤ depth_at forest.now second }
+    ensures root { (depth_at forest.now result.0 ≡ 1) ⊎ (depth_at forest.now result.1 ≡ 1) }
+{
+    forest.nodes_stand_once();
+    let mut low = first;
+    let mut other = second;
+    'up: loop {
+        let Some(above) = forest.parent(low) else {
+            return (low, other);
+        };
+        let Some(beside) = forest.parent(other) else {
+            return (low, other);
+        };
+        low = above;
+        other = beside;
+    }
+}
+
+/// The node above a node by as many levels as `gauge` has nodes above it, and that one's child on the way, where there
+/// is a level to go.
+fn climb(forest: &Forest, key: Key, gauge: Key) -> (Key, Option<Key>)
+    requires key_is_node { key < length forest.now.names }
+    requires gauge_is_node { gauge < length forest.now.names }
+    requires deep { depth_at forest.now gauge ≤ depth_at forest.now key }
+    ensures node { result.0 < length forest.now.names }
+    ensures depth { depth_at forest.now result.0 + depth_at forest.now gauge ≡ depth_at forest.now key + 1 }
+    ensures reached { Reaches forest.now key result.0 result.1 }
+{
+    forest.nodes_stand_once();
+    let mut top = key;
+    let mut child = None;
+    let mut left = gauge;
+    'up: loop {
+        let Some(fewer) = forest.parent(left) else {
+            return (top, child);
+        };
+        let Some(above) = forest.parent(top) else {
+            return (top, child);
+        };
+        child = Some(top);
+        top = above;
+        left = fewer;
+    }
+}
+
+/// The siblings in or above two different nodes of one tree that are as deep as each other.
+fn part(forest: &Forest, first: Key, second: Key) -> (Key, Key)
+    requires first_is_node { first < length forest.now.names }
+    requires second_is_node { second < length forest.now.names }
+    requires apart { first ≢ second }
+    requires level { depth_at forest.now first ≡ depth_at forest.now second }
+    requires one_tree { first_of (path_at forest.now first) ≡ first_of (path_at forest.now second) }
+    ensures first_is_node { result.0 < length forest.now.names }
+    ensures second_is_node { result.1 < length forest.now.names }
+    ensures beside { AreBeside forest.now first second result.0 result.1 }
+{
+    forest.nodes_stand_once();
+    let mut low = first;
+    let mut other = second;
+    'up: loop {
+        let Some(above) = forest.parent(low) else {
+            return (low, other);
+        };
+        let Some(beside) = forest.parent(other) else {
+            return (low, other);
+        };
+        if above == beside {
+            return (low, other);
+        }
+        low = above;
+        other = beside;
+    }
+}
+
+/// Whether two nodes have one root (DOM Standard, concept: root).
+pub(crate) fn share_root(forest: &Forest, first: Key, second: Key) -> bool
+    requires first_is_node { first < length forest.now.names }
+    requires second_is_node { second < length forest.now.names }
+    ensures { result ≡ same_root forest.now.trees (name_at forest.now.names first) (name_at forest.now.names second) }
+{
+    forest.nodes_stand_once();
+    forest.root(first) == forest.root(second)
+}

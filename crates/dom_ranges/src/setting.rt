@@ -1,0 +1,42 @@
+//! Ranges with another start or end (DOM Standard, concept: range, set the start or end).
+ghost use Rattle.std.specs.Prelude.{◌≡◌, ◌<◌, length};
+ghost use Rattle.dom_model.specs.Ranges.{at};
+ghost use Rattle.dom_ranges.specs.Tables.{range_from, BothEnds};
+ghost use Rattle.dom_ranges.specs.Rules.{IsAtNode};
+ghost use Rattle.dom_ranges.specs.Settings.{start_set, end_set};
+
+use crate::order::{is_before, share_root};
+use crate::table::Points;
+use dom_tree::Forest;
+use node_arena::Key;
+
+/// The range with this start. The end stays where it is in the same tree and not before the start, and else goes there.
+pub(crate) fn with_start(forest: &Forest, points: Points, node: Key, offset: usize) -> Points
+    requires node_is_node { node < length forest.now.names }
+    requires ends { BothEnds (IsAtNode forest.now.names) (range_from points) }
+    ensures { range_from result ≡ start_set forest.now (at node offset) (range_from points) }
+{
+    let (end, to) = points.end;
+    let stays = share_root(forest, node, end) && !is_before(forest, (end, to), (node, offset));
+    let end = if stays { (end, to) } else { (node, offset) };
+    Points {
+        start: (node, offset),
+        end,
+    }
+}
+
+/// The range with this end. The start stays where it is in the same tree and not after the end, and else goes there.
+pub(crate) fn with_end(forest: &Forest, points: Points, node: Key, offset: usize) -> Points
+    requires node_is_node { node < length forest.now.names }
+    requires ends { BothEnds (IsAtNode forest.now.names) (range_from points) }
+    ensures { range_from result ≡ end_set forest.now (at node offset) (range_from points) }
+{
+    let (start, from) = points.start;
+    let stays = share_root(forest, node, start)
+        && !is_before(forest, (node, offset), (start, from));
+    let start = if stays { (start, from) } else { (node, offset) };
+    Points {
+        start,
+        end: (node, offset),
+    }
+}

@@ -1,0 +1,343 @@
+//! The live ranges of all owners.
+ghost use Rattle.std.specs.Prelude.{◌≡◌, ℕ, ◌≤◌, ◌<◌, ◌+◌, ◌++◌, ◌∷◌, [], ◌↔◌, ◌⊎◌, true, length, slice_set, nat_eq, is_some, IsSome, Some, None, IfOk, IfErr, OnOk, OnErr};
+ghost use Rattle.std.specs.Option.{option_map, ForSome};
+ghost use Rattle.dom_base.specs.declared.Owner.{Owner as Owners};
+ghost use Rattle.dom_model.specs.CommandRefusals.{past_limit};
+ghost use Rattle.dom_model.specs.Place.{Boundary};
+ghost use Rattle.dom_model.specs.Ranges.{at, from_to, map_ends, after_insert, after_removal, after_replace_data, after_split, after_join, with_start, with_end};
+ghost use Rattle.dom_model.specs.Tree.{parent_of, index_of, length_of};
+ghost use Rattle.dom_tree.specs.Forest.{name_at};
+ghost use Rattle.slab.specs.Slab.{get, Updates};
+ghost use Rattle.dom_ranges.specs.Rules.{Fits, IsAtNode, is_inside};
+ghost use Rattle.dom_ranges.specs.Settings.{start_set, end_set, named_ranges, with_named, without_named};
+ghost use Rattle.dom_ranges.specs.Tables.{ranges_of, range_in, with_ranges, range_from, ends_by, EachRange, BothEnds, collapsed_range};
+
+use crate::change::{Change, Insertion, Join, Removal, Replacement, Split};
+use crate::numbers::Numbers;
+use crate::setting::{with_end, with_start};
+use dom_base::{Fault, MAX_NODES, Owner, Refusal};
+use dom_tree::Forest;
+use node_arena::Key;
+use slab::Slab;
+use std::alloc::{AllocError, Global};
+use std::marker::Model;
+
+/// The boundary points of a range, each a node and an offset (DOM Standard, 5.2 Boundary points).
+#[derive(Clone, Copy, PartialEq, Eq, Debug)]
+pub struct Points {
+    pub start: (Key, usize),
+    pub end: (Key, usize),
+}
+
+/// The live ranges of all owners (DOM Standard, interface Range). An owner's ranges are numbered in the order in which
+/// it made them. Changes of the trees are told to the table step by step.
+#[derive(Drop)]
+pub struct RangeTable {
+    live: Slab<Points>,
+    numbers: Numbers,
+}
+
+impl Model for RangeTable {
+    ghost use Rattle.dom_ranges.specs.Tables.{RangeLists};
+
+    ghost Value = { RangeLists };
+
+    ghost use Rattle.dom_ranges.specs.Held.{shown, IsHeld};
+
+    ghost view = { λ t. shown t.live t.numbers };
+
+    ghost invariant = { λ t. IsHeld t.live t.numbers };
+}
+
+impl RangeTable {
+    /// A table without ranges, which takes no memory yet. It will take its memory from `alloc`.
+    pub fn new(alloc: Global) -> Self
+        ensures { (o : Owners) → ranges_of result o ≡ [] }
+    {
+        RangeTable {
+            live: Slab::new(alloc),
+            numbers: Numbers::new(alloc),
+        }
+    }
+
+    /// Makes a range with both ends at offset 0 of a node, and gives its number, the owner's next (DOM Standard, new
+    /// Range()). It is refused with `Limit` where the owner has made a million ranges, removed ones counted, and with
+    /// `Memory` where memory is refused (own rules); then the table is as it was.
+    pub fn make(&mut self, owner: Owner, node: Key) -> Result<u32, Fault>
+        ensures number { IfOk result (λ number. number ≡ length (ranges_of self.old owner)) }
+        ensures made { OnOk result ((o : Owners) → ranges_of self.new o ≡ with_ranges self.old owner (ranges_of self.old owner ++ Some (from_to (at node 0) (at node 0)) ∷ []) o) }
+        ensures limit { (result ≡ Err (Fault.Refused Refusal.Limit)) ↔ (past_limit (length (ranges_of self.old owner)) 1 ≡ true) }
+        ensures other { IfErr result (λ fault. (fault ≡ Fault.Refused Refusal.Limit) ⊎ (fault ≡ Fault.Memory)) }
+        ensures err { OnErr result ((o : Owners) → ranges_of self.new o ≡ ranges_of self.old o) }
+    {
+        if self.count(owner) >= MAX_NODES as usize {
+            return Err(Fault::Refused(Refusal::Limit));
+        }
+        Ok(self.add(owner, node)?)
+    }
+
+    /// How many ranges an owner has made, removed ones counted.
+    fn count(&self, owner: Owner) -> usize
+        ensures { result ≡ length (ranges_of self.now owner) }
+    {
+        self.numbers.of(owner).len()
+    }
+
+    /// Makes a range with both ends at offset 0 of a node.
+    fn add(&mut self, owner: Owner, node: Key) -> Result<u32, AllocError>
+        requires { length (ranges_of self.old owner) < MAX_NODES }
+        ensures number { IfOk result (λ number. number ≡ length (ranges_of self.old owner)) }
+        ensures made { OnOk result ((o : Owners) → ranges_of self.new o ≡ with_ranges self.old owner (ranges_of self.old owner ++ Some (from_to (at node 0) (at node 0)) ∷ []) o) }
+        ensures err { OnErr result ((o : Owners) → ranges_of self.new o ≡ ranges_of self.old o) }
+    {
+        let number = self.numbers.of(owner).len();
+        self.numbers.reserve(owner)?;
+        let slot = self.live.insert(Points {
+            start: (node, 0),
+            end: (node, 0),
+        })?;
+        self.numbers.push(owner, slot);
+        Ok(number as u32)
+    }
+
+    /// Drops a range, whose number is not given again (own rule). Answers whether it was there.
+    pub fn remove(&mut self, owner: Owner, number: u32) -> bool
+        ensures there { result ≡ is_some (range_in (ranges_of self.old owner) number) }
+        ensures table { (o : Owners) → ranges_of self.new o ≡ with_ranges self.old owner (slice_set (ranges_of self.old owner) number None) o }
+    {
+        let Some(slot) = self.numbers.slot(owner, number) else {
+            return false;
+        };
+        self.numbers.clear(owner, number);
+        let _ = self.live.try_remove(slot);
+        true
+    }
+
+    /// The ends of a range that is there (DOM Standard, interface AbstractRange).
+    pub fn points(&self, owner: Owner, number: u32) -> Option<Points>
+        ensures { option_map range_from result ≡ range_in (ranges_of self.now owner) number }
+    {
+        let slot = self.numbers.slot(owner, number)?;
+        self.live.get(slot).copied()
+    }
+
+    /// Gives a range another start (DOM Standard, setStart()): the end goes there too where it stands in another tree or
+    /// would be before it. It is refused with `Unknown` where the range is not there (own rule), and then with
+    /// `IndexSize` where the offset is past the node's length; then the table is as it was.
+    pub fn set_start(
+        &mut self,
+        owner: Owner,
+        number: u32,
+        forest: &Forest,
+        node: Key,
+        offset: usize,
+    ) -> Result<(), Refusal>
+        requires node_is_node { node < length forest.now.names }
+        requires ends { EachRange (BothEnds (IsAtNode forest.now.names)) (ranges_of self.old owner) }
+        ensures unknown { (result ≡ Err Refusal.Unknown) ↔ (range_in (ranges_of self.old owner) number ≡ None) }
+        ensures index_size { (result ≡ Err Refusal.IndexSize) ↔ (IsSome (range_in (ranges_of self.old owner) number) × (length_of forest.now.trees (name_at forest.now.names node) < offset)) }
+        ensures other { IfErr result (λ refusal. (refusal ≡ Refusal.Unknown) ⊎ (refusal ≡ Refusal.IndexSize)) }
+        ensures set { OnOk result ((o : Owners) → ranges_of self.new o ≡ with_ranges self.old owner (slice_set (ranges_of self.old owner) number (option_map (start_set forest.now (at node offset)) (range_in (ranges_of self.old owner) number))) o) }
+        ensures named { OnOk result ((o : Owners) → named_ranges forest.now.names (ranges_of self.new o) ≡ with_named forest.now.names self.old owner number (with_start forest.now.trees (at (name_at forest.now.names node) offset)) o) }
+        ensures err { OnErr result ((o : Owners) → ranges_of self.new o ≡ ranges_of self.old o) }
+    {
+        let points = self.check(owner, number, forest, node, offset)?;
+        self.write(owner, number, with_start(forest, points, node, offset));
+        Ok(())
+    }
+
+    /// Gives a range another end (DOM Standard, setEnd()): the start goes there too where it stands in another tree or
+    /// would be after it. It is refused as `set_start` is.
+    pub fn set_end(
+        &mut self,
+        owner: Owner,
+        number: u32,
+        forest: &Forest,
+        node: Key,
+        offset: usize,
+    ) -> Result<(), Refusal>
+        requires node_is_node { node < length forest.now.names }
+        requires ends { EachRange (BothEnds (IsAtNode forest.now.names)) (ranges_of self.old owner) }
+        ensures unknown { (result ≡ Err Refusal.Unknown) ↔ (range_in (ranges_of self.old owner) number ≡ None) }
+        ensures index_size { (result ≡ Err Refusal.IndexSize) ↔ (IsSome (range_in (ranges_of self.old owner) number) × (length_of forest.now.trees (name_at forest.now.names node) < offset)) }
+        ensures other { IfErr result (λ refusal. (refusal ≡ Refusal.Unknown) ⊎ (refusal ≡ Refusal.IndexSize)) }
+        ensures set { OnOk result ((o : Owners) → ranges_of self.new o ≡ with_ranges self.old owner (slice_set (ranges_of self.old owner) number (option_map (end_set forest.now (at node offset)) (range_in (ranges_of self.old owner) number))) o) }
+        ensures named { OnOk result ((o : Owners) → named_ranges forest.now.names (ranges_of self.new o) ≡ with_named forest.now.names self.old owner number (with_end forest.now.trees (at (name_at forest.now.names node) offset)) o) }
+        ensures err { OnErr result ((o : Owners) → ranges_of self.new o ≡ ranges_of self.old o) }
+    {
+        let points = self.check(owner, number, forest, node, offset)?;
+        self.write(owner, number, with_end(forest, points, node, offset));
+        Ok(())
+    }
+
+    /// The ends of a range that is there, where a node has an offset.
+    fn check(
+        &self,
+        owner: Owner,
+        number: u32,
+        forest: &Forest,
+        node: Key,
+        offset: usize,
+    ) -> Result<Points, Refusal>
+        requires { node < length forest.now.names }
+        ensures unknown { (result ≡ Err Refusal.Unknown) ↔ (range_in (ranges_of self.now owner) number ≡ None) }
+        ensures index_size { (result ≡ Err Refusal.IndexSize) ↔ (IsSome (range_in (ranges_of self.now owner) number) × (length_of forest.now.trees (name_at forest.now.names node) < offset)) }
+        ensures other { IfErr result (λ refusal. (refusal ≡ Refusal.Unknown) ⊎ (refusal ≡ Refusal.IndexSize)) }
+        ensures points { IfOk result (λ points. range_in (ranges_of self.now owner) number ≡ Some (range_from points)) }
+    {
+        let points = self.points(owner, number).ok_or(Refusal::Unknown)?;
+        if forest.length(node) < offset {
+            return Err(Refusal::IndexSize);
+        }
+        Ok(points)
+    }
+
+    /// Sets both ends of a range to its start, or to its end (DOM Standard, collapse). Answers whether it is there.
+    pub fn collapse(&mut self, owner: Owner, number: u32, to_start: bool) -> bool
+        ensures there { result ≡ is_some (range_in (ranges_of self.old owner) number) }
+        ensures table { (o : Owners) → ranges_of self.new o ≡ with_ranges self.old owner (slice_set (ranges_of self.old owner) number (option_map (collapsed_range to_start) (range_in (ranges_of self.old owner) number))) o }
+    {
+        let Some(points) = self.points(owner, number) else {
+            return false;
+        };
+        let point = if to_start { points.start } else { points.end };
+        let (node, offset) = point;
+        self.write(
+            owner,
+            number,
+            Points {
+                start: (node, offset),
+                end: (node, offset),
+            },
+        );
+        true
+    }
+
+    /// Gives a range that is there other ends.
+    fn write(&mut self, owner: Owner, number: u32, points: Points)
+        requires { IsSome (range_in (ranges_of self.old owner) number) }
+        ensures { (o : Owners) → ranges_of self.new o ≡ with_ranges self.old owner (slice_set (ranges_of self.old owner) number (Some (range_from points))) o }
+    {
+        if let Some(slot) = self.numbers.slot(owner, number) {
+            put(&mut self.live, slot, points);
+        }
+    }
+
+    /// Tells the table that `count` nodes are to come into `parent` before its child at `index` (DOM Standard, concept:
+    /// insert): offsets in the parent that are greater than the index grow by the count.
+    pub fn on_insert(&mut self, parent: Key, index: usize, count: usize)
+        requires { (o : Owners) → EachRange (BothEnds (λ b. Fits (after_insert nat_eq parent index count b))) (ranges_of self.old o) }
+        ensures { (o : Owners) → ranges_of self.new o ≡ ends_by (after_insert nat_eq parent index count) (ranges_of self.old o) }
+    {
+        self.apply(&Insertion {
+            parent,
+            index,
+            count,
+        });
+    }
+
+    /// Tells the table that a node is to leave its parent, in whose tree it is still linked (DOM Standard, concept:
+    /// remove): the boundary points inside it go to where it stands, and greater offsets in the parent drop by one. Of
+    /// a root, nothing.
+    pub fn on_remove(&mut self, forest: &Forest, node: Key)
+        requires node_is_node { node < length forest.now.names }
+        requires ends { (o : Owners) → EachRange (BothEnds (IsAtNode forest.now.names)) (ranges_of self.old o) }
+        ensures root { parent_of forest.now.trees (name_at forest.now.names node) ≡ None → (o : Owners) → ranges_of self.new o ≡ ranges_of self.old o }
+        ensures child { (parent : ℕ) → parent < length forest.now.names → parent_of forest.now.trees (name_at forest.now.names node) ≡ Some (name_at forest.now.names parent) → (o : Owners) → ranges_of self.new o ≡ ends_by (after_removal nat_eq (is_inside forest.now node) parent (index_of forest.now.trees (name_at forest.now.names node))) (ranges_of self.old o) }
+        ensures named { (o : Owners) → named_ranges forest.now.names (ranges_of self.new o) ≡ without_named forest.now (name_at forest.now.names node) (named_ranges forest.now.names (ranges_of self.old o)) }
+    {
+        forest.nodes_stand_once();
+        if let Some(parent) = forest.parent(node) {
+            let index = forest.index(node);
+            self.apply(&Removal {
+                forest,
+                node,
+                parent,
+                index,
+            });
+        }
+    }
+
+    /// Tells the table that from `offset` on, `count` code units of a node give way to `length` others (DOM Standard,
+    /// concept: replace data): a boundary point among them goes to `offset`, and one behind them moves with what follows.
+    pub fn on_replace_data(&mut self, node: Key, offset: usize, count: usize, length: usize)
+        requires { (o : Owners) → EachRange (BothEnds (λ b. Fits (after_replace_data nat_eq node offset count length b))) (ranges_of self.old o) }
+        ensures { (o : Owners) → ranges_of self.new o ≡ ends_by (after_replace_data nat_eq node offset count length) (ranges_of self.old o) }
+    {
+        self.apply(&Replacement {
+            node,
+            offset,
+            count,
+            length,
+        });
+    }
+
+    /// Tells the table that a Text was split at `offset`, and what was past it is in the Text `new` (DOM Standard,
+    /// concept: split a Text node). Of a Text that is the child of a parent at an index, the boundary points past
+    /// `offset` go to the new Text, and those just behind the split Text go behind the new one. Of a root, nothing.
+    pub fn on_split(&mut self, node: Key, offset: usize, new: Key, place: Option<(Key, usize)>)
+        requires { ForSome place (λ p. (o : Owners) → EachRange (BothEnds (λ b. Fits (after_split nat_eq node offset new p.0 p.1 b))) (ranges_of self.old o)) }
+        ensures root { place ≡ None → (o : Owners) → ranges_of self.new o ≡ ranges_of self.old o }
+        ensures child { ForSome place (λ p. (o : Owners) → ranges_of self.new o ≡ ends_by (after_split nat_eq node offset new p.0 p.1) (ranges_of self.old o)) }
+    {
+        if let Some(at) = place {
+            let (parent, index) = at;
+            self.apply(&Split {
+                node,
+                offset,
+                new,
+                parent,
+                index,
+            });
+        }
+    }
+
+    /// Tells the table that the data of the Text `next`, the child of `parent` at `index`, were put behind those of the
+    /// Text `first`, which had `length` code units (DOM Standard, normalize()): the boundary points in `next`, and the
+    /// one just before it, go to `first`.
+    pub fn on_join(&mut self, first: Key, length: usize, next: Key, parent: Key, index: usize)
+        requires { (o : Owners) → EachRange (BothEnds (λ b. Fits (after_join nat_eq first length next parent index b))) (ranges_of self.old o) }
+        ensures { (o : Owners) → ranges_of self.new o ≡ ends_by (after_join nat_eq first length next parent index) (ranges_of self.old o) }
+    {
+        self.apply(&Join {
+            first,
+            length,
+            next,
+            parent,
+            index,
+        });
+    }
+
+    /// Rewrites the ends of all ranges for a step of a change.
+    fn apply<C: Change>(&mut self, change: &C)
+        requires { (o : Owners) → EachRange (BothEnds (C.can_move change.now)) (ranges_of self.old o) }
+        ensures { (o : Owners) → ranges_of self.new o ≡ ends_by (C.rule change.now) (ranges_of self.old o) }
+    {
+        move_ends(&mut self.live, change);
+    }
+}
+
+/// Writes a slot that holds a range.
+fn put(live: &mut Slab<Points>, slot: usize, points: Points)
+    requires { IsSome (get live.old slot) }
+    ensures { Updates live.old live.new slot (Some points) }
+{
+    if let Some(kept) = live.get_mut(slot) {
+        *kept = points;
+    }
+}
+
+/// Rewrites the ends of the ranges in all slots.
+fn move_ends<C: Change>(live: &mut Slab<Points>, change: &C)
+    requires { (slot : ℕ) → ForSome (get live.old slot) (λ p. BothEnds (C.can_move change.now) (range_from p)) }
+    ensures { (slot : ℕ) → option_map range_from (get live.new slot) ≡ option_map (λ p. map_ends (C.rule change.now) (range_from p)) (get live.old slot) }
+{
+    for slot in 0..live.capacity() {
+        if let Some(points) = live.get_mut(slot) {
+            let (start, from) = points.start;
+            let (end, to) = points.end;
+            points.start = change.moved(start, from);
+            points.end = change.moved(end, to);
+        }
+    }
+}
