@@ -3,7 +3,7 @@ use Rattle.std.proofs.Common.{◌≡◌, ℕ, Bool, true, false, not, ◌&&◌, 
 use Rattle.std.specs.List.{fold, filter, list_any, flat_map}
 use Rattle.std.proofs.lemmas.List.{append_assoc, append-nil}
 use Rattle.std.proofs.lemmas.Bool.{cond-true, cond-false, and_left}
-use Rattle.dom_model.specs.Names.{is_in, append_once, distinct}
+use Rattle.dom_model.specs.Names.{is_in, append_once, distinct, is_empty}
 use Rattle.dom_model.specs.Output.{Change}
 use Rattle.dom_model.specs.Observers.{Registration, registrations_on, fits, fitting, interested, asks_for_old, transients_for}
 use Rattle.dom_observers.specs.Taking.{Found, none_found, and_found, found_by, found_on, transient_copy, copied_by, copied_on}
@@ -105,3 +105,20 @@ walk-copies rs node path =
       (λ copies x. fold_both (copied_by node x) (λ zs r. zs ++ transient_copy node r ∷ []) (λ r. r.options.subtree) (λ r. eqb r.node x) (λ zs r. refl) copies rs) [] path
     ∙ (sym (fold-flat_map (λ zs r. zs ++ transient_copy node r ∷ []) (λ r. r.options.subtree) (λ x. filter (λ r. eqb r.node x) rs) [] path)
     ∙ fold-behind (transient_copy node) [] (filter (λ r. r.options.subtree) (registrations_on eqb path rs)))
+
+-- ---- an owner without registrations
+
+-- none stands on a path
+on_none : (path : List ℕ) → registrations_on eqb path [] ≡ []
+on_none [] = refl
+on_none (x ∷ path) = on_none path
+
+-- nobody is interested
+pub interested-none : (path : List ℕ) (rs : List (Registration ℕ)) (c : Change ℕ) → is_empty rs ≡ true → interested eqb path rs c ≡ []
+interested-none path [] c e = ap (λ rs. distinct eqb (map (λ r. r.observer) (filter (fits eqb c) rs))) (on_none path)
+interested-none path (r ∷ rs) c e = cc
+
+-- and nothing is copied
+pub copies-none : (node : ℕ) (path : List ℕ) (rs : List (Registration ℕ)) → is_empty rs ≡ true → transients_for eqb node path rs ≡ []
+copies-none node path [] e = ap (λ rs. map (transient_copy node) (filter (λ r. r.options.subtree) rs)) (on_none path)
+copies-none node path (r ∷ rs) e = cc

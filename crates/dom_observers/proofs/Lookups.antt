@@ -1,7 +1,7 @@
 -- An owner's tables in the map of all owners'.
-use Rattle.std.proofs.Common.{◌≡◌, ℕ, Bool, true, false, cond, List, [], ◌∷◌, map, Option, Some, None, refl, sym, ap, ◌∙◌, subst}
-use Rattle.std.specs.Prelude.{unwrap_or, option_map}
-use Rattle.std.specs.Option.{option_map_or}
+use Rattle.std.proofs.Common.{◌≡◌, ℕ, Bool, true, false, cond, ltb, List, [], ◌∷◌, map, Option, Some, None, refl, sym, ap, ◌∙◌, subst, arith}
+use Rattle.std.specs.Prelude.{unwrap_or, option_map, is_some}
+use Rattle.std.specs.Option.{option_map_or, IsSome}
 use Rattle.std.specs.Map.{lookup}
 use Rattle.std.specs.HashMap.{get}
 use Rattle.dom_base.specs.declared.Owner.{Owner}
@@ -15,7 +15,8 @@ use Rattle.dom_observers.specs.Views.{table_of}
 use Rattle.dom_observers.specs.AllTables.{AllTables}
 use Rattle.dom_observers.specs.Owners.{tables_of, all_tables, ChangesTables, KeepsTables}
 use Rattle.dom_model.proofs.OwnerLaws.{owner_eq-true}
-use Rattle.std.proofs.lemmas.Bool.{cond-true, cond-false}
+use Rattle.dom_observers.proofs.Tables.{none_from, is_some-map}
+use Rattle.std.proofs.lemmas.Bool.{cond-true, cond-false, false_from_ne_true, ltb-true}
 
 -- the test of owners that the map makes
 pub same_owner : (o p : Owner) → OwnerImpl.ghosts.eq o p ≡ owner_eq o p
@@ -89,3 +90,54 @@ changes-kept o old new changes p = by (owner_eq o p) refl
     by : (b : Bool) → owner_eq o p ≡ b → tables_of new p ≡ tables_of old p
     by true e = changes p ∙ (cond-true (owner_eq o p) (tables_of old o) (tables_of old p) e ∙ ap (tables_of old) (owner_eq-true o p e))
     by false e = changes p ∙ cond-false (owner_eq o p) (tables_of old o) (tables_of old p) e
+
+-- what a call on an owner's table does to all, where the owner has a table
+pub rewritten : (q r : Inside) (all : AllTables) (o : Owner) (t w : Table) (f : TablesOf ℕ → TablesOf ℕ) → all_tables q ≡ all → Some t ≡ get OwnerImpl.ghosts.eq q.tables o
+    → (IsSome (get OwnerImpl.ghosts.eq q.tables o) → (p : Owner) → get OwnerImpl.ghosts.eq r.tables p ≡ cond (OwnerImpl.ghosts.eq o p) (Some w) (get OwnerImpl.ghosts.eq q.tables p))
+    → table_of w ≡ f (table_of t) → ChangesTables o (f (tables_of all o)) all (all_tables r)
+rewritten q r all o t w f view there at e =
+    subst (λ (old : AllTables). ChangesTables o (f (tables_of old o)) old (all_tables r)) view
+    (changes-same o (table_of w) (f (tables_of (all_tables q) o)) (all_tables q) (all_tables r)
+      (e ∙ ap f (sym (tables_of-some q o t (sym there))))
+      (written q r o w (at (subst IsSome there refl))))
+
+-- what is read of the owner's table
+pub had : (q : Inside) (all : AllTables) (o : Owner) (t : Table) → all_tables q ≡ all → Some t ≡ get OwnerImpl.ghosts.eq q.tables o → tables_of all o ≡ table_of t
+had q all o t view there = ap (λ (v : AllTables). tables_of v o) (sym view) ∙ tables_of-some q o t (sym there)
+
+pub had-none : (q : Inside) (all : AllTables) (o : Owner) → all_tables q ≡ all → None ≡ get OwnerImpl.ghosts.eq q.tables o → tables_of all o ≡ no_tables
+had-none q all o view off = ap (λ (v : AllTables). tables_of v o) (sym view) ∙ tables_of-none q o (sym off)
+
+-- a call that leaves the map as it is
+pub untouched : (q r : Inside) (all : AllTables) → all_tables q ≡ all → r.tables ≡ q.tables → KeepsTables all (all_tables r)
+untouched q r all view e p = ap (λ (v : AllTables). tables_of v p) (ap (λ m. map (λ d. (d.0, table_of d.1)) m.entries) e ∙ view)
+
+-- and does nothing to one who has nothing
+pub untouched-changes : (q r : Inside) (all : AllTables) (o : Owner) (f : TablesOf ℕ → TablesOf ℕ) → all_tables q ≡ all → None ≡ get OwnerImpl.ghosts.eq q.tables o → r.tables ≡ q.tables → f no_tables ≡ no_tables
+    → ChangesTables o (f (tables_of all o)) all (all_tables r)
+untouched-changes q r all o f view off e stays =
+    let none = had-none q all o view off in
+    changes-same o (tables_of all o) (f (tables_of all o)) all (all_tables r) (none ∙ sym (ap f none ∙ stays)) (kept-changes o all (all_tables r) (untouched q r all view e))
+
+-- an owner that is there has an entry
+pub lookup-get : (q : Inside) (o : Owner) → is_some (lookup (owner_eq o) (all_tables q)) ≡ is_some (get OwnerImpl.ghosts.eq q.tables o)
+lookup-get q o =
+    ap is_some (lookup-map table_of (owner_eq o) (OwnerImpl.ghosts.eq o) (λ p. sym (same_owner o p)) q.tables.entries) ∙ is_some-map table_of (get OwnerImpl.ghosts.eq q.tables o)
+
+-- a new table says nothing new
+pub written-none : (q r : Inside) (all : AllTables) (o : Owner) (t : Table) → all_tables q ≡ all → is_some (get OwnerImpl.ghosts.eq q.tables o) ≡ false → table_of t ≡ no_tables
+    → ((p : Owner) → get OwnerImpl.ghosts.eq r.tables p ≡ cond (OwnerImpl.ghosts.eq o p) (Some t) (get OwnerImpl.ghosts.eq q.tables p)) → KeepsTables all (all_tables r)
+written-none q r all o t view off new at =
+    subst (λ (old : AllTables). KeepsTables old (all_tables r)) view
+    (changes-kept o (all_tables q) (all_tables r)
+      (changes-same o (table_of t) (tables_of (all_tables q) o) (all_tables q) (all_tables r)
+        (new ∙ sym (tables_of-none q o (none_from (get OwnerImpl.ghosts.eq q.tables o) off))) (written q r o t at)))
+
+-- no number is below 0
+pub below_none : (k : ℕ) → ltb k 0 ≡ false
+below_none k = false_from_ne_true (ltb k 0) (λ e. let h = ltb-true k 0 e in omega arith)
+
+-- what changes after a call that keeps all changes what was there before it
+pub changes-before : (o : Owner) (f : TablesOf ℕ → TablesOf ℕ) (old mid new : AllTables) → KeepsTables old mid → ChangesTables o (f (tables_of mid o)) mid new → ChangesTables o (f (tables_of old o)) old new
+changes-before o f old mid new kept h p =
+    h p ∙ (ap (λ t. cond (owner_eq o p) (f t) (tables_of mid p)) (kept o) ∙ ap (cond (owner_eq o p) (f (tables_of old o))) (kept p))

@@ -3,15 +3,16 @@ use Rattle.std.proofs.Common.{◌≡◌, ℕ, zero, suc, ◌<◌, Bool, true, fa
 use Rattle.std.specs.Prelude.{slice_get, unwrap_or, option_map, is_some, Vec}
 use Rattle.std.specs.List.{fold, filter, IsDistinct, AllByRecursion}
 use Rattle.std.proofs.lemmas.Bool.{cond-true, cond-false, or_parts, or_from, eq-eqb, ne_eqb, cases_eq, eqb-true, true≢false}
+use Rattle.std.proofs.lemmas.List.{append-nil}
 use Rattle.std.proofs.lemmas.List.Elements.{All-from_recursion}
 use Rattle.dom_model.specs.Names.{is_in, append_once, is_empty}
 use Rattle.dom_model.specs.Output.{Change as Changed}
-use Rattle.dom_model.specs.Observers.{interested, record_for}
+use Rattle.dom_model.specs.Observers.{Registration, interested, record_for}
 use Rattle.dom_observers.specs.declared.change.Change.{Change}
-use Rattle.dom_observers.specs.Tables.{TablesOf, queue_at, emptied, given, told}
+use Rattle.dom_observers.specs.Tables.{TablesOf, queue_at, emptied, given, told, is_taken, left}
 use Rattle.dom_observers.specs.Views.{change_of}
 use Rattle.dom_observers.proofs.Folds.{eqb-turned}
-use Rattle.dom_observers.proofs.Gathering.{fold-agree}
+use Rattle.dom_observers.proofs.Gathering.{fold-agree, interested-none, copies-none}
 
 -- ---- records that are given
 
@@ -101,3 +102,19 @@ filter_of_map p h (x ∷ xs) = by (p (h x)) refl (filter_of_map p h xs)
     by false e rest =
         ap (map h) (cond-false (p (h x)) (x ∷ filter (λ y. p (h y)) xs) (filter (λ y. p (h y)) xs) e)
         ∙ (rest ∙ sym (cond-false (p (h x)) (h x ∷ filter p (map h xs)) (filter p (map h xs)) e))
+
+-- ---- an owner without registrations
+
+pub not_taken : (path : List ℕ) (c : Changed ℕ) (t : TablesOf ℕ) → is_empty t.registrations ≡ true → is_taken eqb path t c ≡ false
+not_taken path c t e = ap (λ ks. not (is_empty ks)) (interested-none path t.registrations c e)
+
+pub not_told : (path : List ℕ) (c : Changed ℕ) (t : TablesOf ℕ) → is_empty t.registrations ≡ true → told eqb path c t ≡ t
+not_told path c t e =
+    let rec = record_for eqb path t.registrations c in
+    let after = λ (ks : List ℕ). let s : TablesOf ℕ = record t { record_queues = fold (λ queues k. set queues k (queue_at queues k ++ rec k ∷ [])) t.record_queues ks; pending = fold (append_once eqb) t.pending ks } in s in
+    ap after (interested-none path t.registrations c e)
+
+pub none_left : (node : ℕ) (path : List ℕ) (t : TablesOf ℕ) → is_empty t.registrations ≡ true → left eqb node path t ≡ t
+none_left node path t e =
+    ap (λ (rs : List (Registration ℕ)). record t { registrations = t.registrations ++ rs }) (copies-none node path t.registrations e)
+    ∙ ap (λ (rs : List (Registration ℕ)). record t { registrations = rs }) (append-nil t.registrations)

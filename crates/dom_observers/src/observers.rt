@@ -1,6 +1,8 @@
 //! The mutation observers of all owners.
-ghost use Rattle.std.specs.Prelude.{◌≡◌, ◌<◌, ◌↔◌, ◌⊎◌, nat_eq, nat_lt, true, false, map, length, option_map, slice_get, IfOk, IfErr, OnOk, OnErr, if◌then◌else◌};
+ghost use Rattle.std.specs.Prelude.{◌≡◌, ◌<◌, ◌↔◌, ◌⊎◌, nat_eq, nat_lt, true, false, map, length, option_map, slice_get, is_some, IfOk, IfErr, OnOk, OnErr, if◌then◌else◌};
+ghost use Rattle.std.specs.Map.{lookup};
 ghost use Rattle.dom_base.specs.declared.Owner.{Owner as Owners};
+ghost use Rattle.dom_model.specs.Names.{owner_eq};
 ghost use Rattle.dom_model.specs.CommandRefusals.{past_limit};
 ghost use Rattle.dom_model.specs.Observers.{options_of, asks_for_nothing, target_of};
 ghost use Rattle.dom_tree.specs.Forest.{name_at};
@@ -58,13 +60,24 @@ impl Observers {
         ensures other { IfErr result (λ fault. (fault ≡ Fault.Refused Refusal.Limit) ⊎ (fault ≡ Fault.Memory)) }
         ensures err { OnErr result (KeepsTables self.old self.new) }
     {
-        if !self.tables.contains_key(&owner) {
-            let _ = self.tables.insert(owner, Table::new(self.alloc))?;
-        }
+        self.prepare(owner)?;
         let Some(table) = self.tables.get_mut(&owner) else {
             unreachable!()
         };
         table.make()
+    }
+
+    /// Makes an owner's table where there is none.
+    fn prepare(&mut self, owner: Owner) -> Result<(), AllocError>
+        ensures keeps { KeepsTables self.old self.new }
+        ensures there { OnOk result (is_some (lookup (owner_eq owner) self.new) ≡ true) }
+        ensures none { OnErr result (tables_of self.old owner ≡ no_tables) }
+    {
+        if self.tables.contains_key(&owner) {
+            return Ok(());
+        }
+        let _ = self.tables.insert(owner, Table::new(self.alloc))?;
+        Ok(())
     }
 
     /// Registers an owner's observer on a node, or gives its registration there other options (DOM Standard, observe()).
