@@ -66,9 +66,9 @@ climbs-more f once only key k path next done node is nodes =
       nodes = AreAll-push (IsKey f.names) path k done.nodes node;
       next = nodes;
       whole =
-        ap (λ names. names ++ above f next) (map_push (name_at f.names) path k)
-        ∙ (append_assoc (map (name_at f.names) path) (name_at f.names k ∷ []) (above f next)
-        ∙ (ap (λ names. map (name_at f.names) path ++ names) (sym (climbs f once only k next node is)) ∙ done.whole));
+          ap (λ names. names ++ above f next) (map_push (name_at f.names) path k)
+          ∙ (append_assoc (map (name_at f.names) path) (name_at f.names k ∷ []) (above f next)
+          ∙ (ap (λ names. map (name_at f.names) path ++ names) (sym (climbs f once only k next node is)) ∙ done.whole));
     }
 
 -- fewer are left above

@@ -106,11 +106,11 @@ fold-append_once ks (x ∷ xs) = by (is_in eqb x ks) refl (fold-append_once ks x
         ∙ (more
         ∙ (append_assoc ks (x ∷ []) (filter (λ y. not (is_in eqb y (ks ++ x ∷ []))) (distinct eqb xs))
         ∙ ap (λ js. ks ++ js)
-          (ap (λ js. x ∷ js)
-            (filter_agree (λ y. not (is_in eqb y (ks ++ x ∷ []))) (λ y. not (eqb x y) && not (is_in eqb y ks))
-              (λ y. ap not (list_any-append (eqb y) ks (x ∷ [])) ∙ neither (is_in eqb y ks) (eqb y x) (eqb x y) (eqb-turned y x)) (distinct eqb xs)
-            ∙ sym (filter-filter (λ y. not (is_in eqb y ks)) (λ y. not (eqb x y)) (distinct eqb xs)))
-          ∙ sym (cond-true (not (is_in eqb x ks)) (x ∷ filter (λ y. not (is_in eqb y ks)) (filter (λ y. not (eqb x y)) (distinct eqb xs))) (filter (λ y. not (is_in eqb y ks)) (filter (λ y. not (eqb x y)) (distinct eqb xs))) (not_from_false _ e)))))
+        (ap (λ js. x ∷ js)
+        (filter_agree (λ y. not (is_in eqb y (ks ++ x ∷ []))) (λ y. not (eqb x y) && not (is_in eqb y ks))
+        (λ y. ap not (list_any-append (eqb y) ks (x ∷ [])) ∙ neither (is_in eqb y ks) (eqb y x) (eqb x y) (eqb-turned y x)) (distinct eqb xs)
+        ∙ sym (filter-filter (λ y. not (is_in eqb y ks)) (λ y. not (eqb x y)) (distinct eqb xs)))
+        ∙ sym (cond-true (not (is_in eqb x ks)) (x ∷ filter (λ y. not (is_in eqb y ks)) (filter (λ y. not (eqb x y)) (distinct eqb xs))) (filter (λ y. not (is_in eqb y ks)) (filter (λ y. not (eqb x y)) (distinct eqb xs))) (not_from_false _ e)))))
 
 -- so the set of a list is its numbers, each once
 pub fold-distinct : (xs : List ℕ) → fold (append_once eqb) [] xs ≡ distinct eqb xs

@@ -28,9 +28,9 @@ fold_both : {A B : Type 0} (f g : B → A → B) (p q : A → Bool) → ((b : B)
     → (b : B) (xs : List A) → fold f b xs ≡ fold g b (filter p (filter q xs))
 fold_both f g p q is b xs =
     fold-passing f (λ c x. cond (p x) (g c x) c) q
-      (λ c x e. is c x ∙ ap (λ t. cond (t && p x) (g c x) c) e)
-      (λ c x e. is c x ∙ ap (λ t. cond (t && p x) (g c x) c) e)
-      b xs
+    (λ c x e. is c x ∙ ap (λ t. cond (t && p x) (g c x) c) e)
+    (λ c x e. is c x ∙ ap (λ t. cond (t && p x) (g c x) c) e)
+    b xs
     ∙ fold-passing (λ c x. cond (p x) (g c x) c) g p (λ c x e. cond-true (p x) (g c x) c e) (λ c x e. cond-false (p x) (g c x) c e) b (filter q xs)
 
 -- two folds whose steps agree
@@ -46,7 +46,7 @@ adds c f r = and_found f r.observer (asks_for_old r.options c)
 walk-fitting : (rs : List (Registration ℕ)) (c : Change ℕ) (path : List ℕ) → fold (found_on rs c) none_found path ≡ fold (adds c) none_found (fitting eqb path rs c)
 walk-fitting rs c path =
     fold-agree (found_on rs c) (λ f x. fold (adds c) f (filter (fits eqb c) (filter (λ r. eqb r.node x) rs)))
-      (λ f x. fold_both (found_by c x) (adds c) (fits eqb c) (λ r. eqb r.node x) (λ g r. refl) f rs) none_found path
+    (λ f x. fold_both (found_by c x) (adds c) (fits eqb c) (λ r. eqb r.node x) (λ g r. refl) f rs) none_found path
     ∙ sym (fold-flat_map (adds c) (fits eqb c) (λ x. filter (λ r. eqb r.node x) rs) none_found path)
 
 -- the observers that it finds
@@ -102,7 +102,7 @@ fold-behind f ys (x ∷ xs) = fold-behind f (ys ++ f x ∷ []) xs ∙ append_ass
 pub walk-copies : (rs : List (Registration ℕ)) (node : ℕ) (path : List ℕ) → fold (copied_on node rs) [] path ≡ transients_for eqb node path rs
 walk-copies rs node path =
     fold-agree (copied_on node rs) (λ copies x. fold (λ zs r. zs ++ transient_copy node r ∷ []) copies (filter (λ r. r.options.subtree) (filter (λ r. eqb r.node x) rs)))
-      (λ copies x. fold_both (copied_by node x) (λ zs r. zs ++ transient_copy node r ∷ []) (λ r. r.options.subtree) (λ r. eqb r.node x) (λ zs r. refl) copies rs) [] path
+    (λ copies x. fold_both (copied_by node x) (λ zs r. zs ++ transient_copy node r ∷ []) (λ r. r.options.subtree) (λ r. eqb r.node x) (λ zs r. refl) copies rs) [] path
     ∙ (sym (fold-flat_map (λ zs r. zs ++ transient_copy node r ∷ []) (λ r. r.options.subtree) (λ x. filter (λ r. eqb r.node x) rs) [] path)
     ∙ fold-behind (transient_copy node) [] (filter (λ r. r.options.subtree) (registrations_on eqb path rs)))
 

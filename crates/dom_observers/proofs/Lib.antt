@@ -3,3 +3,4 @@ pub mod Gathering
 pub mod Tables
 pub mod Lookups
 pub mod Ascending
+pub mod Naming

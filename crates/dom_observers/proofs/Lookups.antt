@@ -98,8 +98,8 @@ pub rewritten : (q r : Inside) (all : AllTables) (o : Owner) (t w : Table) (f : 
 rewritten q r all o t w f view there at e =
     subst (λ (old : AllTables). ChangesTables o (f (tables_of old o)) old (all_tables r)) view
     (changes-same o (table_of w) (f (tables_of (all_tables q) o)) (all_tables q) (all_tables r)
-      (e ∙ ap f (sym (tables_of-some q o t (sym there))))
-      (written q r o w (at (subst IsSome there refl))))
+    (e ∙ ap f (sym (tables_of-some q o t (sym there))))
+    (written q r o w (at (subst IsSome there refl))))
 
 -- what is read of the owner's table
 pub had : (q : Inside) (all : AllTables) (o : Owner) (t : Table) → all_tables q ≡ all → Some t ≡ get OwnerImpl.ghosts.eq q.tables o → tables_of all o ≡ table_of t
@@ -130,8 +130,8 @@ pub written-none : (q r : Inside) (all : AllTables) (o : Owner) (t : Table) → 
 written-none q r all o t view off new at =
     subst (λ (old : AllTables). KeepsTables old (all_tables r)) view
     (changes-kept o (all_tables q) (all_tables r)
-      (changes-same o (table_of t) (tables_of (all_tables q) o) (all_tables q) (all_tables r)
-        (new ∙ sym (tables_of-none q o (none_from (get OwnerImpl.ghosts.eq q.tables o) off))) (written q r o t at)))
+    (changes-same o (table_of t) (tables_of (all_tables q) o) (all_tables q) (all_tables r)
+    (new ∙ sym (tables_of-none q o (none_from (get OwnerImpl.ghosts.eq q.tables o) off))) (written q r o t at)))
 
 -- no number is below 0
 pub below_none : (k : ℕ) → ltb k 0 ≡ false

@@ -65,8 +65,8 @@ not_before [] i apart short = absurd (omega arith)
 not_before (k ∷ ks) zero apart short = refl
 not_before (k ∷ ks) (suc i) apart short =
     or_from (eqb (get_or ks i 0) k) (is_in eqb (get_or ks i 0) (take i ks))
-      (eqb-turned (get_or ks i 0) k ∙ All-from_recursion (λ y. eqb k y ≡ false) ks apart.0 i 0 (omega arith))
-      (not_before ks i apart.1 (omega arith))
+    (eqb-turned (get_or ks i 0) k ∙ All-from_recursion (λ y. eqb k y ≡ false) ks apart.0 i 0 (omega arith))
+    (not_before ks i apart.1 (omega arith))
 
 -- the records of a queue, or none
 pub unwrapped : {Z : Type 0} (r : Option (Vec Change Z)) (none : Vec Change Z) (queues : List (List (Changed ℕ))) (k : ℕ)

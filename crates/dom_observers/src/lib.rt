@@ -4,6 +4,7 @@
 #![tactic(auto)]
 
 mod change;
+mod laws;
 mod observers;
 mod options;
 mod path;
@@ -14,5 +15,6 @@ mod takers;
 mod tests;
 
 pub use change::{Change, Record};
+pub use laws::keys_stand_for_names;
 pub use observers::Observers;
 pub use options::Options;

@@ -67,7 +67,12 @@ impl Table {
     }
 
     /// Registers an observer on a node, or gives its registration there other options (DOM Standard, observe()).
-    pub(crate) fn observe(&mut self, observer: u32, node: Key, options: Options) -> Result<(), Fault>
+    pub(crate) fn observe(
+        &mut self,
+        observer: u32,
+        node: Key,
+        options: Options,
+    ) -> Result<(), Fault>
         ensures tables { OnOk result (table_of self.new ≡ observing nat_eq observer node (words_of options) (table_of self.old)) }
         ensures unknown { (result ≡ Err (Fault.Refused Refusal.Unknown)) ↔ (nat_lt observer (length (table_of self.old).record_queues) ≡ false) }
         ensures no_kind { (result ≡ Err (Fault.Refused Refusal.TypeFault)) ↔ ((nat_lt observer (length (table_of self.old).record_queues) ≡ true) × (asks_for_nothing (options_of (words_of options)) ≡ true)) }

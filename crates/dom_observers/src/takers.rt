@@ -52,10 +52,7 @@ impl Takers {
     {
         for registered in registrations {
             if registered.fits(node, change) {
-                self.add(
-                    registered.observer,
-                    registered.options.ask_for_old(change),
-                )?;
+                self.add(registered.observer, registered.options.ask_for_old(change))?;
             }
         }
         Ok(())

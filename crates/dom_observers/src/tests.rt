@@ -15,6 +15,7 @@ use std::process::Abort;
 use std::test::Fail;
 
 const PAGE: Owner = Owner::Page;
+
 const OTHER: Owner = Owner::Component(1);
 
 // A forest and the observers of its owners.
@@ -66,7 +67,7 @@ fn remove(rt: &impl Abort, scene: &mut Scene, number: u32) -> Result<(), AllocEr
 }
 
 // The page's nodes 0, 1, 2 and 3, each below the one before, and a component's node 0.
-fn scene(rt: &impl Abort, alloc: Global) -> Result<Scene, Fault> {
+fn make_scene(rt: &impl Abort, alloc: Global) -> Result<Scene, Fault> {
     let mut forest = Forest::new(alloc);
     let _ = forest.add(PAGE, element(alloc))?;
     let _ = forest.add(PAGE, element(alloc))?;
@@ -114,7 +115,9 @@ fn observe(
     letters: &str,
 ) -> Result<(), Fault> {
     let node = key_of(rt, &scene.forest, PAGE, number);
-    scene.observers.observe(PAGE, observer, node, words(letters))
+    scene
+        .observers
+        .observe(PAGE, observer, node, words(letters))
 }
 
 // A change of an attribute from the value 7; whether an observer takes it.
@@ -184,7 +187,7 @@ fn taken(rt: &impl Abort, scene: &mut Scene, observer: u32, name: &str) -> (usiz
 
 #[test]
 fn old_values_go_to_those_who_asked(rt: HostRuntime) -> Result<(), Fail> {
-    let mut s = scene(&rt, rt.alloc())?;
+    let mut s = make_scene(&rt, rt.alloc())?;
     assert_eq!(rt; s.observers.make(PAGE)?, 0);
     assert_eq!(rt; s.observers.make(PAGE)?, 1);
     assert_eq!(rt; s.observers.make(PAGE)?, 2);
@@ -204,7 +207,7 @@ fn old_values_go_to_those_who_asked(rt: HostRuntime) -> Result<(), Fail> {
 
 #[test]
 fn old_data_goes_to_those_who_asked(rt: HostRuntime) -> Result<(), Fail> {
-    let mut s = scene(&rt, rt.alloc())?;
+    let mut s = make_scene(&rt, rt.alloc())?;
     let asked = s.observers.make(PAGE)?;
     let unasked = s.observers.make(PAGE)?;
     observe(&rt, &mut s, asked, 3, "P")?;
@@ -214,13 +217,26 @@ fn old_data_goes_to_those_who_asked(rt: HostRuntime) -> Result<(), Fail> {
     assert!(rt; !write(&rt, &mut s, 0)?);
     let target = key_of(&rt, &s.forest, PAGE, 3);
     let records = s.observers.take(PAGE, asked).ok_or("no observer")?;
-    let [Change::CharacterData { target: node, old: Some(value) }] = records.as_slice() else {
+    let [
+        Change::CharacterData {
+            target: node,
+            old: Some(value),
+        },
+    ] = records.as_slice()
+    else {
         panic!(rt; "not one record with its old data");
     };
     assert!(rt; *node == target);
     assert_eq!(rt; value.as_slice(), [8u16].as_slice());
     let records = s.observers.take(PAGE, unasked).ok_or("no observer")?;
-    let [Change::CharacterData { target: node, old: None }, Change::CharacterData { old: None, .. }] = records.as_slice() else {
+    let [
+        Change::CharacterData {
+            target: node,
+            old: None,
+        },
+        Change::CharacterData { old: None, .. },
+    ] = records.as_slice()
+    else {
         panic!(rt; "not two records without old data");
     };
     assert!(rt; *node == target);
@@ -230,7 +246,7 @@ fn old_data_goes_to_those_who_asked(rt: HostRuntime) -> Result<(), Fail> {
 #[test]
 fn records_of_children_come_whole(rt: HostRuntime) -> Result<(), Fail> {
     let alloc = rt.alloc();
-    let mut s = scene(&rt, alloc)?;
+    let mut s = make_scene(&rt, alloc)?;
     let observer = s.observers.make(PAGE)?;
     let second = s.observers.make(PAGE)?;
     observe(&rt, &mut s, observer, 1, "c")?;
@@ -251,7 +267,16 @@ fn records_of_children_come_whole(rt: HostRuntime) -> Result<(), Fail> {
     assert!(rt; s.observers.queue_record(&s.forest, change)?);
     for number in 0..2u32 {
         let records = s.observers.take(PAGE, number).ok_or("no observer")?;
-        let [Change::ChildList { target: node, added, removed, previous: None, next: Some(after) }] = records.as_slice() else {
+        let [
+            Change::ChildList {
+                target: node,
+                added,
+                removed,
+                previous: None,
+                next: Some(after),
+            },
+        ] = records.as_slice()
+        else {
             panic!(rt; "not one record of children");
         };
         assert!(rt; *node == target);
@@ -269,12 +294,14 @@ fn records_of_children_come_whole(rt: HostRuntime) -> Result<(), Fail> {
 #[test]
 fn a_filter_is_its_registrations(rt: HostRuntime) -> Result<(), Fail> {
     let alloc = rt.alloc();
-    let mut s = scene(&rt, alloc)?;
+    let mut s = make_scene(&rt, alloc)?;
     let observer = s.observers.make(PAGE)?;
     let node = key_of(&rt, &s.forest, PAGE, 3);
     let above = key_of(&rt, &s.forest, PAGE, 0);
-    s.observers.observe(PAGE, observer, node, only(alloc, "", "id")?)?;
-    s.observers.observe(PAGE, observer, above, only(alloc, "sO", "class")?)?;
+    s.observers
+        .observe(PAGE, observer, node, only(alloc, "", "id")?)?;
+    s.observers
+        .observe(PAGE, observer, above, only(alloc, "sO", "class")?)?;
     assert!(rt; set(&rt, &mut s, PAGE, 3, "id")?);
     assert_eq!(rt; taken(&rt, &mut s, observer, "id"), (0, 1, 0));
     assert!(rt; set(&rt, &mut s, PAGE, 3, "class")?);
@@ -287,7 +314,7 @@ fn a_filter_is_its_registrations(rt: HostRuntime) -> Result<(), Fail> {
 
 #[test]
 fn an_observer_gets_a_record_once(rt: HostRuntime) -> Result<(), Fail> {
-    let mut s = scene(&rt, rt.alloc())?;
+    let mut s = make_scene(&rt, rt.alloc())?;
     let observer = s.observers.make(PAGE)?;
     observe(&rt, &mut s, observer, 3, "a")?;
     observe(&rt, &mut s, observer, 2, "asO")?;
@@ -301,7 +328,7 @@ fn an_observer_gets_a_record_once(rt: HostRuntime) -> Result<(), Fail> {
 
 #[test]
 fn observing_again_replaces_the_options(rt: HostRuntime) -> Result<(), Fail> {
-    let mut s = scene(&rt, rt.alloc())?;
+    let mut s = make_scene(&rt, rt.alloc())?;
     let observer = s.observers.make(PAGE)?;
     observe(&rt, &mut s, observer, 2, "asO")?;
     observe(&rt, &mut s, observer, 2, "d")?;
@@ -313,7 +340,7 @@ fn observing_again_replaces_the_options(rt: HostRuntime) -> Result<(), Fail> {
 
 #[test]
 fn owners_are_apart(rt: HostRuntime) -> Result<(), Fail> {
-    let mut s = scene(&rt, rt.alloc())?;
+    let mut s = make_scene(&rt, rt.alloc())?;
     let of_page = s.observers.make(PAGE)?;
     assert_eq!(rt; s.observers.make(OTHER)?, of_page);
     let node = key_of(&rt, &s.forest, OTHER, 0);
@@ -334,13 +361,22 @@ fn owners_are_apart(rt: HostRuntime) -> Result<(), Fail> {
 
 #[test]
 fn who_is_not_there_observes_nothing(rt: HostRuntime) -> Result<(), Fail> {
-    let mut s = scene(&rt, rt.alloc())?;
-    assert_eq!(rt; observe(&rt, &mut s, 0, 1, "a"), Err(Fault::Refused(Refusal::Unknown)));
+    let mut s = make_scene(&rt, rt.alloc())?;
+    assert_eq!(rt;
+        observe(&rt, &mut s, 0, 1, "a"),
+        Err(Fault::Refused(Refusal::Unknown))
+    );
     assert!(rt; s.observers.take(PAGE, 0).is_none());
     assert!(rt; !s.observers.disconnect(PAGE, 0));
     let observer = s.observers.make(PAGE)?;
-    assert_eq!(rt; observe(&rt, &mut s, observer, 1, "s"), Err(Fault::Refused(Refusal::TypeFault)));
-    assert_eq!(rt; observe(&rt, &mut s, 1, 1, ""), Err(Fault::Refused(Refusal::Unknown)));
+    assert_eq!(rt;
+        observe(&rt, &mut s, observer, 1, "s"),
+        Err(Fault::Refused(Refusal::TypeFault))
+    );
+    assert_eq!(rt;
+        observe(&rt, &mut s, 1, 1, ""),
+        Err(Fault::Refused(Refusal::Unknown))
+    );
     assert!(rt; !set(&rt, &mut s, PAGE, 1, "id")?);
     assert!(rt; s.observers.disconnect(PAGE, observer));
     assert!(rt; s.observers.take(PAGE, 1).is_none());

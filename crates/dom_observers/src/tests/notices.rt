@@ -13,7 +13,7 @@ fn notified(scene: &mut Scene, owner: Owner) -> Result<Vec<(u32, usize)>, AllocE
 
 #[test]
 fn the_target_comes_first_and_its_ancestors_upwards(rt: HostRuntime) -> Result<(), Fail> {
-    let mut s = scene(&rt, rt.alloc())?;
+    let mut s = make_scene(&rt, rt.alloc())?;
     for _made in 0..5u32 {
         let _ = s.observers.make(PAGE)?;
     }
@@ -27,14 +27,17 @@ fn the_target_comes_first_and_its_ancestors_upwards(rt: HostRuntime) -> Result<(
         .err()
         .ok_or("options without a kind were taken")?;
     assert!(rt; set(&rt, &mut s, PAGE, 3, "id")?);
-    assert_eq!(rt; notified(&mut s, PAGE)?.as_slice(), [(1, 1), (3, 1), (4, 1), (2, 1), (0, 1)].as_slice());
+    assert_eq!(rt;
+        notified(&mut s, PAGE)?.as_slice(),
+        [(1, 1), (3, 1), (4, 1), (2, 1), (0, 1)].as_slice()
+    );
     assert!(rt; notified(&mut s, PAGE)?.is_empty());
     Ok(())
 }
 
 #[test]
 fn observers_are_notified_as_they_became_pending(rt: HostRuntime) -> Result<(), Fail> {
-    let mut s = scene(&rt, rt.alloc())?;
+    let mut s = make_scene(&rt, rt.alloc())?;
     for _made in 0..3u32 {
         let _ = s.observers.make(PAGE)?;
     }
@@ -44,13 +47,16 @@ fn observers_are_notified_as_they_became_pending(rt: HostRuntime) -> Result<(), 
     assert!(rt; set(&rt, &mut s, PAGE, 3, "id")?);
     assert!(rt; set(&rt, &mut s, PAGE, 1, "id")?);
     assert!(rt; set(&rt, &mut s, PAGE, 2, "id")?);
-    assert_eq!(rt; notified(&mut s, PAGE)?.as_slice(), [(1, 2), (2, 3), (0, 1)].as_slice());
+    assert_eq!(rt;
+        notified(&mut s, PAGE)?.as_slice(),
+        [(1, 2), (2, 3), (0, 1)].as_slice()
+    );
     Ok(())
 }
 
 #[test]
 fn who_took_or_was_disconnected_stays_pending(rt: HostRuntime) -> Result<(), Fail> {
-    let mut s = scene(&rt, rt.alloc())?;
+    let mut s = make_scene(&rt, rt.alloc())?;
     for _made in 0..3u32 {
         let _ = s.observers.make(PAGE)?;
     }
@@ -61,6 +67,9 @@ fn who_took_or_was_disconnected_stays_pending(rt: HostRuntime) -> Result<(), Fai
     assert_eq!(rt; taken(&rt, &mut s, 0, "id"), (0, 1, 0));
     assert!(rt; s.observers.disconnect(PAGE, 2));
     assert!(rt; set(&rt, &mut s, PAGE, 3, "id")?);
-    assert_eq!(rt; notified(&mut s, PAGE)?.as_slice(), [(0, 1), (1, 2), (2, 0)].as_slice());
+    assert_eq!(rt;
+        notified(&mut s, PAGE)?.as_slice(),
+        [(0, 1), (1, 2), (2, 0)].as_slice()
+    );
     Ok(())
 }

@@ -3,7 +3,7 @@ use super::*;
 
 // A scene with observers 0 and 1 of the page, where 0 asks for attributes below the node 1.
 fn observed(rt: &impl Abort, alloc: Global) -> Result<Scene, Fault> {
-    let mut s = scene(rt, alloc)?;
+    let mut s = make_scene(rt, alloc)?;
     let _ = s.observers.make(PAGE)?;
     let _ = s.observers.make(PAGE)?;
     observe(rt, &mut s, 0, 1, "as")?;
@@ -17,9 +17,10 @@ fn a_removed_node_is_still_observed_until_the_notification(rt: HostRuntime) -> R
     assert!(rt; set(&rt, &mut s, PAGE, 2, "id")?);
     assert!(rt; set(&rt, &mut s, PAGE, 3, "id")?);
     let notices = s.observers.notify(PAGE)?;
-    let [(0, records)] = notices.as_slice() else {
-        panic!(rt; "not the one observer is notified");
+    let [(observer, records)] = notices.as_slice() else {
+        panic!(rt; "not one observer is notified");
     };
+    assert_eq!(rt; *observer, 0);
     assert_eq!(rt; counted(records.as_slice(), "id"), (0, 2, 0));
     assert!(rt; !set(&rt, &mut s, PAGE, 2, "id")?);
     assert!(rt; !set(&rt, &mut s, PAGE, 3, "id")?);
@@ -84,9 +85,10 @@ fn a_take_keeps_the_copies_until_the_notification(rt: HostRuntime) -> Result<(),
     assert!(rt; set(&rt, &mut s, PAGE, 2, "id")?);
     assert_eq!(rt; taken(&rt, &mut s, 0, "id"), (0, 1, 0));
     let notices = s.observers.notify(PAGE)?;
-    let [(0, records)] = notices.as_slice() else {
-        panic!(rt; "the observer is not pending");
+    let [(observer, records)] = notices.as_slice() else {
+        panic!(rt; "not one observer is pending");
     };
+    assert_eq!(rt; *observer, 0);
     assert!(rt; records.is_empty());
     assert!(rt; !set(&rt, &mut s, PAGE, 2, "id")?);
     Ok(())

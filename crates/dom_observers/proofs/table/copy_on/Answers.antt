@@ -15,16 +15,16 @@ loop-registered-preserved c =
     let test = nat_eq item.node c.args.above && item.options.subtree in
     let more = before ++ transient_copy c.args.node item ∷ [] in
     let here : map registration_of c.if-observes_below.copies.items ≡ f before item =
-      elim c.if-observes_below.branch [
-        | then-observes_below+in_ok-copied_to+in_ok-push w ↦
-            ap (λ copies. map registration_of copies.items) w.copies-is
-            ∙ (ap (map registration_of) w.in_ok-push.ensures.items
-            ∙ (map_push registration_of c.loop-registered.copies.items _
-            ∙ (ap (λ r. before ++ r ∷ []) w.in_ok-copied_to.ensures
-            ∙ sym (cond-true test more before (sym c.observes_below.ensures ∙ w.if-observes_below.true)))))
-        | else-observes_below w ↦
-            ap (λ copies. map registration_of copies.items) w.copies-is ∙ sym (cond-false test more before (sym c.observes_below.ensures ∙ w.if-observes_below.false))
-      ] in
+    elim c.if-observes_below.branch [
+      | then-observes_below+in_ok-copied_to+in_ok-push w ↦
+          ap (λ copies. map registration_of copies.items) w.copies-is
+          ∙ (ap (map registration_of) w.in_ok-push.ensures.items
+          ∙ (map_push registration_of c.loop-registered.copies.items _
+          ∙ (ap (λ r. before ++ r ∷ []) w.in_ok-copied_to.ensures
+          ∙ sym (cond-true test more before (sym c.observes_below.ensures ∙ w.if-observes_below.true)))))
+      | else-observes_below w ↦
+          ap (λ copies. map registration_of copies.items) w.copies-is ∙ sym (cond-false test more before (sym c.observes_below.ensures ∙ w.if-observes_below.false))
+    ] in
     here
     ∙ (ap (λ copies. f copies item) c.loop-registered.invariant
     ∙ sym (fold-view_more f registration_of (map registration_of c.args.copies.now.items) c.args.registrations.now c.loop-registered.registered-index c.registered-item.result (omega arith) c.registered-item.is))

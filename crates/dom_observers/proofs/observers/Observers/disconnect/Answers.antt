@@ -25,6 +25,6 @@ returns c =
     record {
       value = c.disconnect.ensures.value ∙ ap (λ (t : TablesOf ℕ). ltb c.args.observer (length t.record_queues)) (sym there);
       tables =
-        rewritten c.self.inside r c.args.self.now c.args.owner c.in-Some.table.now c.disconnect.new.self
-        (λ t. cond c.disconnect.result (disconnected c.args.observer t) t) c.self.view_is c.in-Some.ensures.value (λ some. ((c.get_mut.follows.holds c.disconnect.new.self).3 some).0) c.disconnect.ensures.tables;
+          rewritten c.self.inside r c.args.self.now c.args.owner c.in-Some.table.now c.disconnect.new.self
+          (λ t. cond c.disconnect.result (disconnected c.args.observer t) t) c.self.view_is c.in-Some.ensures.value (λ some. ((c.get_mut.follows.holds c.disconnect.new.self).3 some).0) c.disconnect.ensures.tables;
     }

@@ -37,7 +37,7 @@ returns-in_default-clause-taken c =
     let rule = told nat_eq (path_keys c.args.forest.now k) ch in
     let none = had-none c.self.inside all o c.self.view_is c.in_default.ensures.value in
     moved (λ i p. false ≡ is_taken nat_eq (path_keys c.args.forest.now i) (tables_of all p) ch) names c.name-owner.result k (target_of ch) c.name-owner.ensures.at c.target-target.ensures
-      (sym (not_taken (path_keys c.args.forest.now k) ch (tables_of all o) (ap (λ (t : TablesOf ℕ). is_empty t.registrations) none)))
+    (sym (not_taken (path_keys c.args.forest.now k) ch (tables_of all o) (ap (λ (t : TablesOf ℕ). is_empty t.registrations) none)))
 
 pub returns-in_default-clause-tables : goal.returns-in_default-clause-tables
 returns-in_default-clause-tables c =
@@ -49,7 +49,7 @@ returns-in_default-clause-tables c =
     let rule = told nat_eq (path_keys c.args.forest.now k) ch in
     let r : Inside = record { tables = c.get_mut.follows.lender-at-none; alloc = c.self.inside.alloc } in
     moved (λ i p. ChangesTables p (told nat_eq (path_keys c.args.forest.now i) ch (tables_of all p)) all (all_tables r)) names c.name-owner.result k (target_of ch) c.name-owner.ensures.at c.target-target.ensures
-      (untouched-changes c.self.inside r all o rule c.self.view_is c.in_default.ensures.value c.get_mut.follows.holds-at-none (not_told (path_keys c.args.forest.now k) ch no_tables refl))
+    (untouched-changes c.self.inside r all o rule c.self.view_is c.in_default.ensures.value c.get_mut.follows.holds-at-none (not_told (path_keys c.args.forest.now k) ch no_tables refl))
 
 pub returns-then-has_no_registration-clause-taken : goal.returns-then-has_no_registration-clause-taken
 returns-then-has_no_registration-clause-taken c =
@@ -61,7 +61,7 @@ returns-then-has_no_registration-clause-taken c =
     let rule = told nat_eq (path_keys c.args.forest.now k) ch in
     let there = had c.self.inside all o c.in-Some.table.now c.self.view_is c.in-Some.ensures.value in
     moved (λ i p. false ≡ is_taken nat_eq (path_keys c.args.forest.now i) (tables_of all p) ch) names c.name-owner.result k (target_of ch) c.name-owner.ensures.at c.target-target.ensures
-      (sym (not_taken (path_keys c.args.forest.now k) ch (tables_of all o) (ap (λ (t : TablesOf ℕ). is_empty t.registrations) there ∙ sym c.if-has_no_registration.ensures)))
+    (sym (not_taken (path_keys c.args.forest.now k) ch (tables_of all o) (ap (λ (t : TablesOf ℕ). is_empty t.registrations) there ∙ sym c.if-has_no_registration.ensures)))
 
 pub returns-then-has_no_registration-clause-tables : goal.returns-then-has_no_registration-clause-tables
 returns-then-has_no_registration-clause-tables c =
@@ -74,8 +74,8 @@ returns-then-has_no_registration-clause-tables c =
     let t = c.in-Some.table.now in
     let r : Inside = record { tables = c.get_mut.follows.lender t; alloc = c.self.inside.alloc } in
     moved (λ i p. ChangesTables p (told nat_eq (path_keys c.args.forest.now i) ch (tables_of all p)) all (all_tables r)) names c.name-owner.result k (target_of ch) c.name-owner.ensures.at c.target-target.ensures
-      (rewritten c.self.inside r all o t t rule c.self.view_is c.in-Some.ensures.value (λ some. ((c.get_mut.follows.holds t).3 some).0)
-        (sym (not_told (path_keys c.args.forest.now k) ch (table_of t) (sym c.if-has_no_registration.ensures))))
+    (rewritten c.self.inside r all o t t rule c.self.view_is c.in-Some.ensures.value (λ some. ((c.get_mut.follows.holds t).3 some).0)
+    (sym (not_told (path_keys c.args.forest.now k) ch (table_of t) (sym c.if-has_no_registration.ensures))))
 
 pub returns-clause-taken : goal.returns-clause-taken
 returns-clause-taken c =
@@ -88,8 +88,8 @@ returns-clause-taken c =
     let there = had c.self.inside all o c.in-Some.table.now c.self.view_is c.in-Some.ensures.value in
     let way = c.as_slice.ensures.value ∙ c.in_ok-path.ensures in
     moved (λ i p. IfOk c.queue_record.result (λ taken. taken ≡ is_taken nat_eq (path_keys c.args.forest.now i) (tables_of all p) ch)) names c.name-owner.result k (target_of ch) c.name-owner.ensures.at c.target-target.ensures
-      (subst (λ (t : TablesOf ℕ). IfOk c.queue_record.result (λ taken. taken ≡ is_taken nat_eq (path_keys c.args.forest.now k) t ch)) (sym there)
-        (subst (λ path. IfOk c.queue_record.result (λ taken. taken ≡ is_taken nat_eq path (table_of c.in-Some.table.now) ch)) way c.queue_record.ensures.taken))
+    (subst (λ (t : TablesOf ℕ). IfOk c.queue_record.result (λ taken. taken ≡ is_taken nat_eq (path_keys c.args.forest.now k) t ch)) (sym there)
+    (subst (λ path. IfOk c.queue_record.result (λ taken. taken ≡ is_taken nat_eq path (table_of c.in-Some.table.now) ch)) way c.queue_record.ensures.taken))
 
 pub returns-clause-tables : goal.returns-clause-tables
 returns-clause-tables c =
@@ -103,7 +103,7 @@ returns-clause-tables c =
     let r : Inside = record { tables = c.get_mut.follows.lender c.queue_record.new.self; alloc = c.self.inside.alloc } in
     let way = c.as_slice.ensures.value ∙ c.in_ok-path.ensures in
     let step : table_of c.queue_record.new.self ≡ told nat_eq c.as_slice.result.now ch (table_of t) → ChangesTables (name_at names (target_of ch)).owner (told nat_eq (path_keys c.args.forest.now (target_of ch)) ch (tables_of all (name_at names (target_of ch)).owner)) all (all_tables r) =
-      λ e. moved (λ i p. ChangesTables p (told nat_eq (path_keys c.args.forest.now i) ch (tables_of all p)) all (all_tables r)) names c.name-owner.result k (target_of ch) c.name-owner.ensures.at c.target-target.ensures
-        (rewritten c.self.inside r all o t c.queue_record.new.self rule c.self.view_is c.in-Some.ensures.value (λ some. ((c.get_mut.follows.holds c.queue_record.new.self).3 some).0)
-          (e ∙ ap (λ path. told nat_eq path ch (table_of t)) way)) in
+    λ e. moved (λ i p. ChangesTables p (told nat_eq (path_keys c.args.forest.now i) ch (tables_of all p)) all (all_tables r)) names c.name-owner.result k (target_of ch) c.name-owner.ensures.at c.target-target.ensures
+    (rewritten c.self.inside r all o t c.queue_record.new.self rule c.self.view_is c.in-Some.ensures.value (λ some. ((c.get_mut.follows.holds c.queue_record.new.self).3 some).0)
+    (e ∙ ap (λ path. told nat_eq path ch (table_of t)) way)) in
     on_ok_weaker c.queue_record.result step c.queue_record.ensures.tables

@@ -32,7 +32,7 @@ returns-in_default c =
     let rule = left nat_eq node (path_keys c.args.forest.now c.args.parent) in
     let r : Inside = record { tables = c.get_mut.follows.lender-at-none; alloc = c.self.inside.alloc } in
     subst (λ (x : NodeName). ChangesTables x.owner (left nat_eq node (path_keys c.args.forest.now c.args.parent) (tables_of all x.owner)) all (all_tables r)) (sym c.name-owner.ensures.at)
-      (untouched-changes c.self.inside r all o rule c.self.view_is c.in_default.ensures.value c.get_mut.follows.holds-at-none (none_left node (path_keys c.args.forest.now c.args.parent) no_tables refl))
+    (untouched-changes c.self.inside r all o rule c.self.view_is c.in_default.ensures.value c.get_mut.follows.holds-at-none (none_left node (path_keys c.args.forest.now c.args.parent) no_tables refl))
 
 pub returns-then-has_no_registration : goal.returns-then-has_no_registration
 returns-then-has_no_registration c =
@@ -44,8 +44,8 @@ returns-then-has_no_registration c =
     let t = c.in-Some.table.now in
     let r : Inside = record { tables = c.get_mut.follows.lender t; alloc = c.self.inside.alloc } in
     subst (λ (x : NodeName). ChangesTables x.owner (left nat_eq node (path_keys c.args.forest.now c.args.parent) (tables_of all x.owner)) all (all_tables r)) (sym c.name-owner.ensures.at)
-      (rewritten c.self.inside r all o t t rule c.self.view_is c.in-Some.ensures.value (λ some. ((c.get_mut.follows.holds t).3 some).0)
-        (sym (none_left node (path_keys c.args.forest.now c.args.parent) (table_of t) (sym c.if-has_no_registration.ensures))))
+    (rewritten c.self.inside r all o t t rule c.self.view_is c.in-Some.ensures.value (λ some. ((c.get_mut.follows.holds t).3 some).0)
+    (sym (none_left node (path_keys c.args.forest.now c.args.parent) (table_of t) (sym c.if-has_no_registration.ensures))))
 
 pub returns : goal.returns
 returns c =
@@ -58,7 +58,7 @@ returns c =
     let r : Inside = record { tables = c.get_mut.follows.lender c.add_transients.new.self; alloc = c.self.inside.alloc } in
     let way = c.as_slice.ensures.value ∙ c.in_ok-path.ensures in
     let step : table_of c.add_transients.new.self ≡ left nat_eq node c.as_slice.result.now (table_of t) → ChangesTables (name_at names node).owner (left nat_eq node (path_keys c.args.forest.now c.args.parent) (tables_of all (name_at names node).owner)) all (all_tables r) =
-      λ e. subst (λ (x : NodeName). ChangesTables x.owner (left nat_eq node (path_keys c.args.forest.now c.args.parent) (tables_of all x.owner)) all (all_tables r)) (sym c.name-owner.ensures.at)
-        (rewritten c.self.inside r all o t c.add_transients.new.self rule c.self.view_is c.in-Some.ensures.value (λ some. ((c.get_mut.follows.holds c.add_transients.new.self).3 some).0)
-          (e ∙ ap (λ path. left nat_eq node path (table_of t)) way)) in
+    λ e. subst (λ (x : NodeName). ChangesTables x.owner (left nat_eq node (path_keys c.args.forest.now c.args.parent) (tables_of all x.owner)) all (all_tables r)) (sym c.name-owner.ensures.at)
+    (rewritten c.self.inside r all o t c.add_transients.new.self rule c.self.view_is c.in-Some.ensures.value (λ some. ((c.get_mut.follows.holds c.add_transients.new.self).3 some).0)
+    (e ∙ ap (λ path. left nat_eq node path (table_of t)) way)) in
     on_ok_weaker c.add_transients.result step c.add_transients.ensures

@@ -25,6 +25,6 @@ returns c =
     let walked = ap (fold (copied_on c.args.node rs) []) (take_all c.loop-above.above-index c.args.path.now (omega arith)) ∙ walk-copies rs c.args.node c.args.path.now in
     let t : TablesOf ℕ = table_of c.args.self.now in
     ap (λ (list : List (Registration ℕ)). record t { registrations = list })
-      (ap (map registration_of) c.in_ok-append.ensures.items
-      ∙ (map-append registration_of c.args.self.now.registrations.items c.loop-above.copies.items
-      ∙ ap (λ copies. rs ++ copies) (c.loop-above.invariant ∙ walked)))
+    (ap (map registration_of) c.in_ok-append.ensures.items
+    ∙ (map-append registration_of c.args.self.now.registrations.items c.loop-above.copies.items
+    ∙ ap (λ copies. rs ++ copies) (c.loop-above.invariant ∙ walked)))

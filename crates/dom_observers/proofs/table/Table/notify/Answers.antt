@@ -42,22 +42,22 @@ loop-observer-preserved c =
     let records = c.unwrap_or-records.result in
     let apart = subst (IsDistinct eqb) (sym c.as_slice-observer-items.ensures.keys) c.as_slice-observer-items.ensures.unique in
     let had : map change_of records.items ≡ queue_at t.record_queues k =
-      ap (λ v. map change_of v.items) c.unwrap_or-records.ensures
-      ∙ (unwrapped c.take.result c.new-in-loop-observer.result (table_of c.loop-observer.self).record_queues k c.take.ensures.records c.new-in-loop-observer.ensures.items
-      ∙ (ap (λ queues. queue_at queues k) l.queues
-      ∙ queue_at-emptied t.record_queues (take i items) k (not_before items i apart (omega arith)))) in
+    ap (λ v. map change_of v.items) c.unwrap_or-records.ensures
+    ∙ (unwrapped c.take.result c.new-in-loop-observer.result (table_of c.loop-observer.self).record_queues k c.take.ensures.records c.new-in-loop-observer.ensures.items
+    ∙ (ap (λ queues. queue_at queues k) l.queues
+    ∙ queue_at-emptied t.record_queues (take i items) k (not_before items i apart (omega arith)))) in
     record {
       registrations = ap (λ (s : TablesOf ℕ). s.registrations) c.take.ensures.tables ∙ l.registrations;
       queues =
-        ap (λ (s : TablesOf ℕ). s.record_queues) c.take.ensures.tables
-        ∙ (ap (λ queues. emptying queues k) l.queues ∙ sym (fold_more emptying t.record_queues items i 0 (omega arith)));
+          ap (λ (s : TablesOf ℕ). s.record_queues) c.take.ensures.tables
+          ∙ (ap (λ queues. emptying queues k) l.queues ∙ sym (fold_more emptying t.record_queues items i 0 (omega arith)));
       pending = ap (λ (s : TablesOf ℕ). s.pending) c.take.ensures.tables ∙ l.pending;
       listed =
-        ap (map notice_of) c.in_ok-push.ensures.items
-        ∙ (map_push notice_of c.loop-observer.notices.items (k, records)
-        ∙ (ap (λ (rs : List (Change ℕ)). map notice_of c.loop-observer.notices.items ++ (k, rs) ∷ []) had
-        ∙ (ap (λ ns. ns ++ noticed t.record_queues k ∷ []) l.listed
-        ∙ sym (map_more (noticed t.record_queues) items i 0 (omega arith)))));
+          ap (map notice_of) c.in_ok-push.ensures.items
+          ∙ (map_push notice_of c.loop-observer.notices.items (k, records)
+          ∙ (ap (λ (rs : List (Change ℕ)). map notice_of c.loop-observer.notices.items ++ (k, rs) ∷ []) had
+          ∙ (ap (λ ns. ns ++ noticed t.record_queues k ∷ []) l.listed
+          ∙ sym (map_more (noticed t.record_queues) items i 0 (omega arith)))));
     }
 
 pub returns-clause-notices : goal.returns-clause-notices
@@ -78,7 +78,7 @@ returns-clause-tables c =
     let test = λ (r : Registration ℕ). not (is_transient r.source && is_in eqb r.observer keys) in
     let kept = filter_same _ (λ r. test (registration_of r)) _ (λ x b q k. (search (rules, tests), search (rules, tests))) c.loop-observer.self.registrations.items c.retain.new.self.items c.retain.ensures.filtered in
     let rs = (ap (map registration_of) kept ∙ filter_of_map test registration_of c.loop-observer.self.registrations.items)
-      ∙ (ap (filter test) l.registrations ∙ ap (λ ks. without_transients ks t.registrations) same) in
+    ∙ (ap (filter test) l.registrations ∙ ap (λ ks. without_transients ks t.registrations) same) in
     let queues = l.queues ∙ ap (fold emptying t.record_queues) all in
     ap (λ list. built list (table_of c.loop-observer.self).record_queues (table_of c.loop-observer.self).pending) rs
     ∙ (ap (λ list. built (without_transients t.pending t.registrations) list (table_of c.loop-observer.self).pending) queues

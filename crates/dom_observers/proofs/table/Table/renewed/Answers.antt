@@ -18,17 +18,17 @@ loop-registered-preserved c =
     let at = subst (λ xs. c.registered-item.result ≡ get_or xs c.loop-registered.registered-index c.registered-item.result) c.deref-registered-items.ensures.value c.registered-item.is in
     let same : length c.deref-registered-items.result.now ≡ length items = ap length c.deref-registered-items.ensures.value in
     let here : map registration_of c.if-not-stems_from.renewed.items ≡ before ++ map g (cond (p item) (item ∷ []) []) =
-      elim c.if-not-stems_from.branch [
-        | then-not-stems_from+in_ok-renewed+in_ok-push w ↦
-            ap (λ v. map registration_of v.items) w.renewed-is
-            ∙ (ap (map registration_of) w.in_ok-push.ensures.items
-            ∙ (map_push registration_of c.loop-registered.renewed.items w.in_ok-renewed.field-0
-            ∙ (ap (λ r. before ++ r ∷ []) w.in_ok-renewed.ensures
-            ∙ sym (ap (λ rs. before ++ map g rs) (cond-true (p item) (item ∷ []) [] (ap not (sym w.if-not-stems_from.ensures)))))))
-        | else-not-stems_from w ↦
-            ap (λ v. map registration_of v.items) w.renewed-is
-            ∙ (sym (append-nil before) ∙ sym (ap (λ rs. before ++ map g rs) (cond-false (p item) (item ∷ []) [] (ap not (sym w.if-not-stems_from.ensures)))))
-      ] in
+    elim c.if-not-stems_from.branch [
+      | then-not-stems_from+in_ok-renewed+in_ok-push w ↦
+          ap (λ v. map registration_of v.items) w.renewed-is
+          ∙ (ap (map registration_of) w.in_ok-push.ensures.items
+          ∙ (map_push registration_of c.loop-registered.renewed.items w.in_ok-renewed.field-0
+          ∙ (ap (λ r. before ++ r ∷ []) w.in_ok-renewed.ensures
+          ∙ sym (ap (λ rs. before ++ map g rs) (cond-true (p item) (item ∷ []) [] (ap not (sym w.if-not-stems_from.ensures)))))))
+      | else-not-stems_from w ↦
+          ap (λ v. map registration_of v.items) w.renewed-is
+          ∙ (sym (append-nil before) ∙ sym (ap (λ rs. before ++ map g rs) (cond-false (p item) (item ∷ []) [] (ap not (sym w.if-not-stems_from.ensures)))))
+    ] in
     here
     ∙ (ap (λ rs. rs ++ map g (cond (p item) (item ∷ []) [])) c.loop-registered.invariant
     ∙ sym (filter-view_more p g registration_of items c.loop-registered.registered-index c.registered-item.result (omega (arith, same)) at))
