@@ -6,15 +6,18 @@ use Rattle.std.proofs.lemmas.Bool.{cond-true, cond-false, cases_eq, eq-eqb, ne_e
 use Rattle.std.proofs.lemmas.List.{map-append, map-set}
 use Rattle.std.proofs.lemmas.Option.{slice_get-map}
 use Rattle.dom_base.specs.declared.NodeName.{NodeName}
-use Rattle.dom_model.specs.Names.{name_eq, append_once, distinct, is_empty}
+use Rattle.dom_model.specs.Command.{ObserveWords}
+use Rattle.dom_model.specs.Names.{name_eq, is_in, append_once, distinct, is_empty}
 use Rattle.dom_model.specs.Output.{Change, child_list, attributes, character_data}
-use Rattle.dom_model.specs.Observers.{Registration, Source, asked_for, copied_from, copied_from_transient, is_transient, target_of, without_old, registrations_on, fits, fitting, interested, asks_for, asks_for_old, record_for, transients_for, copied_source}
+use Rattle.dom_model.specs.Observers.{Registration, Source, asked_for, copied_from, copied_from_transient, is_transient, target_of, without_old, registrations_on, fits, fitting, interested, asks_for, asks_for_old, record_for, transients_for, copied_source, options_of, is_asked_for, stems_from, with_options, without_observer, without_transients}
 use Rattle.dom_model.proofs.OwnerLaws.{name_eq-same}
 use Rattle.dom_tree.specs.Forest.{name_at}
 use Rattle.dom_tree.proofs.Names.{name_eq-other}
-use Rattle.dom_observers.specs.Tables.{TablesOf, queue_at, with_observer, emptied, notices, notified, is_taken, told, left}
-use Rattle.dom_observers.specs.Naming.{named_change, named_source, named_registration, named_tables, IsSourceOf, AreRegistered, AreAll, IsKey, TellApart, TakenLaw, ToldLaw, LeftLaw, MakingLaw, EmptiedLaw, NotifiedLaw, NoticesLaw}
+use Rattle.dom_observers.specs.Tables.{TablesOf, queue_at}
+use Rattle.dom_observers.specs.Naming.{named_change, named_source, named_registration, named_tables, IsSourceOf, AreRegistered, AreAll, IsKey, TellApart, ObservingLaw, TakenLaw, ToldLaw, LeftLaw, MakingLaw, EmptiedLaw, DisconnectedLaw, NotifiedLaw, NoticesLaw}
 use Rattle.dom_observers.proofs.Folds.{list_any_of_map}
+use Rattle.dom_observers.proofs.Tables.{filter_of_map}
+use Rattle.std.proofs.lemmas.List.Elements.{filter_agree}
 
 -- names are one where their keys are
 same_key : (names : List NodeName) → TellApart names → (j k : ℕ) → IsKey names j → IsKey names k → name_eq (name_at names j) (name_at names k) ≡ eqb j k
@@ -199,3 +202,118 @@ pub emptied_law : EmptiedLaw
 emptied_law names k t =
     let s : TablesOf NodeName = named_tables (name_at names) t in
     ap (λ (list : List (List (Change NodeName))). record s { record_queues = list }) (map-set (map (named_change (name_at names))) t.record_queues k [])
+
+-- ---- the calls of one observer, and notifications
+
+-- a test that reads neither node nor source
+filter-blind : (names : List NodeName) (p : Registration ℕ → Bool) (q : Registration NodeName → Bool) → ((r : Registration ℕ) → q (named_registration (name_at names) r) ≡ p r) → (rs : List (Registration ℕ))
+    → map (named_registration (name_at names)) (filter p rs) ≡ filter q (map (named_registration (name_at names)) rs)
+filter-blind names p q same rs =
+    ap (map (named_registration (name_at names))) (filter_agree p (λ r. q (named_registration (name_at names) r)) (λ r. sym (same r)) rs) ∙ filter_of_map q (named_registration (name_at names)) rs
+
+pub disconnected_law : DisconnectedLaw
+disconnected_law names k t =
+    let s : TablesOf NodeName = named_tables (name_at names) t in
+    let queues = map-set (map (named_change (name_at names))) t.record_queues k [] in
+    let rs = filter-blind names (λ r. not (eqb r.observer k)) (λ r. not (eqb r.observer k)) (λ r. refl) t.registrations in
+    ap (λ (list : List (Registration NodeName)). let built : TablesOf NodeName = record s { registrations = list; record_queues = map (map (named_change (name_at names))) (set t.record_queues k []) } in built) rs
+    ∙ ap (λ (list : List (List (Change NodeName))). let built : TablesOf NodeName = record s { registrations = without_observer k s.registrations; record_queues = list } in built) queues
+
+-- an observer with its records
+abbrev notice_at : {N : Type 0} → List (List (Change N)) → ℕ → ℕ × List (Change N)
+notice_at queues k = (k, queue_at queues k)
+
+-- the same under names
+abbrev notice_under : List NodeName → ℕ × List (Change ℕ) → ℕ × List (Change NodeName)
+notice_under names n = (n.0, map (named_change (name_at names)) n.1)
+
+-- a source is transient or not, whatever its node's name
+transient-named : (names : List NodeName) (s : Source ℕ) → is_transient (named_source (name_at names) s) ≡ is_transient s
+transient-named names asked_for = refl
+transient-named names (copied_from x) = refl
+transient-named names copied_from_transient = refl
+
+emptied-named : (names : List NodeName) (queues : List (List (Change ℕ))) (ks : List ℕ)
+    → map (map (named_change (name_at names))) (fold (λ list k. set list k []) queues ks) ≡ fold (λ list k. set list k []) (map (map (named_change (name_at names))) queues) ks
+emptied-named names queues [] = refl
+emptied-named names queues (k ∷ ks) =
+    emptied-named names (set queues k []) ks ∙ ap (λ list. fold (λ l j. set l j []) list ks) (map-set (map (named_change (name_at names))) queues k [])
+
+pub notified_law : NotifiedLaw
+notified_law names t =
+    let s : TablesOf NodeName = named_tables (name_at names) t in
+    let rs = filter-blind names (λ r. not (is_transient r.source && is_in eqb r.observer t.pending)) (λ r. not (is_transient r.source && is_in eqb r.observer t.pending))
+    (λ r. ap (λ b. not (b && is_in eqb r.observer t.pending)) (transient-named names r.source)) t.registrations in
+    ap (λ (list : List (Registration NodeName)). let built : TablesOf NodeName = record { registrations = list; record_queues = map (map (named_change (name_at names))) (fold (λ l j. set l j []) t.record_queues t.pending); pending = [] } in built) rs
+    ∙ ap (λ (list : List (List (Change NodeName))). let built : TablesOf NodeName = record { registrations = without_transients t.pending s.registrations; record_queues = list; pending = [] } in built) (emptied-named names t.record_queues t.pending)
+
+notice-named : (names : List NodeName) (queues : List (List (Change ℕ))) (ks : List ℕ)
+    → map (notice_under names) (map (notice_at queues) ks) ≡ map (notice_at (map (map (named_change (name_at names))) queues)) ks
+notice-named names queues [] = refl
+notice-named names queues (k ∷ ks) =
+    ap (λ (rs : List (Change NodeName)). (k, rs) ∷ map (notice_under names) (map (notice_at queues) ks)) (sym (queue-named names queues k))
+    ∙ ap (λ list. notice_at (map (map (named_change (name_at names))) queues) k ∷ list) (notice-named names queues ks)
+
+pub notices_law : NoticesLaw
+notices_law names t = notice-named names t.record_queues t.pending
+
+-- ---- observe()
+
+-- the registration that was asked for
+asked-named : (names : List NodeName) → TellApart names → (k x : ℕ) → IsKey names x → (r : Registration ℕ) → IsKey names r.node
+    → is_asked_for name_eq k (name_at names x) (named_registration (name_at names) r) ≡ is_asked_for eqb k x r
+asked-named names apart k x node r at =
+    ap (λ b. eqb r.observer k && (b && not (is_transient (named_source (name_at names) r.source)))) (same_key names apart r.node x at node)
+    ∙ ap (λ b. eqb r.observer k && (eqb r.node x && not b)) (transient-named names r.source)
+
+-- and its copies
+stems-named : (names : List NodeName) → TellApart names → (x : ℕ) → IsKey names x → (s : Source ℕ) → IsSourceOf (IsKey names) s → stems_from name_eq (name_at names x) (named_source (name_at names) s) ≡ stems_from eqb x s
+stems-named names apart x node asked_for from = refl
+stems-named names apart x node (copied_from y) from = same_key names apart x y node from
+stems-named names apart x node copied_from_transient from = refl
+
+-- whether it is there
+any-named : (names : List NodeName) → TellApart names → (k x : ℕ) → IsKey names x → (rs : List (Registration ℕ)) → AreRegistered (IsKey names) rs
+    → list_any (is_asked_for name_eq k (name_at names x)) (map (named_registration (name_at names)) rs) ≡ list_any (is_asked_for eqb k x) rs
+any-named names apart k x node [] all = refl
+any-named names apart k x node (r ∷ rs) all =
+    ap (λ b. b || list_any (is_asked_for name_eq k (name_at names x)) (map (named_registration (name_at names)) rs)) (asked-named names apart k x node r all.0)
+    ∙ ap (λ b. is_asked_for eqb k x r || b) (any-named names apart k x node rs all.2)
+
+-- other options
+abbrev with_words : {N : Type 0} → ObserveWords → Registration N → Registration N
+with_words o r = record r { options = o }
+
+options-named : (names : List NodeName) → TellApart names → (k x : ℕ) (o : ObserveWords) → IsKey names x → (rs : List (Registration ℕ)) → AreRegistered (IsKey names) rs
+    → map (named_registration (name_at names)) (map (with_options eqb k x o) rs) ≡ map (with_options name_eq k (name_at names x) o) (map (named_registration (name_at names)) rs)
+options-named names apart k x o node [] all = refl
+options-named names apart k x o node (r ∷ rs) all =
+    let f = named_registration (name_at names) in
+    let rest = map f (map (with_options eqb k x o) rs) in
+    ap (λ (y : Registration NodeName). y ∷ rest) (chosen (is_asked_for eqb k x r) ∙ ap (λ b. cond b (with_words o (f r)) (f r)) (sym (asked-named names apart k x node r all.0)))
+    ∙ ap (λ list. with_options name_eq k (name_at names x) o (f r) ∷ list) (options-named names apart k x o node rs all.2)
+  where
+    chosen : (b : Bool) → named_registration (name_at names) (cond b (with_words o r) r) ≡ cond b (with_words o (named_registration (name_at names) r)) (named_registration (name_at names) r)
+    chosen true = refl
+    chosen false = refl
+
+pub observing_law : ObservingLaw
+observing_law names apart t k x w all node =
+    let f = named_registration (name_at names) in
+    let o = options_of w in
+    let s : TablesOf NodeName = named_tables (name_at names) t in
+    let kept = filter (λ r. not (eqb r.observer k && stems_from eqb x r.source)) t.registrations in
+    let fresh : Registration ℕ = record { node = x; observer = k; options = o; source = asked_for } in
+    let more = options-named names apart k x o node kept (AreRegistered-filter names (λ r. not (eqb r.observer k && stems_from eqb x r.source)) t.registrations all)
+    ∙ ap (map (with_options name_eq k (name_at names x) o))
+    (filter-named names (λ r. not (eqb r.observer k && stems_from eqb x r.source)) (λ r. not (eqb r.observer k && stems_from name_eq (name_at names x) r.source)) t.registrations all
+    (λ r at from. ap (λ b. not (eqb r.observer k && b)) (stems-named names apart x node r.source from))) in
+    ap (λ (list : List (Registration NodeName)). record s { registrations = list })
+    (split (list_any (is_asked_for eqb k x) t.registrations) (map (with_options eqb k x o) kept) (t.registrations ++ fresh ∷ []) _ _ more (map-append f t.registrations (fresh ∷ []))
+    ∙ ap (λ b. cond b (map (with_options name_eq k (name_at names x) o) (filter (λ r. not (eqb r.observer k && stems_from name_eq (name_at names x) r.source)) (map f t.registrations))) (map f t.registrations ++ f fresh ∷ []))
+    (sym (any-named names apart k x node t.registrations all)))
+  where
+    split : (b : Bool) (xs ys : List (Registration ℕ)) (us vs : List (Registration NodeName)) → map (named_registration (name_at names)) xs ≡ us → map (named_registration (name_at names)) ys ≡ vs
+        → map (named_registration (name_at names)) (cond b xs ys) ≡ cond b us vs
+    split true xs ys us vs e g = e
+    split false xs ys us vs e g = g
