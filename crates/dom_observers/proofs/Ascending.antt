@@ -1,18 +1,21 @@
 -- The keys of a node's inclusive ancestors, from the node upwards.
-use Rattle.std.proofs.Common.{◌≡◌, ℕ, zero, suc, ◌+◌, ◌<◌, Bool, true, false, cond, List, [], ◌∷◌, ◌++◌, length, map, Option, Some, None, refl, sym, ap, ◌∙◌, subst, arith}
-use Rattle.std.specs.Prelude.{option_map}
+use Rattle.std.proofs.Common.{inl, inr, ◌≡◌, ℕ, zero, suc, ◌+◌, ◌<◌, Bool, true, false, cond, List, [], ◌∷◌, ◌++◌, length, map, Option, Some, None, refl, sym, ap, ◌∙◌, subst, arith}
+use Rattle.std.specs.Prelude.{option_map, slice_get}
+use Rattle.std.proofs.lemmas.Option.{same_Some, none-some}
 use Rattle.std.specs.Option.{ForSome, option_map_or}
 use Rattle.std.specs.List.{All}
 use Rattle.std.proofs.lemmas.Bool.{cond-true, cond-false}
 use Rattle.std.proofs.lemmas.List.{append_assoc, append-nil, map_push}
 use Rattle.dom_base.specs.declared.NodeName.{NodeName}
 use Rattle.dom_model.specs.Names.{name_eq}
-use Rattle.dom_model.specs.Tree.{inclusive_ancestors, parent_of}
+use Rattle.dom_model.specs.Tree.{inclusive_ancestors, parent_of, nodes, names_of}
 use Rattle.dom_model.proofs.OwnerLaws.{name_eq-same}
 use Rattle.dom_tree.specs.Forest.{NamedTrees, name_at}
-use Rattle.dom_tree.proofs.Names.{name_eq-other}
+use Rattle.dom_tree.proofs.Names.{name_eq-other, name_eq-true}
 use Rattle.dom_traversal.proofs.Counts.{StandOnce, StandAlone, Once-forest, Has-forest}
-use Rattle.dom_traversal.proofs.Shapes.{above-parent, above-root}
+use Rattle.dom_traversal.proofs.Shapes.{above-parent, above-root, Has-above}
+use Rattle.dom_traversal.proofs.Lists.{In, is_in-from}
+use Rattle.dom_traversal.proofs.Children.{In-names}
 use Rattle.dom_observers.specs.Paths.{key_of, path_keys}
 use Rattle.dom_observers.specs.Naming.{IsKey, AreAll, TellApart}
 
@@ -83,7 +86,36 @@ climbs-all f apart key path done =
     sym (keys_of-names f.names apart path done.nodes)
     ∙ ap (map (key_of f.names)) (sym (append-nil (map (name_at f.names) path)) ∙ done.whole)
 
--- so the keys' names are the inclusive ancestors
-pub path-named : (f : NamedTrees) → TellApart f.names → (key : ℕ) (path : List ℕ) → HasClimbed f key path None → map (name_at f.names) path ≡ inclusive_ancestors f.trees (name_at f.names key)
-unfolding above
-path-named f apart key path done = sym (append-nil (map (name_at f.names) path)) ∙ done.whole
+-- ---- the keys of the path stand for its names
+
+-- a name that has a key
+keyed : (names : List NodeName) (x : NodeName) (j : ℕ) → slice_get names j ≡ Some x → (name_at names (key_of names x) ≡ x) × (key_of names x < length names)
+keyed [] x j e = absurd (none-some x e)
+keyed (y ∷ ys) x zero e =
+    let same : name_eq x y ≡ true = subst (λ (z : NodeName). name_eq x z ≡ true) (sym (same_Some y x e)) (name_eq-same x) in
+    let at : key_of (y ∷ ys) x ≡ zero = cond-true (name_eq x y) zero (suc (key_of ys x)) same in
+    (ap (name_at (y ∷ ys)) at ∙ same_Some y x e, omega (arith, at))
+keyed (y ∷ ys) x (suc j) e = by (name_eq x y) refl (keyed ys x j e)
+  where
+    by : (b : Bool) → name_eq x y ≡ b → (name_at ys (key_of ys x) ≡ x) × (key_of ys x < length ys) → (name_at (y ∷ ys) (key_of (y ∷ ys) x) ≡ x) × (key_of (y ∷ ys) x < length (y ∷ ys))
+    by true h rest =
+        let at : key_of (y ∷ ys) x ≡ zero = cond-true (name_eq x y) zero (suc (key_of ys x)) h in
+        (ap (name_at (y ∷ ys)) at ∙ sym (name_eq-true x y h), omega (arith, at))
+    by false h rest =
+        let at : key_of (y ∷ ys) x ≡ suc (key_of ys x) = cond-false (name_eq x y) zero (suc (key_of ys x)) h in
+        (ap (name_at (y ∷ ys)) at ∙ rest.0, omega (arith, at, rest.1))
+
+-- and many
+all_keyed : (names xs : List NodeName) → ((x : NodeName) → In x xs → (j : ℕ) × (slice_get names j ≡ Some x)) → (map (name_at names) (map (key_of names) xs) ≡ xs) × AreAll (IsKey names) (map (key_of names) xs)
+all_keyed names [] found = (refl, tt)
+all_keyed names (x ∷ xs) found =
+    let first = found x (inl refl) in
+    let here = keyed names x first.0 first.1 in
+    let rest = all_keyed names xs (λ y i. found y (inr i)) in
+    (ap (λ y. y ∷ map (name_at names) (map (key_of names) xs)) here.0 ∙ ap (λ ys. x ∷ ys) rest.0, (here.1, rest.1))
+
+pub path_keys-named : (f : NamedTrees) → StandOnce f → StandAlone f → (k : ℕ) → k < length f.names
+    → (map (name_at f.names) (path_keys f k) ≡ inclusive_ancestors f.trees (name_at f.names k)) × AreAll (IsKey f.names) (path_keys f k)
+path_keys-named f once only k node =
+    all_keyed f.names (inclusive_ancestors f.trees (name_at f.names k))
+      (λ x i. only x (is_in-from x (names_of (nodes f.trees)) (In-names f.trees x (Has-above f.trees x (name_at f.names k) (Once-forest f once only) (Has-forest f once k node) i))))

@@ -15,6 +15,6 @@ mod takers;
 mod tests;
 
 pub use change::{Change, Record};
-pub use laws::keys_stand_for_names;
+pub use laws::{keys_stand_for_names, path_keys_are_named};
 pub use observers::Observers;
 pub use options::Options;
