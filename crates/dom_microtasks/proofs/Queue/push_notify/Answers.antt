@@ -1,0 +1,68 @@
+use Rattle.std.proofs.Common.{◌≡◌, ◌+◌, ◌++◌, ◌∷◌, [], ℕ, Bool, true, false, cond, List, inl, inr, refl, sym, ap, ◌∙◌, subst, arith}
+use Rattle.std.specs.Prelude.{count_by, map}
+use Rattle.std.proofs.lemmas.Grind.{common_steps}
+use Rattle.std.specs.List.{list_any}
+use Rattle.std.specs.HashSet.{contains}
+use Rattle.std.proofs.lemmas.Bool.{cases_Bool, cond-true, cond-false, or_from, or_parts}
+use Rattle.std.proofs.lemmas.List.Sums.{sum_by-cons}
+use Rattle.dom_base.specs.declared.Owner.{Owner}
+use Rattle.dom_base.specs.contracts.OwnerPartialEq.TheImpl as OwnerImpl
+use Rattle.dom_model.specs.World.{Task, notify_task, is_notify_of, queued_notify}
+use Rattle.dom_microtasks.specs.declared.Queue.TheInside.{Inside}
+use Rattle.dom_microtasks.specs.Tasks.{task_of, tasks_of, WaitsOnce}
+use Rattle.dom_microtasks.proofs.Queue.push_notify.Goals as goal
+
+-- a place is counted or not
+one : Bool → ℕ
+one b = cond b 1 0
+
+-- what is not counted is not there
+any_none : {X : Type 0} (p : X → Bool) (xs : List X) → count_by p xs ≡ 0 → list_any p xs ≡ false
+unfolding one
+any_none p [] e = refl
+any_none p (x ∷ xs) e =
+    let parts : count_by p (x ∷ xs) ≡ one (p x) + count_by p xs = sum_by-cons (λ y. one (p y)) x xs in
+    elim (cases_Bool (p x)) [
+      | inl h ↦ let counted : one (p x) ≡ 1 = ap one h in absurd (omega (arith, parts, e, counted))
+      | inr h ↦ or_from (p x) (list_any p xs) h (any_none p xs (omega (arith, parts, e)))
+    ]
+
+-- what is not there is not counted
+count_none : {X : Type 0} (p : X → Bool) (xs : List X) → list_any p xs ≡ false → count_by p xs ≡ 0
+unfolding one
+count_none p [] e = refl
+count_none p (x ∷ xs) e =
+    let parts : count_by p (x ∷ xs) ≡ one (p x) + count_by p xs = sum_by-cons (λ y. one (p y)) x xs in
+    let both = or_parts (p x) (list_any p xs) e in
+    let here : one (p x) ≡ 0 = ap one both.0 in
+    let after = count_none p xs both.1 in
+    omega (arith, parts, here, after)
+
+-- a notification is queued where its owner waits for one
+queued : (q : Inside) → WaitsOnce q → (o : Owner) (b : Bool) → b ≡ contains OwnerImpl.ghosts.eq q.waiting o → list_any (is_notify_of o) (tasks_of q) ≡ b
+unfolding one
+queued q once o b e = by b (once o ∙ ap one (sym e))
+  where
+    by : (b : Bool) → count_by (is_notify_of o) (tasks_of q) ≡ one b → list_any (is_notify_of o) (tasks_of q) ≡ b
+    by false e = any_none (is_notify_of o) (tasks_of q) e
+    by true e = elim (cases_Bool (list_any (is_notify_of o) (tasks_of q))) [
+      | inl h ↦ h
+      | inr h ↦ absurd (omega (arith, e, count_none (is_notify_of o) (tasks_of q) h))
+    ]
+
+-- where it is not queued, it comes last
+queued-new : (o : Owner) (ts : List Task) → list_any (is_notify_of o) ts ≡ false → queued_notify o ts ≡ ts ++ notify_task o ∷ []
+queued-new o ts e = cond-false (list_any (is_notify_of o) ts) ts (ts ++ notify_task o ∷ []) e
+
+pub returns-then-contains-clause-ok : goal.returns-then-contains-clause-ok
+returns-then-contains-clause-ok c =
+    let o = c.args.owner in
+    let there = subst (λ (ts : List Task). list_any (is_notify_of o) ts ≡ true) c.self.view_is (queued c.self.inside c.self.invariant o true (c.if-contains.ensures)) in
+    sym (cond-true (list_any (is_notify_of o) c.args.self.now) c.args.self.now (c.args.self.now ++ notify_task o ∷ []) there)
+
+pub returns-clause-ok : goal.returns-clause-ok
+returns-clause-ok c =
+    let o = c.args.owner in
+    let off = subst (λ (ts : List Task). list_any (is_notify_of o) ts ≡ false) c.self.view_is (queued c.self.inside c.self.invariant o false (c.if-contains.ensures)) in
+    let last : map task_of c.push_back.new.self.items ≡ c.args.self.now ++ notify_task o ∷ [] = grind (arith, common_steps) in
+    last ∙ sym (queued-new o c.args.self.now off)

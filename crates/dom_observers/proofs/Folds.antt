@@ -1,0 +1,146 @@
+-- Folds and filters, and sets of numbers in order.
+use Rattle.std.proofs.Common.{◌≡◌, ℕ, ◌+◌, ◌<◌, ◌≤◌, Bool, true, false, not, ◌&&◌, ◌||◌, cond, eqb, List, [], ◌∷◌, ◌++◌, length, map, get_or, take, inl, inr, refl, sym, ap, ◌∙◌, subst, arith}
+use Rattle.std.specs.List.{fold, filter, list_any, flat_map}
+use Rattle.std.proofs.lemmas.List.{append_assoc, append-nil, length-map, get_or-map, take_all, map-append}
+use Rattle.std.proofs.lemmas.List.Sums.{fold_more}
+use Rattle.std.proofs.lemmas.List.Elements.{filter-append, filter_agree, filter_more}
+use Rattle.std.proofs.lemmas.List.Folds.{list_any-append}
+use Rattle.std.proofs.lemmas.Bool.{cond-true, cond-false, eqb-true, eq-eqb, ne_eqb, cases_eq, or_left, and_from, and_left, and_right, not_from_true, not_from_false}
+use Rattle.dom_model.specs.Names.{is_in, append_once, distinct}
+
+-- a fold over two lists, one after the other
+pub fold-append : {A B : Type 0} (f : B → A → B) (b : B) (xs ys : List A) → fold f b (xs ++ ys) ≡ fold f (fold f b xs) ys
+fold-append f b [] ys = refl
+fold-append f b (x ∷ xs) ys = fold-append f (f b x) xs ys
+
+-- a fold over what passes in lists joined end to end
+pub fold-flat_map : {A B C : Type 0} (f : B → A → B) (p : A → Bool) (h : C → List A) (b : B) (cs : List C)
+    → fold f b (filter p (flat_map h cs)) ≡ fold (λ d c. fold f d (filter p (h c))) b cs
+fold-flat_map f p h b [] = refl
+fold-flat_map f p h b (c ∷ cs) =
+    ap (fold f b) (filter-append p (h c) (flat_map h cs))
+    ∙ fold-append f b (filter p (h c)) (filter p (flat_map h cs))
+    ∙ fold-flat_map f p h (fold f b (filter p (h c))) cs
+
+-- a filter of what passes another
+pub filter-filter : {A : Type 0} (p q : A → Bool) (xs : List A) → filter p (filter q xs) ≡ filter (λ x. q x && p x) xs
+filter-filter p q [] = refl
+filter-filter p q (x ∷ xs) = by (q x) (p x) refl refl (filter-filter p q xs)
+  where
+    by : (b c : Bool) → q x ≡ b → p x ≡ c → filter p (filter q xs) ≡ filter (λ y. q y && p y) xs → filter p (filter q (x ∷ xs)) ≡ filter (λ y. q y && p y) (x ∷ xs)
+    by true true e g rest =
+        ap (filter p) (cond-true (q x) (x ∷ filter q xs) (filter q xs) e)
+        ∙ (cond-true (p x) (x ∷ filter p (filter q xs)) (filter p (filter q xs)) g
+        ∙ (ap (λ ys. x ∷ ys) rest
+        ∙ sym (cond-true (q x && p x) (x ∷ filter (λ y. q y && p y) xs) (filter (λ y. q y && p y) xs) (and_from (q x) (p x) e g))))
+    by true false e g rest =
+        ap (filter p) (cond-true (q x) (x ∷ filter q xs) (filter q xs) e)
+        ∙ (cond-false (p x) (x ∷ filter p (filter q xs)) (filter p (filter q xs)) g
+        ∙ (rest
+        ∙ sym (cond-false (q x && p x) (x ∷ filter (λ y. q y && p y) xs) (filter (λ y. q y && p y) xs) (and_right (q x) (p x) g))))
+    by false c e g rest =
+        ap (filter p) (cond-false (q x) (x ∷ filter q xs) (filter q xs) e)
+        ∙ (rest
+        ∙ sym (cond-false (q x && p x) (x ∷ filter (λ y. q y && p y) xs) (filter (λ y. q y && p y) xs) (and_left (q x) (p x) e)))
+
+-- equality of numbers read the other way round
+pub eqb-turned : (j k : ℕ) → eqb j k ≡ eqb k j
+eqb-turned j k = elim (cases_eq j k) [
+  | inl e ↦ eq-eqb j k e ∙ sym (eq-eqb k j (sym e))
+  | inr other ↦ ne_eqb j k other ∙ sym (ne_eqb k j (λ e. other (sym e)))
+]
+
+-- a test or one that fails
+pub or_no : (x y : Bool) → y ≡ false → (x || y) ≡ x
+or_no true y e = refl
+or_no false y e = e
+
+-- whether a number is in a set with one more
+pub is_in-append_once : (k j : ℕ) (ks : List ℕ) → is_in eqb k (append_once eqb ks j) ≡ (is_in eqb k ks || eqb k j)
+is_in-append_once k j ks = by (is_in eqb j ks) refl
+  where
+    here : is_in eqb j ks ≡ true → (b : Bool) → eqb k j ≡ b → is_in eqb k ks ≡ (is_in eqb k ks || eqb k j)
+    here e true h =
+        let same : is_in eqb k ks ≡ true = subst (λ (i : ℕ). is_in eqb i ks ≡ true) (sym (eqb-true k j h)) e in
+        same ∙ sym (or_left (is_in eqb k ks) (eqb k j) same)
+    here e false h = sym (or_no (is_in eqb k ks) (eqb k j) h)
+
+    by : (b : Bool) → is_in eqb j ks ≡ b → is_in eqb k (append_once eqb ks j) ≡ (is_in eqb k ks || eqb k j)
+    by true e = ap (is_in eqb k) (cond-true (is_in eqb j ks) ks (ks ++ j ∷ []) e) ∙ here e (eqb k j) refl
+    by false e =
+        ap (is_in eqb k) (cond-false (is_in eqb j ks) ks (ks ++ j ∷ []) e)
+        ∙ (list_any-append (eqb k) ks (j ∷ []) ∙ ap (λ b. is_in eqb k ks || b) (or_no (eqb k j) false refl))
+
+-- the tests of being another number, and in neither
+another : (x y : ℕ) (ks : List ℕ) → is_in eqb x ks ≡ true → (not (eqb x y) && not (is_in eqb y ks)) ≡ not (is_in eqb y ks)
+another x y ks e = by (eqb x y) refl
+  where
+    by : (b : Bool) → eqb x y ≡ b → (not (eqb x y) && not (is_in eqb y ks)) ≡ not (is_in eqb y ks)
+    by true h =
+        let there : is_in eqb y ks ≡ true = subst (λ (i : ℕ). is_in eqb i ks ≡ true) (eqb-true x y h) e in
+        ap (λ b. not b && not (is_in eqb y ks)) h ∙ sym (ap not there)
+    by false h = ap (λ b. not b && not (is_in eqb y ks)) h
+
+neither : (a b c : Bool) → b ≡ c → not (a || (b || false)) ≡ (not c && not a)
+neither true b true e = refl
+neither true b false e = refl
+neither false b true e = ap (λ d. not (d || false)) e
+neither false b false e = ap (λ d. not (d || false)) e
+
+-- each number once, put into a set one after the other
+pub fold-append_once : (ks xs : List ℕ) → fold (append_once eqb) ks xs ≡ ks ++ filter (λ y. not (is_in eqb y ks)) (distinct eqb xs)
+fold-append_once ks [] = sym (append-nil ks)
+fold-append_once ks (x ∷ xs) = by (is_in eqb x ks) refl (fold-append_once ks xs) (fold-append_once (ks ++ x ∷ []) xs)
+  where
+    by : (b : Bool) → is_in eqb x ks ≡ b → fold (append_once eqb) ks xs ≡ ks ++ filter (λ y. not (is_in eqb y ks)) (distinct eqb xs)
+        → fold (append_once eqb) (ks ++ x ∷ []) xs ≡ (ks ++ x ∷ []) ++ filter (λ y. not (is_in eqb y (ks ++ x ∷ []))) (distinct eqb xs)
+        → fold (append_once eqb) ks (x ∷ xs) ≡ ks ++ filter (λ y. not (is_in eqb y ks)) (distinct eqb (x ∷ xs))
+    by true e rest more =
+        ap (λ js. fold (append_once eqb) js xs) (cond-true (is_in eqb x ks) ks (ks ++ x ∷ []) e)
+        ∙ (rest
+        ∙ ap (λ js. ks ++ js) (sym (cond-false (not (is_in eqb x ks)) (x ∷ filter (λ y. not (is_in eqb y ks)) (filter (λ y. not (eqb x y)) (distinct eqb xs))) (filter (λ y. not (is_in eqb y ks)) (filter (λ y. not (eqb x y)) (distinct eqb xs))) (not_from_true _ e)
+        ∙ (filter-filter (λ y. not (is_in eqb y ks)) (λ y. not (eqb x y)) (distinct eqb xs)
+        ∙ filter_agree (λ y. not (eqb x y) && not (is_in eqb y ks)) (λ y. not (is_in eqb y ks)) (λ y. another x y ks e) (distinct eqb xs)))))
+    by false e rest more =
+        ap (λ js. fold (append_once eqb) js xs) (cond-false (is_in eqb x ks) ks (ks ++ x ∷ []) e)
+        ∙ (more
+        ∙ (append_assoc ks (x ∷ []) (filter (λ y. not (is_in eqb y (ks ++ x ∷ []))) (distinct eqb xs))
+        ∙ ap (λ js. ks ++ js)
+        (ap (λ js. x ∷ js)
+        (filter_agree (λ y. not (is_in eqb y (ks ++ x ∷ []))) (λ y. not (eqb x y) && not (is_in eqb y ks))
+        (λ y. ap not (list_any-append (eqb y) ks (x ∷ [])) ∙ neither (is_in eqb y ks) (eqb y x) (eqb x y) (eqb-turned y x)) (distinct eqb xs)
+        ∙ sym (filter-filter (λ y. not (is_in eqb y ks)) (λ y. not (eqb x y)) (distinct eqb xs)))
+        ∙ sym (cond-true (not (is_in eqb x ks)) (x ∷ filter (λ y. not (is_in eqb y ks)) (filter (λ y. not (eqb x y)) (distinct eqb xs))) (filter (λ y. not (is_in eqb y ks)) (filter (λ y. not (eqb x y)) (distinct eqb xs))) (not_from_false _ e)))))
+
+-- so the set of a list is its numbers, each once
+pub fold-distinct : (xs : List ℕ) → fold (append_once eqb) [] xs ≡ distinct eqb xs
+fold-distinct xs = fold-append_once [] xs ∙ all_pass (distinct eqb xs)
+  where
+    all_pass : (ys : List ℕ) → filter (λ y. not (is_in eqb y [])) ys ≡ ys
+    all_pass [] = refl
+    all_pass (y ∷ ys) = ap (λ js. y ∷ js) (all_pass ys)
+
+-- a test of a list's images
+pub list_any_of_map : {X Y : Type 0} (p : X → Bool) (h : Y → X) (ys : List Y) → list_any p (map h ys) ≡ list_any (λ y. p (h y)) ys
+list_any_of_map p h [] = refl
+list_any_of_map p h (y ∷ ys) = ap (λ b. p (h y) || b) (list_any_of_map p h ys)
+
+-- one image more in a fold
+pub fold-view_more : {X Y B : Type 0} (f : B → Y → B) (view : X → Y) (b : B) (xs : List X) (i : ℕ) (x : X) → i < length xs → x ≡ get_or xs i x
+    → fold f b (take (i + 1) (map view xs)) ≡ f (fold f b (take i (map view xs))) (view x)
+fold-view_more f view b xs i x short is =
+    fold_more f b (map view xs) i (view x) (let same = length-map xs view in omega (arith, same, short))
+    ∙ ap (f (fold f b (take i (map view xs)))) (get_or-map view xs i x (view x) short ∙ ap view (sym is))
+
+-- all images in a fold
+pub fold-view_all : {X Y B : Type 0} (f : B → Y → B) (view : X → Y) (b : B) (xs : List X) (i : ℕ) → length xs ≤ i
+    → fold f b (take i (map view xs)) ≡ fold f b (map view xs)
+fold-view_all f view b xs i long = ap (fold f b) (take_all i (map view xs) (let same = length-map xs view in omega (arith, same, long)))
+
+-- one image more that passes a test
+pub filter-view_more : {X Y Z : Type 0} (p : Y → Bool) (g : Y → Z) (view : X → Y) (xs : List X) (i : ℕ) (x : X) → i < length xs → x ≡ get_or xs i x
+    → map g (filter p (take (i + 1) (map view xs))) ≡ map g (filter p (take i (map view xs))) ++ map g (cond (p (view x)) (view x ∷ []) [])
+filter-view_more p g view xs i x short is =
+    let item : get_or (map view xs) i (view x) ≡ view x = get_or-map view xs i x (view x) short ∙ ap view (sym is) in
+    ap (map g) (filter_more p (map view xs) i (view x) (let same = length-map xs view in omega (arith, same, short)) ∙ ap (λ y. filter p (take i (map view xs)) ++ cond (p y) (y ∷ []) []) item)
+    ∙ map-append g (filter p (take i (map view xs))) (cond (p (view x)) (view x ∷ []) [])

@@ -1,0 +1,124 @@
+-- What the walk over the registrations on a path gathers is what the rules say.
+use Rattle.std.proofs.Common.{◌≡◌, ℕ, Bool, true, false, not, ◌&&◌, ◌||◌, cond, eqb, List, [], ◌∷◌, ◌++◌, map, refl, sym, ap, ◌∙◌, subst}
+use Rattle.std.specs.List.{fold, filter, list_any, flat_map}
+use Rattle.std.proofs.lemmas.List.{append_assoc, append-nil}
+use Rattle.std.proofs.lemmas.Bool.{cond-true, cond-false, and_left}
+use Rattle.dom_model.specs.Names.{is_in, append_once, distinct, is_empty}
+use Rattle.dom_model.specs.Output.{Change}
+use Rattle.dom_model.specs.Observers.{Registration, registrations_on, fits, fitting, interested, asks_for_old, transients_for}
+use Rattle.dom_observers.specs.Taking.{Found, none_found, and_found, found_by, found_on, transient_copy, copied_by, copied_on}
+use Rattle.dom_observers.proofs.Folds.{fold-flat_map, or_no, eqb-turned, is_in-append_once, fold-distinct}
+
+-- a fold that passes over what a test rejects
+fold-passing : {A B : Type 0} (f g : B → A → B) (p : A → Bool) → ((b : B) (x : A) → p x ≡ true → f b x ≡ g b x) → ((b : B) (x : A) → p x ≡ false → f b x ≡ b)
+    → (b : B) (xs : List A) → fold f b xs ≡ fold g b (filter p xs)
+fold-passing f g p takes stays b [] = refl
+fold-passing {B = B} f g p takes stays b (x ∷ xs) = by (p x) refl (λ c. fold-passing f g p takes stays c xs)
+  where
+    by : (c : Bool) → p x ≡ c → ((d : B) → fold f d xs ≡ fold g d (filter p xs)) → fold f b (x ∷ xs) ≡ fold g b (filter p (x ∷ xs))
+    by true e rest =
+        ap (λ d. fold f d xs) (takes b x e) ∙ rest (g b x)
+        ∙ sym (ap (fold g b) (cond-true (p x) (x ∷ filter p xs) (filter p xs) e))
+    by false e rest =
+        ap (λ d. fold f d xs) (stays b x e) ∙ rest b
+        ∙ sym (ap (fold g b) (cond-false (p x) (x ∷ filter p xs) (filter p xs) e))
+
+-- a fold over what two tests pass
+fold_both : {A B : Type 0} (f g : B → A → B) (p q : A → Bool) → ((b : B) (x : A) → f b x ≡ cond (q x && p x) (g b x) b)
+    → (b : B) (xs : List A) → fold f b xs ≡ fold g b (filter p (filter q xs))
+fold_both f g p q is b xs =
+    fold-passing f (λ c x. cond (p x) (g c x) c) q
+    (λ c x e. is c x ∙ ap (λ t. cond (t && p x) (g c x) c) e)
+    (λ c x e. is c x ∙ ap (λ t. cond (t && p x) (g c x) c) e)
+    b xs
+    ∙ fold-passing (λ c x. cond (p x) (g c x) c) g p (λ c x e. cond-true (p x) (g c x) c e) (λ c x e. cond-false (p x) (g c x) c e) b (filter q xs)
+
+-- two folds whose steps agree
+pub fold-agree : {A B : Type 0} (f g : B → A → B) → ((b : B) (x : A) → f b x ≡ g b x) → (b : B) (xs : List A) → fold f b xs ≡ fold g b xs
+fold-agree f g same b [] = refl
+fold-agree f g same b (x ∷ xs) = ap (λ c. fold f c xs) (same b x) ∙ fold-agree f g same (g b x) xs
+
+-- what a fitting registration adds
+abbrev adds : Change ℕ → Found → Registration ℕ → Found
+adds c f r = and_found f r.observer (asks_for_old r.options c)
+
+-- the walk goes over the fitting registrations
+walk-fitting : (rs : List (Registration ℕ)) (c : Change ℕ) (path : List ℕ) → fold (found_on rs c) none_found path ≡ fold (adds c) none_found (fitting eqb path rs c)
+walk-fitting rs c path =
+    fold-agree (found_on rs c) (λ f x. fold (adds c) f (filter (fits eqb c) (filter (λ r. eqb r.node x) rs)))
+    (λ f x. fold_both (found_by c x) (adds c) (fits eqb c) (λ r. eqb r.node x) (λ g r. refl) f rs) none_found path
+    ∙ sym (fold-flat_map (adds c) (fits eqb c) (λ x. filter (λ r. eqb r.node x) rs) none_found path)
+
+-- the observers that it finds
+found-observers : (c : Change ℕ) (f : Found) (rs : List (Registration ℕ)) → (fold (adds c) f rs).observers ≡ fold (append_once eqb) f.observers (map (λ r. r.observer) rs)
+found-observers c f [] = refl
+found-observers c f (r ∷ rs) = found-observers c (adds c f r) rs
+
+pub walk-observers : (rs : List (Registration ℕ)) (c : Change ℕ) (path : List ℕ) → (fold (found_on rs c) none_found path).observers ≡ interested eqb path rs c
+walk-observers rs c path =
+    ap (λ (f : Found). f.observers) (walk-fitting rs c path)
+    ∙ (found-observers c none_found (fitting eqb path rs c) ∙ fold-distinct (map (λ r. r.observer) (fitting eqb path rs c)))
+
+-- a registration of an observer that asks for the old value
+abbrev wants_old : Change ℕ → ℕ → Registration ℕ → Bool
+wants_old c k r = eqb r.observer k && asks_for_old r.options c
+
+-- those that it finds to ask for the old value
+one_more : (ks : List ℕ) (k j : ℕ) (old : Bool) → is_in eqb k (cond old (append_once eqb ks j) ks) ≡ (is_in eqb k ks || (eqb j k && old))
+one_more ks k j true = is_in-append_once k j ks ∙ ap (λ b. is_in eqb k ks || b) (eqb-turned k j ∙ sym (and_true (eqb j k)))
+  where
+    and_true : (b : Bool) → (b && true) ≡ b
+    and_true true = refl
+    and_true false = refl
+one_more ks k j false = sym (or_no (is_in eqb k ks) (eqb j k && false) (and_false (eqb j k)))
+  where
+    and_false : (b : Bool) → (b && false) ≡ false
+    and_false true = refl
+    and_false false = refl
+
+or-assoc : (x y z : Bool) → ((x || y) || z) ≡ (x || (y || z))
+or-assoc true y z = refl
+or-assoc false y z = refl
+
+found-with_old : (c : Change ℕ) (k : ℕ) (f : Found) (rs : List (Registration ℕ)) → is_in eqb k (fold (adds c) f rs).with_old ≡ (is_in eqb k f.with_old || list_any (wants_old c k) rs)
+found-with_old c k f [] = sym (or_no (is_in eqb k f.with_old) false refl)
+found-with_old c k f (r ∷ rs) =
+    found-with_old c k (adds c f r) rs
+    ∙ (ap (λ b. b || list_any (wants_old c k) rs) (one_more f.with_old k r.observer (asks_for_old r.options c))
+    ∙ or-assoc (is_in eqb k f.with_old) (wants_old c k r) (list_any (wants_old c k) rs))
+
+pub walk-with_old : (rs : List (Registration ℕ)) (c : Change ℕ) (path : List ℕ) (k : ℕ)
+    → is_in eqb k (fold (found_on rs c) none_found path).with_old ≡ list_any (wants_old c k) (fitting eqb path rs c)
+walk-with_old rs c path k = ap (λ (f : Found). is_in eqb k f.with_old) (walk-fitting rs c path) ∙ found-with_old c k none_found (fitting eqb path rs c)
+
+-- ---- transient copies
+
+-- a fold that puts each item's image behind others
+fold-behind : {A B : Type 0} (f : A → B) (ys : List B) (xs : List A) → fold (λ zs x. zs ++ f x ∷ []) ys xs ≡ ys ++ map f xs
+fold-behind f ys [] = sym (append-nil ys)
+fold-behind f ys (x ∷ xs) = fold-behind f (ys ++ f x ∷ []) xs ∙ append_assoc ys (f x ∷ []) (map f xs)
+
+-- the copies are those of the rule
+pub walk-copies : (rs : List (Registration ℕ)) (node : ℕ) (path : List ℕ) → fold (copied_on node rs) [] path ≡ transients_for eqb node path rs
+walk-copies rs node path =
+    fold-agree (copied_on node rs) (λ copies x. fold (λ zs r. zs ++ transient_copy node r ∷ []) copies (filter (λ r. r.options.subtree) (filter (λ r. eqb r.node x) rs)))
+    (λ copies x. fold_both (copied_by node x) (λ zs r. zs ++ transient_copy node r ∷ []) (λ r. r.options.subtree) (λ r. eqb r.node x) (λ zs r. refl) copies rs) [] path
+    ∙ (sym (fold-flat_map (λ zs r. zs ++ transient_copy node r ∷ []) (λ r. r.options.subtree) (λ x. filter (λ r. eqb r.node x) rs) [] path)
+    ∙ fold-behind (transient_copy node) [] (filter (λ r. r.options.subtree) (registrations_on eqb path rs)))
+
+-- ---- an owner without registrations
+
+-- none stands on a path
+on_none : (path : List ℕ) → registrations_on eqb path [] ≡ []
+on_none [] = refl
+on_none (x ∷ path) = on_none path
+
+-- nobody is interested
+pub interested-none : (path : List ℕ) (rs : List (Registration ℕ)) (c : Change ℕ) → is_empty rs ≡ true → interested eqb path rs c ≡ []
+interested-none path [] c e = ap (λ rs. distinct eqb (map (λ r. r.observer) (filter (fits eqb c) rs))) (on_none path)
+interested-none path (r ∷ rs) c e = cc
+
+-- and nothing is copied
+pub copies-none : (node : ℕ) (path : List ℕ) (rs : List (Registration ℕ)) → is_empty rs ≡ true → transients_for eqb node path rs ≡ []
+copies-none node path [] e = ap (λ rs. map (transient_copy node) (filter (λ r. r.options.subtree) rs)) (on_none path)
+copies-none node path (r ∷ rs) e = cc

@@ -1,0 +1,6 @@
+pub mod Folds
+pub mod Gathering
+pub mod Tables
+pub mod Lookups
+pub mod Ascending
+pub mod Naming

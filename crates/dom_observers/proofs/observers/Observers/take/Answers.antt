@@ -1,0 +1,31 @@
+use Rattle.std.proofs.Common.{◌≡◌, ℕ, true, false, eqb, ltb, length, nat_eq, cond, OnOk, OnErr, Some, None, refl, sym, ap, ◌∙◌, subst, arith}
+use Rattle.std.specs.Prelude.{slice_get}
+use Rattle.std.proofs.lemmas.Result.{on_ok_weaker, on_err_weaker, IfOk-weaker}
+use Rattle.dom_observers.specs.declared.observers.Observers.TheInside.{Inside}
+use Rattle.dom_observers.specs.Tables.{TablesOf, no_tables, with_observer, observing, disconnected, emptied, told, is_taken, left, notices, notified}
+use Rattle.dom_observers.specs.Owners.{tables_of, all_tables, ChangesTables, KeepsTables}
+use Rattle.dom_observers.specs.Paths.{path_keys}
+use Rattle.dom_observers.specs.Views.{words_of, change_of, notice_of, table_of}
+use Rattle.dom_observers.proofs.Lookups.{rewritten, had, had-none, kept-changes, changes-kept, changes-same, untouched, untouched-changes, lookup-get, written-none, below_none}
+use Rattle.dom_observers.proofs.Tables.{not_taken, not_told, none_left}
+use Rattle.dom_observers.proofs.observers.Observers.take.Goals as goal
+
+pub returns-in_default-clause-records : goal.returns-in_default-clause-records
+returns-in_default-clause-records c =
+    ap (λ (t : TablesOf ℕ). slice_get t.record_queues c.args.observer) (sym (had-none c.self.inside c.args.self.now c.args.owner c.self.view_is c.in_default.ensures.value))
+
+pub returns-in_default-clause-tables : goal.returns-in_default-clause-tables
+returns-in_default-clause-tables c =
+    let r : Inside = record { tables = c.get_mut.follows.lender-at-none; alloc = c.self.inside.alloc } in
+    untouched-changes c.self.inside r c.args.self.now c.args.owner (emptied c.args.observer) c.self.view_is c.in_default.ensures.value c.get_mut.follows.holds-at-none refl
+
+pub returns : goal.returns
+returns c =
+    let r : Inside = record { tables = c.get_mut.follows.lender c.take.new.self; alloc = c.self.inside.alloc } in
+    let there = had c.self.inside c.args.self.now c.args.owner c.in-Some.table.now c.self.view_is c.in-Some.ensures.value in
+    record {
+      records = c.take.ensures.records ∙ ap (λ (t : TablesOf ℕ). slice_get t.record_queues c.args.observer) (sym there);
+      tables =
+          rewritten c.self.inside r c.args.self.now c.args.owner c.in-Some.table.now c.take.new.self
+          (emptied c.args.observer) c.self.view_is c.in-Some.ensures.value (λ some. ((c.get_mut.follows.holds c.take.new.self).3 some).0) c.take.ensures.tables;
+    }

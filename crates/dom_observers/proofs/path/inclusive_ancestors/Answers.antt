@@ -1,0 +1,27 @@
+use Rattle.std.proofs.Common.{◌<◌, length, Some, None, refl, sym, subst}
+use Rattle.dom_observers.proofs.Ascending.{HasClimbed, above, climbs-first, climbs-more, climbs-fewer, climbs-all}
+use Rattle.dom_observers.proofs.path.inclusive_ancestors.Goals as goal
+
+pub loop-at-init : goal.loop-at-init
+loop-at-init c =
+    let f = c.args.forest.now in
+    subst (λ path. HasClimbed f c.args.key path (Some c.args.key)) (sym c.new-path.ensures.items) (climbs-first f c.args.key c.requires)
+
+pub loop-at-preserved : goal.loop-at-preserved
+loop-at-preserved c =
+    let f = c.args.forest.now in
+    let done = subst (HasClimbed f c.args.key c.loop-at.path.items) c.in-Some.is c.loop-at.invariant in
+    subst (λ path. HasClimbed f c.args.key path c.parent-at.result) (sym c.in_ok-push.ensures.items)
+    (climbs-more f c.nodes_stand_once.ensures.once c.nodes_stand_once.ensures.only c.args.key c.in-Some.node c.loop-at.path.items c.parent-at.result done (done.next c.in-Some.node refl) c.parent-at.ensures.value c.parent-at.ensures.node)
+
+pub loop-at-smaller : goal.loop-at-smaller
+loop-at-smaller c =
+    let f = c.args.forest.now in
+    let done = subst (HasClimbed f c.args.key c.loop-at.path.items) c.in-Some.is c.loop-at.invariant in
+    subst (λ at. length (above f c.parent-at.result) < length (above f at)) (sym c.in-Some.is)
+    (climbs-fewer f c.nodes_stand_once.ensures.once c.nodes_stand_once.ensures.only c.in-Some.node c.parent-at.result (done.next c.in-Some.node refl) c.parent-at.ensures.value)
+
+pub returns : goal.returns
+returns c =
+    let f = c.args.forest.now in
+    climbs-all f c.nodes_stand_once.ensures.distinct c.args.key c.loop-at.path.items (subst (HasClimbed f c.args.key c.loop-at.path.items) c.in_default.is c.loop-at.invariant)

@@ -1,0 +1,31 @@
+use Rattle.std.proofs.Common.{◌≡◌, ℕ, not, eqb, List, [], map, set, sym, ap, ◌∙◌, refl, rules, tests}
+use Rattle.std.specs.Prelude.{slice_get, is_some}
+use Rattle.std.specs.List.{filter}
+use Rattle.std.proofs.lemmas.Bool.{lt-ltb}
+use Rattle.std.proofs.lemmas.Fn.{filter_same}
+use Rattle.dom_model.specs.Observers.{Registration}
+use Rattle.dom_model.specs.Output.{Change}
+use Rattle.dom_observers.specs.Tables.{TablesOf}
+use Rattle.dom_observers.specs.Views.{change_of, registration_of, table_of}
+use Rattle.dom_observers.proofs.Tables.{set-none, none_from, there_from, is_some-map, filter_of_map}
+use Rattle.dom_observers.proofs.table.Table.disconnect.Goals as goal
+
+pub returns-then-is_none-clause-tables : goal.returns-then-is_none-clause-tables
+returns-then-is_none-clause-tables c =
+    let t : TablesOf ℕ = table_of c.args.self.now in
+    let gone = none_from (slice_get t.record_queues c.args.observer) (ap is_some (sym c.take.ensures.records) ∙ (is_some-map (λ v. map change_of v.items) c.take.result ∙ c.if-is_none.ensures)) in
+    c.take.ensures.tables ∙ ap (λ (queues : List (List (Change ℕ))). record t { record_queues = queues }) (set-none t.record_queues c.args.observer [] gone)
+
+pub returns-clause-value : goal.returns-clause-value
+returns-clause-value c =
+    let t : TablesOf ℕ = table_of c.args.self.now in
+    let there = there_from t.record_queues c.args.observer (ap is_some (sym c.take.ensures.records) ∙ (is_some-map (λ v. map change_of v.items) c.take.result ∙ c.if-is_none.ensures)) in
+    sym (lt-ltb _ _ there)
+
+pub returns-clause-tables : goal.returns-clause-tables
+returns-clause-tables c =
+    let a : TablesOf ℕ = table_of c.take.new.self in
+    let test = λ (r : Registration ℕ). not (eqb r.observer c.args.observer) in
+    let kept = filter_same _ (λ r. test (registration_of r)) _ (λ x b q k. (search (rules, tests), search (rules, tests))) c.take.new.self.registrations.items c.retain.new.self.items c.retain.ensures.filtered in
+    ap (λ (rs : List (Registration ℕ)). record a { registrations = rs }) (ap (map registration_of) kept ∙ filter_of_map test registration_of c.take.new.self.registrations.items)
+    ∙ ap (λ (t : TablesOf ℕ). record t { registrations = filter test t.registrations }) c.take.ensures.tables

@@ -1,0 +1,85 @@
+use Rattle.std.proofs.Common.{◌≡◌, ℕ, ◌+◌, ◌<◌, ◌++◌, ◌∷◌, [], List, take, map, set, get_or, not, eqb, ◌&&◌, sym, ap, ◌∙◌, subst, refl, arith, rules, tests}
+use Rattle.std.specs.List.{fold, filter, IsDistinct}
+use Rattle.std.proofs.lemmas.Fn.{filter_same}
+use Rattle.std.proofs.lemmas.List.{map_push, map_more, take_all}
+use Rattle.std.proofs.lemmas.List.Sums.{fold_more}
+use Rattle.dom_model.specs.Names.{is_in}
+use Rattle.dom_model.specs.Output.{Change}
+use Rattle.dom_model.specs.Observers.{Registration, is_transient, without_transients}
+use Rattle.dom_observers.specs.Tables.{TablesOf, queue_at}
+use Rattle.dom_observers.specs.Views.{change_of, registration_of, table_of, notice_of}
+use Rattle.dom_observers.proofs.Tables.{queue_at-emptied, not_before, unwrapped, filter_of_map}
+use Rattle.dom_observers.proofs.table.Table.notify.Goals as goal
+
+-- tables by their parts
+abbrev built : List (Registration ℕ) → List (List (Change ℕ)) → List ℕ → TablesOf ℕ
+built rs queues pending = record { registrations = rs; record_queues = queues; pending = pending }
+
+-- an observer with its records
+abbrev noticed : List (List (Change ℕ)) → ℕ → ℕ × List (Change ℕ)
+noticed queues k = (k, queue_at queues k)
+
+-- a queue emptied
+abbrev emptying : List (List (Change ℕ)) → ℕ → List (List (Change ℕ))
+emptying queues k = set queues k []
+
+pub loop-observer-init : goal.loop-observer-init
+loop-observer-init c =
+    record {
+      registrations = refl;
+      queues = refl;
+      pending = ap (λ s. s.keys) c.replace-pending.ensures.after ∙ c.new.ensures.empty;
+      listed = ap (map notice_of) c.new-notices.ensures.items;
+    }
+
+pub loop-observer-preserved : goal.loop-observer-preserved
+loop-observer-preserved c =
+    let items = c.as_slice-observer-items.result.now in
+    let i = c.loop-observer.observer-index in
+    let k = get_or items i 0 in
+    let t = table_of c.args.self.now in
+    let l = c.loop-observer.invariant in
+    let records = c.unwrap_or-records.result in
+    let apart = subst (IsDistinct eqb) (sym c.as_slice-observer-items.ensures.keys) c.as_slice-observer-items.ensures.unique in
+    let had : map change_of records.items ≡ queue_at t.record_queues k =
+    ap (λ v. map change_of v.items) c.unwrap_or-records.ensures
+    ∙ (unwrapped c.take.result c.new-in-loop-observer.result (table_of c.loop-observer.self).record_queues k c.take.ensures.records c.new-in-loop-observer.ensures.items
+    ∙ (ap (λ queues. queue_at queues k) l.queues
+    ∙ queue_at-emptied t.record_queues (take i items) k (not_before items i apart (omega arith)))) in
+    record {
+      registrations = ap (λ (s : TablesOf ℕ). s.registrations) c.take.ensures.tables ∙ l.registrations;
+      queues =
+          ap (λ (s : TablesOf ℕ). s.record_queues) c.take.ensures.tables
+          ∙ (ap (λ queues. emptying queues k) l.queues ∙ sym (fold_more emptying t.record_queues items i 0 (omega arith)));
+      pending = ap (λ (s : TablesOf ℕ). s.pending) c.take.ensures.tables ∙ l.pending;
+      listed =
+          ap (map notice_of) c.in_ok-push.ensures.items
+          ∙ (map_push notice_of c.loop-observer.notices.items (k, records)
+          ∙ (ap (λ (rs : List (Change ℕ)). map notice_of c.loop-observer.notices.items ++ (k, rs) ∷ []) had
+          ∙ (ap (λ ns. ns ++ noticed t.record_queues k ∷ []) l.listed
+          ∙ sym (map_more (noticed t.record_queues) items i 0 (omega arith)))));
+    }
+
+pub returns-clause-notices : goal.returns-clause-notices
+returns-clause-notices c =
+    let items = c.as_slice-observer-items.result.now in
+    let t = table_of c.args.self.now in
+    let all = take_all c.loop-observer.observer-index items (omega arith) ∙ (c.as_slice-observer-items.ensures.keys ∙ ap (λ s. s.keys) c.replace-pending.ensures.value) in
+    c.loop-observer.invariant.listed ∙ ap (map (noticed t.record_queues)) all
+
+pub returns-clause-tables : goal.returns-clause-tables
+returns-clause-tables c =
+    let items = c.as_slice-observer-items.result.now in
+    let t = table_of c.args.self.now in
+    let l = c.loop-observer.invariant in
+    let same = ap (λ s. s.keys) c.replace-pending.ensures.value in
+    let all = take_all c.loop-observer.observer-index items (omega arith) ∙ (c.as_slice-observer-items.ensures.keys ∙ same) in
+    let keys = c.replace-pending.result.keys in
+    let test = λ (r : Registration ℕ). not (is_transient r.source && is_in eqb r.observer keys) in
+    let kept = filter_same _ (λ r. test (registration_of r)) _ (λ x b q k. (search (rules, tests), search (rules, tests))) c.loop-observer.self.registrations.items c.retain.new.self.items c.retain.ensures.filtered in
+    let rs = (ap (map registration_of) kept ∙ filter_of_map test registration_of c.loop-observer.self.registrations.items)
+    ∙ (ap (filter test) l.registrations ∙ ap (λ ks. without_transients ks t.registrations) same) in
+    let queues = l.queues ∙ ap (fold emptying t.record_queues) all in
+    ap (λ list. built list (table_of c.loop-observer.self).record_queues (table_of c.loop-observer.self).pending) rs
+    ∙ (ap (λ list. built (without_transients t.pending t.registrations) list (table_of c.loop-observer.self).pending) queues
+    ∙ ap (built (without_transients t.pending t.registrations) (fold emptying t.record_queues t.pending)) l.pending)

@@ -1,0 +1,34 @@
+//! Laws of the rules over keys, for a caller whose own tables are over names.
+ghost use Rattle.std.specs.Prelude.{◌≡◌, ◌<◌, length, map};
+ghost use Rattle.dom_model.specs.Tree.{inclusive_ancestors};
+ghost use Rattle.dom_tree.specs.Forest.{name_at};
+ghost use Rattle.dom_observers.specs.Naming.{MakingLaw, ObservingLaw, DisconnectedLaw, EmptiedLaw, TakenLaw, ToldLaw, LeftLaw, NotifiedLaw, NoticesLaw, IsKey, AreAll};
+ghost use Rattle.dom_observers.specs.Paths.{path_keys};
+
+use dom_tree::Forest;
+use node_arena::Key;
+
+/// With every key replaced by its name, where the keys are of nodes and the names tell them apart, each rule over keys is
+/// the same rule over names (own rule).
+pub fn keys_stand_for_names()
+    ensures made { MakingLaw }
+    ensures observing { ObservingLaw }
+    ensures disconnected { DisconnectedLaw }
+    ensures emptied { EmptiedLaw }
+    ensures taken { TakenLaw }
+    ensures told { ToldLaw }
+    ensures left { LeftLaw }
+    ensures notified { NotifiedLaw }
+    ensures notices { NoticesLaw }
+{}
+
+/// The keys on the path of a node are those of nodes, and their names are its inclusive ancestors (DOM Standard, concept:
+/// inclusive ancestor).
+pub fn path_keys_are_named(forest: &Forest, key: Key)
+    requires { key < length forest.now.names }
+    ensures named { map (name_at forest.now.names) (path_keys forest.now key) ≡ inclusive_ancestors forest.now.trees (name_at forest.now.names key) }
+    ensures nodes { AreAll (IsKey forest.now.names) (path_keys forest.now key) }
+{
+    let _key = key;
+    forest.nodes_stand_once();
+}

@@ -1,0 +1,20 @@
+//! Mutation observers (DOM Standard, 4.3 Mutation observers): which observers of an owner are interested in a change of a
+//! node, the records that they get, and the transient registrations that a removed node keeps of its ancestors'. Each
+//! owner has its own observers, registrations and pending observers (own rule).
+#![tactic(auto)]
+
+mod change;
+mod laws;
+mod observers;
+mod options;
+mod path;
+mod registered;
+mod table;
+mod takers;
+#[cfg(test)]
+mod tests;
+
+pub use change::{Change, Record};
+pub use laws::{keys_stand_for_names, path_keys_are_named};
+pub use observers::Observers;
+pub use options::Options;

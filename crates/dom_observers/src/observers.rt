@@ -1,0 +1,183 @@
+//! The mutation observers of all owners.
+ghost use Rattle.std.specs.Prelude.{◌≡◌, ◌<◌, ◌↔◌, ◌⊎◌, nat_eq, nat_lt, true, false, map, length, option_map, slice_get, is_some, IfOk, IfErr, OnOk, OnErr, if◌then◌else◌};
+ghost use Rattle.std.specs.Map.{lookup};
+ghost use Rattle.dom_base.specs.declared.Owner.{Owner as Owners};
+ghost use Rattle.dom_model.specs.Names.{owner_eq};
+ghost use Rattle.dom_model.specs.CommandRefusals.{past_limit};
+ghost use Rattle.dom_model.specs.Observers.{options_of, asks_for_nothing, target_of};
+ghost use Rattle.dom_tree.specs.Forest.{name_at};
+ghost use Rattle.dom_observers.specs.Tables.{no_tables, with_observer, observing, disconnected, emptied, is_taken, told, left, notices, notified};
+ghost use Rattle.dom_observers.specs.Views.{words_of, change_of, notice_of};
+ghost use Rattle.dom_observers.specs.Paths.{path_keys};
+ghost use Rattle.dom_observers.specs.Owners.{tables_of, ChangesTables, KeepsTables};
+
+use crate::change::{Change, Record};
+use crate::options::Options;
+use crate::path::inclusive_ancestors;
+use crate::table::Table;
+use dom_base::{Fault, Owner, Refusal};
+use dom_tree::Forest;
+use node_arena::Key;
+use std::alloc::{AllocError, Global};
+use std::collections::HashMap;
+use std::marker::Model;
+
+/// The mutation observers of all owners (DOM Standard, 4.3 Mutation observers): each owner's registrations, record queues
+/// and pending observers. An owner's observers have the numbers 0, 1, .. in the order of their making.
+#[derive(Drop)]
+pub struct Observers {
+    tables: HashMap<Owner, Table>,
+    alloc: Global,
+}
+
+impl Model for Observers {
+    ghost use Rattle.dom_observers.specs.AllTables.{AllTables};
+
+    ghost Value = { AllTables };
+
+    ghost use Rattle.dom_observers.specs.Owners.{all_tables};
+
+    ghost view = { all_tables };
+}
+
+impl Observers {
+    /// No owner has an observer. No memory is taken yet; it will be taken from `alloc`.
+    pub fn new(alloc: Global) -> Self
+        ensures { (o : Owners) → tables_of result o ≡ no_tables }
+    {
+        Observers {
+            tables: HashMap::new(alloc),
+            alloc,
+        }
+    }
+
+    /// Makes an observer of an owner, and gives its number (DOM Standard, constructor of MutationObserver). It is refused
+    /// with `Limit` where the owner has made a million, and with `Memory` where memory is refused.
+    pub fn make(&mut self, owner: Owner) -> Result<u32, Fault>
+        ensures number { IfOk result (λ k. k ≡ length (tables_of self.old owner).record_queues) }
+        ensures tables { OnOk result (ChangesTables owner (with_observer (tables_of self.old owner)) self.old self.new) }
+        ensures limit { (result ≡ Err (Fault.Refused Refusal.Limit)) ↔ (past_limit (length (tables_of self.old owner).record_queues) 1 ≡ true) }
+        ensures other { IfErr result (λ fault. (fault ≡ Fault.Refused Refusal.Limit) ⊎ (fault ≡ Fault.Memory)) }
+        ensures err { OnErr result (KeepsTables self.old self.new) }
+    {
+        self.prepare(owner)?;
+        let Some(table) = self.tables.get_mut(&owner) else {
+            unreachable!()
+        };
+        table.make()
+    }
+
+    /// Makes an owner's table where there is none.
+    fn prepare(&mut self, owner: Owner) -> Result<(), AllocError>
+        ensures keeps { KeepsTables self.old self.new }
+        ensures there { OnOk result (is_some (lookup (owner_eq owner) self.new) ≡ true) }
+        ensures none { OnErr result (tables_of self.old owner ≡ no_tables) }
+    {
+        if self.tables.contains_key(&owner) {
+            return Ok(());
+        }
+        let _ = self.tables.insert(owner, Table::new(self.alloc))?;
+        Ok(())
+    }
+
+    /// Registers an owner's observer on a node, or gives its registration there other options (DOM Standard, observe()).
+    /// It is refused with `Unknown` where the owner has no observer of this number, with `TypeFault` where the options ask
+    /// for no kind of change, and with `Memory` where memory is refused.
+    pub fn observe(
+        &mut self,
+        owner: Owner,
+        observer: u32,
+        node: Key,
+        options: Options,
+    ) -> Result<(), Fault>
+        ensures tables { OnOk result (ChangesTables owner (observing nat_eq observer node (words_of options) (tables_of self.old owner)) self.old self.new) }
+        ensures unknown { (result ≡ Err (Fault.Refused Refusal.Unknown)) ↔ (nat_lt observer (length (tables_of self.old owner).record_queues) ≡ false) }
+        ensures no_kind { (result ≡ Err (Fault.Refused Refusal.TypeFault)) ↔ ((nat_lt observer (length (tables_of self.old owner).record_queues) ≡ true) × (asks_for_nothing (options_of (words_of options)) ≡ true)) }
+        ensures other { IfErr result (λ fault. (fault ≡ Fault.Refused Refusal.Unknown) ⊎ ((fault ≡ Fault.Refused Refusal.TypeFault) ⊎ (fault ≡ Fault.Memory))) }
+        ensures err { OnErr result (KeepsTables self.old self.new) }
+    {
+        let Some(table) = self.tables.get_mut(&owner) else {
+            return Err(Fault::Refused(Refusal::Unknown));
+        };
+        table.observe(observer, node, options)
+    }
+
+    /// Takes the registrations of an owner's observer away, transient ones too, and empties its record queue, where there is
+    /// such an observer, which it answers (DOM Standard, disconnect()). The observer stays pending where it was.
+    pub fn disconnect(&mut self, owner: Owner, observer: u32) -> bool
+        ensures value { result ≡ nat_lt observer (length (tables_of self.old owner).record_queues) }
+        ensures tables { ChangesTables owner (if result then disconnected observer (tables_of self.old owner) else tables_of self.old owner) self.old self.new }
+    {
+        let Some(table) = self.tables.get_mut(&owner) else {
+            return false;
+        };
+        table.disconnect(observer)
+    }
+
+    /// Empties the record queue of an owner's observer, and gives the records in it, if there is such an observer (DOM
+    /// Standard, takeRecords()). The observer stays pending where it was.
+    pub fn take(&mut self, owner: Owner, observer: u32) -> Option<Vec<Record>>
+        ensures records { option_map (λ records. map change_of records.items) result ≡ slice_get (tables_of self.old owner).record_queues observer }
+        ensures tables { ChangesTables owner (emptied observer (tables_of self.old owner)) self.old self.new }
+    {
+        let Some(table) = self.tables.get_mut(&owner) else {
+            return None;
+        };
+        table.take(observer)
+    }
+
+    /// Gives the record of a change to the observers of the target's owner that are interested in it, each once, which are
+    /// then pending; it answers whether there are some (DOM Standard, queue a mutation record). A change of a node of an
+    /// owner without registrations takes no walk. After a refusal of memory some may have it and others not.
+    pub fn queue_record(&mut self, forest: &Forest, change: Change) -> Result<bool, AllocError>
+        requires { target_of (change_of change) < length forest.now.names }
+        ensures taken { IfOk result (λ taken. taken ≡ is_taken nat_eq (path_keys forest.now (target_of (change_of change))) (tables_of self.old (name_at forest.now.names (target_of (change_of change))).owner) (change_of change)) }
+        ensures tables { OnOk result (ChangesTables (name_at forest.now.names (target_of (change_of change))).owner (told nat_eq (path_keys forest.now (target_of (change_of change))) (change_of change) (tables_of self.old (name_at forest.now.names (target_of (change_of change))).owner)) self.old self.new) }
+    {
+        let alloc = self.alloc;
+        let target = change.target();
+        let owner = forest.name(target).owner;
+        let Some(table) = self.tables.get_mut(&owner) else {
+            return Ok(false);
+        };
+        if table.has_no_registration() {
+            return Ok(false);
+        }
+        let path = inclusive_ancestors(alloc, forest, target)?;
+        table.queue_record(path.as_slice(), change)
+    }
+
+    /// Gives a node that leaves a parent its transient registrations: copies of the registrations on the parent's inclusive
+    /// ancestors that observe their subtrees (DOM Standard, remove). The parent is still to stand where it stood, and the
+    /// registrations are those of the node's owner.
+    pub fn transient(&mut self, forest: &Forest, parent: Key, node: Key) -> Result<(), AllocError>
+        requires parent_is_node { parent < length forest.now.names }
+        requires node_is_node { node < length forest.now.names }
+        ensures { OnOk result (ChangesTables (name_at forest.now.names node).owner (left nat_eq node (path_keys forest.now parent) (tables_of self.old (name_at forest.now.names node).owner)) self.old self.new) }
+    {
+        let alloc = self.alloc;
+        let owner = forest.name(node).owner;
+        let Some(table) = self.tables.get_mut(&owner) else {
+            return Ok(());
+        };
+        if table.has_no_registration() {
+            return Ok(());
+        }
+        let path = inclusive_ancestors(alloc, forest, parent)?;
+        table.add_transients(path.as_slice(), node)
+    }
+
+    /// Empties an owner's set of pending observers, and gives each with the records of its queue, in order (DOM Standard,
+    /// notify mutation observers). Their queues are then empty, and their transient registrations gone. After a refusal of
+    /// memory some of the records are lost.
+    pub fn notify(&mut self, owner: Owner) -> Result<Vec<(u32, Vec<Record>)>, AllocError>
+        ensures notices { IfOk result (λ list. map notice_of list.items ≡ notices (tables_of self.old owner)) }
+        ensures tables { OnOk result (ChangesTables owner (notified (tables_of self.old owner)) self.old self.new) }
+    {
+        let alloc = self.alloc;
+        let Some(table) = self.tables.get_mut(&owner) else {
+            return Ok(Vec::new(alloc));
+        };
+        table.notify()
+    }
+}

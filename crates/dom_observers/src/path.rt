@@ -1,0 +1,26 @@
+//! The inclusive ancestors of a node.
+ghost use Rattle.std.specs.Prelude.{◌≡◌, ◌<◌, length, IfOk};
+ghost use Rattle.dom_observers.specs.Paths.{path_keys};
+
+use dom_tree::Forest;
+use node_arena::Key;
+use std::alloc::{AllocError, Global};
+
+/// A node and its ancestors, the nearest first (DOM Standard, concept: inclusive ancestor).
+pub(crate) fn inclusive_ancestors(
+    alloc: Global,
+    forest: &Forest,
+    key: Key,
+) -> Result<Vec<Key>, AllocError>
+    requires { key < length forest.now.names }
+    ensures { IfOk result (λ path. path.items ≡ path_keys forest.now key) }
+{
+    forest.nodes_stand_once();
+    let mut path = Vec::new(alloc);
+    let mut at = Some(key);
+    while let Some(node) = at {
+        path.push(node)?;
+        at = forest.parent(node);
+    }
+    Ok(path)
+}

@@ -1,0 +1,112 @@
+//! Registrations of observers on nodes.
+ghost use Rattle.std.specs.Prelude.{◌≡◌, nat_eq, not, IfOk, ◌&&◌, ◌==◌};
+ghost use Rattle.dom_model.specs.Observers.{fits, is_transient, is_asked_for, stems_from, with_options};
+ghost use Rattle.dom_observers.specs.Views.{words_of, change_of, registration_of, source_of};
+ghost use Rattle.dom_observers.specs.Taking.{transient_copy};
+
+use crate::change::Change;
+use crate::options::Options;
+use node_arena::Key;
+use std::alloc::AllocError;
+use std::rc::Rc;
+
+/// Why a registration is there (DOM Standard, concept: transient registered observer): it was asked for, or it is a
+/// transient copy of the one asked for on a node, or of a transient one.
+#[derive(Clone, Copy)]
+pub enum Source {
+    AskedFor,
+    CopiedFrom(Key),
+    CopiedFromTransient,
+}
+
+/// A registration of an observer on a node (DOM Standard, concept: registered observer). Its transient copies share its
+/// options.
+#[derive(Drop)]
+pub struct Registered {
+    pub node: Key,
+    pub observer: u32,
+    pub options: Rc<Options>,
+    pub source: Source,
+}
+
+impl Registered {
+    /// Whether it is on a node, and fits a change of that node or one below it (DOM Standard, queue a mutation record).
+    pub(crate) fn fits(&self, node: Key, change: &Change) -> bool
+        ensures { result ≡ (nat_eq self.now.node node && fits nat_eq (change_of change.now) (registration_of self.now)) }
+    {
+        self.node == node
+            && self.options.ask_for(change)
+            && (self.node == change.target() || self.options.subtree)
+    }
+
+    /// Whether it is on a node, and observes what is below that too.
+    pub(crate) fn observes_below(&self, node: Key) -> bool
+        ensures { result ≡ (nat_eq self.now.node node && (words_of self.now.options.value).subtree) }
+    {
+        self.node == node && self.options.subtree
+    }
+
+    /// Whether it is transient (DOM Standard, concept: transient registered observer).
+    pub(crate) fn is_transient(&self) -> bool
+        ensures { result ≡ is_transient (source_of self.now.source) }
+    {
+        !matches!(self.source, Source::AskedFor)
+    }
+
+    /// Whether it is the one that an observer asked for on a node (DOM Standard, observe()).
+    pub(crate) fn is_asked_for(&self, observer: u32, node: Key) -> bool
+        ensures { result ≡ is_asked_for nat_eq observer node (registration_of self.now) }
+    {
+        self.observer == observer && self.node == node && !self.is_transient()
+    }
+
+    /// Whether it is a transient copy of the one that an observer asked for on a node (DOM Standard, observe()).
+    pub(crate) fn stems_from(&self, observer: u32, node: Key) -> bool
+        ensures { result ≡ (nat_eq self.now.observer observer && stems_from nat_eq node (source_of self.now.source)) }
+    {
+        match self.source {
+            Source::CopiedFrom(from) => self.observer == observer && node == from,
+            _ => false,
+        }
+    }
+
+    /// A copy of it, with other options where it is the one that an observer asked for on a node (DOM Standard,
+    /// observe()).
+    pub(crate) fn renewed(
+        &self,
+        observer: u32,
+        node: Key,
+        options: &Rc<Options>,
+    ) -> Result<Registered, AllocError>
+        ensures { IfOk result (λ r. registration_of r ≡ with_options nat_eq observer node (words_of options.now.value) (registration_of self.now)) }
+    {
+        let options = if self.is_asked_for(observer, node) {
+            options.clone()?
+        } else {
+            self.options.clone()?
+        };
+        Ok(Registered {
+            node: self.node,
+            observer: self.observer,
+            options,
+            source: self.source,
+        })
+    }
+
+    /// A transient copy for a removed node (DOM Standard, remove).
+    pub(crate) fn copied_to(&self, node: Key) -> Result<Registered, AllocError>
+        ensures { IfOk result (λ r. registration_of r ≡ transient_copy node (registration_of self.now)) }
+    {
+        let source = if self.is_transient() {
+            Source::CopiedFromTransient
+        } else {
+            Source::CopiedFrom(self.node)
+        };
+        Ok(Registered {
+            node,
+            observer: self.observer,
+            options: self.options.clone()?,
+            source,
+        })
+    }
+}

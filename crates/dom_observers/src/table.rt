@@ -1,0 +1,256 @@
+//! What one owner has of observers.
+ghost use Rattle.std.specs.Prelude.{◌≡◌, ◌↔◌, ◌⊎◌, nat_eq, nat_lt, true, false, not, ◌&&◌, ◌==◌, map, filter, fold, length, option_map, slice_get, IfOk, IfErr, OnOk, OnErr, if◌then◌else◌};
+ghost use Rattle.std.specs.List.{list_any};
+ghost use Rattle.dom_model.specs.Names.{is_empty};
+ghost use Rattle.dom_model.specs.CommandRefusals.{past_limit};
+ghost use Rattle.dom_model.specs.Observers.{options_of, asks_for_nothing, is_asked_for, with_options, stems_from};
+ghost use Rattle.dom_observers.specs.Tables.{no_tables, with_observer, observing, disconnected, emptied, appended, given, is_taken, told, left, notices, notified};
+ghost use Rattle.dom_observers.specs.Views.{words_of, change_of, registration_of, table_of, notice_of};
+ghost use Rattle.dom_observers.specs.Taking.{copied_on};
+ghost use Rattle.dom_observers.specs.Takers.{record_of};
+
+use crate::change::{Change, Record};
+use crate::options::Options;
+use crate::registered::{Registered, Source};
+use crate::takers::Takers;
+use dom_base::{Fault, MAX_NODES, Refusal};
+use indexmap::IndexSet;
+use node_arena::Key;
+use std::alloc::{AllocError, Global};
+use std::mem;
+use std::rc::Rc;
+
+/// An owner's registrations in the order of their making, its observers' record queues by their numbers, and the pending
+/// observers in the order in which they became pending (DOM Standard, 4.3 Mutation observers).
+#[derive(Drop)]
+pub struct Table {
+    registrations: Vec<Registered>,
+    queues: Vec<Vec<Record>>,
+    pending: IndexSet<u32>,
+    alloc: Global,
+}
+
+impl Table {
+    /// An owner without observers.
+    pub(crate) fn new(alloc: Global) -> Self
+        ensures { table_of result ≡ no_tables }
+    {
+        Table {
+            registrations: Vec::new(alloc),
+            queues: Vec::new(alloc),
+            pending: IndexSet::new(alloc),
+            alloc,
+        }
+    }
+
+    /// Whether no observer is registered on a node.
+    pub(crate) fn has_no_registration(&self) -> bool
+        ensures { result ≡ is_empty (table_of self.now).registrations }
+    {
+        self.registrations.is_empty()
+    }
+
+    /// Makes an observer, and gives its number (DOM Standard, constructor of MutationObserver).
+    pub(crate) fn make(&mut self) -> Result<u32, Fault>
+        ensures number { IfOk result (λ k. k ≡ length (table_of self.old).record_queues) }
+        ensures tables { OnOk result (table_of self.new ≡ with_observer (table_of self.old)) }
+        ensures limit { (result ≡ Err (Fault.Refused Refusal.Limit)) ↔ (past_limit (length (table_of self.old).record_queues) 1 ≡ true) }
+        ensures other { IfErr result (λ fault. (fault ≡ Fault.Refused Refusal.Limit) ⊎ (fault ≡ Fault.Memory)) }
+        ensures err { OnErr result (table_of self.new ≡ table_of self.old) }
+    {
+        let number = self.queues.len();
+        if number >= MAX_NODES as usize {
+            return Err(Fault::Refused(Refusal::Limit));
+        }
+        self.queues.push(Vec::new(self.alloc))?;
+        Ok(number as u32)
+    }
+
+    /// Registers an observer on a node, or gives its registration there other options (DOM Standard, observe()).
+    pub(crate) fn observe(
+        &mut self,
+        observer: u32,
+        node: Key,
+        options: Options,
+    ) -> Result<(), Fault>
+        ensures tables { OnOk result (table_of self.new ≡ observing nat_eq observer node (words_of options) (table_of self.old)) }
+        ensures unknown { (result ≡ Err (Fault.Refused Refusal.Unknown)) ↔ (nat_lt observer (length (table_of self.old).record_queues) ≡ false) }
+        ensures no_kind { (result ≡ Err (Fault.Refused Refusal.TypeFault)) ↔ ((nat_lt observer (length (table_of self.old).record_queues) ≡ true) × (asks_for_nothing (options_of (words_of options)) ≡ true)) }
+        ensures other { IfErr result (λ fault. (fault ≡ Fault.Refused Refusal.Unknown) ⊎ ((fault ≡ Fault.Refused Refusal.TypeFault) ⊎ (fault ≡ Fault.Memory))) }
+        ensures err { OnErr result (table_of self.new ≡ table_of self.old) }
+    {
+        if observer as usize >= self.queues.len() {
+            return Err(Fault::Refused(Refusal::Unknown));
+        }
+        let options = options.completed();
+        if options.ask_for_nothing() {
+            return Err(Fault::Refused(Refusal::TypeFault));
+        }
+        let options = Rc::new(self.alloc, options)?;
+        if self.is_registered(observer, node) {
+            self.registrations = self.renewed(observer, node, &options)?;
+        } else {
+            self.registrations.push(Registered {
+                node,
+                observer,
+                options,
+                source: Source::AskedFor,
+            })?;
+        }
+        Ok(())
+    }
+
+    /// Whether an observer has a registration on a node that was asked for.
+    fn is_registered(&self, observer: u32, node: Key) -> bool
+        ensures { result ≡ list_any (is_asked_for nat_eq observer node) (table_of self.now).registrations }
+    {
+        self.registrations
+            .iter()
+            .any(|registered| registered.is_asked_for(observer, node))
+    }
+
+    /// The registrations where an observer's on a node has other options, and the transient copies of it are gone.
+    fn renewed(
+        &self,
+        observer: u32,
+        node: Key,
+        options: &Rc<Options>,
+    ) -> Result<Vec<Registered>, AllocError>
+        ensures { IfOk result (λ rs. map registration_of rs.items ≡ map (with_options nat_eq observer node (words_of options.now.value)) (filter (λ r. not ((r.observer == observer) && stems_from nat_eq node r.source)) (table_of self.now).registrations)) }
+    {
+        let mut renewed = Vec::new(self.alloc);
+        for registered in &self.registrations {
+            if !registered.stems_from(observer, node) {
+                renewed.push(registered.renewed(observer, node, options)?)?;
+            }
+        }
+        Ok(renewed)
+    }
+
+    /// Takes an observer's registrations away, transient ones too, and empties its record queue, where there is such an
+    /// observer (DOM Standard, disconnect()).
+    pub(crate) fn disconnect(&mut self, observer: u32) -> bool
+        ensures value { result ≡ nat_lt observer (length (table_of self.old).record_queues) }
+        ensures tables { table_of self.new ≡ (if result then disconnected observer (table_of self.old) else table_of self.old) }
+    {
+        if self.take(observer).is_none() {
+            return false;
+        }
+        self.registrations
+            .retain(|registered| registered.observer != observer);
+        true
+    }
+
+    /// Empties an observer's record queue, and gives the records in it (DOM Standard, takeRecords()).
+    pub(crate) fn take(&mut self, observer: u32) -> Option<Vec<Record>>
+        ensures records { option_map (λ records. map change_of records.items) result ≡ slice_get (table_of self.old).record_queues observer }
+        ensures tables { table_of self.new ≡ emptied observer (table_of self.old) }
+    {
+        let alloc = self.alloc;
+        let queue = self.queues.get_mut(observer as usize)?;
+        Some(mem::replace(queue, Vec::new(alloc)))
+    }
+
+    /// Gives the record of a change to the observers that are interested in it, where the changed node has these inclusive
+    /// ancestors (DOM Standard, queue a mutation record). The last of them gets the change itself.
+    pub(crate) fn queue_record(&mut self, path: &[Key], change: Change) -> Result<bool, AllocError>
+        ensures taken { IfOk result (λ taken. taken ≡ is_taken nat_eq path.now (table_of self.old) (change_of change)) }
+        ensures tables { OnOk result (table_of self.new ≡ told nat_eq path.now (change_of change) (table_of self.old)) }
+    {
+        let takers = Takers::of(self.alloc, self.registrations.as_slice(), path, &change)?;
+        let Some((last, others)) = takers.observers.as_slice().split_last() else {
+            return Ok(false);
+        };
+        self.give_copies(others, &takers, &change)?;
+        self.give(*last, change.recorded(takers.get_old(*last)))?;
+        Ok(true)
+    }
+
+    /// Gives each of these observers a copy of a change as its record.
+    fn give_copies(
+        &mut self,
+        observers: &[u32],
+        takers: &Takers,
+        change: &Change,
+    ) -> Result<(), AllocError>
+        ensures { OnOk result (table_of self.new ≡ fold (λ t k. given (record_of takers.now (change_of change.now) k) t k) (table_of self.old) observers.now) }
+    {
+        let alloc = self.alloc;
+        for observer in observers {
+            let copy = change.copied(alloc, takers.get_old(*observer))?;
+            self.give(*observer, copy)?;
+        }
+        Ok(())
+    }
+
+    /// Puts a record behind those of an observer, which is then pending.
+    fn give(&mut self, observer: u32, entry: Record) -> Result<(), AllocError>
+        ensures { OnOk result (table_of self.new ≡ given (change_of entry) (table_of self.old) observer) }
+    {
+        self.append(observer, entry)?;
+        self.pending.insert(observer)?;
+        Ok(())
+    }
+
+    /// Puts a record behind those of an observer.
+    fn append(&mut self, observer: u32, entry: Record) -> Result<(), AllocError>
+        ensures { OnOk result (table_of self.new ≡ appended (change_of entry) (table_of self.old) observer) }
+    {
+        match self.queues.get_mut(observer as usize) {
+            Some(queue) => {
+                queue.push(entry)?;
+                Ok(())
+            }
+            None => Ok(()),
+        }
+    }
+
+    /// Adds the transient registrations of a removed node, whose parent had these inclusive ancestors (DOM Standard,
+    /// remove).
+    pub(crate) fn add_transients(&mut self, path: &[Key], node: Key) -> Result<(), AllocError>
+        ensures { OnOk result (table_of self.new ≡ left nat_eq node path.now (table_of self.old)) }
+    {
+        let mut copies = Vec::new(self.alloc);
+        for above in path {
+            copy_on(self.registrations.as_slice(), *above, node, &mut copies)?;
+        }
+        self.registrations.append(&mut copies)?;
+        Ok(())
+    }
+
+    /// Empties the set of pending observers, and gives each with its records, in order; these are then gone from the queues,
+    /// and the observers' transient registrations are gone too (DOM Standard, notify mutation observers).
+    pub(crate) fn notify(&mut self) -> Result<Vec<(u32, Vec<Record>)>, AllocError>
+        ensures notices { IfOk result (λ list. map notice_of list.items ≡ notices (table_of self.old)) }
+        ensures tables { OnOk result (table_of self.new ≡ notified (table_of self.old)) }
+    {
+        let alloc = self.alloc;
+        let pending = mem::replace(&mut self.pending, IndexSet::new(alloc));
+        let mut notices = Vec::new(alloc);
+        for observer in pending.as_slice() {
+            let records = self.take(*observer).unwrap_or(Vec::new(alloc));
+            notices.push((*observer, records))?;
+        }
+        self.registrations.retain(|registered| {
+            !(registered.is_transient() && pending.contains(&registered.observer))
+        });
+        Ok(notices)
+    }
+}
+
+/// Puts the transient copies of the registrations on a node that observe its subtree behind others, for a removed node.
+fn copy_on(
+    registrations: &[Registered],
+    above: Key,
+    node: Key,
+    copies: &mut Vec<Registered>,
+) -> Result<(), AllocError>
+    ensures { OnOk result (map registration_of copies.new.items ≡ copied_on node (map registration_of registrations.now) (map registration_of copies.old.items) above) }
+{
+    for registered in registrations {
+        if registered.observes_below(above) {
+            copies.push(registered.copied_to(node)?)?;
+        }
+    }
+    Ok(())
+}
