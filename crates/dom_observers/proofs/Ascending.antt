@@ -118,4 +118,4 @@ pub path_keys-named : (f : NamedTrees) → StandOnce f → StandAlone f → (k :
     → (map (name_at f.names) (path_keys f k) ≡ inclusive_ancestors f.trees (name_at f.names k)) × AreAll (IsKey f.names) (path_keys f k)
 path_keys-named f once only k node =
     all_keyed f.names (inclusive_ancestors f.trees (name_at f.names k))
-      (λ x i. only x (is_in-from x (names_of (nodes f.trees)) (In-names f.trees x (Has-above f.trees x (name_at f.names k) (Once-forest f once only) (Has-forest f once k node) i))))
+    (λ x i. only x (is_in-from x (names_of (nodes f.trees)) (In-names f.trees x (Has-above f.trees x (name_at f.names k) (Once-forest f once only) (Has-forest f once k node) i))))
