@@ -3,7 +3,7 @@ use super::*;
 
 // A chain of this many elements, built from the bottom up: the last one that was made is its root.
 fn chain(rt: &impl Abort, alloc: Global, session: &mut Session, count: usize) -> Result<(), Fail> {
-    for number in 1..count + 1 {
+    for number in 1..count.saturating_add(1) {
         let answer = session.line(b"p new element a")?;
         let wanted = format!(in alloc; "p ok n{number}\n")?;
         assert_eq!(rt; answer.as_slice(), wanted.as_bytes());
@@ -23,7 +23,7 @@ fn chain(rt: &impl Abort, alloc: Global, session: &mut Session, count: usize) ->
 fn chain_text(alloc: Global, count: usize) -> Result<Vec<u8>, Fail> {
     let mut text = Vec::new(alloc);
     text.extend_from_slice(b"p ok")?;
-    for number in (1..count + 1).rev() {
+    for number in (1..count.saturating_add(1)).rev() {
         let opening = format!(in alloc; " (n{number} element a")?;
         text.extend_from_slice(opening.as_bytes())?;
     }
