@@ -12,31 +12,51 @@ use std::alloc::{AllocError, Global};
 use std::process::Abort;
 use std::test::Fail;
 
-// The node of the page with this number.
-pub(super) fn n(number: u32) -> NodeName {
-    NodeName {
-        owner: Owner::Page,
-        number,
-    }
+// What is done in a test: to which nodes, and which slots it signals. Nodes are written as `n1` of the page, `m1` of the
+// first component and `k1` of the second one.
+#[derive(Clone, Copy)]
+pub(super) enum Line<'a> {
+    // A parent, the node that is placed behind its children, the signals.
+    Append(&'a str, &'a str, &'a str),
+    // A parent, the node that is placed, the child before which it is, the signals.
+    Insert(&'a str, &'a str, &'a str, &'a str),
+    // The node that is removed, the signals.
+    Remove(&'a str, &'a str),
+    // An element, the attribute that is set, its value, the signals.
+    Set(&'a str, &'a str, &'a str, &'a str),
+    // An element, the attribute that is taken away, the signals.
+    Unset(&'a str, &'a str, &'a str),
+    // A slot, the nodes that are assigned to it.
+    Look(&'a str, &'a str),
+    // A node without a slot.
+    Free(&'a str),
 }
 
-// The node of the first component with this number.
-pub(super) fn m(number: u32) -> NodeName {
-    NodeName {
-        owner: Owner::Component(1),
-        number,
-    }
+// The name that is written like this.
+pub(super) fn name(text: &str) -> NodeName {
+    let bytes = text.as_bytes();
+    let owner = match bytes.first() {
+        Some(b'n') => Owner::Page,
+        Some(b'm') => Owner::Component(1),
+        _ => Owner::Component(2),
+    };
+    let number = match bytes.get(1) {
+        Some(digit) => u32::from(digit.wrapping_sub(b'0')),
+        None => 0,
+    };
+    NodeName { owner, number }
 }
 
-// The node of the second component with this number.
-pub(super) fn k(number: u32) -> NodeName {
-    NodeName {
-        owner: Owner::Component(2),
-        number,
+// The names that are written in a row.
+fn names(alloc: Global, text: &str) -> Result<Vec<NodeName>, AllocError> {
+    let mut names = Vec::new(alloc);
+    for word in text.split_whitespace() {
+        names.push(name(word))?;
     }
+    Ok(names)
 }
 
-pub(super) fn node(alloc: Global, kind: Kind, element: &str) -> Result<NodeData, AllocError>
+fn node(alloc: Global, kind: Kind, element: &str) -> Result<NodeData, AllocError>
     ensures { IfOk result (λ node. node.document ≡ None) }
 {
     Ok(NodeData {
@@ -75,7 +95,7 @@ pub(super) fn key_of(rt: &impl Abort, forest: &Forest, name: NodeName) -> Key
 }
 
 // Whether these are the keys of these names, in order.
-pub(super) fn are(rt: &impl Abort, forest: &Forest, keys: &[Key], names: &[NodeName]) -> bool {
+fn are(rt: &impl Abort, forest: &Forest, keys: &[Key], names: &[NodeName]) -> bool {
     if keys.len() != names.len() {
         return false;
     }
@@ -87,7 +107,7 @@ pub(super) fn are(rt: &impl Abort, forest: &Forest, keys: &[Key], names: &[NodeN
     true
 }
 
-pub(super) fn units(alloc: Global, text: &str) -> Result<DomStr, AllocError> {
+fn units(alloc: Global, text: &str) -> Result<DomStr, AllocError> {
     let mut units = Vec::new(alloc);
     for byte in text.as_bytes() {
         units.push(u16::from(*byte))?;
@@ -121,7 +141,7 @@ pub(super) fn attach(
 }
 
 // Places a node behind the children of another one, which signals these slots.
-pub(super) fn append(
+fn append(
     rt: &impl Abort,
     forest: &mut Forest,
     slots: &mut Slots,
@@ -147,7 +167,7 @@ pub(super) fn append(
 }
 
 // Places a node before a child of another one, which signals these slots.
-pub(super) fn insert(
+fn insert(
     rt: &impl Abort,
     forest: &mut Forest,
     slots: &mut Slots,
@@ -176,7 +196,7 @@ pub(super) fn insert(
 }
 
 // Takes a node out of its parent, which signals these slots.
-pub(super) fn remove(
+fn remove(
     rt: &impl Abort,
     forest: &mut Forest,
     slots: &mut Slots,
@@ -198,7 +218,7 @@ pub(super) fn remove(
 }
 
 // Sets an attribute, which signals these slots.
-pub(super) fn set(
+fn set(
     rt: &impl Abort,
     alloc: Global,
     forest: &mut Forest,
@@ -224,7 +244,7 @@ pub(super) fn set(
 }
 
 // Takes an attribute away, which signals these slots.
-pub(super) fn unset(
+fn unset(
     rt: &impl Abort,
     forest: &mut Forest,
     slots: &mut Slots,
@@ -247,7 +267,7 @@ pub(super) fn unset(
 }
 
 // Looks whether these are the nodes assigned to a slot, and each of them has that slot.
-pub(super) fn look(
+fn look(
     rt: &impl Abort,
     forest: &Forest,
     slots: &Slots,
@@ -267,11 +287,27 @@ pub(super) fn look(
 }
 
 // Whether a node has no slot.
-pub(super) fn is_free(rt: &impl Abort, forest: &Forest, slots: &Slots, name: NodeName) -> bool
+fn is_free(rt: &impl Abort, forest: &Forest, slots: &Slots, name: NodeName) -> bool
     requires slots { AreSlotsOf forest.now slots.now }
     requires free { slots.now.begun ≡ None }
 {
     slots.slot_of(forest, key_of(rt, forest, name)).is_none()
+}
+
+// Looks whether a host and a shadow root belong to one another, and neither is the other kind of node.
+pub(super) fn belong(
+    rt: &impl Abort,
+    forest: &Forest,
+    slots: &Slots,
+    host: NodeName,
+    root: NodeName,
+) {
+    let host = key_of(rt, forest, host);
+    let root = key_of(rt, forest, root);
+    assert!(rt; slots.root_of(host) == Some(root));
+    assert!(rt; slots.host_of(root) == Some(host));
+    assert!(rt; slots.root_of(root).is_none());
+    assert!(rt; slots.host_of(host).is_none());
 }
 
 // A forest with the page's `html` and these nodes, and the first component's shadow root and these nodes, each alone.
@@ -290,6 +326,83 @@ pub(super) fn hosted(rt: &impl Abort, alloc: Global, forest: &Forest) -> Result<
     ensures free { IfOk result (λ slots. slots.begun ≡ None) }
 {
     let mut slots = Slots::new(alloc);
-    attach(rt, alloc, forest, &mut slots, n(1), m(0))?;
+    attach(rt, alloc, forest, &mut slots, name("n1"), name("m0"))?;
     Ok(slots)
+}
+
+// Does what a line says, and looks whether it is as the line says.
+fn perform(
+    rt: &impl Abort,
+    alloc: Global,
+    forest: &mut Forest,
+    slots: &mut Slots,
+    line: &Line<'_>,
+) -> Result<(), AllocError>
+    requires slots { AreSlotsOf forest.old slots.old }
+    requires free { slots.old.begun ≡ None }
+    ensures slots { OnOk result (AreSlotsOf forest.new slots.new) }
+    ensures free { OnOk result (slots.new.begun ≡ None) }
+{
+    match line {
+        Line::Append(parent, child, signals) => {
+            let signals = names(alloc, signals)?;
+            append(rt, forest, slots, name(parent), name(child), &signals)
+        }
+        Line::Insert(parent, child, before, signals) => {
+            let signals = names(alloc, signals)?;
+            insert(
+                rt,
+                forest,
+                slots,
+                name(parent),
+                name(child),
+                name(before),
+                &signals,
+            )
+        }
+        Line::Remove(node, signals) => {
+            let signals = names(alloc, signals)?;
+            remove(rt, forest, slots, name(node), &signals)
+        }
+        Line::Set(node, attribute, value, signals) => {
+            let signals = names(alloc, signals)?;
+            set(
+                rt,
+                alloc,
+                forest,
+                slots,
+                name(node),
+                (attribute, value),
+                &signals,
+            )
+        }
+        Line::Unset(node, attribute, signals) => {
+            let signals = names(alloc, signals)?;
+            unset(rt, forest, slots, name(node), attribute, &signals)
+        }
+        Line::Look(slot, nodes) => {
+            let nodes = names(alloc, nodes)?;
+            look(rt, forest, slots, name(slot), &nodes)
+        }
+        Line::Free(node) => {
+            assert!(rt; is_free(rt, forest, slots, name(node)));
+            Ok(())
+        }
+    }
+}
+
+// Does what the lines say, in a forest with these nodes whose `div` has the shadow root.
+pub(super) fn run(
+    rt: &impl Abort,
+    alloc: Global,
+    page: &[&str],
+    component: &[&str],
+    lines: &[Line<'_>],
+) -> Result<(), Fail> {
+    let mut forest = nodes(alloc, page, component)?;
+    let mut slots = hosted(rt, alloc, &forest)?;
+    for line in lines {
+        perform(rt, alloc, &mut forest, &mut slots, line)?;
+    }
+    Ok(())
 }
