@@ -1,9 +1,11 @@
+mod lines;
 mod steps;
 
 use dom_base::Owner;
+use lines::Line::{Append, Free, Insert, Look, Remove, Set, Unset};
+use lines::name;
 use std::test::Fail;
-use steps::Line::{Append, Free, Insert, Look, Remove, Set, Unset};
-use steps::{add, attach, belong, hosted, name, nodes, run};
+use steps::{add, attach, belong, hosted, nodes, run};
 
 #[test]
 fn hosts_and_roots_find_each_other(rt: HostRuntime) -> Result<(), Fail> {
