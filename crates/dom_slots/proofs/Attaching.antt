@@ -1,8 +1,7 @@
 -- A host more whose shadow tree has no slot changes nothing of what is assigned.
-use Rattle.std.proofs.Common.{◌≡◌, inl, inr, ℕ, ◌<◌, Bool, true, false, ◌||◌, List, [], ◌∷◌, ◌++◌, length, Option, Some, None, filter, refl, sym, ap, subst, ◌∙◌, true≢false}
+use Rattle.std.proofs.Common.{◌≡◌, inl, inr, Bool, true, false, List, [], ◌∷◌, ◌++◌, Option, Some, None, filter, refl, sym, ap, subst, ◌∙◌, true≢false}
 use Rattle.std.specs.Prelude.{find, if◌then◌else◌, option_to_list, unwrap_or}
 use Rattle.std.specs.Option.{option_map, option_map_or, option_and_then}
-use Rattle.std.specs.List.{last_or}
 use Rattle.std.proofs.lemmas.Bool.{and_parts, false_from_ne_true}
 use Rattle.dom_base.specs.declared.NodeName.{NodeName}
 use Rattle.dom_model.specs.Names.{DomString, name_eq, is_in, last_of}
@@ -14,7 +13,7 @@ use Rattle.dom_traversal.proofs.Shapes.{Once, Has, Has-subtree, above-present, b
 use Rattle.dom_traversal.proofs.Children.{In-names, Has-names}
 use Rattle.dom_slots.proofs.Named.{named-filter}
 use Rattle.dom_slots.proofs.Entering.{NoneHas, unassigned}
-use Rattle.dom_slots.specs.Hosts.{ShadowHost, HostsAreNodes, host_named, root_named}
+use Rattle.dom_slots.specs.Hosts.{ShadowHost, host_named, root_named}
 use Rattle.dom_slots.specs.Shadows.{ShadowTrees, shadow_trees, slot_at, assigned_at, assigned_under, is_assigned_at}
 
 -- what one more item adds to what is found

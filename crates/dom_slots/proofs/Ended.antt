@@ -1,6 +1,5 @@
 -- What the end of a step signals, from the tables before and after it.
 use Rattle.std.proofs.Common.{◌≡◌, ℕ, ◌<◌, Bool, not, List, [], Some, map, length, refl, sym, ap, subst, ◌∙◌}
-use Rattle.std.specs.Prelude.{nat_eq, Vec, Result, IfOk}
 use Rattle.std.specs.Option.{option_map, option_map_or}
 use Rattle.dom_base.specs.declared.NodeName.{NodeName}
 use Rattle.dom_model.specs.Names.{name_eq, list_eq}

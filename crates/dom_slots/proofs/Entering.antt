@@ -1,21 +1,20 @@
 -- A table that is filled slot by slot and tree by tree.
-use Rattle.std.proofs.Common.{◌≡◌, ◌⊎◌, inl, inr, ℕ, zero, suc, ◌+◌, ◌<◌, ◌≤◌, Bool, true, false, ◌||◌, List, [], ◌∷◌, ◌++◌, All, map, take, length, get_or, filter, Option, Some, None, refl, sym, ap, subst, ◌∙◌, arith, true≢false}
+use Rattle.std.proofs.Common.{◌≡◌, ◌⊎◌, inl, inr, ℕ, zero, suc, ◌+◌, ◌<◌, ◌≤◌, Bool, true, false, ◌||◌, List, [], ◌∷◌, ◌++◌, All, map, take, length, get_or, filter, Option, Some, None, refl, sym, ap, subst, ◌∙◌, true≢false}
 use Rattle.std.specs.Prelude.{nat_eq, if◌then◌else◌, slice_get, find, option_to_list}
 use Rattle.std.specs.Option.{option_map, option_map_or, option_and_then}
-use Rattle.std.specs.List.{list_any}
-use Rattle.std.proofs.lemmas.Bool.{cases_Bool, eqb-true, false_from_ne_true, and_parts, or_left, or_right}
+use Rattle.std.proofs.lemmas.Bool.{eqb-true, false_from_ne_true, and_parts, or_left, or_right}
 use Rattle.std.proofs.lemmas.List.{map-append, take_more, take_all}
 use Rattle.std.proofs.lemmas.List.Folds.{list_any-append}
 use Rattle.std.proofs.lemmas.Option.{slice_get_cases}
 use Rattle.dom_base.specs.declared.NodeName.{NodeName}
 use Rattle.dom_model.specs.Names.{DomString, name_eq, is_in}
-use Rattle.dom_model.specs.Tree.{Trees, Node, nodes, names_of, node_in, parent_of, root_of, children_of, subtree}
-use Rattle.dom_model.specs.Slots.{slots_among, slot_in, has_slot_name, slottable_name, slot_name, is_slot_element}
+use Rattle.dom_model.specs.Tree.{Node, nodes, names_of, node_in, parent_of, root_of, children_of, subtree}
+use Rattle.dom_model.specs.Slots.{slots_among, slot_in, has_slot_name, slottable_name, is_slot_element}
 use Rattle.dom_tree.specs.Forest.{NamedTrees, name_at}
 use Rattle.dom_tree.proofs.Names.{name_eq-turned}
 use Rattle.dom_traversal.proofs.Lists.{name_eq-from, name_eq-true, filter-none}
 use Rattle.dom_slots.specs.Hosts.{ShadowHost, HostsAreNodes, root_named}
-use Rattle.dom_slots.specs.Shadows.{ShadowTrees, shadows, slot_at, assigned_at, assigned_under, is_assigned_at}
+use Rattle.dom_slots.specs.Shadows.{shadows, slot_at, assigned_at, assigned_under, is_assigned_at}
 use Rattle.dom_slots.specs.Tables.{SlotTable, list_of, IsEntered}
 use Rattle.dom_slots.proofs.Hosted.{AreDistinct, key-test}
 

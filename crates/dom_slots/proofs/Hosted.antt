@@ -1,13 +1,13 @@
 -- Hosts by their keys and by their names, and the slot of a node by the way in which it is looked for.
-use Rattle.std.proofs.Common.{◌≡◌, ◌≢◌, inl, inr, ℕ, ◌<◌, Bool, true, false, ◌||◌, List, [], ◌∷◌, length, Option, Some, None, refl, sym, ap, ◌∙◌, arith}
+use Rattle.std.proofs.Common.{◌≡◌, inl, inr, ℕ, ◌<◌, false, ◌||◌, List, [], ◌∷◌, length, Option, Some, None, refl, sym, ap, ◌∙◌}
 use Rattle.std.specs.Prelude.{nat_eq, find, option_to_list}
 use Rattle.std.specs.Option.{option_map, option_and_then, option_eq, ForSome}
 use Rattle.std.proofs.lemmas.Bool.{cases_Bool, eqb-true, eq-eqb, both_ways}
 use Rattle.dom_base.specs.declared.NodeName.{NodeName}
 use Rattle.dom_model.specs.Names.{DomString, name_eq, is_in}
-use Rattle.dom_model.specs.Tree.{Trees, Node, node_in, nodes, parent_of, subtree}
+use Rattle.dom_model.specs.Tree.{Node, node_in, nodes, parent_of, subtree}
 use Rattle.dom_model.specs.Slots.{has_slot_name, slottable_name, slot_in}
-use Rattle.dom_tree.specs.Forest.{NamedTrees, name_at}
+use Rattle.dom_tree.specs.Forest.{name_at}
 use Rattle.dom_traversal.proofs.Lists.{name_eq-from, name_eq-other}
 use Rattle.node_arena.specs.contracts.key.KeyPartialEq.TheImpl as KeyImpl
 use Rattle.dom_slots.specs.Hosts.{ShadowHost, HostsAreNodes, host_of_root, root_of_host, host_named, root_named}

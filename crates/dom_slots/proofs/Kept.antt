@@ -1,12 +1,12 @@
 -- The hosts as the maps of a `Slots` hold them.
-use Rattle.std.proofs.Common.{◌≡◌, inl, inr, ℕ, List, [], ◌∷◌, ◌++◌, Option, None, Some, map, refl, sym, ap, ◌∙◌}
-use Rattle.std.specs.Prelude.{nat_eq, find}
+use Rattle.std.proofs.Common.{◌≡◌, inl, inr, ℕ, List, [], ◌∷◌, Option, None, Some, map, refl, ◌∙◌}
+use Rattle.std.specs.Prelude.{nat_eq}
 use Rattle.std.specs.Option.{option_map}
 use Rattle.std.specs.Map.{lookup}
 use Rattle.std.proofs.lemmas.Bool.{cases_Bool}
 use Rattle.dom_slots.specs.declared.slots.Attached.{Attached}
-use Rattle.dom_slots.specs.Hosts.{ShadowHost, host_of_root, root_of_host}
-use Rattle.dom_slots.specs.Fields.{host_in, hosts_in}
+use Rattle.dom_slots.specs.Hosts.{host_of_root, root_of_host}
+use Rattle.dom_slots.specs.Fields.{hosts_in}
 
 -- the shadow root of a host is found by the host
 pub lookup-root : (k : ℕ) (es : List (ℕ × Attached)) → option_map (λ a. a.root) (lookup (nat_eq k) es) ≡ root_of_host (hosts_in es) k

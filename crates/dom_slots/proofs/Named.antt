@@ -1,5 +1,5 @@
 -- Nodes of trees and their names: what is asked of the nodes is asked of the names.
-use Rattle.std.proofs.Common.{◌≡◌, ◌⊎◌, inl, inr, Bool, true, false, cond, List, [], ◌∷◌, ◌++◌, Option, Some, None, map, filter, refl, sym, ap, subst, ◌∙◌}
+use Rattle.std.proofs.Common.{◌≡◌, ◌⊎◌, inl, inr, Bool, List, [], ◌∷◌, ◌++◌, Some, filter, refl, sym, ap, subst, ◌∙◌}
 use Rattle.std.specs.Prelude.{find, unwrap_or}
 use Rattle.std.specs.Option.{option_map}
 use Rattle.std.proofs.lemmas.Bool.{cases_Bool}
@@ -7,7 +7,7 @@ use Rattle.dom_base.specs.declared.NodeName.{NodeName}
 use Rattle.dom_model.specs.Names.{name_eq, first_of}
 use Rattle.dom_model.specs.Tree.{Trees, none, tree, Node, nodes, names_of, node_in, no_node, subtree, or_else, inclusive_descendants}
 use Rattle.dom_traversal.proofs.Lists.{In, Single, name_eq-from, name_eq-other}
-use Rattle.dom_traversal.proofs.Shapes.{Once, Has}
+use Rattle.dom_traversal.proofs.Shapes.{Once}
 use Rattle.dom_traversal.proofs.Children.{Single-names}
 
 -- a node is among these

@@ -5,11 +5,11 @@ use Rattle.std.specs.Option.{option_map, option_map_or, ForSome}
 use Rattle.std.proofs.lemmas.List.Concat.{flat_map-cons}
 use Rattle.dom_base.specs.declared.NodeName.{NodeName}
 use Rattle.dom_model.specs.Names.{name_eq, first_of, items_after, items_before}
-use Rattle.dom_model.specs.Tree.{Trees, parent_of, children_of, siblings, next_sibling, inclusive_descendants, inclusive_ancestors, subtree}
+use Rattle.dom_model.specs.Tree.{Trees, parent_of, children_of, siblings, next_sibling, inclusive_descendants, subtree}
 use Rattle.dom_tree.specs.Forest.{NamedTrees, name_at}
 use Rattle.dom_traversal.proofs.Lists.{In, In-left, In-right, Single, Single-right, Single-apart, no_first, first_split, split_at, after-split, after-in, name_eq-from}
 use Rattle.dom_traversal.proofs.Shapes.{Once, Has, above-present, below-from_above}
-use Rattle.dom_traversal.proofs.Children.{In-names, Single-names, parent-of_child, child-of_parent, descendants-children}
+use Rattle.dom_traversal.proofs.Children.{In-names, parent-of_child, child-of_parent, descendants-children}
 use Rattle.dom_traversal.proofs.Order.{IsWithin, all_single}
 
 -- the items from one on; none where there is none

@@ -1,5 +1,5 @@
 -- Slots, assigned nodes and signals in trees with shadow hosts, whoever owns the nodes.
-use Rattle.std.specs.Prelude.{◌≡◌, ◌≢◌, zero, Bool, not, ◌&&◌, codes, List, [], ◌∷◌, ◌++◌, filter, Option, None, option_map, option_to_list, is_some, if◌then◌else◌}
+use Rattle.std.specs.Prelude.{◌≡◌, ◌≢◌, Bool, not, ◌&&◌, List, [], ◌∷◌, ◌++◌, filter, Option, None, option_map, option_to_list, is_some, if◌then◌else◌}
 use Rattle.std.specs.Option.{option_and_then, option_map_or}
 use Rattle.dom_base.specs.declared.Owner.{Owner}
 use Rattle.dom_base.specs.declared.NodeName.{NodeName}

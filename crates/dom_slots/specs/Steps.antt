@@ -5,7 +5,7 @@ use Rattle.dom_base.specs.declared.NodeName.{NodeName}
 use Rattle.dom_model.specs.Names.{Word, DomString}
 use Rattle.dom_model.specs.Tree.{Trees, parent_of}
 use Rattle.dom_model.specs.TreeChanges.{placed, taken_out, change_node, with_attribute}
-use Rattle.dom_tree.specs.Forest.{NamedTrees, name_at}
+use Rattle.dom_tree.specs.Forest.{name_at}
 use Rattle.dom_slots.specs.declared.step.Step.{Step}
 use Rattle.dom_slots.specs.declared.step.Step.TheVariants.{Place, Removal, Attribute}
 use Rattle.dom_slots.specs.Shadows.{ShadowTrees, signals_at}

@@ -2,6 +2,7 @@
 ghost use Rattle.std.specs.Prelude.{◌≡◌, ◌<◌, length, None, IfOk, OnOk};
 ghost use Rattle.dom_slots.specs.Kept.{AreSlotsOf};
 
+use super::lines::{Line, name, names};
 use crate::find::slots_below;
 use crate::{Slots, Step, steps_end};
 use dom_base::{DomStr, Kind, NodeName, Owner};
@@ -12,31 +13,7 @@ use std::alloc::{AllocError, Global};
 use std::process::Abort;
 use std::test::Fail;
 
-// The node of the page with this number.
-pub(super) fn n(number: u32) -> NodeName {
-    NodeName {
-        owner: Owner::Page,
-        number,
-    }
-}
-
-// The node of the first component with this number.
-pub(super) fn m(number: u32) -> NodeName {
-    NodeName {
-        owner: Owner::Component(1),
-        number,
-    }
-}
-
-// The node of the second component with this number.
-pub(super) fn k(number: u32) -> NodeName {
-    NodeName {
-        owner: Owner::Component(2),
-        number,
-    }
-}
-
-pub(super) fn node(alloc: Global, kind: Kind, element: &str) -> Result<NodeData, AllocError>
+fn node(alloc: Global, kind: Kind, element: &str) -> Result<NodeData, AllocError>
     ensures { IfOk result (λ node. node.document ≡ None) }
 {
     Ok(NodeData {
@@ -75,7 +52,7 @@ pub(super) fn key_of(rt: &impl Abort, forest: &Forest, name: NodeName) -> Key
 }
 
 // Whether these are the keys of these names, in order.
-pub(super) fn are(rt: &impl Abort, forest: &Forest, keys: &[Key], names: &[NodeName]) -> bool {
+fn are(rt: &impl Abort, forest: &Forest, keys: &[Key], names: &[NodeName]) -> bool {
     if keys.len() != names.len() {
         return false;
     }
@@ -87,7 +64,7 @@ pub(super) fn are(rt: &impl Abort, forest: &Forest, keys: &[Key], names: &[NodeN
     true
 }
 
-pub(super) fn units(alloc: Global, text: &str) -> Result<DomStr, AllocError> {
+fn units(alloc: Global, text: &str) -> Result<DomStr, AllocError> {
     let mut units = Vec::new(alloc);
     for byte in text.as_bytes() {
         units.push(u16::from(*byte))?;
@@ -121,7 +98,7 @@ pub(super) fn attach(
 }
 
 // Places a node behind the children of another one, which signals these slots.
-pub(super) fn append(
+fn append(
     rt: &impl Abort,
     forest: &mut Forest,
     slots: &mut Slots,
@@ -147,7 +124,7 @@ pub(super) fn append(
 }
 
 // Places a node before a child of another one, which signals these slots.
-pub(super) fn insert(
+fn insert(
     rt: &impl Abort,
     forest: &mut Forest,
     slots: &mut Slots,
@@ -176,7 +153,7 @@ pub(super) fn insert(
 }
 
 // Takes a node out of its parent, which signals these slots.
-pub(super) fn remove(
+fn remove(
     rt: &impl Abort,
     forest: &mut Forest,
     slots: &mut Slots,
@@ -198,7 +175,7 @@ pub(super) fn remove(
 }
 
 // Sets an attribute, which signals these slots.
-pub(super) fn set(
+fn set(
     rt: &impl Abort,
     alloc: Global,
     forest: &mut Forest,
@@ -224,7 +201,7 @@ pub(super) fn set(
 }
 
 // Takes an attribute away, which signals these slots.
-pub(super) fn unset(
+fn unset(
     rt: &impl Abort,
     forest: &mut Forest,
     slots: &mut Slots,
@@ -247,7 +224,7 @@ pub(super) fn unset(
 }
 
 // Looks whether these are the nodes assigned to a slot, and each of them has that slot.
-pub(super) fn look(
+fn look(
     rt: &impl Abort,
     forest: &Forest,
     slots: &Slots,
@@ -267,11 +244,27 @@ pub(super) fn look(
 }
 
 // Whether a node has no slot.
-pub(super) fn is_free(rt: &impl Abort, forest: &Forest, slots: &Slots, name: NodeName) -> bool
+fn is_free(rt: &impl Abort, forest: &Forest, slots: &Slots, name: NodeName) -> bool
     requires slots { AreSlotsOf forest.now slots.now }
     requires free { slots.now.begun ≡ None }
 {
     slots.slot_of(forest, key_of(rt, forest, name)).is_none()
+}
+
+// Looks whether a host and a shadow root belong to one another, and neither is the other kind of node.
+pub(super) fn belong(
+    rt: &impl Abort,
+    forest: &Forest,
+    slots: &Slots,
+    host: NodeName,
+    root: NodeName,
+) {
+    let host = key_of(rt, forest, host);
+    let root = key_of(rt, forest, root);
+    assert!(rt; slots.root_of(host) == Some(root));
+    assert!(rt; slots.host_of(root) == Some(host));
+    assert!(rt; slots.root_of(root).is_none());
+    assert!(rt; slots.host_of(host).is_none());
 }
 
 // A forest with the page's `html` and these nodes, and the first component's shadow root and these nodes, each alone.
@@ -290,6 +283,83 @@ pub(super) fn hosted(rt: &impl Abort, alloc: Global, forest: &Forest) -> Result<
     ensures free { IfOk result (λ slots. slots.begun ≡ None) }
 {
     let mut slots = Slots::new(alloc);
-    attach(rt, alloc, forest, &mut slots, n(1), m(0))?;
+    attach(rt, alloc, forest, &mut slots, name("n1"), name("m0"))?;
     Ok(slots)
+}
+
+// Does what a line says, and looks whether it is as the line says.
+fn perform(
+    rt: &impl Abort,
+    alloc: Global,
+    forest: &mut Forest,
+    slots: &mut Slots,
+    line: &Line<'_>,
+) -> Result<(), AllocError>
+    requires slots { AreSlotsOf forest.old slots.old }
+    requires free { slots.old.begun ≡ None }
+    ensures slots { OnOk result (AreSlotsOf forest.new slots.new) }
+    ensures free { OnOk result (slots.new.begun ≡ None) }
+{
+    match line {
+        Line::Append(parent, child, signals) => {
+            let signals = names(alloc, signals)?;
+            append(rt, forest, slots, name(parent), name(child), &signals)
+        }
+        Line::Insert(parent, child, before, signals) => {
+            let signals = names(alloc, signals)?;
+            insert(
+                rt,
+                forest,
+                slots,
+                name(parent),
+                name(child),
+                name(before),
+                &signals,
+            )
+        }
+        Line::Remove(node, signals) => {
+            let signals = names(alloc, signals)?;
+            remove(rt, forest, slots, name(node), &signals)
+        }
+        Line::Set(node, attribute, value, signals) => {
+            let signals = names(alloc, signals)?;
+            set(
+                rt,
+                alloc,
+                forest,
+                slots,
+                name(node),
+                (attribute, value),
+                &signals,
+            )
+        }
+        Line::Unset(node, attribute, signals) => {
+            let signals = names(alloc, signals)?;
+            unset(rt, forest, slots, name(node), attribute, &signals)
+        }
+        Line::Look(slot, nodes) => {
+            let nodes = names(alloc, nodes)?;
+            look(rt, forest, slots, name(slot), &nodes)
+        }
+        Line::Free(node) => {
+            assert!(rt; is_free(rt, forest, slots, name(node)));
+            Ok(())
+        }
+    }
+}
+
+// Does what the lines say, in a forest with these nodes whose `div` has the shadow root.
+pub(super) fn run(
+    rt: &impl Abort,
+    alloc: Global,
+    page: &[&str],
+    component: &[&str],
+    lines: &[Line<'_>],
+) -> Result<(), Fail> {
+    let mut forest = nodes(alloc, page, component)?;
+    let mut slots = hosted(rt, alloc, &forest)?;
+    for line in lines {
+        perform(rt, alloc, &mut forest, &mut slots, line)?;
+    }
+    Ok(())
 }

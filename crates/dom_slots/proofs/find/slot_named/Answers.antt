@@ -1,4 +1,4 @@
-use Rattle.std.proofs.Common.{Bool, Some, None, refl, sym, ap, ◌∙◌}
+use Rattle.std.proofs.Common.{Bool, Some, refl, sym, ap, ◌∙◌}
 use Rattle.std.specs.Prelude.{filter}
 use Rattle.std.specs.Option.{option_map}
 use Rattle.dom_base.specs.declared.NodeName.{NodeName}

@@ -1,4 +1,4 @@
-use Rattle.std.proofs.Common.{◌≡◌, ℕ, ◌<◌, All, length, map, take}
+use Rattle.std.proofs.Common.{ℕ, ◌<◌, All, length, map, take}
 use Rattle.dom_tree.specs.Forest.{name_at}
 use Rattle.dom_slots.specs.Tables.{list_of, IsEntered}
 use Rattle.dom_slots.proofs.slots.Slots.add_tree.Given as goal

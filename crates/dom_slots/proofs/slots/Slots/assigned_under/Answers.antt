@@ -1,4 +1,4 @@
-use Rattle.std.proofs.Common.{◌≡◌, ◌<◌, ◌∷◌, ◌++◌, Bool, Some, None, All, length, map, refl, sym, ap, subst, ◌∙◌, arith}
+use Rattle.std.proofs.Common.{◌≡◌, ◌<◌, ◌∷◌, ◌++◌, Bool, Some, All, length, map, sym, ap, subst, ◌∙◌, arith}
 use Rattle.std.specs.Prelude.{filter, option_to_list}
 use Rattle.std.specs.Option.{option_map, option_eq}
 use Rattle.node_arena.specs.contracts.key.KeyPartialEq.TheImpl as KeyImpl

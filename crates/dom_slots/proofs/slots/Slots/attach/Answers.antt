@@ -1,4 +1,4 @@
-use Rattle.std.proofs.Common.{◌≡◌, ◌<◌, ◌++◌, ◌∷◌, [], List, ℕ, None, length, map, ap, sym, subst, ◌∙◌}
+use Rattle.std.proofs.Common.{◌≡◌, ◌<◌, ◌++◌, ◌∷◌, [], List, ℕ, None, length, ap, sym, subst, ◌∙◌}
 use Rattle.std.specs.Prelude.{nat_eq}
 use Rattle.std.specs.Map.{lookup}
 use Rattle.std.proofs.lemmas.List.{map-append}

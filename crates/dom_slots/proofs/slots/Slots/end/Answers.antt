@@ -1,14 +1,13 @@
-use Rattle.std.proofs.Common.{◌≡◌, ℕ, ◌<◌, Bool, Some, List, [], ◌∷◌, suc, length, map, refl, sym, ap, subst, ◌∙◌, arith}
-use Rattle.std.specs.Prelude.{IfOk, Option}
+use Rattle.std.proofs.Common.{◌≡◌, ℕ, ◌<◌, Bool, Some, List, [], ◌∷◌, length, map, refl, sym, ap, subst, ◌∙◌, arith}
+use Rattle.std.specs.Prelude.{IfOk}
 use Rattle.std.specs.Option.{option_map}
 use Rattle.dom_base.specs.declared.NodeName.{NodeName}
-use Rattle.dom_model.specs.Tree.{Trees}
 use Rattle.dom_tree.specs.Forest.{name_at}
 use Rattle.dom_slots.specs.Fields.{hosts_in, begun_in}
-use Rattle.dom_slots.specs.Kept.{BegunStep, SlotsNow, IsEndOf}
+use Rattle.dom_slots.specs.Kept.{SlotsNow, IsEndOf}
 use Rattle.dom_slots.specs.Shadows.{shadows, shadow_trees, is_changed_at}
 use Rattle.dom_slots.specs.Steps.{step_signals}
-use Rattle.dom_slots.specs.Tables.{SlotTable, has_other_list, IsTableOf}
+use Rattle.dom_slots.specs.Tables.{SlotTable, has_other_list}
 use Rattle.dom_slots.proofs.Ended.{changed-told, told_by, told-signals}
 use Rattle.dom_slots.proofs.Hostless.{hostless-signals}
 use Rattle.dom_slots.proofs.slots.Slots.end.Goals as goal

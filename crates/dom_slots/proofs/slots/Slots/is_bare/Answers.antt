@@ -9,7 +9,7 @@ use Rattle.dom_model.specs.Tree.{node_in, root_of}
 use Rattle.dom_tree.specs.Forest.{name_at}
 use Rattle.dom_slots.specs.Hosts.{host_named}
 use Rattle.dom_slots.specs.Kept.{SlotsNow}
-use Rattle.dom_slots.specs.Shadows.{shadows, assigned_at, is_bare_at}
+use Rattle.dom_slots.specs.Shadows.{shadows, assigned_at}
 use Rattle.dom_slots.specs.Tables.{list_of}
 use Rattle.dom_slots.proofs.Hosted.{host-named}
 use Rattle.dom_slots.proofs.slots.Slots.is_bare.Goals as goal

@@ -1,4 +1,4 @@
-use Rattle.std.proofs.Common.{ap, sym, ◌∙◌}
+use Rattle.std.proofs.Common.{ap, ◌∙◌}
 use Rattle.std.specs.Option.{option_map}
 use Rattle.dom_slots.specs.Hosts.{root_of_host}
 use Rattle.dom_slots.specs.Kept.{SlotsNow}

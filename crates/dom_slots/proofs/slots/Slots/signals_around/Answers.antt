@@ -1,4 +1,4 @@
-use Rattle.std.proofs.Common.{◌≡◌, ℕ, ◌<◌, Bool, true, false, ◌&&◌, [], ◌∷◌, ◌++◌, List, All, length, map, filter, refl, sym, ap, subst, ◌∙◌}
+use Rattle.std.proofs.Common.{◌≡◌, ℕ, ◌<◌, Bool, true, false, ◌&&◌, [], ◌∷◌, ◌++◌, List, All, length, map, filter, sym, ap, subst, ◌∙◌}
 use Rattle.std.specs.Prelude.{if◌then◌else◌, nat_eq, option_to_list, fold}
 use Rattle.std.specs.Option.{option_map}
 use Rattle.std.proofs.lemmas.List.{append-nil}
@@ -6,7 +6,7 @@ use Rattle.std.proofs.lemmas.List.Elements.{All-nil}
 use Rattle.dom_base.specs.declared.NodeName.{NodeName}
 use Rattle.dom_model.specs.Names.{append_once, distinct, name_eq}
 use Rattle.dom_model.specs.Slots.{slots_among}
-use Rattle.dom_model.specs.Tree.{Trees, subtree, root_of}
+use Rattle.dom_model.specs.Tree.{subtree, root_of}
 use Rattle.dom_tree.specs.Forest.{name_at}
 use Rattle.dom_slots.specs.Kept.{SlotsNow}
 use Rattle.dom_slots.specs.Shadows.{shadows, slot_at, is_bare_at}

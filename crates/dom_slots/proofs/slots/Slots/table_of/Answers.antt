@@ -1,9 +1,8 @@
-use Rattle.std.proofs.Common.{◌≡◌, inl, inr, ℕ, ◌<◌, ◌⊎◌, [], All, length, map, take, sym, ap, subst, ◌∙◌, arith}
+use Rattle.std.proofs.Common.{◌≡◌, inl, inr, ◌<◌, All, length, map, take, sym, ap, subst, ◌∙◌, arith}
 use Rattle.std.proofs.lemmas.List.Elements.{All-nil}
 use Rattle.dom_model.specs.Slots.{slots_among}
 use Rattle.dom_model.specs.Tree.{subtree}
 use Rattle.dom_tree.specs.Forest.{name_at}
-use Rattle.dom_slots.specs.Shadows.{shadows, assigned_at}
 use Rattle.dom_slots.specs.Tables.{SlotTable, list_of, IsEntered}
 use Rattle.dom_slots.proofs.Entering.{IsFilled, filled_more, unslotted, visited, all_visited, root_within}
 use Rattle.dom_slots.proofs.slots.Slots.table_of.Goals as goal

@@ -1,4 +1,4 @@
-use Rattle.std.proofs.Common.{◌≡◌, ℕ, ◌<◌, ◌-◌, All, length, take}
+use Rattle.std.proofs.Common.{ℕ, ◌<◌, ◌-◌, All, length, take}
 use Rattle.dom_slots.specs.Tables.{list_of}
 use Rattle.dom_slots.proofs.Entering.{IsFilled}
 use Rattle.dom_slots.proofs.slots.Slots.table_of.Given as goal

@@ -1,5 +1,4 @@
-use Rattle.std.proofs.Common.{ℕ, ap, sym, ◌∙◌}
-use Rattle.std.specs.Prelude.{unwrap_or, Option}
+use Rattle.std.proofs.Common.{ap, ◌∙◌}
 use Rattle.dom_slots.specs.Tables.{SlotTable, list_of}
 use Rattle.dom_slots.proofs.Tables.{items_or, list-found}
 use Rattle.dom_slots.proofs.table.Table.list.Goals as goal
