@@ -1,5 +1,4 @@
--- Lines keep the ends of ranges within their nodes, but for those that insert into a range or take the contents of one whose
--- ends are in different trees.
+-- Lines keep the ends of ranges within their nodes, but for those that insert into a range.
 use Rattle.std.proofs.Common.{◌≡◌, ◌≢◌, ℕ, Bool, true, false, List, [], ◌∷◌, ◌++◌, filter, fold, length, Option, Some, None, option_map, refl, sym, ap, ◌∙◌, arith, true≢false, subst}
 use Rattle.std.specs.Prelude.{is_some}
 use Rattle.dom_base.specs.declared.Kind.{Kind}
@@ -31,7 +30,7 @@ use Rattle.dom_model.specs.WorldSteps.{world_step, world_after, stepped, with_re
 use Rattle.dom_model.proofs.OwnerLaws.{owner_eq-true, owner_eq-false}
 use Rattle.dom_model.proofs.PartLaws.{owner-part_of}
 use Rattle.dom_model.proofs.StepLaws.{owner-part_step, part_of-stepped-other}
-use Rattle.dom_isolation.specs.Bounds.{EndsWithin, HasBounds, IsBounded, HasOneTree, LeavesBounds, IsOtherLine, FirstIsBounded, OtherStepsKeepBounds, EndingKeepsBounds, FinishKeepsBounds}
+use Rattle.dom_isolation.specs.Bounds.{EndsWithin, HasBounds, IsBounded, LeavesBounds, IsOtherLine, FirstIsBounded, OtherStepsKeepBounds, EndingKeepsBounds, FinishKeepsBounds}
 use Rattle.dom_isolation.specs.Laws.{IsReached}
 use Rattle.dom_isolation.specs.Tables.{IsNodeIn, HasTables, IsWhole}
 use Rattle.dom_isolation.specs.Worlds.{IsPart}
@@ -43,6 +42,7 @@ use Rattle.dom_isolation.proofs.LineBegins.{part_of-opening}
 use Rattle.dom_isolation.proofs.Lists.{all-then}
 use Rattle.dom_isolation.proofs.Reached.{ending-keeps_reached, step-keeps_reached, finish-keeps_reached}
 use Rattle.dom_isolation.proofs.PlanContents.{range-ends}
+use Rattle.dom_isolation.proofs.RangeRoots.{one_roots-of}
 use Rattle.dom_isolation.proofs.RangePlans.{IsProper, room-extracting, room-deleting}
 use Rattle.dom_isolation.proofs.TableCommands.{Holds, holds-effect}
 use Rattle.dom_isolation.proofs.TableEffects.{KeepsBase, base-effect}
@@ -210,17 +210,17 @@ record Facts (w : World) (o : Owner) : Type 0 where
   tables : HasTables (part_of w o)
   first : IsNodeIn (part_of w o).trees (first_node (part_of w o))
 
--- a range whose ends are in one tree
-proper : (p : Part) (k : ℕ) → HasTables p → HasRoom nowhere p → HasOneTree p k → (r : Range NodeName) → range_at p k ≡ Some r → IsProper p r
-proper p k t h m r e =
+-- a range that is there
+proper : (p : Part) (k : ℕ) → HasTables p → HasRoom nowhere p → (r : Range NodeName) → range_at p k ≡ Some r → IsProper p r
+proper p k t h r e =
     let ends = range-ends p k t r e in
     let under : RangeUnder (reach nowhere p) (Some r) = subst (RangeUnder (reach nowhere p)) e (under-at p k h) in
-    record { start = ends.0; end = ends.1; one_tree = m r e; within = let a = under.0 in omega arith }
+    record { start = ends.0; end = ends.1; one_tree = one_roots-of p t k r e; within = let a = under.0 in omega arith }
 
 -- what is left to show of commands for ranges' contents
 for-others : (p : Part) → IsPart p → HasTables p → (c : Command) → LeavesBounds p c → ForRanges p c
-for-others p i t (Command.extract k) l = λ h. range-room p k (λ r. extracting k r p) h (λ r e. room-extracting k r p i (proper p k t h l r e) h)
-for-others p i t (Command.delete k) l = λ h. range-room p k (λ r. deleting k r p) h (λ r e. room-deleting k r p i (proper p k t h l r e) h)
+for-others p i t (Command.extract k) l = λ h. range-room p k (λ r. extracting k r p) h (λ r e. room-extracting k r p i (proper p k t h r e) h)
+for-others p i t (Command.delete k) l = λ h. range-room p k (λ r. deleting k r p) h (λ r e. room-deleting k r p i (proper p k t h r e) h)
 for-others p i t (Command.insert_node k x) l = absurd l
 for-others p i t c l = tt
 
@@ -271,7 +271,7 @@ all-of w r h o = room-of (part_of w o) (r.world.parts o) (h o)
 bounded-of : {only_log : Bool} (w : World) → IsReached only_log w → AllRooms w → IsBounded w
 bounded-of w r h o = bounds-of (part_of w o) (r.world.parts o) (h o)
 
--- each line but those three
+-- each line but that one
 pub other-steps_keep_bounds : OtherStepsKeepBounds
 other-steps_keep_bounds b w l r i h o =
     bounded-of (step w l).0 (step-keeps_reached false w l (any-reached w r) (λ e. absurd (true≢false (sym e)))) (rooms-line w l o r i (all-of w r h))

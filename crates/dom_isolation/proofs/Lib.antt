@@ -41,12 +41,15 @@ pub mod ShadowRoots
 pub mod NodeKinds
 pub mod Insides
 pub mod Descents
+pub mod Roots
 pub mod TableSteps
 pub mod TableRecords
 pub mod Kids
 pub mod NodesRead
 pub mod PlanPlaces
+pub mod PlanChildren
 pub mod PlanTexts
+pub mod PlanRoots
 pub mod PlanContents
 pub mod TableCommands
 pub mod TableWorlds
@@ -57,6 +60,7 @@ pub mod PlanBounds
 pub mod TextBounds
 pub mod Childs
 pub mod TableLines
+pub mod RangeRoots
 pub mod BoundLines
 pub mod Contained
 pub mod RangeBounds

@@ -41,8 +41,10 @@ use Rattle.dom_isolation.proofs.PlanTexts.{leads-replacing, leads-setting_attrib
 use Rattle.dom_isolation.proofs.PlanContents.{range-ends, leads-extracting, leads-deleting, leads-inserting_into_range}
 use Rattle.dom_isolation.proofs.ShadowRoots.{not_taken}
 use Rattle.dom_isolation.proofs.TableSteps.{There, MadeIn, all-set}
-use Rattle.dom_isolation.proofs.TableRecords.{StandsIn, all-stand, IfSome, first-all, last-all, before-all, after-all, all-descend, iterator-moved}
-use Rattle.dom_isolation.proofs.Tests.{either_way}
+use Rattle.dom_isolation.proofs.PlanRoots.{ends-at}
+use Rattle.dom_isolation.proofs.TableRecords.{StandsIn, all-stand, IfSome, all-get, first-all, last-all, before-all, after-all, all-descend, iterator-moved}
+use Rattle.dom_isolation.proofs.Roots.{roots-equal, roots-same}
+use Rattle.dom_isolation.proofs.Tests.{either_way, which_way}
 use Rattle.dom_isolation.proofs.Trees.{IsUnique, ancestors-there}
 
 -- the tables after an effect, or its steps
@@ -79,26 +81,10 @@ exists-second p x y rest thing h =
     let more = has_node p.trees (named p y) && rest in
     has_node-times p.trees (named p y) (and_parts (has_node p.trees (named p y)) rest (and_parts (has_node p.trees (named p x)) more (and_parts (has_node p.trees (named p x) && more) thing h).0).1).0
 
--- Of what is found in a table.
-pub all-get : {X : Type 0} (P : X → Type 0) (xs : List X) (k : ℕ) → AllByRecursion P xs → IfSome P (slice_get xs k)
-all-get P [] k h = tt
-all-get P (x ∷ xs) zero h = h.0
-all-get P (x ∷ xs) (suc k) h = all-get P xs k h.1
-
--- what holds in each case holds of what is made of it
+-- What holds in each case holds of what is made of it.
 some-holds : {X : Type 0} (P : X → Type 0) (p : Part) (o : Option X) (f : X → Effect) (d : Effect) → IfSome P o → ((x : X) → P x → Holds p (f x)) → Holds p d → Holds p (option_map_or f o d)
 some-holds P p None f d h g k = k
 some-holds P p (Some x) f d h g k = g x h
-
--- the ends of a range that is looked up
-ends-at : (p : Part) (k : ℕ) → HasTables p → EndsIn p.trees (range_at p k)
-ends-at p k h = each p.ranges k h.ranges
-  where
-    each : (rs : List (Option (Range NodeName))) (k : ℕ) → AllByRecursion (EndsIn p.trees) rs → EndsIn p.trees (option_flatten (slice_get rs k))
-    each [] k g = tt
-    each (None ∷ rs) zero g = tt
-    each (Some r ∷ rs) zero g = g.0
-    each (r ∷ rs) (suc k) g = each rs k g.1
 
 -- a range that is written
 tables-range : (p : Part) (k : ℕ) (r : Option (Range NodeName)) → HasTables p → EndsIn p.trees r → HasTables (with_range p k r)
@@ -112,16 +98,21 @@ ends-mapped ts f g (Some r) h = g r h
 
 -- another start or end
 ends-with_start : (ts : Trees) (b : Boundary NodeName) → IsNodeIn ts b.node → (r : Range NodeName) → HasEnds ts r → HasEnds ts (with_start ts b r)
-ends-with_start ts b t r h = either_way (HasEnds ts) (same_root ts b.node r.end.node && not (is_before ts r.end b)) (from_to b r.end) (from_to b b) (record { start = t; end = h.end }) (record { start = t; end = t })
+ends-with_start ts b t r h =
+    which_way (HasEnds ts) (same_root ts b.node r.end.node && not (is_before ts r.end b)) (from_to b r.end) (from_to b b)
+    (λ e. record { start = t; end = h.end; one_root = (and_parts (same_root ts b.node r.end.node) (not (is_before ts r.end b)) e).0 }) (λ e. record { start = t; end = t; one_root = roots-same ts b.node b.node refl })
 
 -- another end
 ends-with_end : (ts : Trees) (b : Boundary NodeName) → IsNodeIn ts b.node → (r : Range NodeName) → HasEnds ts r → HasEnds ts (with_end ts b r)
-ends-with_end ts b t r h = either_way (HasEnds ts) (same_root ts b.node r.start.node && not (is_before ts b r.start)) (from_to r.start b) (from_to b b) (record { start = h.start; end = t }) (record { start = t; end = t })
+ends-with_end ts b t r h =
+    which_way (HasEnds ts) (same_root ts b.node r.start.node && not (is_before ts b r.start)) (from_to r.start b) (from_to b b)
+    (λ e. record { start = h.start; end = t; one_root = roots-same ts r.start.node b.node (sym (roots-equal ts b.node r.start.node (and_parts (same_root ts b.node r.start.node) (not (is_before ts b r.start)) e).0)) })
+    (λ e. record { start = t; end = t; one_root = roots-same ts b.node b.node refl })
 
 -- both at one of them
 ends-collapsed : (ts : Trees) (to_start : Bool) (r : Range NodeName) → HasEnds ts r → HasEnds ts (collapsed_to to_start r)
-ends-collapsed ts true r h = record { start = h.start; end = h.start }
-ends-collapsed ts false r h = record { start = h.end; end = h.end }
+ends-collapsed ts true r h = record { start = h.start; end = h.start; one_root = roots-same ts r.start.node r.start.node refl }
+ends-collapsed ts false r h = record { start = h.end; end = h.end; one_root = roots-same ts r.end.node r.end.node refl }
 
 -- Iterators and walkers move to nodes that are there.
 iterator-next : (ts : Trees) (i : Iterator) → IsUnique ts → IsIteratorIn ts i → IfSome (StandsIn ts i.root) (iterator_next_node ts i)
@@ -293,7 +284,7 @@ holds-effect p i h f (Command.set_text x s) r =
     let k = part-accepted p (Command.set_text x s) r in
     (leads-setting_text (named p x) s p i (exists-first p x true true k.exist)).made
 holds-effect p i h f Command.range_new r =
-    record { hosts = h.hosts; ranges = all-append (EndsIn p.trees) p.ranges (Some (both_at (at (first_node p) 0)) ∷ []) h.ranges (record { start = f; end = f }, tt); iterators = h.iterators; walkers = h.walkers; registrations = h.registrations; pending = h.pending; listeners = h.listeners }
+    record { hosts = h.hosts; ranges = all-append (EndsIn p.trees) p.ranges (Some (both_at (at (first_node p) 0)) ∷ []) h.ranges (record { start = f; end = f; one_root = roots-same p.trees (first_node p) (first_node p) refl }, tt); iterators = h.iterators; walkers = h.walkers; registrations = h.registrations; pending = h.pending; listeners = h.listeners }
 holds-effect p i h f (Command.range_start k x j) r =
     let a = part-accepted p (Command.range_start k x j) r in
     let b = at (named p x) j in
@@ -320,7 +311,7 @@ holds-effect p i h f (Command.extract k) r = range-made p k (λ range. extractin
 holds-effect p i h f (Command.delete k) r = range-made p k (λ range. deleting k range p) (λ range e. (leads-deleting k range p i (range-ends p k h range e).0).made)
 holds-effect p i h f (Command.insert_node k x) r =
     let a = part-accepted p (Command.insert_node k x) r in
-    range-made p k (λ range. inserting_into_range k range (named p x) p) (λ range e. (leads-inserting_into_range k range (named p x) p i h (insert_node-may p k x i h (exists-first p x true (has_range p k) a.exist) a.own range e)).made)
+    range-made p k (λ range. inserting_into_range k range (named p x) p) (λ range e. (leads-inserting_into_range k range (named p x) p i h e (insert_node-may p k x i h (exists-first p x true (has_range p k) a.exist) a.own range e)).made)
 holds-effect p i h f (Command.iterator_new x w) r =
     let a = part-accepted p (Command.iterator_new x w) r in
     let t = times-has_node p.trees (named p x) (exists-first p x true true a.exist) in

@@ -1,13 +1,12 @@
--- The ends of ranges are within their nodes: after each line but those that insert into a range, or take the contents of one
--- whose ends are in different trees.
-use Rattle.std.specs.Prelude.{ℕ, ◌≡◌, ◌≤◌, Bool, IsTrue, [], Option, Some, None, ⊤}
+-- The ends of ranges are within their nodes: after each line but those that insert into a range.
+use Rattle.std.specs.Prelude.{◌≡◌, ◌≤◌, Bool, IsTrue, [], Option, Some, None, ⊤}
 use Rattle.std.specs.List.{AllByRecursion}
 use Rattle.dom_base.specs.declared.NodeName.{NodeName}
 use Rattle.dom_base.specs.declared.Owner.{Owner}
 use Rattle.dom_model.specs.Command.{Command, Line, no_owner, no_command, command}
 use Rattle.dom_model.specs.DocumentMachine.{first_world, step, finish}
-use Rattle.dom_model.specs.Part.{Part, range_at}
-use Rattle.dom_model.specs.Place.{Boundary, same_root}
+use Rattle.dom_model.specs.Part.{Part}
+use Rattle.dom_model.specs.Place.{Boundary}
 use Rattle.dom_model.specs.Ranges.{Range}
 use Rattle.dom_model.specs.Tree.{Trees, kind_of, has_data, children_of, length_of}
 use Rattle.dom_model.specs.Turns.{ending_other_turn}
@@ -33,14 +32,8 @@ pub record HasBounds (p : Part) : Type 0 where
 abbrev pub IsBounded : World → Type 0
 IsBounded w = (o : Owner) → HasBounds (part_of w o)
 
--- the ends of a range that is there are in one tree (DOM Standard, 5.3: a range's ends have the same root)
-abbrev pub HasOneTree : Part → ℕ → Type 0
-HasOneTree p k = (r : Range NodeName) → range_at p k ≡ Some r → IsTrue (same_root p.trees r.start.node r.end.node)
-
--- a command that inserts into no range, and takes the contents of a range only where its ends are in one tree
+-- a command that inserts into no range
 abbrev pub LeavesBounds : Part → Command → Type 0
-LeavesBounds p (Command.extract k) = HasOneTree p k
-LeavesBounds p (Command.delete k) = HasOneTree p k
 LeavesBounds p (Command.insert_node k x) = ⊥
 LeavesBounds p c = ⊤
 

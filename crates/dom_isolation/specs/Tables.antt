@@ -8,6 +8,7 @@ use Rattle.dom_model.specs.Tree.{Trees, has_node, is_inclusive_ancestor}
 use Rattle.dom_model.specs.Listeners.{Listener}
 use Rattle.dom_model.specs.Observers.{Registration, Source, asked_for, copied_from, copied_from_transient}
 use Rattle.dom_model.specs.Part.{Part, first_node}
+use Rattle.dom_model.specs.Place.{same_root}
 use Rattle.dom_model.specs.Ranges.{Range}
 use Rattle.dom_model.specs.Traversal.{Iterator, Walker}
 use Rattle.dom_model.specs.World.{World, part_of, trees_with}
@@ -17,10 +18,11 @@ use Rattle.dom_isolation.specs.Worlds.{IsThere}
 abbrev pub IsNodeIn : Trees → NodeName → Type 0
 IsNodeIn ts x = IsTrue (has_node ts x)
 
--- Both ends of a range are at nodes.
+-- Both ends of a range are at nodes, which have one root (own rule; DOM Standard, 5.3: range's root).
 pub record HasEnds (ts : Trees) (r : Range NodeName) : Type 0 where
   pub start : IsNodeIn ts r.start.node
   pub end : IsNodeIn ts r.end.node
+  pub one_root : IsTrue (same_root ts r.start.node r.end.node)
 
 -- of a range that was not dropped
 abbrev pub EndsIn : Trees → Option (Range NodeName) → Type 0
