@@ -62,6 +62,7 @@ pub mod Childs
 pub mod TableLines
 pub mod RangeRoots
 pub mod BoundLines
+pub mod RangeInsertions
 pub mod Contained
 pub mod RangeBounds
 pub mod BoundWorlds

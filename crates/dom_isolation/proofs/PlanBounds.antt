@@ -268,7 +268,7 @@ kids-roots_placed parent before (x ∷ xs) p i m r d =
     let e = ap (λ (s : Part). kids s.trees parent) (after-append p steps (in_turn (placing parent before) xs q)) in omega arith
 
 -- An insertion, by what is placed: the children of its parent are that many more.
-kids-inserted : (how : Observing) (node parent : NodeName) (before : Option NodeName) (p : Part) → IsPart p → MayGo parent p node →
+pub kids-inserted : (how : Observing) (node parent : NodeName) (before : Option NodeName) (p : Part) → IsPart p → MayGo parent p node →
     let moved = placed_nodes p.trees node in let q = after p (emptied_of p node p) in
     AllByRecursion (HasRoot q.trees) moved → Distinct moved → kids q.trees parent ≡ kids p.trees parent → kids (after p (inserting how node parent before p)).trees parent ≡ kids p.trees parent + length moved
 kids-inserted how node parent before p i m roots distinct same =

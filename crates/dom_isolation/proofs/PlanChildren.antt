@@ -46,7 +46,7 @@ child-removing x y how z p i d h = from (parent_of p.trees z) refl
         (let s = childs-taken_out p.trees z x y i.unique d in omega arith)
 
 -- steps after steps
-child-then : (x y : NodeName) (p : Part) (xs ys : List Step) → IsChild x y (after (after p xs) ys) → IsChild x y (after p (xs ++ ys))
+pub child-then : (x y : NodeName) (p : Part) (xs ys : List Step) → IsChild x y (after (after p xs) ys) → IsChild x y (after p (xs ++ ys))
 child-then x y p xs ys h = subst (IsChild x y) (sym (after-append p xs ys)) h
 
 -- many that leave

@@ -69,7 +69,7 @@ children-missed (x ∷ xs) y z p q t m f h =
     let one = f x m.1.0 first.0.0 in ((one, rest.0), t)
 
 -- a child is there
-child-there_in : (p : Part) (x y : NodeName) → IsPart p → IsChild x y p → There p x
+pub child-there_in : (p : Part) (x y : NodeName) → IsPart p → IsChild x y p → There p x
 child-there_in p x y i h = Rattle.dom_isolation.proofs.Insides.child-there p.trees x y (childs-parent p.trees x y i.unique h)
 
 -- the part after a new node went below another one

@@ -245,13 +245,17 @@ parent-of_range p range t = from (start_reference p.trees range)
     from None = t
     from (Some x) = of (parent_of p.trees x) (up x (parent_of p.trees x) refl)
 
--- the node of an accepted `insert-node` may go there
-insert_node-may : (p : Part) (k : ℕ) (x : Spelled) → IsPart p → HasTables p → There p (named p x) → own_refusal p (Command.insert_node k x) ≡ None → (range : Range NodeName) → range_at p k ≡ Some range → MayGo (insertion_parent p.trees range) p (named p x)
-insert_node-may p k x i h t r range e =
+-- an accepted `insert-node` is valid
+pub insert_node-valid : (p : Part) (k : ℕ) (x : Spelled) → own_refusal p (Command.insert_node k x) ≡ None → (range : Range NodeName) → range_at p k ≡ Some range → insert_node_refusal p.trees range (named p x) ≡ None
+insert_node-valid p k x r range e =
     let tests = λ (q : Range NodeName). option_or (insert_node_refusal p.trees q (named p x)) (limit_on p.node_count (made_by_insert_node p q)) in
     let here : tests range ≡ None = sym (ap (λ a. option_map_or tests a None) e) ∙ r in
-    let first = or-none (insert_node_refusal p.trees range (named p x)) (limit_on p.node_count (made_by_insert_node p range)) here in
-    let valid = not_taken (cannot_take_node p.trees range (named p x)) (insertion_refusal p.trees (insertion_parent p.trees range) (named p x) (start_reference p.trees range)) first.0 in
+    (or-none (insert_node_refusal p.trees range (named p x)) (limit_on p.node_count (made_by_insert_node p range)) here).0
+
+-- so its node may go there
+pub insert_node-may : (p : Part) (k : ℕ) (x : Spelled) → IsPart p → HasTables p → There p (named p x) → own_refusal p (Command.insert_node k x) ≡ None → (range : Range NodeName) → range_at p k ≡ Some range → MayGo (insertion_parent p.trees range) p (named p x)
+insert_node-may p k x i h t r range e =
+    let valid = not_taken (cannot_take_node p.trees range (named p x)) (insertion_refusal p.trees (insertion_parent p.trees range) (named p x) (start_reference p.trees range)) (insert_node-valid p k x r range e) in
     named-may p x (insertion_parent p.trees range) i t (parent-of_range p range (range-ends p k h range e).0) (insertion-apart p.trees (insertion_parent p.trees range) (named p x) (start_reference p.trees range) valid)
 
 -- Every accepted command.

@@ -170,22 +170,23 @@ room-joins ts x parent size (y ∷ ys) q a b h =
     room-joins ts x parent (size + length_of ts y) ys (part_step q (join_at x size y parent (index_of ts y))) (omega arith) b.1
     (room-join q x size y parent (index_of ts y) (let b0 = b.0 in omega arith) h)
 
+-- a name that is not among some differs from each
+pub none-among : (x : NodeName) (xs : List NodeName) → times_among xs x ≡ 0 → AllByRecursion (λ y. name_eq x y ≡ false) xs
+none-among x [] h = tt
+none-among x (y ∷ xs) h =
+    by_cases (name_eq y x)
+    (λ e. absurd (let one : times_among (y ∷ xs) x ≡ 1 + times_among xs x = ap (λ k. k + times_among xs x) (cond-true (name_eq y x) 1 0 e) in omega arith))
+    (λ e. let zero_more : times_among (y ∷ xs) x ≡ 0 + times_among xs x = ap (λ k. k + times_among xs x) (cond-false (name_eq y x) 1 0 e) in (name_eq-sym x y ∙ e, none-among x xs (omega arith)))
+
 -- what stands behind an item among others is another, where it is there once
-among-behind : (x : NodeName) (xs : List NodeName) → times_among xs x ≤ 1 → AllByRecursion (λ y. name_eq x y ≡ false) (items_after name_eq x xs)
+pub among-behind : (x : NodeName) (xs : List NodeName) → times_among xs x ≤ 1 → AllByRecursion (λ y. name_eq x y ≡ false) (items_after name_eq x xs)
 among-behind x [] h = tt
 among-behind x (y ∷ xs) h =
     by_cases (name_eq x y)
     (λ e. let one : times_among (y ∷ xs) x ≡ 1 + times_among xs x = ap (λ k. k + times_among xs x) (cond-true (name_eq y x) 1 0 (name_eq-sym y x ∙ e)) in
-    subst (AllByRecursion (λ z. name_eq x z ≡ false)) (sym (cond-true (name_eq x y) xs (items_after name_eq x xs) e)) (absent-all xs (omega arith)))
+    subst (AllByRecursion (λ z. name_eq x z ≡ false)) (sym (cond-true (name_eq x y) xs (items_after name_eq x xs) e)) (none-among x xs (omega arith)))
     (λ e. let zero_more : times_among (y ∷ xs) x ≡ 0 + times_among xs x = ap (λ k. k + times_among xs x) (cond-false (name_eq y x) 1 0 (name_eq-sym y x ∙ e)) in
     subst (AllByRecursion (λ z. name_eq x z ≡ false)) (sym (cond-false (name_eq x y) xs (items_after name_eq x xs) e)) (among-behind x xs (omega arith)))
-  where
-    absent-all : (xs : List NodeName) → times_among xs x ≡ 0 → AllByRecursion (λ y. name_eq x y ≡ false) xs
-    absent-all [] h = tt
-    absent-all (y ∷ xs) h =
-        by_cases (name_eq y x)
-        (λ e. absurd (let one : times_among (y ∷ xs) x ≡ 1 + times_among xs x = ap (λ k. k + times_among xs x) (cond-true (name_eq y x) 1 0 e) in omega arith))
-        (λ e. let zero_more : times_among (y ∷ xs) x ≡ 0 + times_among xs x = ap (λ k. k + times_among xs x) (cond-false (name_eq y x) 1 0 e) in (name_eq-sym x y ∙ e, absent-all xs (omega arith)))
 
 -- roots are there as often as nodes, or less
 roots-among : (ts : Trees) (x : NodeName) → times_among (names_of (roots ts)) x ≤ times_in ts x

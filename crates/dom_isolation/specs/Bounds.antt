@@ -1,10 +1,10 @@
--- The ends of ranges are within their nodes: after each line but those that insert into a range.
-use Rattle.std.specs.Prelude.{◌≡◌, ◌≤◌, Bool, IsTrue, [], Option, Some, None, ⊤}
+-- The ends of ranges are within their nodes, in every world that the machine reaches.
+use Rattle.std.specs.Prelude.{◌≡◌, ◌≤◌, Bool, IsTrue, List, [], map, Option, Some, None, ⊤}
 use Rattle.std.specs.List.{AllByRecursion}
 use Rattle.dom_base.specs.declared.NodeName.{NodeName}
 use Rattle.dom_base.specs.declared.Owner.{Owner}
-use Rattle.dom_model.specs.Command.{Command, Line, no_owner, no_command, command}
-use Rattle.dom_model.specs.DocumentMachine.{first_world, step, finish}
+use Rattle.dom_model.specs.Command.{Line}
+use Rattle.dom_model.specs.DocumentMachine.{first_world, step, run_lines, finish}
 use Rattle.dom_model.specs.Part.{Part}
 use Rattle.dom_model.specs.Place.{Boundary}
 use Rattle.dom_model.specs.Ranges.{Range}
@@ -32,24 +32,13 @@ pub record HasBounds (p : Part) : Type 0 where
 abbrev pub IsBounded : World → Type 0
 IsBounded w = (o : Owner) → HasBounds (part_of w o)
 
--- a command that inserts into no range
-abbrev pub LeavesBounds : Part → Command → Type 0
-LeavesBounds p (Command.insert_node k x) = ⊥
-LeavesBounds p c = ⊤
-
--- a line with such a command, or with none: in the world in which the command is run
-abbrev pub IsOtherLine : World → Line → Type 0
-IsOtherLine w no_owner = ⊤
-IsOtherLine w (no_command o) = ⊤
-IsOtherLine w (command o c) = LeavesBounds (part_of (ending_other_turn w o).0 o) c
-
--- The first world is bounded, and each such line keeps that.
+-- The first world is bounded, and each line keeps that.
 abbrev pub FirstIsBounded : Type 0
 FirstIsBounded = IsBounded first_world
 
--- each such line
-abbrev pub OtherStepsKeepBounds : Type 0
-OtherStepsKeepBounds = (only_log : Bool) (w : World) (l : Line) → IsReached only_log w → IsWhole w → IsBounded w → IsOtherLine w l → IsBounded (step w l).0
+-- each line
+abbrev pub StepKeepsBounds : Type 0
+StepKeepsBounds = (only_log : Bool) (w : World) (l : Line) → IsReached only_log w → IsWhole w → IsBounded w → IsBounded (step w l).0
 
 -- the ending of another component's turn
 abbrev pub EndingKeepsBounds : Type 0
@@ -58,3 +47,7 @@ EndingKeepsBounds = (only_log : Bool) (w : World) (o : Owner) → IsReached only
 -- the end of input
 abbrev pub FinishKeepsBounds : Type 0
 FinishKeepsBounds = (only_log : Bool) (w : World) → IsReached only_log w → IsBounded w → IsBounded (finish w).0
+
+-- So each script leads to such a world.
+abbrev pub ScriptsStayBounded : {L : Type 0} → (L → Line) → Type 0
+ScriptsStayBounded {L = L} read = (ls : List L) → IsBounded (run_lines first_world (map read ls)).0

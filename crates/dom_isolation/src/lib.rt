@@ -10,7 +10,7 @@ ghost use Rattle.dom_isolation.specs.Laws.{VisitIsUnseen, FoldSkipsComponents, P
 ghost use Rattle.dom_isolation.specs.Wholes.{FirstIsWhole, StepKeepsWhole, EndingKeepsWhole, FinishKeepsWhole, ScriptsStayWhole, FirstHasOneRoots, StepKeepsOneRoots, EndingKeepsOneRoots, FinishKeepsOneRoots, ScriptsKeepOneRoots};
 ghost use Rattle.dom_isolation.specs.Follows.{PathFollowsParents};
 ghost use Rattle.dom_isolation.specs.Sights.{HiddenByRoots, RetargetedByRoots};
-ghost use Rattle.dom_isolation.specs.Bounds.{FirstIsBounded, OtherStepsKeepBounds, EndingKeepsBounds, FinishKeepsBounds};
+ghost use Rattle.dom_isolation.specs.Bounds.{FirstIsBounded, StepKeepsBounds, EndingKeepsBounds, FinishKeepsBounds, ScriptsStayBounded};
 ghost use Rattle.dom_isolation.specs.Offering.{offering};
 ghost use Rattle.dom_isolation.specs.Texts.{ReadsPrefix, DecodeReadsPrefix, OfferingReadsPrefix, TraceHasPageLines, OutputHasPageLines, PageViewIsItsOutput, PageLinesAgree, PageLinesAgreeSoFar, PageTextAgrees, SamePageText, ForeignLineIsRefused};
 ghost use Rattle.dom_isolation.specs.Words.{ReadsPlainWords, DecodeReadsPlainWords, OfferingReadsPlainWords, OutputHasItsLines, PickedLinesAgree};
@@ -81,13 +81,13 @@ pub fn ranges_have_one_root()
     ensures script { (read : List ℕ → Line) → ScriptsKeepOneRoots read }
 {}
 
-/// The ends of ranges are within their nodes: in the first world, and after each line but those with `insert-node`, of which it
-/// is not shown yet.
+/// The ends of live ranges are within their nodes, in every world that the machine reaches (DOM Standard, 5.2 and 5.5).
 pub fn ranges_stay_bounded()
     ensures first { FirstIsBounded }
-    ensures other_lines { OtherStepsKeepBounds }
+    ensures kept { StepKeepsBounds }
     ensures ending { EndingKeepsBounds }
     ensures finish { FinishKeepsBounds }
+    ensures script { (read : List ℕ → Line) → ScriptsStayBounded read }
 {}
 
 /// The whole path of an event begins at its target, goes from each node to its event parent, through slots and shadow roots, and
