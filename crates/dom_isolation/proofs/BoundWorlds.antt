@@ -24,7 +24,7 @@ use Rattle.dom_model.specs.Ranges.{Range}
 use Rattle.dom_model.specs.Runs.{Run, quiet, run_each, unless_refused}
 use Rattle.dom_model.specs.Slots.{signals, with_signal}
 use Rattle.dom_model.specs.Steps.{Step, place, take_out, set_document, set_attribute, queue_record, part_step, after, is_taken}
-use Rattle.dom_model.specs.Tree.{node_in, has_data, children_of, parent_of}
+use Rattle.dom_model.specs.Tree.{node_in, has_data, parent_of}
 use Rattle.dom_model.specs.Turns.{slotchange, firing_slotchange, is_owned_by, without_signals, notified, running_task, ending_turn, has_other_turn, ending_other_turn, opening_turn}
 use Rattle.dom_model.specs.Validity.{insertion_refusal}
 use Rattle.dom_model.specs.World.{World, Task, micro_task, notify_task, part_of, with_part, component_made, components_below, shadow_root_of}
@@ -32,16 +32,16 @@ use Rattle.dom_model.specs.WorldSteps.{world_step, world_after, stepped, with_re
 use Rattle.dom_model.proofs.OwnerLaws.{owner_eq-true, owner_eq-false}
 use Rattle.dom_model.proofs.PartLaws.{owner-part_of}
 use Rattle.dom_model.proofs.StepLaws.{owner-part_step, part_of-stepped-other}
-use Rattle.dom_isolation.specs.Bounds.{EndsWithin, HasBounds, IsBounded, FirstIsBounded, StepKeepsBounds, EndingKeepsBounds, FinishKeepsBounds, ScriptsStayBounded}
+use Rattle.dom_isolation.specs.Bounds.{IsBounded, FirstIsBounded, StepKeepsBounds, EndingKeepsBounds, FinishKeepsBounds, ScriptsStayBounded}
 use Rattle.dom_isolation.specs.Laws.{IsReached}
 use Rattle.dom_isolation.specs.Tables.{IsNodeIn, HasTables, IsWhole}
 use Rattle.dom_isolation.specs.Worlds.{IsPart}
 use Rattle.dom_isolation.proofs.Acceptance.{accepted-facts, part-accepted}
 use Rattle.dom_isolation.proofs.BoundLines.{Roomy, ForRanges, room-effect, room-same, range-room, under-at, insertion-open}
 use Rattle.dom_isolation.proofs.Bounds.{RangeUnder, reach, nowhere, HasRoom, room-document}
-use Rattle.dom_isolation.proofs.Kids.{kids, length-children}
+use Rattle.dom_isolation.proofs.Kids.{kids}
+use Rattle.dom_isolation.proofs.KeptOffsets.{room-of, bounds-of}
 use Rattle.dom_isolation.proofs.LineBegins.{part_of-opening}
-use Rattle.dom_isolation.proofs.Lists.{all-then}
 use Rattle.dom_isolation.proofs.Reached.{first-is_reached, ending-keeps_reached, step-keeps_reached, finish-keeps_reached}
 use Rattle.dom_isolation.proofs.PlanContents.{range-ends}
 use Rattle.dom_isolation.proofs.RangeRoots.{one_roots-of}
@@ -55,35 +55,7 @@ use Rattle.dom_isolation.proofs.TableSteps.{MadeIn}
 use Rattle.dom_isolation.proofs.TableWorlds.{Ground, each-part, ground-stepped, ground-world_step, part-own_step}
 use Rattle.dom_isolation.proofs.Tests.{by_cases, either_way}
 
--- Both forms of the bounds.
-room-of : (p : Part) → IsPart p → HasBounds p → HasRoom nowhere p
-room-of p i h =
-    record {
-      bounds = all-then (EndsWithin p.trees) (RangeUnder (reach nowhere p)) under p.ranges h.ranges;
-      leaves = λ y d. let e = ap (λ (xs : List NodeName). length xs) (h.leaves y d) in let k = length-children p.trees y i.unique in omega arith;
-    }
-  where
-    under : (r : Option (Range NodeName)) → EndsWithin p.trees r → RangeUnder (reach nowhere p) r
-    under None g = tt
-    under (Some r) g = let a = g.0 in let b = g.1 in (omega arith, omega arith)
-
--- and back
-bounds-of : (p : Part) → IsPart p → HasRoom nowhere p → HasBounds p
-bounds-of p i h =
-    record {
-      ranges = all-then (RangeUnder (reach nowhere p)) (EndsWithin p.trees) within p.ranges h.bounds;
-      leaves = λ y d. no_items (children_of p.trees y) (let z = h.leaves y d in let k = length-children p.trees y i.unique in omega arith);
-    }
-  where
-    within : (r : Option (Range NodeName)) → RangeUnder (reach nowhere p) r → EndsWithin p.trees r
-    within None g = tt
-    within (Some r) g = let a = g.0 in let b = g.1 in (omega arith, omega arith)
-
-    no_items : (xs : List NodeName) → length xs ≡ 0 → xs ≡ []
-    no_items [] e = refl
-    no_items (x ∷ xs) e = absurd (omega arith)
-
--- all parts
+-- All parts.
 abbrev AllRooms : World → Type 0
 AllRooms w = (o : Owner) → HasRoom nowhere (part_of w o)
 

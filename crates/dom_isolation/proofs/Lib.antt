@@ -65,6 +65,7 @@ pub mod BoundLines
 pub mod RangeInsertions
 pub mod Contained
 pub mod RangeBounds
+pub mod KeptOffsets
 pub mod BoundWorlds
 pub mod FollowPaths
 pub mod FollowEvents

@@ -1,10 +1,11 @@
 -- The ends of ranges are within their nodes, in every world that the machine reaches.
-use Rattle.std.specs.Prelude.{◌≡◌, ◌≤◌, Bool, IsTrue, List, [], map, Option, Some, None, ⊤}
+use Rattle.std.specs.Prelude.{◌≡◌, ◌≤◌, ◌+◌, ℕ, if◌then◌else◌, Bool, IsTrue, List, [], map, Option, Some, None, ⊤}
 use Rattle.std.specs.List.{AllByRecursion}
 use Rattle.dom_base.specs.declared.NodeName.{NodeName}
 use Rattle.dom_base.specs.declared.Owner.{Owner}
 use Rattle.dom_model.specs.Command.{Line}
 use Rattle.dom_model.specs.DocumentMachine.{first_world, step, run_lines, finish}
+use Rattle.dom_model.specs.Names.{name_eq}
 use Rattle.dom_model.specs.Part.{Part}
 use Rattle.dom_model.specs.Place.{Boundary}
 use Rattle.dom_model.specs.Ranges.{Range}
@@ -27,6 +28,21 @@ EndsWithin ts (Some r) = IsWithin ts r.start × IsWithin ts r.end
 pub record HasBounds (p : Part) : Type 0 where
   pub ranges : AllByRecursion (EndsWithin p.trees) p.ranges
   pub leaves : (x : NodeName) → IsTrue (has_data (kind_of p.trees x)) → children_of p.trees x ≡ []
+
+-- a boundary point is not past the end of its node, nor, in x, past it by more than a count (own rule: room that was made)
+abbrev pub IsWithinRoom : NodeName → ℕ → Trees → Boundary NodeName → Type 0
+IsWithinRoom x count ts b = b.offset ≤ length_of ts b.node + (if name_eq x b.node then count else 0)
+
+-- both ends of a range that was not dropped
+abbrev pub EndsWithinRoom : NodeName → ℕ → Trees → Option (Range NodeName) → Type 0
+EndsWithinRoom x count ts None = ⊤
+EndsWithinRoom x count ts (Some r) = IsWithinRoom x count ts r.start × IsWithinRoom x count ts r.end
+
+-- The ends of a part's ranges are within their nodes but for room in x for so many children to come, and no Text or Comment has
+-- children (own rule).
+pub record HasRoomFor (x : NodeName) (count : ℕ) (p : Part) : Type 0 where
+  pub ranges : AllByRecursion (EndsWithinRoom x count p.trees) p.ranges
+  pub leaves : (y : NodeName) → IsTrue (has_data (kind_of p.trees y)) → children_of p.trees y ≡ []
 
 -- in all parts
 abbrev pub IsBounded : World → Type 0
