@@ -51,7 +51,11 @@ pub mod PlanChildren
 pub mod PlanTexts
 pub mod PlanRoots
 pub mod PlanContents
+pub mod Recorded
+pub mod RecordedTexts
 pub mod TableCommands
+pub mod RecordedRanges
+pub mod RecordedCommands
 pub mod TableWorlds
 pub mod Bounds
 pub mod Reached

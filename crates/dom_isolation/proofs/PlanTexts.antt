@@ -211,7 +211,7 @@ leads-normalizing_text p x i t =
     from (Some parent) e = leads-if None p (is_empty (texts_after p.trees x)) [] (joining x parent (texts_after p.trees x) p) (leads-nothing None p i) (leads-joining x parent p i t e)
 
 -- the first of some nodes that are there, left out
-all-dropped : (P : NodeName → Type 0) (xs : List NodeName) → AllByRecursion P xs → AllByRecursion P (drop 1 xs)
+pub all-dropped : (P : NodeName → Type 0) (xs : List NodeName) → AllByRecursion P xs → AllByRecursion P (drop 1 xs)
 all-dropped P [] h = tt
 all-dropped P (x ∷ xs) h = h.1
 

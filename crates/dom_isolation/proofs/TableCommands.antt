@@ -81,6 +81,14 @@ exists-second p x y rest thing h =
     let more = has_node p.trees (named p y) && rest in
     has_node-times p.trees (named p y) (and_parts (has_node p.trees (named p y)) rest (and_parts (has_node p.trees (named p x)) more (and_parts (has_node p.trees (named p x) && more) thing h).0).1).0
 
+-- the third of three
+pub exists-third : (p : Part) (x y z : Spelled) → ((has_node p.trees (named p x) && (has_node p.trees (named p y) && (has_node p.trees (named p z) && true))) && true) ≡ true → There p (named p z)
+exists-third p x y z h =
+    let last = has_node p.trees (named p z) && true in
+    let more = has_node p.trees (named p y) && last in
+    let both = and_parts (has_node p.trees (named p x)) more (and_parts (has_node p.trees (named p x) && more) true h).0 in
+    has_node-times p.trees (named p z) (and_parts (has_node p.trees (named p z)) true (and_parts (has_node p.trees (named p y)) last both.1).1).0
+
 -- What holds in each case holds of what is made of it.
 some-holds : {X : Type 0} (P : X → Type 0) (p : Part) (o : Option X) (f : X → Effect) (d : Effect) → IfSome P o → ((x : X) → P x → Holds p (f x)) → Holds p d → Holds p (option_map_or f o d)
 some-holds P p None f d h g k = k

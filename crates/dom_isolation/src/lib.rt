@@ -62,8 +62,8 @@ pub fn reached_worlds()
 {}
 
 /// Of every world that the machine reaches the tables name what is there: hosts, the ends of ranges, iterators, walkers,
-/// registrations, listeners and signalled slots are at nodes of their owners, both ends of a range in one tree, observers have
-/// their record queues, and each owner that is there has its first node.
+/// registrations, listeners and signalled slots are at nodes of their owners, both ends of a range in one tree, queued records
+/// name nodes of their owners, observers have their record queues, and each owner that is there has its first node.
 pub fn whole_worlds()
     ensures first { FirstIsWhole }
     ensures kept { StepKeepsWhole }
