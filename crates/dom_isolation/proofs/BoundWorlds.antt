@@ -1,13 +1,12 @@
 -- Lines keep the ends of ranges within their nodes.
 use Rattle.std.proofs.Common.{◌≡◌, ◌≢◌, ℕ, Bool, true, false, List, [], ◌∷◌, ◌++◌, filter, fold, length, Option, Some, None, option_map, refl, sym, ap, ◌∙◌, arith, true≢false, subst}
-use Rattle.std.specs.Prelude.{is_some, if◌then◌else◌, map}
+use Rattle.std.specs.Prelude.{is_some, map}
 use Rattle.dom_base.specs.declared.Kind.{Kind}
 use Rattle.dom_base.specs.declared.Kind.TheVariants.{Document, Shadow}
 use Rattle.dom_base.specs.declared.NodeName.{NodeName}
 use Rattle.dom_base.specs.declared.Owner.{Owner}
 use Rattle.dom_base.specs.declared.Owner.TheVariants.{Page, Component}
 use Rattle.dom_base.specs.declared.Refusal.{Refusal}
-use Rattle.dom_base.specs.declared.Refusal.TheVariants.{Hierarchy}
 use Rattle.dom_model.specs.Command.{Command, Line, no_owner, no_command, command, Spelled, EventWords}
 use Rattle.dom_model.specs.CommandNames.{named, has_range}
 use Rattle.dom_model.specs.CommandRefusals.{is_command_of, part_refusal}
@@ -40,7 +39,7 @@ use Rattle.dom_isolation.proofs.Acceptance.{accepted-facts, part-accepted}
 use Rattle.dom_isolation.proofs.BoundLines.{Roomy, ForRanges, room-effect, room-same, range-room, under-at, insertion-open}
 use Rattle.dom_isolation.proofs.Bounds.{RangeUnder, reach, nowhere, HasRoom, room-document}
 use Rattle.dom_isolation.proofs.Kids.{kids}
-use Rattle.dom_isolation.proofs.KeptOffsets.{room-of, bounds-of}
+use Rattle.dom_isolation.proofs.KeptOffsets.{room-of, bounds-of, takes}
 use Rattle.dom_isolation.proofs.LineBegins.{part_of-opening}
 use Rattle.dom_isolation.proofs.Reached.{first-is_reached, ending-keeps_reached, step-keeps_reached, finish-keeps_reached}
 use Rattle.dom_isolation.proofs.PlanContents.{range-ends}
@@ -192,11 +191,6 @@ proper p k t h r e =
     let ends = range-ends p k t r e in
     let under : RangeUnder (reach nowhere p) (Some r) = subst (RangeUnder (reach nowhere p)) e (under-at p k h) in
     record { start = ends.0; end = ends.1; one_tree = one_roots-of p t k r e; within = let a = under.0 in omega arith }
-
--- a test that refuses does not hold of what is accepted
-takes : (b : Bool) (r : Option Refusal) → (if b then Some Hierarchy else r) ≡ None → b ≡ false
-takes true r h = cc
-takes false r h = refl
 
 -- what is left to show of commands for ranges' contents
 for-ranges : (p : Part) → IsPart p → HasTables p → (c : Command) → part_refusal p c ≡ None → ForRanges p c

@@ -1,27 +1,39 @@
 -- Steps and plans over one part keep the ends of its live ranges within their nodes: stated for who holds ranges.
-use Rattle.std.proofs.Common.{suc, ◌≡◌, ◌≤◌, ℕ, ◌+◌, ◌-◌, true, false, List, [], ◌∷◌, length, Option, Some, None, refl, ap, arith}
-use Rattle.std.specs.Prelude.{IsTrue}
+use Rattle.std.proofs.Common.{suc, ◌≡◌, ◌≤◌, ℕ, ◌+◌, ◌-◌, Bool, true, false, List, [], ◌∷◌, length, Option, Some, None, refl, ap, arith}
+use Rattle.std.specs.Prelude.{IsTrue, if◌then◌else◌}
 use Rattle.std.proofs.lemmas.Bool.{cond-true, cond-false}
 use Rattle.dom_base.specs.declared.NodeName.{NodeName}
+use Rattle.dom_base.specs.declared.Refusal.{Refusal}
+use Rattle.dom_base.specs.declared.Refusal.TheVariants.{Hierarchy}
 use Rattle.dom_model.specs.Names.{Word, DomString, name_eq}
 use Rattle.dom_model.specs.Tree.{Node, node_in, kind_of, has_node, has_data, is_text, children_of, parent_of, is_inclusive_ancestor, length_of}
 use Rattle.dom_model.specs.Output.{Change}
-use Rattle.dom_model.specs.Part.{Part}
+use Rattle.dom_model.specs.Part.{Part, range_at}
+use Rattle.dom_model.specs.RangeOps.{deleting, insertion_parent, start_reference, cannot_take_node, insert_node_refusal, inserting_into_range}
 use Rattle.dom_model.specs.Ranges.{Range}
+use Rattle.dom_model.specs.Extract.{extracting}
+use Rattle.dom_model.specs.Validity.{insertion_refusal}
 use Rattle.dom_model.specs.Steps.{make, make_room, place, take_out, set_document, set_attribute, replace_data, split_at, join_at, set_range, queue_record, part_step, after}
 use Rattle.dom_model.specs.Changes.{Observing, observed, removing, adopting, inserting, pre_inserting, reference_for, replacing, setting_attribute, unsetting_attribute}
 use Rattle.dom_model.specs.TextChanges.{replacing_data, replacing_all_data, splitting, normalizing, setting_text}
 use Rattle.dom_isolation.specs.Bounds.{EndsWithin, IsWithin, HasBounds, EndsWithinRoom, HasRoomFor}
+use Rattle.dom_isolation.specs.Tables.{HasEnds, HasTables}
 use Rattle.dom_isolation.specs.Worlds.{IsPart}
+use Rattle.dom_isolation.proofs.BoundLines.{insertion-open}
 use Rattle.dom_isolation.proofs.Bounds.{RangeUnder, reach, nowhere, at_node, HasRoom, room-more, room-make, room-made, room-place, room-take, room-document, room-attribute, room-record, room-replace, room-split, room-join, room-set}
-use Rattle.dom_isolation.proofs.Insides.{inside-no_ancestor, no_parent-root}
+use Rattle.dom_isolation.proofs.Insides.{inside-no_ancestor, no_parent-root, times-has_node}
 use Rattle.dom_isolation.proofs.KindCommands.{has_node-times}
 use Rattle.dom_isolation.proofs.Kids.{one_at, length-children}
 use Rattle.dom_isolation.proofs.Lists.{all-then}
 use Rattle.dom_isolation.proofs.PartSteps.{part-step}
 use Rattle.dom_isolation.proofs.PlanBounds.{room-removing, room-adopting, room-inserting, room-replacing, room-setting_attribute, room-unsetting_attribute, room-replacing_data}
+use Rattle.dom_isolation.proofs.PlanContents.{range-ends, leads-deleting, leads-extracting, leads-inserting_into_range}
 use Rattle.dom_isolation.proofs.PlanPlaces.{MayGo, leads-removing, leads-adopting, leads-inserting}
 use Rattle.dom_isolation.proofs.PlanTexts.{leads-replacing, leads-setting_attribute, leads-unsetting_attribute, leads-replacing_data, leads-splitting, leads-normalizing, leads-setting_text}
+use Rattle.dom_isolation.proofs.RangeInsertions.{room-inserting_into_range}
+use Rattle.dom_isolation.proofs.RangePlans.{IsProper, room-deleting, room-extracting}
+use Rattle.dom_isolation.proofs.ShadowRoots.{not_taken}
+use Rattle.dom_isolation.proofs.TableCommands.{insertion-apart, parent-of_range}
 use Rattle.dom_isolation.proofs.Tests.{by_cases}
 use Rattle.dom_isolation.proofs.TextBounds.{text-data, room-splitting, room-normalizing, room-setting_text}
 
@@ -104,7 +116,20 @@ place-keeps p x parent before count i s t e a o h =
     (λ k. let b : at_node parent (suc count) y ≡ suc count = cond-true (name_eq parent y) (suc count) 0 k in let c : at_node parent count y ≡ count = cond-true (name_eq parent y) count 0 k in let d : one_at parent y ≡ 1 = cond-true (name_eq parent y) 1 0 k in omega arith)
     (λ k. let b : at_node parent (suc count) y ≡ 0 = cond-false (name_eq parent y) (suc count) 0 k in omega arith)) (wide-of parent (suc count) p i h))
 
--- an adoption leaves the room
+-- a node that leaves its parent, a node document and a record leave the room
+pub take_out-leaves_room : (p : Part) (x y : NodeName) (count : ℕ) → IsPart p → HasRoomFor y count p → HasRoomFor y count (part_step p (take_out x))
+take_out-leaves_room p x y count i h = room_for-of y count (part_step p (take_out x)) (part-step p (take_out x) i) (room-take (at_node y count) p x i (wide-of y count p i h))
+
+-- a node document
+pub set_document-leaves_room : (p : Part) (x d y : NodeName) (count : ℕ) → IsPart p → HasRoomFor y count p → HasRoomFor y count (part_step p (set_document x d))
+set_document-leaves_room p x d y count i h =
+    room_for-of y count (part_step p (set_document x d)) (part-step p (set_document x d) i) (room-document (at_node y count) p x d i (wide-of y count p i h))
+
+-- a record
+pub queue_record-leaves_room : (p : Part) (c : Change NodeName) (y : NodeName) (count : ℕ) → IsPart p → HasRoomFor y count p → HasRoomFor y count (part_step p (queue_record c))
+queue_record-leaves_room p c y count i h = room_for-of y count (part_step p (queue_record c)) (part-step p (queue_record c) i) (room-record (at_node y count) p c (wide-of y count p i h))
+
+-- so does an adoption
 pub adopt-leaves_room : (p : Part) (d x y : NodeName) (count : ℕ) → IsPart p → IsTrue (has_node p.trees x) → HasRoomFor y count p → HasRoomFor y count (after p (adopting d x p))
 adopt-leaves_room p d x y count i t h =
     let own = i.owned x (has_node-times p.trees x t) in
@@ -211,3 +236,35 @@ pub text_content-keeps : (x : NodeName) (new : DomString) (p : Part) → IsPart 
 text_content-keeps x new p i t h =
     let there = has_node-times p.trees x t in
     bounds-of (after p (setting_text x new p)) (leads-setting_text x new p i there).changed.part (room-setting_text x new p i there (room-of p i h))
+
+-- Ranges' contents. What is asked of a range: its ends are nodes of one tree, and its start is within its node.
+proper-of : (p : Part) (r : Range NodeName) → HasEnds p.trees r → IsWithin p.trees r.start → IsProper p r
+proper-of p r e w = record { start = has_node-times p.trees r.start.node e.start; end = has_node-times p.trees r.end.node e.end; one_tree = e.one_root; within = w }
+
+-- a deletion
+pub deletion-keeps : (k : ℕ) (r : Range NodeName) (p : Part) → IsPart p → HasEnds p.trees r → IsWithin p.trees r.start → HasBounds p → HasBounds (after p (deleting k r p))
+deletion-keeps k r p i e w h =
+    let g = proper-of p r e w in
+    bounds-of (after p (deleting k r p)) (leads-deleting k r p i g.start).changed.part (room-deleting k r p i g (room-of p i h))
+
+-- an extraction
+pub extraction-keeps : (k : ℕ) (r : Range NodeName) (p : Part) → IsPart p → HasEnds p.trees r → IsWithin p.trees r.start → HasBounds p → HasBounds (after p (extracting k r p))
+extraction-keeps k r p i e w h =
+    let g = proper-of p r e w in
+    bounds-of (after p (extracting k r p)) (leads-extracting k r p i g.start).changed.part (room-extracting k r p i g (room-of p i h))
+
+-- a test that refuses does not hold of what is accepted
+pub takes : (b : Bool) (r : Option Refusal) → (if b then Some Hierarchy else r) ≡ None → b ≡ false
+takes true r h = cc
+takes false r h = refl
+
+-- an insertion of a node that a live range can take
+pub range_insertion-keeps : (k : ℕ) (r : Range NodeName) (x : NodeName) (p : Part) → IsPart p → HasTables p → range_at p k ≡ Some r → IsTrue (has_node p.trees x) → insert_node_refusal p.trees r x ≡ None → HasBounds p → HasBounds (after p (inserting_into_range k r x p))
+range_insertion-keeps k r x p i t e n valid h =
+    let parent = insertion_parent p.trees r in
+    let refused = insertion_refusal p.trees parent x (start_reference p.trees r) in
+    let fits = not_taken (cannot_take_node p.trees r x) refused valid in
+    let start = (range-ends p k t r e).0 in
+    let m = may-go p x parent i n (times-has_node p.trees parent (parent-of_range p r start)) (insertion-apart p.trees parent x (start_reference p.trees r) fits) in
+    bounds-of (after p (inserting_into_range k r x p)) (leads-inserting_into_range k r x p i t e m).changed.part
+    (room-inserting_into_range k r x p i start m (insertion-open p.trees parent x (start_reference p.trees r) fits) (takes (cannot_take_node p.trees r x) refused valid) (room-of p i h))

@@ -15,7 +15,7 @@ use Rattle.dom_model.specs.TextChanges.{replacing_data, new_text_node, replacing
 use Rattle.dom_model.proofs.OwnerLaws.{name_eq-same}
 use Rattle.dom_isolation.specs.Worlds.{times_in, IsPart}
 use Rattle.dom_isolation.proofs.Childs.{children-childs}
-use Rattle.dom_isolation.proofs.Lists.{all-then, all-from, all-map, all-filter, all-take_while}
+use Rattle.dom_isolation.proofs.Lists.{all-dropped, all-then, all-from, all-map, all-filter, all-take_while}
 use Rattle.dom_isolation.proofs.NodesRead.{node-new}
 use Rattle.dom_isolation.proofs.PlanChildren.{IsChild, IsNot, parent-child, child-parent, child-make, child-inserting, child-inserted, child-replacing_data}
 use Rattle.dom_isolation.proofs.Roots.{root-parent_of}
@@ -209,11 +209,6 @@ leads-normalizing_text p x i t =
     from : (a : Option NodeName) → parent_of p.trees x ≡ a → Leads None p (option_map_or (λ parent. if is_empty (texts_after p.trees x) then [] else joining x parent (texts_after p.trees x) p) a [])
     from None e = leads-nothing None p i
     from (Some parent) e = leads-if None p (is_empty (texts_after p.trees x)) [] (joining x parent (texts_after p.trees x) p) (leads-nothing None p i) (leads-joining x parent p i t e)
-
--- the first of some nodes that are there, left out
-pub all-dropped : (P : NodeName → Type 0) (xs : List NodeName) → AllByRecursion P xs → AllByRecursion P (drop 1 xs)
-all-dropped P [] h = tt
-all-dropped P (x ∷ xs) h = h.1
 
 -- the nodes of a tree are there
 pub descend-there : (ts : Trees) (x : NodeName) → AllByRecursion (λ y. 1 ≤ times_in ts y) (inclusive_descendants ts x)

@@ -12,9 +12,9 @@ use Rattle.dom_model.specs.Steps.{Step, make, join_at, queue_record, part_step, 
 use Rattle.dom_model.specs.Changes.{Plan, ◌and_then◌, in_turn, steps_of, only_if, observed, suppressed, removing, document_below, inserting}
 use Rattle.dom_model.specs.TextChanges.{replacing_data, new_text_node, replacing_all_data, placing_tail, splitting, texts_after, joins, joining, normalizing_text, normalizing, replacing_children, setting_text}
 use Rattle.dom_isolation.specs.Worlds.{IsPart}
-use Rattle.dom_isolation.proofs.Lists.{all-then, all-filter}
+use Rattle.dom_isolation.proofs.Lists.{all-dropped, all-then, all-filter}
 use Rattle.dom_isolation.proofs.PlanPlaces.{Changed, Leads, MayGo, may-still, still, leads-then, leads-eased, leads-nothing, leads-one, leads-each, leads-inserting}
-use Rattle.dom_isolation.proofs.PlanTexts.{leads-removals, leads-replacing_data, leads-tail, leads-joins, leads-normalizing_text, may-follow, new-there, new-may, texts-beside, descend-there, all-dropped}
+use Rattle.dom_isolation.proofs.PlanTexts.{leads-removals, leads-replacing_data, leads-tail, leads-joins, leads-normalizing_text, may-follow, new-there, new-may, texts-beside, descend-there}
 use Rattle.dom_isolation.proofs.Recorded.{TellsIn, tells-append, tells-plan, tells-each, children-recorded, still-all, children-there, next-there, tells-removing, tells-removals, tells-inserting, tells-replacing_data}
 use Rattle.dom_isolation.proofs.TableSteps.{There}
 use Rattle.dom_isolation.proofs.Tests.{either_way}

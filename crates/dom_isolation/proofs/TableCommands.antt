@@ -34,7 +34,7 @@ use Rattle.dom_isolation.proofs.Acceptance.{or-none, next-test, part-accepted}
 use Rattle.dom_isolation.proofs.Descents.{inside-ancestor}
 use Rattle.dom_isolation.proofs.Insides.{inside-itself, inside-no_ancestor, times-has_node, parent-there}
 use Rattle.dom_isolation.proofs.KindCommands.{has_node-times}
-use Rattle.dom_isolation.proofs.Lists.{all-append, all-then, all-filter, all-map}
+use Rattle.dom_isolation.proofs.Lists.{all-dropped, all-append, all-then, all-filter, all-map}
 use Rattle.dom_isolation.proofs.PageCommands.{owner-named}
 use Rattle.dom_isolation.proofs.PlanPlaces.{MayGo, leads-removing, leads-adopting, leads-inserting}
 use Rattle.dom_isolation.proofs.PlanTexts.{leads-replacing, leads-setting_attribute, leads-unsetting_attribute, leads-replacing_data, leads-splitting, leads-normalizing, leads-setting_text}
@@ -150,20 +150,15 @@ find-all : (P : NodeName → Type 0) (test : NodeName → Bool) (xs : List NodeN
 find-all P test [] h = tt
 find-all P test (x ∷ xs) h = either_way (IfSome P) (test x) (Some x) (find test xs) h.0 (find-all P test xs h.1)
 
--- all but the first
-all-but_first : (P : NodeName → Type 0) (xs : List NodeName) → AllByRecursion P xs → AllByRecursion P (drop 1 xs)
-all-but_first P [] h = tt
-all-but_first P (x ∷ xs) h = h.1
-
 -- ancestors are nodes
 all-ancestors : (ts : Trees) (x : NodeName) → AllByRecursion (IsNodeIn ts) (ancestors ts x)
-all-ancestors ts x = all-but_first (IsNodeIn ts) (inclusive_ancestors ts x) (all-then (λ y. 1 ≤ times_in ts y) (IsNodeIn ts) (times-has_node ts) (inclusive_ancestors ts x) (ancestors-there ts x))
+all-ancestors ts x = all-dropped (IsNodeIn ts) (inclusive_ancestors ts x) (all-then (λ y. 1 ≤ times_in ts y) (IsNodeIn ts) (times-has_node ts) (inclusive_ancestors ts x) (ancestors-there ts x))
 
 -- a step of a walker
 walker-stepped : (ts : Trees) (w : Walker) (m : Move) → IfSome (IsNodeIn ts) (walker_step ts w m)
 walker-stepped ts w Parent = either_way (IfSome (IsNodeIn ts)) (name_eq w.current w.root) None (find (λ y. accepts ts w.filter y && is_inclusive_ancestor ts w.root y) (ancestors ts w.current)) tt (find-all (IsNodeIn ts) (λ y. accepts ts w.filter y && is_inclusive_ancestor ts w.root y) (ancestors ts w.current) (all-ancestors ts w.current))
-walker-stepped ts w First = first-all (IsNodeIn ts) (walker_children ts w) (all-filter (IsNodeIn ts) _ (drop 1 (inclusive_descendants ts w.current)) (all-but_first (IsNodeIn ts) (inclusive_descendants ts w.current) (all-descend ts w.current)))
-walker-stepped ts w Last = last-all (IsNodeIn ts) (walker_children ts w) (all-filter (IsNodeIn ts) _ (drop 1 (inclusive_descendants ts w.current)) (all-but_first (IsNodeIn ts) (inclusive_descendants ts w.current) (all-descend ts w.current)))
+walker-stepped ts w First = first-all (IsNodeIn ts) (walker_children ts w) (all-filter (IsNodeIn ts) _ (drop 1 (inclusive_descendants ts w.current)) (all-dropped (IsNodeIn ts) (inclusive_descendants ts w.current) (all-descend ts w.current)))
+walker-stepped ts w Last = last-all (IsNodeIn ts) (walker_children ts w) (all-filter (IsNodeIn ts) _ (drop 1 (inclusive_descendants ts w.current)) (all-dropped (IsNodeIn ts) (inclusive_descendants ts w.current) (all-descend ts w.current)))
 walker-stepped ts w Next =
     let items = items_after name_eq w.current (inclusive_descendants ts w.root) in
     first-all (IsNodeIn ts) (walker_nodes ts w items) (all-filter (IsNodeIn ts) _ items (after-all (IsNodeIn ts) w.current (inclusive_descendants ts w.root) (all-descend ts w.root)))

@@ -20,7 +20,7 @@ use Rattle.dom_isolation.specs.Worlds.{times_in, times_among, IsPart}
 use Rattle.dom_isolation.proofs.Bounds.{nowhere, HasRoom, room-make, room-record, room-split, room-join, length-replaced, length-like}
 use Rattle.dom_isolation.proofs.Kids.{kids, index-below}
 use Rattle.dom_isolation.proofs.NodesRead.{node-with_node, node-new, node-map_nodes, length-data, length-kids}
-use Rattle.dom_isolation.proofs.Lists.{all-then, all-from, all-filter, all-take_while, all-passed}
+use Rattle.dom_isolation.proofs.Lists.{all-dropped, all-then, all-from, all-filter, all-take_while, all-passed}
 use Rattle.dom_isolation.proofs.NodeKinds.{name-node_in}
 use Rattle.dom_isolation.proofs.PartSteps.{some-keeps, next-absent}
 use Rattle.dom_isolation.proofs.PlanBounds.{room-then, room-plan, room-removing, room-removals, room-inserting, room-replacing_data, IsOpen, open-still, texts-inserting, kids-plain}
@@ -264,18 +264,13 @@ room-normalizing_text p x i t h =
     from None e = h
     from (Some parent) e = either_way (λ steps. HasRoom nowhere (after p steps)) (is_empty (texts_after p.trees x)) [] (joining x parent (texts_after p.trees x) p) h (room-joining x parent p i t.0 (text-data (kind_of p.trees x) t.1) e h)
 
--- the first left out
-rest-of : (P : NodeName → Type 0) (xs : List NodeName) → AllByRecursion P xs → AllByRecursion P (drop 1 xs)
-rest-of P [] h = tt
-rest-of P (x ∷ xs) h = h.1
-
 -- all Texts below a node
 pub room-normalizing : (x : NodeName) (p : Part) → IsPart p → HasRoom nowhere p → HasRoom nowhere (after p (normalizing x p))
 room-normalizing x p i h =
     let is = λ (y : NodeName). is_text (kind_of p.trees y) in
     let texts = filter is (descendants p.trees x) in
     room-turns TextIn normalizing_text (λ q y j t. leads-normalizing_text q y j t.0) room-normalizing_text (λ q r y c t. (still c y t.0, ap is_text (c.kinds y t.0) ∙ t.1)) texts p i
-    (all-kept (There p) is (descendants p.trees x) (rest-of (There p) (inclusive_descendants p.trees x) (descend-there p.trees x))) h
+    (all-kept (There p) is (descendants p.trees x) (all-dropped (There p) (inclusive_descendants p.trees x) (descend-there p.trees x))) h
 
 -- Text content.
 room-replaced : (x : NodeName) (p : Part) (made told : List Step) (old added : List NodeName) → Leads (Some x) p made → AllByRecursion (MayGo x (after p made)) added → There p x → IsOpen p x → HasRoom nowhere (after p made) → ((q : Part) → HasRoom nowhere q → HasRoom nowhere (after q told)) →
