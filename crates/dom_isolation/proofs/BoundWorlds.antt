@@ -1,7 +1,6 @@
--- Lines keep the ends of ranges within their nodes, but for those that insert into a range or take the contents of one whose
--- ends are in different trees.
+-- Lines keep the ends of ranges within their nodes.
 use Rattle.std.proofs.Common.{◌≡◌, ◌≢◌, ℕ, Bool, true, false, List, [], ◌∷◌, ◌++◌, filter, fold, length, Option, Some, None, option_map, refl, sym, ap, ◌∙◌, arith, true≢false, subst}
-use Rattle.std.specs.Prelude.{is_some}
+use Rattle.std.specs.Prelude.{is_some, map}
 use Rattle.dom_base.specs.declared.Kind.{Kind}
 use Rattle.dom_base.specs.declared.Kind.TheVariants.{Document, Shadow}
 use Rattle.dom_base.specs.declared.NodeName.{NodeName}
@@ -9,77 +8,53 @@ use Rattle.dom_base.specs.declared.Owner.{Owner}
 use Rattle.dom_base.specs.declared.Owner.TheVariants.{Page, Component}
 use Rattle.dom_base.specs.declared.Refusal.{Refusal}
 use Rattle.dom_model.specs.Command.{Command, Line, no_owner, no_command, command, Spelled, EventWords}
-use Rattle.dom_model.specs.CommandNames.{named}
+use Rattle.dom_model.specs.CommandNames.{named, has_range}
 use Rattle.dom_model.specs.CommandRefusals.{is_command_of, part_refusal}
 use Rattle.dom_model.specs.Dispatch.{dispatch_in, world_visit, visits_of}
-use Rattle.dom_model.specs.DocumentMachine.{first_world, part_with_root, refusal, effect_in, attaching, perform, accepted, run_command, step, finish}
+use Rattle.dom_model.specs.DocumentMachine.{first_world, part_with_root, refusal, effect_in, attaching, perform, accepted, run_command, step, run_lines, finish}
 use Rattle.dom_model.specs.Effects.{Effect, tables, changes, effect}
 use Rattle.dom_model.specs.Listeners.{Visit, Dispatching, begun, visited}
 use Rattle.dom_model.specs.Names.{name_eq, max_depth}
 use Rattle.dom_model.specs.Part.{Part, first_node, range_at}
 use Rattle.dom_model.specs.Paths.{views}
 use Rattle.dom_model.specs.Extract.{extracting}
-use Rattle.dom_model.specs.RangeOps.{deleting}
+use Rattle.dom_model.specs.RangeOps.{deleting, insertion_parent, start_reference, cannot_take_node, inserting_into_range}
 use Rattle.dom_model.specs.Ranges.{Range}
 use Rattle.dom_model.specs.Runs.{Run, quiet, run_each, unless_refused}
 use Rattle.dom_model.specs.Slots.{signals, with_signal}
 use Rattle.dom_model.specs.Steps.{Step, place, take_out, set_document, set_attribute, queue_record, part_step, after, is_taken}
-use Rattle.dom_model.specs.Tree.{node_in, has_data, children_of, parent_of}
+use Rattle.dom_model.specs.Tree.{node_in, has_data, parent_of}
 use Rattle.dom_model.specs.Turns.{slotchange, firing_slotchange, is_owned_by, without_signals, notified, running_task, ending_turn, has_other_turn, ending_other_turn, opening_turn}
+use Rattle.dom_model.specs.Validity.{insertion_refusal}
 use Rattle.dom_model.specs.World.{World, Task, micro_task, notify_task, part_of, with_part, component_made, components_below, shadow_root_of}
 use Rattle.dom_model.specs.WorldSteps.{world_step, world_after, stepped, with_removal_signals, with_notify_if, with_shadow_document}
 use Rattle.dom_model.proofs.OwnerLaws.{owner_eq-true, owner_eq-false}
 use Rattle.dom_model.proofs.PartLaws.{owner-part_of}
 use Rattle.dom_model.proofs.StepLaws.{owner-part_step, part_of-stepped-other}
-use Rattle.dom_isolation.specs.Bounds.{EndsWithin, HasBounds, IsBounded, HasOneTree, LeavesBounds, IsOtherLine, FirstIsBounded, OtherStepsKeepBounds, EndingKeepsBounds, FinishKeepsBounds}
+use Rattle.dom_isolation.specs.Bounds.{IsBounded, FirstIsBounded, StepKeepsBounds, EndingKeepsBounds, FinishKeepsBounds, ScriptsStayBounded}
 use Rattle.dom_isolation.specs.Laws.{IsReached}
 use Rattle.dom_isolation.specs.Tables.{IsNodeIn, HasTables, IsWhole}
 use Rattle.dom_isolation.specs.Worlds.{IsPart}
-use Rattle.dom_isolation.proofs.Acceptance.{accepted-facts}
-use Rattle.dom_isolation.proofs.BoundLines.{Roomy, ForRanges, room-effect, room-same, range-room, under-at}
+use Rattle.dom_isolation.proofs.Acceptance.{accepted-facts, part-accepted}
+use Rattle.dom_isolation.proofs.BoundLines.{Roomy, ForRanges, room-effect, room-same, range-room, under-at, insertion-open}
 use Rattle.dom_isolation.proofs.Bounds.{RangeUnder, reach, nowhere, HasRoom, room-document}
-use Rattle.dom_isolation.proofs.Kids.{kids, length-children}
+use Rattle.dom_isolation.proofs.Kids.{kids}
+use Rattle.dom_isolation.proofs.KeptOffsets.{room-of, bounds-of, takes}
 use Rattle.dom_isolation.proofs.LineBegins.{part_of-opening}
-use Rattle.dom_isolation.proofs.Lists.{all-then}
-use Rattle.dom_isolation.proofs.Reached.{ending-keeps_reached, step-keeps_reached, finish-keeps_reached}
+use Rattle.dom_isolation.proofs.Reached.{first-is_reached, ending-keeps_reached, step-keeps_reached, finish-keeps_reached}
 use Rattle.dom_isolation.proofs.PlanContents.{range-ends}
+use Rattle.dom_isolation.proofs.RangeRoots.{one_roots-of}
+use Rattle.dom_isolation.proofs.RangeInsertions.{room-inserting_into_range}
+use Rattle.dom_isolation.proofs.ShadowRoots.{not_taken}
 use Rattle.dom_isolation.proofs.RangePlans.{IsProper, room-extracting, room-deleting}
-use Rattle.dom_isolation.proofs.TableCommands.{Holds, holds-effect}
+use Rattle.dom_isolation.proofs.TableCommands.{Holds, holds-effect, exists-first, insert_node-valid, insert_node-may}
 use Rattle.dom_isolation.proofs.TableEffects.{KeepsBase, base-effect}
-use Rattle.dom_isolation.proofs.TableLines.{ending-keeps_whole, any-reached}
+use Rattle.dom_isolation.proofs.TableLines.{first-is_whole, step-keeps_whole, ending-keeps_whole, any-reached}
 use Rattle.dom_isolation.proofs.TableSteps.{MadeIn}
 use Rattle.dom_isolation.proofs.TableWorlds.{Ground, each-part, ground-stepped, ground-world_step, part-own_step}
 use Rattle.dom_isolation.proofs.Tests.{by_cases, either_way}
 
--- Both forms of the bounds.
-room-of : (p : Part) → IsPart p → HasBounds p → HasRoom nowhere p
-room-of p i h =
-    record {
-      bounds = all-then (EndsWithin p.trees) (RangeUnder (reach nowhere p)) under p.ranges h.ranges;
-      leaves = λ y d. let e = ap (λ (xs : List NodeName). length xs) (h.leaves y d) in let k = length-children p.trees y i.unique in omega arith;
-    }
-  where
-    under : (r : Option (Range NodeName)) → EndsWithin p.trees r → RangeUnder (reach nowhere p) r
-    under None g = tt
-    under (Some r) g = let a = g.0 in let b = g.1 in (omega arith, omega arith)
-
--- and back
-bounds-of : (p : Part) → IsPart p → HasRoom nowhere p → HasBounds p
-bounds-of p i h =
-    record {
-      ranges = all-then (RangeUnder (reach nowhere p)) (EndsWithin p.trees) within p.ranges h.bounds;
-      leaves = λ y d. no_items (children_of p.trees y) (let z = h.leaves y d in let k = length-children p.trees y i.unique in omega arith);
-    }
-  where
-    within : (r : Option (Range NodeName)) → RangeUnder (reach nowhere p) r → EndsWithin p.trees r
-    within None g = tt
-    within (Some r) g = let a = g.0 in let b = g.1 in (omega arith, omega arith)
-
-    no_items : (xs : List NodeName) → length xs ≡ 0 → xs ≡ []
-    no_items [] e = refl
-    no_items (x ∷ xs) e = absurd (omega arith)
-
--- all parts
+-- All parts.
 abbrev AllRooms : World → Type 0
 AllRooms w = (o : Owner) → HasRoom nowhere (part_of w o)
 
@@ -210,58 +185,66 @@ record Facts (w : World) (o : Owner) : Type 0 where
   tables : HasTables (part_of w o)
   first : IsNodeIn (part_of w o).trees (first_node (part_of w o))
 
--- a range whose ends are in one tree
-proper : (p : Part) (k : ℕ) → HasTables p → HasRoom nowhere p → HasOneTree p k → (r : Range NodeName) → range_at p k ≡ Some r → IsProper p r
-proper p k t h m r e =
+-- a range that is there
+proper : (p : Part) (k : ℕ) → HasTables p → HasRoom nowhere p → (r : Range NodeName) → range_at p k ≡ Some r → IsProper p r
+proper p k t h r e =
     let ends = range-ends p k t r e in
     let under : RangeUnder (reach nowhere p) (Some r) = subst (RangeUnder (reach nowhere p)) e (under-at p k h) in
-    record { start = ends.0; end = ends.1; one_tree = m r e; within = let a = under.0 in omega arith }
+    record { start = ends.0; end = ends.1; one_tree = one_roots-of p t k r e; within = let a = under.0 in omega arith }
 
 -- what is left to show of commands for ranges' contents
-for-others : (p : Part) → IsPart p → HasTables p → (c : Command) → LeavesBounds p c → ForRanges p c
-for-others p i t (Command.extract k) l = λ h. range-room p k (λ r. extracting k r p) h (λ r e. room-extracting k r p i (proper p k t h l r e) h)
-for-others p i t (Command.delete k) l = λ h. range-room p k (λ r. deleting k r p) h (λ r e. room-deleting k r p i (proper p k t h l r e) h)
-for-others p i t (Command.insert_node k x) l = absurd l
-for-others p i t c l = tt
+for-ranges : (p : Part) → IsPart p → HasTables p → (c : Command) → part_refusal p c ≡ None → ForRanges p c
+for-ranges p i t (Command.extract k) n = λ h. range-room p k (λ r. extracting k r p) h (λ r e. room-extracting k r p i (proper p k t h r e) h)
+for-ranges p i t (Command.delete k) n = λ h. range-room p k (λ r. deleting k r p) h (λ r e. room-deleting k r p i (proper p k t h r e) h)
+for-ranges p i t (Command.insert_node k x) n = λ h.
+    let a = part-accepted p (Command.insert_node k x) n in
+    range-room p k (λ r. inserting_into_range k r (named p x) p) h
+    (λ r e. let node = named p x in
+    let parent = insertion_parent p.trees r in
+    let refused = insertion_refusal p.trees parent node (start_reference p.trees r) in
+    let valid = insert_node-valid p k x a.own r e in
+    room-inserting_into_range k r node p i (range-ends p k t r e).0 (insert_node-may p k x i t (exists-first p x true (has_range p k) a.exist) a.own r e)
+    (insertion-open p.trees parent node (start_reference p.trees r) (not_taken (cannot_take_node p.trees r node) refused valid)) (takes (cannot_take_node p.trees r node) refused valid) h)
+for-ranges p i t c n = tt
 
--- any such command
-rooms-perform : (w : World) (o : Owner) (c : Command) → LeavesBounds (part_of w o) c → Facts w o → is_command_of o c ≡ true → part_refusal (part_of w o) c ≡ None → AllRooms w → AllRooms (perform w o c).0
-rooms-perform w o (Command.attach x) l k g r h = rooms-attach_of w o x g h
-rooms-perform w o (Command.connected x) l k g r h = h
-rooms-perform w o (Command.assigned x) l k g r h = h
-rooms-perform w o (Command.dispatch x e related) l k g r h = rooms-dispatch w (named (part_of w o) x) (option_map (named (part_of w o)) related) e h
-rooms-perform w o (Command.micro label) l k g r h = h
-rooms-perform w o Command.end_turn l k g r h = rooms-ending_turn w h
-rooms-perform w o c l k g r h =
+-- any command
+rooms-perform : (w : World) (o : Owner) (c : Command) → Facts w o → is_command_of o c ≡ true → part_refusal (part_of w o) c ≡ None → AllRooms w → AllRooms (perform w o c).0
+rooms-perform w o (Command.attach x) k g r h = rooms-attach_of w o x g h
+rooms-perform w o (Command.connected x) k g r h = h
+rooms-perform w o (Command.assigned x) k g r h = h
+rooms-perform w o (Command.dispatch x e related) k g r h = rooms-dispatch w (named (part_of w o) x) (option_map (named (part_of w o)) related) e h
+rooms-perform w o (Command.micro label) k g r h = h
+rooms-perform w o Command.end_turn k g r h = rooms-ending_turn w h
+rooms-perform w o c k g r h =
     let p = part_of w o in
-    rooms-effect w o (effect p c) k.ground (base-effect p c) (holds-effect p (k.ground.parts o) k.tables k.first c r) (room-effect p (k.ground.parts o) (h o) c r (for-others p (k.ground.parts o) k.tables c l)) h
+    rooms-effect w o (effect p c) k.ground (base-effect p c) (holds-effect p (k.ground.parts o) k.tables k.first c r) (room-effect p (k.ground.parts o) (h o) c r (for-ranges p (k.ground.parts o) k.tables c r)) h
 
 -- with the turn that it opens
 facts-opening : (w : World) (o : Owner) → Facts w o → Facts (opening_turn w o) o
 facts-opening w o k = either_way (λ v. Facts v o) (is_some w.turn) w (record w { turn = Some o }) k (record { ground = record { parts = k.ground.parts; no_hosts = k.ground.no_hosts }; tables = k.tables; first = k.first })
 
 -- `.` apart
-rooms-accepted : (w : World) (o : Owner) (c : Command) → LeavesBounds (part_of w o) c → Facts w o → is_command_of o c ≡ true → part_refusal (part_of w o) c ≡ None → AllRooms w → AllRooms (accepted w o c).0
-rooms-accepted w o Command.end_turn l k g r h = rooms-ending_turn w h
-rooms-accepted w o c l k g r h =
-    rooms-perform (opening_turn w o) o c (subst (λ p. LeavesBounds p c) (sym (part_of-opening w o o)) l) (facts-opening w o k) g (ap (λ p. part_refusal p c) (part_of-opening w o o) ∙ r) (either_way AllRooms (is_some w.turn) w (record w { turn = Some o }) h h)
+rooms-accepted : (w : World) (o : Owner) (c : Command) → Facts w o → is_command_of o c ≡ true → part_refusal (part_of w o) c ≡ None → AllRooms w → AllRooms (accepted w o c).0
+rooms-accepted w o Command.end_turn k g r h = rooms-ending_turn w h
+rooms-accepted w o c k g r h =
+    rooms-perform (opening_turn w o) o c (facts-opening w o k) g (ap (λ p. part_refusal p c) (part_of-opening w o o) ∙ r) (either_way AllRooms (is_some w.turn) w (record w { turn = Some o }) h h)
 
 -- refused or accepted
-rooms-command : {only_log : Bool} (w : World) (o : Owner) (c : Command) → LeavesBounds (part_of w o) c → IsReached only_log w → IsWhole w → AllRooms w → AllRooms (run_command o c w).0
-rooms-command w o c l r i h = from (refusal w o c) refl
+rooms-command : {only_log : Bool} (w : World) (o : Owner) (c : Command) → IsReached only_log w → IsWhole w → AllRooms w → AllRooms (run_command o c w).0
+rooms-command w o c r i h = from (refusal w o c) refl
   where
     from : (a : Option Refusal) → refusal w o c ≡ a → AllRooms (unless_refused o (refusal w o c) w (accepted w o c)).0
     from (Some a) e = subst (λ a. AllRooms (unless_refused o a w (accepted w o c)).0) (sym e) h
     from None e =
         let a = accepted-facts w o c e in
         subst (λ a. AllRooms (unless_refused o a w (accepted w o c)).0) (sym e)
-        (rooms-accepted w o c l (record { ground = record { parts = r.world.parts; no_hosts = r.world.no_hosts }; tables = i.tables o; first = i.first o a.there }) a.grammar a.part h)
+        (rooms-accepted w o c (record { ground = record { parts = r.world.parts; no_hosts = r.world.no_hosts }; tables = i.tables o; first = i.first o a.there }) a.grammar a.part h)
 
 -- a line
-rooms-line : {only_log : Bool} (w : World) (l : Line) → IsOtherLine w l → IsReached only_log w → IsWhole w → AllRooms w → AllRooms (step w l).0
-rooms-line w no_owner l r i h = h
-rooms-line w (no_command o) l r i h = rooms-ending_other w o h
-rooms-line {only_log = b} w (command o c) l r i h = rooms-command (ending_other_turn w o).0 o c l (ending-keeps_reached b w o r) (ending-keeps_whole b w o r i) (rooms-ending_other w o h)
+rooms-line : {only_log : Bool} (w : World) (l : Line) → IsReached only_log w → IsWhole w → AllRooms w → AllRooms (step w l).0
+rooms-line w no_owner r i h = h
+rooms-line w (no_command o) r i h = rooms-ending_other w o h
+rooms-line {only_log = b} w (command o c) r i h = rooms-command (ending_other_turn w o).0 o c (ending-keeps_reached b w o r) (ending-keeps_whole b w o r i) (rooms-ending_other w o h)
 
 -- The laws.
 all-of : {only_log : Bool} (w : World) → IsReached only_log w → IsBounded w → AllRooms w
@@ -271,10 +254,10 @@ all-of w r h o = room-of (part_of w o) (r.world.parts o) (h o)
 bounded-of : {only_log : Bool} (w : World) → IsReached only_log w → AllRooms w → IsBounded w
 bounded-of w r h o = bounds-of (part_of w o) (r.world.parts o) (h o)
 
--- each line but those three
-pub other-steps_keep_bounds : OtherStepsKeepBounds
-other-steps_keep_bounds b w l r i h o =
-    bounded-of (step w l).0 (step-keeps_reached false w l (any-reached w r) (λ e. absurd (true≢false (sym e)))) (rooms-line w l o r i (all-of w r h))
+-- each line
+pub step-keeps_bounds : StepKeepsBounds
+step-keeps_bounds b w l r i h =
+    bounded-of (step w l).0 (step-keeps_reached false w l (any-reached w r) (λ e. absurd (true≢false (sym e)))) (rooms-line w l r i (all-of w r h))
 
 -- the ending of another component's turn
 pub ending-keeps_bounds : EndingKeepsBounds
@@ -288,8 +271,20 @@ finish-keeps_bounds b w r h =
 
 -- the first world
 pub first-is_bounded : FirstIsBounded
-first-is_bounded = bounded-of first_world (Rattle.dom_isolation.proofs.Reached.first-is_reached false) rooms
+first-is_bounded = bounded-of first_world (first-is_reached false) rooms
   where
     rooms : AllRooms first_world
     rooms Page = room-root Page Document None refl
     rooms (Component k) = record { bounds = tt; leaves = λ y g. refl }
+
+-- Scripts.
+module _ {L : Type 0} (read : L → Line) where
+  -- lines from a world on
+  lines-stay_bounded : (ls : List L) (w : World) → IsReached false w → IsWhole w → IsBounded w → IsBounded (run_lines w (map read ls)).0
+  lines-stay_bounded [] w r i h = h
+  lines-stay_bounded (l ∷ ls) w r i h =
+      lines-stay_bounded ls (step w (read l)).0 (step-keeps_reached false w (read l) r (λ e. absurd (true≢false (sym e)))) (step-keeps_whole false w (read l) r i) (step-keeps_bounds false w (read l) r i h)
+
+  -- from the first one on
+  pub scripts-stay_bounded : ScriptsStayBounded read
+  scripts-stay_bounded ls = lines-stay_bounded ls first_world (first-is_reached false) first-is_whole first-is_bounded

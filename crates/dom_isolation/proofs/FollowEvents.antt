@@ -21,7 +21,7 @@ use Rattle.dom_isolation.proofs.ComponentPaths.{IsUnder, chain-alone, no_host, w
 use Rattle.dom_isolation.proofs.Hiding.{ancestors-owned, host_chain-page}
 use Rattle.dom_isolation.proofs.KindCommands.{has_node-times}
 use Rattle.dom_isolation.proofs.ReachedFacts.{shadow_roots-are_roots}
-use Rattle.dom_isolation.proofs.TableCommands.{all-get}
+use Rattle.dom_isolation.proofs.TableRecords.{all-get}
 use Rattle.dom_isolation.proofs.TableRecords.{IfSome, last-all}
 use Rattle.dom_isolation.proofs.Tests.{by_cases}
 use Rattle.dom_isolation.proofs.Trees.{ancestors-present}

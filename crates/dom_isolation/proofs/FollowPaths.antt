@@ -14,7 +14,7 @@ use Rattle.dom_base.specs.declared.Owner.TheVariants.{Page, Component}
 use Rattle.dom_model.specs.Names.{name_eq, first_of, last_of}
 use Rattle.dom_model.specs.Paths.{with_slots, way_up, event_parent}
 use Rattle.dom_model.specs.Slots.{slot_in, slot_of}
-use Rattle.dom_model.specs.Tree.{Trees, none, tree, is_shadow, inclusive_ancestors, on_top, parent_of, root_of}
+use Rattle.dom_model.specs.Tree.{Trees, is_shadow, inclusive_ancestors, parent_of, root_of}
 use Rattle.dom_model.specs.World.{World, part_of, trees_with, node_at, kind_at, root_at, parent_at, ancestors_at, component_at, component_made, host_of, shadow_root_of, shadow_tree, some_if, is_in_shadow_tree}
 use Rattle.dom_model.proofs.OwnerLaws.{name_eq-same}
 use Rattle.dom_model.proofs.StepLaws.{Component-IsNoPage}
@@ -25,6 +25,7 @@ use Rattle.dom_isolation.proofs.Insides.{parent-there, child-there, no_parent-ro
 use Rattle.dom_isolation.proofs.Lists.{all-then}
 use Rattle.dom_isolation.proofs.Owners.{node-there, there-hosted}
 use Rattle.dom_isolation.proofs.ReachedFacts.{root-alone, no_other_shadow_roots, shadow_roots-are_roots}
+use Rattle.dom_isolation.proofs.Roots.{ancestors-step}
 use Rattle.dom_isolation.proofs.Tests.{by_cases}
 use Rattle.dom_isolation.proofs.Trees.{IsUnique, by_times, times-here, times-elsewhere, times-more, times-subtree, name_eq-true, ancestors-absent, ancestors-present, ancestors-there, all-both}
 
@@ -44,46 +45,7 @@ runs-change : (up to : NodeName → Option NodeName) (e : Option NodeName) (Q : 
 runs-change up to e Q f g x [] q h = g x q.0 h
 runs-change up to e Q f g x (y ∷ ys) q h = (f x y q.0 h.0, runs-change up to e Q f g y ys q.1 h.1)
 
--- Ancestors: a node's are it and its parent's.
-ancestors-step : (ts : Trees) (x y : NodeName) → IsUnique ts → parent_of ts x ≡ Some y → inclusive_ancestors ts x ≡ x ∷ inclusive_ancestors ts y
-ancestors-step none x y u h = cc
-ancestors-step (tree n c r) x y u h =
-    let uc : IsUnique c = λ k. let o = u k in let m = times-more n c r k in omega arith in
-    let ur : IsUnique r = λ k. let o = u k in let m = times-more n c r k in omega arith in
-    let once = u x in
-    let once_y = u y in
-    let top = on_top (inclusive_ancestors c x) n.name (inclusive_ancestors r x) in
-    let top_y = on_top (inclusive_ancestors c y) n.name (inclusive_ancestors r y) in
-    by_cases (name_eq n.name x)
-    (λ e. let is : first_of (drop 1 (x ∷ [])) ≡ Some y = sym (ap (λ p. first_of (drop 1 p)) (cond-true (name_eq n.name x) (x ∷ []) top e)) ∙ h in cc)
-    (λ e. let g = times-elsewhere n c r x e in
-    let here = cond-false (name_eq n.name x) (x ∷ []) top e in
-    by_times (times_in c x)
-    (λ z. let all : inclusive_ancestors (tree n c r) x ≡ inclusive_ancestors r x = here ∙ ap (λ p. on_top p n.name (inclusive_ancestors r x)) (ancestors-absent c x z) in
-    let up : parent_of r x ≡ Some y = sym (ap (λ p. first_of (drop 1 p)) all) ∙ h in
-    let there = parent-there r x y up in
-    let other : name_eq n.name y ≡ false = by_cases (name_eq n.name y) (λ k. absurd (let q = times-here n c r y k in omega arith)) (λ k. k) in
-    let gy = times-elsewhere n c r y other in
-    all ∙ ancestors-step r x y ur up ∙ ap (λ p. x ∷ p) (sym (cond-false (name_eq n.name y) (y ∷ []) top_y other ∙ ap (λ p. on_top p n.name (inclusive_ancestors r y)) (ancestors-absent c y (omega arith)))))
-    (λ z. let at = ancestors-present c x z in
-    let all : inclusive_ancestors (tree n c r) x ≡ (x ∷ at.0) ++ n.name ∷ [] = here ∙ ap (λ p. on_top p n.name (inclusive_ancestors r x)) at.1 in
-    from (λ e. ancestors-step c x y uc e) at.0 at.1 all (sym (ap (λ p. first_of (drop 1 p)) all) ∙ h) once_y))
-  where
-    from : (parent_of c x ≡ Some y → inclusive_ancestors c x ≡ x ∷ inclusive_ancestors c y) → (path : List NodeName) → inclusive_ancestors c x ≡ x ∷ path → inclusive_ancestors (tree n c r) x ≡ (x ∷ path) ++ n.name ∷ [] → first_of (path ++ n.name ∷ []) ≡ Some y → times_in (tree n c r) y ≤ 1 → inclusive_ancestors (tree n c r) x ≡ x ∷ inclusive_ancestors (tree n c r) y
-    from f [] at all up once =
-        let both : Some n.name ≡ Some y = up in
-        let same : n.name ≡ y = cc in
-        all ∙ ap (λ p. x ∷ p) (ap (λ z. z ∷ []) same ∙ sym (cond-true (name_eq n.name y) (y ∷ []) (on_top (inclusive_ancestors c y) n.name (inclusive_ancestors r y)) (ap (name_eq n.name) (sym same) ∙ name_eq-same n.name)))
-    from f (q ∷ path) at all up once =
-        let inner : parent_of c x ≡ Some y = ap (λ p. first_of (drop 1 p)) at ∙ up in
-        let there = parent-there c x y inner in
-        let other : name_eq n.name y ≡ false = by_cases (name_eq n.name y) (λ k. absurd (let g = times-here n c r y k in omega arith)) (λ k. k) in
-        let rest = ancestors-present c y there in
-        let behind : x ∷ q ∷ path ≡ x ∷ y ∷ rest.0 = sym at ∙ f inner ∙ ap (λ p. x ∷ p) rest.1 in
-        all ∙ ap (λ p. p ++ n.name ∷ []) behind
-        ∙ ap (λ p. x ∷ p) (sym (cond-false (name_eq n.name y) (y ∷ []) (on_top (inclusive_ancestors c y) n.name (inclusive_ancestors r y)) other ∙ ap (λ p. on_top p n.name (inclusive_ancestors r y)) rest.1))
-
--- so each is followed by its parent
+-- Ancestors: each is followed by its parent.
 ancestors-run : (ts : Trees) → IsUnique ts → (x : NodeName) (path : List NodeName) → inclusive_ancestors ts x ≡ x ∷ path → Runs (parent_of ts) x path None
 ancestors-run ts u x [] h = ap (λ p. first_of (drop 1 p)) h
 ancestors-run ts u x (y ∷ path) h =

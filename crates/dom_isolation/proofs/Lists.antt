@@ -1,5 +1,5 @@
 -- Facts on lists.
-use Rattle.std.proofs.Common.{◌≡◌, Bool, true, false, not, List, [], ◌∷◌, ◌++◌, filter, map, flat_map, take_while, reverse, refl, sym, ap, ◌∙◌, arith, append-nil, take, subst, suc, ◌+◌}
+use Rattle.std.proofs.Common.{◌≡◌, Bool, true, false, not, List, [], ◌∷◌, ◌++◌, filter, map, flat_map, take_while, reverse, refl, sym, ap, ◌∙◌, arith, append-nil, take, drop, subst, suc, ◌+◌}
 use Rattle.std.proofs.lemmas.Bool.{cond-true, cond-false}
 use Rattle.std.proofs.lemmas.List.{reverse-append}
 use Rattle.std.specs.List.{AllByRecursion, prefix_len}
@@ -98,6 +98,11 @@ module _ {X : Type 0} where
   all-take_while P p [] h = tt
   all-take_while P p (x ∷ xs) h =
       by_cases (p x) (λ e. subst (AllByRecursion P) (sym (take_while-yes p x xs e)) (h.0, all-take_while P p xs h.1)) (λ e. subst (AllByRecursion P) (sym (take_while-no p x xs e)) tt)
+
+  -- all but the first
+  pub all-dropped : (P : X → Type 0) (xs : List X) → AllByRecursion P xs → AllByRecursion P (drop 1 xs)
+  all-dropped P [] h = tt
+  all-dropped P (x ∷ xs) h = h.1
 
   -- what stands before an item that fails
   pub all-before : (P : X → Type 0) (p : X → Bool) (xs : List X) (y : X) (ys : List X) → p y ≡ false → AllByRecursion P xs → AllByRecursion P (take_while p (xs ++ y ∷ ys))

@@ -20,6 +20,7 @@ use Rattle.dom_isolation.proofs.Kids.{kids, one_at, kids-placed, kids-map_nodes}
 use Rattle.dom_isolation.proofs.NodesRead.{node-taken_out, node-placed, node-map_nodes}
 use Rattle.dom_isolation.proofs.Lists.{all-then}
 use Rattle.dom_isolation.proofs.PartSteps.{some-keeps}
+use Rattle.dom_isolation.proofs.PlanChildren.{documented}
 use Rattle.dom_isolation.proofs.PlanPlaces.{Changed, Leads, MayGo, may-still, still, taken-step, telling-trees, root-adopting, after-append, emptied_of, leads-then, leads-eased, leads-one, leads-each, leads-removing, leads-adopting, leads-placing, leads-emptied, leads-making_room, placed-may}
 use Rattle.dom_isolation.proofs.ReachedFacts.{root-alone}
 use Rattle.dom_isolation.proofs.TableSteps.{There}
@@ -213,10 +214,6 @@ root-parent p x i h = ap (λ path. Rattle.dom_model.specs.Names.first_of (drop 1
 root-stays : (how : Observing) (x : NodeName) (p : Part) → IsPart p → HasRoot p.trees x → removing how x p ≡ []
 root-stays how x p i h = ap (λ o. option_map_or (removing_from how x p.trees) o []) (root-parent p x i h)
 
--- the trees with another node document
-pub documented : (d x : NodeName) (q : Part) (P : Trees → Type 0) → P q.trees → P (part_step q (set_document x d)).trees → P (after q (changing_document d x q)).trees
-documented d x q P a b = either_way (λ steps. P (after q steps).trees) (not (has_document q.trees d x)) (set_document x d ∷ []) [] b a
-
 -- the adoption of a root leaves children and roots
 root-adopted : (d x : NodeName) (p : Part) → IsPart p → HasRoot p.trees x → (P : Trees → Type 0) → P p.trees → P (part_step p (set_document x d)).trees → P (after p (adopting d x p)).trees
 root-adopted d x p i h P a b =
@@ -271,7 +268,7 @@ kids-roots_placed parent before (x ∷ xs) p i m r d =
     let e = ap (λ (s : Part). kids s.trees parent) (after-append p steps (in_turn (placing parent before) xs q)) in omega arith
 
 -- An insertion, by what is placed: the children of its parent are that many more.
-kids-inserted : (how : Observing) (node parent : NodeName) (before : Option NodeName) (p : Part) → IsPart p → MayGo parent p node →
+pub kids-inserted : (how : Observing) (node parent : NodeName) (before : Option NodeName) (p : Part) → IsPart p → MayGo parent p node →
     let moved = placed_nodes p.trees node in let q = after p (emptied_of p node p) in
     AllByRecursion (HasRoot q.trees) moved → Distinct moved → kids q.trees parent ≡ kids p.trees parent → kids (after p (inserting how node parent before p)).trees parent ≡ kids p.trees parent + length moved
 kids-inserted how node parent before p i m roots distinct same =

@@ -6,7 +6,7 @@ use Rattle.std.specs.Option.{option_map_or, option_and_then, option_flatten}
 use Rattle.std.proofs.lemmas.Bool.{cond-true, cond-false}
 use Rattle.dom_base.specs.declared.NodeName.{NodeName}
 use Rattle.dom_model.specs.Names.{name_eq, last_of}
-use Rattle.dom_model.specs.Tree.{Trees, none, tree, Node, node_in, kind_of, is_text, is_fragment, has_data, subtree, trees_below, children_of, parent_of, index_of, length_of, inclusive_ancestors, is_inclusive_ancestor}
+use Rattle.dom_model.specs.Tree.{Trees, none, tree, Node, node_in, kind_of, is_text, is_fragment, has_data, subtree, trees_below, children_of, parent_of, root_of, index_of, length_of, inclusive_ancestors, is_inclusive_ancestor}
 use Rattle.dom_model.specs.TreeChanges.{with_name}
 use Rattle.dom_model.specs.Part.{Part, next_name, range_at}
 use Rattle.dom_model.specs.Place.{Boundary}
@@ -27,9 +27,13 @@ use Rattle.dom_isolation.proofs.PartSteps.{next-absent}
 use Rattle.dom_isolation.proofs.KindCommands.{has_node-times}
 use Rattle.dom_isolation.proofs.Plans.{AllWhole}
 use Rattle.dom_isolation.proofs.TableSteps.{There}
-use Rattle.dom_isolation.proofs.TableRecords.{IfSome, last-all, tables-after}
+use Rattle.dom_isolation.proofs.TableRecords.{IfSome, last-all, tables-after, all-get}
 use Rattle.dom_isolation.proofs.Insides.{inside, inside-times, parent-there}
 use Rattle.dom_isolation.proofs.PlanPlaces.{Changed, Leads, MayGo, may-still, still, after-append, made-append, leads-then, leads-eased, leads-nothing, leads-one, leads-if, leads-removing, leads-inserting}
+use Rattle.dom_isolation.proofs.PlanChildren.{IsChild, child-parent}
+use Rattle.dom_isolation.proofs.PlanRoots.{StartsBy, SparesAll, starts-after, spares-removing, spares-inserting, spares-splitting}
+use Rattle.dom_isolation.proofs.Roots.{root-parent_of}
+use Rattle.dom_isolation.proofs.Childs.{children-childs}
 use Rattle.dom_isolation.proofs.PlanTexts.{leads-plan, leads-replacing_data, new-there, new-may, leads-splitting, leads-removals}
 
 -- Extraction. A node from before, in whose tree no newer node stands.
@@ -171,7 +175,7 @@ leads-extracting k range p i t =
     (leads-then spot p (make fragment ∷ []) (taking into (pieces_of p.trees range) q) (leads-eased spot p (make fragment ∷ []) first)
     (leads-taking p.node_count (pieces_of p.trees range) into q first.changed.part first.changed.count (new-there p fragment) (omega arith)
     (whole-then (There p) (OldIn p.node_count q) (λ x h. old-eased p q first.changed x (old-there p i x h)) (pieces_of p.trees range) (pieces-there p range t))))
-    (λ r c. let there = still c (new_place p.trees range).node (place-there p range t) in leads-eased spot r (last ∷ []) (leads-one r last c.part (there, there)))
+    (λ r c. let there = still c (new_place p.trees range).node (place-there p range t) in leads-eased spot r (last ∷ []) (leads-one r last c.part (there, there, refl)))
   where
     old-eased : (p q : Part) → Changed None p q → (x : NodeName) → OldIn p.node_count p x → OldIn p.node_count q x
     old-eased p q c x o = record { there = still c x o.there; alone = λ z h. c.apart x z o.there tt (o.alone z h) }
@@ -201,7 +205,7 @@ leads-deleting k range p i t =
     let last = set_range k (both_at (new_place p.trees range)) in
     leads-if None p (is_collapsed name_eq range) [] ((deleting_contents p.trees range and_then doing last) p) (leads-nothing None p i)
     (leads-plan None (deleting_contents p.trees range) (doing last) p (leads-contents p.trees range p i)
-    (λ q c. let there = still c (new_place p.trees range).node (place-there p range t) in leads-one q last c.part (there, there)))
+    (λ q c. let there = still c (new_place p.trees range).node (place-there p range t) in leads-one q last c.part (there, there, refl)))
 
 -- Insertion into a range: its ends are there in the part in which it is looked up.
 pub range-ends : (p : Part) (k : ℕ) → HasTables p → (range : Range NodeName) → range_at p k ≡ Some range → There p range.start.node × There p range.end.node
@@ -216,35 +220,61 @@ range-ends p k h range e = each p.ranges k h.ranges e
     each (r ∷ rs) (suc k) g e = each rs k g.1 e
 
 -- a collapsed range that gets its end
-leads-ending_at : (k : ℕ) (b : Boundary NodeName) (p : Part) → IsPart p → HasTables p → There p b.node → Leads None p (ending_at k b p)
-leads-ending_at k b p i h t = from (range_at p k) refl
+leads-ending_at : (k : ℕ) (b : Boundary NodeName) (p : Part) → IsPart p → HasTables p → There p b.node → StartsBy k b.node p → Leads None p (ending_at k b p)
+leads-ending_at k b p i h t s = from (range_at p k) refl s
   where
-    from : (a : Option (Range NodeName)) → range_at p k ≡ a → Leads None p (option_map_or (λ (q : Range NodeName). if is_collapsed name_eq q then set_range k (from_to q.start b) ∷ [] else []) a [])
-    from None e = leads-nothing None p i
-    from (Some q) e = leads-if None p (is_collapsed name_eq q) (set_range k (from_to q.start b) ∷ []) [] (leads-one p (set_range k (from_to q.start b)) i ((range-ends p k h q e).0, t)) (leads-nothing None p i)
+    from : (a : Option (Range NodeName)) → range_at p k ≡ a → IfSome (λ (r : Range NodeName). root_of p.trees r.start.node ≡ root_of p.trees b.node) a → Leads None p (option_map_or (λ (q : Range NodeName). if is_collapsed name_eq q then set_range k (from_to q.start b) ∷ [] else []) a [])
+    from None e g = leads-nothing None p i
+    from (Some q) e g = leads-if None p (is_collapsed name_eq q) (set_range k (from_to q.start b) ∷ []) [] (leads-one p (set_range k (from_to q.start b)) i ((range-ends p k h q e).0, t, g)) (leads-nothing None p i)
 
 -- a node before the reference
-leads-inserting_before : (k : ℕ) (node parent : NodeName) (reference : Option NodeName) (p : Part) → IsPart p → HasTables p → MayGo parent p node → Leads (Some parent) p (inserting_before k node parent reference p)
-leads-inserting_before k node parent reference p i h m =
+leads-inserting_before : (k : ℕ) (node parent : NodeName) (reference : Option NodeName) (p : Part) → IsPart p → HasTables p → StartsBy k parent p → MayGo parent p node → Leads (Some parent) p (inserting_before k node parent reference p)
+leads-inserting_before k node parent reference p i h s m =
     let ts = p.trees in
     let end = at parent (option_map_or (index_of ts) reference (length_of ts parent) + (if is_fragment (kind_of ts node) then length_of ts node else 1)) in
     let first = leads-inserting observed node parent (reference_for ts node reference) p i m in
     let q = after p (pre_inserting node parent reference p) in
     leads-then (Some parent) p (pre_inserting node parent reference p) (ending_at k end q) first
-    (leads-eased (Some parent) q (ending_at k end q) (leads-ending_at k end q first.changed.part (tables-after p (pre_inserting node parent reference p) i first.made h) (still first.changed parent m.below)))
+    (leads-eased (Some parent) q (ending_at k end q) (leads-ending_at k end q first.changed.part (tables-after p (pre_inserting node parent reference p) i first.made h) (still first.changed parent m.below)
+    (starts-after k parent p (pre_inserting node parent reference p) i first.made (spares-inserting observed node parent (reference_for ts node reference) p i m) m.below h s)))
 
 -- a node that left its parent first
-leads-inserting_at : (k : ℕ) (node parent : NodeName) (child : Option NodeName) (p : Part) → IsPart p → HasTables p → MayGo parent p node → Leads (Some parent) p (inserting_at k node parent child p)
-leads-inserting_at k node parent child p i h m =
+leads-inserting_at : (k : ℕ) (node parent : NodeName) (child : Option NodeName) (p : Part) → IsPart p → HasTables p → StartsBy k parent p → MayGo parent p node → Leads (Some parent) p (inserting_at k node parent child p)
+leads-inserting_at k node parent child p i h s m =
     let spot = Some parent in
     let first = leads-eased spot p (removing observed node p) (leads-removing observed node p i) in
     let q = after p (removing observed node p) in
     leads-then spot p (removing observed node p) (inserting_before k node parent (reference_for p.trees node child) q) first
-    (leads-inserting_before k node parent (reference_for p.trees node child) q first.changed.part (tables-after p (removing observed node p) i first.made h) (may-still parent p q node first.changed m))
+    (leads-inserting_before k node parent (reference_for p.trees node child) q first.changed.part (tables-after p (removing observed node p) i first.made h)
+    (starts-after k parent p (removing observed node p) i first.made (spares-removing parent observed node p m.apart) m.below h s) (may-still parent p q node first.changed m))
+
+-- the parent of an insertion into a range has the root of its start
+parent-root : (p : Part) (range : Range NodeName) → IsPart p → root_of p.trees (insertion_parent p.trees range) ≡ root_of p.trees range.start.node
+parent-root p range i =
+    let start = range.start.node in
+    let listed = all-get (λ x. IsChild x start p) (children_of p.trees start) range.start.offset (children-childs p.trees start) in
+    either_way (λ o. IfSome (λ x. root_of p.trees x ≡ root_of p.trees start) o → root_of p.trees (unwrap_or (option_and_then (parent_of p.trees) o) start) ≡ root_of p.trees start) (is_text (kind_of p.trees start)) (Some start) (slice_get (children_of p.trees start) range.start.offset)
+    (above (Some start)) (above (slice_get (children_of p.trees start) range.start.offset))
+    (either_way (IfSome (λ x. root_of p.trees x ≡ root_of p.trees start)) (is_text (kind_of p.trees start)) (Some start) (slice_get (children_of p.trees start) range.start.offset) refl
+    (if-child (slice_get (children_of p.trees start) range.start.offset) listed))
+  where
+    if-child : (o : Option NodeName) → IfSome (λ x. IsChild x range.start.node p) o → IfSome (λ x. root_of p.trees x ≡ root_of p.trees range.start.node) o
+    if-child None h = tt
+    if-child (Some x) h = sym (root-parent_of p.trees i.unique x range.start.node (child-parent p x range.start.node i h))
+
+    above : (o : Option NodeName) → IfSome (λ x. root_of p.trees x ≡ root_of p.trees range.start.node) o → root_of p.trees (unwrap_or (option_and_then (parent_of p.trees) o) range.start.node) ≡ root_of p.trees range.start.node
+    above None h = refl
+    above (Some x) h = up (parent_of p.trees x) refl
+      where
+        up : (o : Option NodeName) → parent_of p.trees x ≡ o → root_of p.trees (unwrap_or o range.start.node) ≡ root_of p.trees range.start.node
+        up None e = refl
+        up (Some y) e = root-parent_of p.trees i.unique x y e ∙ h
 
 -- an insertion into a range
-pub leads-inserting_into_range : (k : ℕ) (range : Range NodeName) (node : NodeName) (p : Part) → IsPart p → HasTables p → MayGo (insertion_parent p.trees range) p node → Leads (Some (insertion_parent p.trees range)) p (inserting_into_range k range node p)
-leads-inserting_into_range k range node p i h m =
+pub leads-inserting_into_range : (k : ℕ) (range : Range NodeName) (node : NodeName) (p : Part) → IsPart p → HasTables p → range_at p k ≡ Some range → MayGo (insertion_parent p.trees range) p node → Leads (Some (insertion_parent p.trees range)) p (inserting_into_range k range node p)
+leads-inserting_into_range k range node p i h at_k m =
+    let starts : StartsBy k (insertion_parent p.trees range) p = subst (IfSome (λ (r : Range NodeName). root_of p.trees r.start.node ≡ root_of p.trees (insertion_parent p.trees range))) (sym at_k) (sym (parent-root p range i)) in
+    let there = (range-ends p k h range at_k).0 in
     let start = range.start.node in
     let parent = insertion_parent p.trees range in
     let spot = Some parent in
@@ -257,8 +287,10 @@ leads-inserting_into_range k range node p i h m =
     let first : Leads spot p (splitting start range.start.offset p) = subst (λ x. Leads (Some x) p (splitting start range.start.offset p)) (sym same) (some-spot (parent_of p.trees start) start p (splitting start range.start.offset p) (leads-splitting start range.start.offset p i)) in
     let q = after p (splitting start range.start.offset p) in
     leads-then spot p (splitting start range.start.offset p) (inserting_at k node parent new q) first
-    (leads-inserting_at k node parent new q first.changed.part (tables-after p (splitting start range.start.offset p) i first.made h) (may-still parent p q node first.changed m))))
-    (λ e. subst (Leads spot p) (sym (cond-false (is_text (kind_of p.trees start)) split plain e)) (leads-inserting_at k node parent (start_reference p.trees range) p i h m))
+    (leads-inserting_at k node parent new q first.changed.part (tables-after p (splitting start range.start.offset p) i first.made h)
+    (starts-after k parent p (splitting start range.start.offset p) i first.made (subst (λ x. SparesAll x p (splitting start range.start.offset p)) (sym same) (spares-splitting start range.start.offset p i there)) m.below h starts)
+    (may-still parent p q node first.changed m))))
+    (λ e. subst (Leads spot p) (sym (cond-false (is_text (kind_of p.trees start)) split plain e)) (leads-inserting_at k node parent (start_reference p.trees range) p i h starts m))
   where
     some-spot : (o : Option NodeName) (x : NodeName) (p : Part) (steps : List Step) → Leads o p steps → Leads (Some (unwrap_or o x)) p steps
     some-spot None x p steps a = leads-eased (Some x) p steps a

@@ -1,11 +1,11 @@
 -- The steps of the plans of replacements, data, text and ranges fit where they are made.
-use Rattle.std.proofs.Common.{◌≡◌, ◌≤◌, ℕ, ◌+◌, ◌-◌, Bool, true, false, not, ◌&&◌, List, [], ◌∷◌, ◌++◌, map, filter, flat_map, drop, length, Option, Some, None, refl, sym, ap, arith, subst}
+use Rattle.std.proofs.Common.{◌≡◌, ◌≤◌, ℕ, ◌+◌, ◌-◌, Bool, true, false, not, ◌&&◌, List, [], ◌∷◌, ◌++◌, map, filter, flat_map, drop, length, Option, Some, None, refl, sym, ap, ◌∙◌, arith, subst}
 use Rattle.std.specs.Prelude.{if◌then◌else◌, ⊤, ◌==◌, min}
 use Rattle.std.specs.List.{AllByRecursion}
 use Rattle.std.specs.Option.{option_map_or}
 use Rattle.dom_base.specs.declared.NodeName.{NodeName}
-use Rattle.dom_model.specs.Names.{Word, DomString, name_eq, is_empty}
-use Rattle.dom_model.specs.Tree.{Trees, none, Node, node_in, kind_of, is_text, is_document, has_data, subtree, children_of, parent_of, previous_sibling, next_sibling, index_of, length_of, attribute_value, descendants, inclusive_descendants, nodes}
+use Rattle.dom_model.specs.Names.{Word, DomString, name_eq, is_empty, items_after}
+use Rattle.dom_model.specs.Tree.{Trees, none, Node, node_in, kind_of, is_text, is_document, is_fragment, has_data, subtree, children_of, parent_of, root_of, siblings, previous_sibling, next_sibling, index_of, length_of, attribute_value, descendants, inclusive_descendants, nodes}
 use Rattle.dom_model.specs.TreeChanges.{with_name}
 use Rattle.dom_model.specs.Output.{child_list, attributes, character_data}
 use Rattle.dom_model.specs.Part.{Part, next_name}
@@ -14,13 +14,18 @@ use Rattle.dom_model.specs.Changes.{Plan, ◌and_then◌, in_turn, doing, steps_
 use Rattle.dom_model.specs.TextChanges.{replacing_data, new_text_node, replacing_all_data, placing_tail, splitting, texts_after, joins, joining, normalizing_text, normalizing, replacing_children, setting_text}
 use Rattle.dom_model.proofs.OwnerLaws.{name_eq-same}
 use Rattle.dom_isolation.specs.Worlds.{times_in, IsPart}
-use Rattle.dom_isolation.proofs.Lists.{all-then, all-from, all-map, all-filter}
+use Rattle.dom_isolation.proofs.Childs.{children-childs}
+use Rattle.dom_isolation.proofs.Lists.{all-dropped, all-then, all-from, all-map, all-filter, all-take_while}
+use Rattle.dom_isolation.proofs.NodesRead.{node-new}
+use Rattle.dom_isolation.proofs.PlanChildren.{IsChild, IsNot, parent-child, child-parent, child-make, child-inserting, child-inserted, child-replacing_data}
+use Rattle.dom_isolation.proofs.Roots.{root-parent_of}
+use Rattle.dom_isolation.proofs.TableRecords.{after-all}
 use Rattle.dom_isolation.proofs.Tests.{by_cases}
 use Rattle.dom_isolation.proofs.Trees.{times-here, times-subtree, name_eq-true, nodes-there}
 use Rattle.dom_isolation.proofs.TreeChangeLaws.{times-with_node}
 use Rattle.dom_isolation.proofs.PartSteps.{next-absent}
 use Rattle.dom_isolation.proofs.TableSteps.{There}
-use Rattle.dom_isolation.proofs.Insides.{inside-new, parent-there}
+use Rattle.dom_isolation.proofs.Insides.{inside-new, parent-there, child-there}
 use Rattle.dom_isolation.proofs.PlanPlaces.{Changed, Leads, MayGo, may-still, still, after-append, leads-then, leads-eased, leads-nothing, leads-one, leads-each, leads-if, leads-removing, leads-inserting}
 
 -- One plan and then another in what it leaves.
@@ -94,14 +99,50 @@ new-may p n parent i t =
       apart = inside-new (with_name (next_name p) n) p.trees parent (next-absent p i) (next-not p i parent t);
     }
 
--- Splits.
-pub leads-tail : (x : NodeName) (offset : ℕ) (new : NodeName) (o : Option NodeName) (q : Part) → IsPart q → There q new → ((parent : NodeName) → o ≡ Some parent → MayGo parent q new) → Leads o q (placing_tail x offset new o q)
+-- Splits: the tail goes behind a Text that has a parent, and has its root then.
+pub record MayFollow (x parent : NodeName) (q : Part) (new : NodeName) : Type 0 where
+  pub may : MayGo parent q new
+  pub child : IsChild x parent q
+  pub plain : is_fragment (kind_of q.trees new) ≡ false
+  pub other : IsNot x new
+  pub apart : IsNot parent new
+
+-- it does
+follows : (x parent : NodeName) (before : Option NodeName) (q : Part) (new : NodeName) → IsPart q → MayFollow x parent q new → let r = after q (inserting observed new parent before q) in root_of r.trees new ≡ root_of r.trees x
+follows x parent before q new i f =
+    let put = leads-inserting observed new parent before q i f.may in
+    let r = after q (inserting observed new parent before q) in
+    let u = put.changed.part.unique in
+    let a = child-parent r new parent put.changed.part (child-inserted observed new parent before q i f.may f.plain) in
+    let b = child-parent r x parent put.changed.part (child-inserting x parent observed new parent before q i f.may f.other f.apart f.child) in
+    sym (root-parent_of r.trees u new parent a) ∙ root-parent_of r.trees u x parent b
+
+-- a new Text does, where the other one has a parent
+pub may-follow : (p : Part) (n : Node) (x parent : NodeName) → IsPart p → is_fragment n.kind ≡ false → parent_of p.trees x ≡ Some parent → MayFollow x parent (part_step p (make n)) (next_name p)
+may-follow p n x parent i k e =
+    let t = parent-there p.trees x parent e in
+    let made = node-new (with_name (next_name p) n) p.trees (next-absent p i) in
+    record {
+      may = new-may p n parent i t;
+      child = child-make x parent n p (parent-child p x parent i e);
+      plain = ap (λ (m : Node). is_fragment m.kind) made ∙ k;
+      other = next-not p i x (child-there p.trees x parent e);
+      apart = next-not p i parent t;
+    }
+
+-- the tail
+pub leads-tail : (x : NodeName) (offset : ℕ) (new : NodeName) (o : Option NodeName) (q : Part) → IsPart q → There q new → ((parent : NodeName) → o ≡ Some parent → MayFollow x parent q new) → Leads o q (placing_tail x offset new o q)
 leads-tail x offset new None q i t m = leads-nothing None q i
 leads-tail x offset new (Some parent) q i t m =
     let spot = Some parent in
     let last = split_at x offset new parent (index_of q.trees x) in
-    leads-plan spot (inserting observed new parent (next_sibling q.trees x)) (doing last) q (leads-inserting observed new parent (next_sibling q.trees x) q i (m parent refl))
-    (λ r c. leads-eased spot r (last ∷ []) (leads-one r last c.part (still c new t)))
+    let before = next_sibling q.trees x in
+    let f = m parent refl in
+    let steps = inserting observed new parent before q in
+    let put = leads-inserting observed new parent before q i f.may in
+    let r = after q steps in
+    leads-then spot q steps (last ∷ []) put
+    (leads-eased spot r (last ∷ []) (leads-one r last put.changed.part (still put.changed new t, follows x parent before q new i f)))
 
 -- a split
 pub leads-splitting : (x : NodeName) (offset : ℕ) (p : Part) → IsPart p → Leads (parent_of p.trees x) p (splitting x offset p)
@@ -113,44 +154,61 @@ leads-splitting x offset p i =
     let first = leads-one p (make tail) i tt in
     leads-plan spot (doing (make tail) and_then placing_tail x offset new spot) (replacing_data x offset (length old.text - offset) []) p
     (leads-then spot p (make tail ∷ []) (placing_tail x offset new spot (part_step p (make tail))) (leads-eased spot p (make tail ∷ []) first)
-    (leads-tail x offset new spot (part_step p (make tail)) first.changed.part (new-there p tail) (λ parent e. new-may p tail parent i (parent-there p.trees x parent e))))
+    (leads-tail x offset new spot (part_step p (make tail)) first.changed.part (new-there p tail) (λ parent e. may-follow p tail x parent i refl e)))
     (λ q c. leads-eased spot q (replacing_data x offset (length old.text - offset) [] q) (leads-replacing_data x offset (length old.text - offset) [] q c.part))
 
--- Joined Texts.
-pub leads-joins : (ts : Trees) (x parent : NodeName) (size : ℕ) (ys : List NodeName) (p : Part) → IsPart p → There p x → Leads None p (joins ts x parent size ys)
-leads-joins ts x parent size [] p i t = leads-nothing None p i
-leads-joins ts x parent size (y ∷ ys) p i t =
+-- Joined Texts: a Text and some others in the tree of a parent.
+abbrev pub AreBeside : NodeName → NodeName → List NodeName → Trees → Type 0
+AreBeside x parent ys us = (root_of us x ≡ root_of us parent) × AllByRecursion (λ y. root_of us x ≡ root_of us y) ys
+
+-- their joins
+pub leads-joins : (ts : Trees) (x parent : NodeName) (size : ℕ) (ys : List NodeName) (p : Part) → IsPart p → There p x → AreBeside x parent ys p.trees → Leads None p (joins ts x parent size ys)
+leads-joins ts x parent size [] p i t b = leads-nothing None p i
+leads-joins ts x parent size (y ∷ ys) p i t b =
     let s = join_at x size y parent (index_of ts y) in
-    let first = leads-one p s i t in
-    leads-then None p (s ∷ []) (joins ts x parent (size + length_of ts y) ys) first (leads-joins ts x parent (size + length_of ts y) ys (part_step p s) first.changed.part (still first.changed x t))
+    let first = leads-one p s i (t, b.1.0, b.0) in
+    leads-then None p (s ∷ []) (joins ts x parent (size + length_of ts y) ys) first (leads-joins ts x parent (size + length_of ts y) ys (part_step p s) first.changed.part (still first.changed x t) (b.0, b.1.1))
+
+-- those after a Text are beside it, whatever data it got
+pub texts-beside : (x parent : NodeName) (size : ℕ) (all : DomString) (p : Part) → IsPart p → parent_of p.trees x ≡ Some parent → AreBeside x parent (texts_after p.trees x) (after p (replacing_data x size 0 all p)).trees
+texts-beside x parent size all p i e =
+    let ts = p.trees in
+    let q = after p (replacing_data x size 0 all p) in
+    let j = (leads-replacing_data x size 0 all p i).changed.part in
+    let up : (y : NodeName) → IsChild y parent p → root_of q.trees parent ≡ root_of q.trees y =
+    λ y c. root-parent_of q.trees j.unique y parent (child-parent q y parent j (child-replacing_data y parent x size 0 all p c)) in
+    let mine = sym (up x (parent-child p x parent i e)) in (
+      mine,
+      all-then (λ y. IsChild y parent p) (λ y. root_of q.trees x ≡ root_of q.trees y) (λ y c. mine ∙ up y c) (texts_after ts x)
+          (all-take_while (λ y. IsChild y parent p) (λ y. is_text (kind_of ts y)) (items_after name_eq x (siblings ts x))
+          (subst (λ (o : Option NodeName). AllByRecursion (λ y. IsChild y parent p) (items_after name_eq x (option_map_or (children_of ts) o (x ∷ [])))) (sym e)
+          (after-all (λ y. IsChild y parent p) x (children_of ts parent) (children-childs ts parent)))),
+    )
 
 -- removals
 pub leads-removals : (how : Observing) (xs : List NodeName) (p : Part) → IsPart p → Leads None p (in_turn (removing how) xs p)
 leads-removals how xs p i = leads-each None (λ q (y : NodeName). ⊤) (removing how) (λ q y j t. leads-removing how y q j) (λ q r y c t. tt) xs p i (all-from (λ y. ⊤) (λ y. tt) xs)
 
 -- Texts that are joined
-leads-joining : (x parent : NodeName) (nexts : List NodeName) (p : Part) → IsPart p → There p x → Leads None p (joining x parent nexts p)
-leads-joining x parent nexts p i t =
+leads-joining : (x parent : NodeName) (p : Part) → IsPart p → There p x → parent_of p.trees x ≡ Some parent → Leads None p (joining x parent (texts_after p.trees x) p)
+leads-joining x parent p i t e =
+    let nexts = texts_after p.trees x in
     let size = length_of p.trees x in
     let all = flat_map (λ y. (node_in p.trees y).text) nexts in
     leads-plan None (replacing_data x size 0 all and_then steps_of (joins p.trees x parent size nexts)) (in_turn (removing observed) nexts) p
-    (leads-plan None (replacing_data x size 0 all) (steps_of (joins p.trees x parent size nexts)) p (leads-replacing_data x size 0 all p i) (λ q c. leads-joins p.trees x parent size nexts q c.part (still c x t)))
+    (let first = leads-replacing_data x size 0 all p i in
+    leads-then None p (replacing_data x size 0 all p) (joins p.trees x parent size nexts) first (leads-joins p.trees x parent size nexts (after p (replacing_data x size 0 all p)) first.changed.part (still first.changed x t) (texts-beside x parent size all p i e)))
     (λ q c. leads-removals observed nexts q c.part)
 
 -- a Text that is normalized
 pub leads-normalizing_text : (p : Part) (x : NodeName) → IsPart p → There p x → Leads None p (normalizing_text x p)
 leads-normalizing_text p x i t =
     leads-if None p (length_of p.trees x == 0) (removing observed x p) (option_map_or (λ parent. if is_empty (texts_after p.trees x) then [] else joining x parent (texts_after p.trees x) p) (parent_of p.trees x) [])
-    (leads-removing observed x p i) (from (parent_of p.trees x))
+    (leads-removing observed x p i) (from (parent_of p.trees x) refl)
   where
-    from : (a : Option NodeName) → Leads None p (option_map_or (λ parent. if is_empty (texts_after p.trees x) then [] else joining x parent (texts_after p.trees x) p) a [])
-    from None = leads-nothing None p i
-    from (Some parent) = leads-if None p (is_empty (texts_after p.trees x)) [] (joining x parent (texts_after p.trees x) p) (leads-nothing None p i) (leads-joining x parent (texts_after p.trees x) p i t)
-
--- the first of some nodes that are there, left out
-all-dropped : (P : NodeName → Type 0) (xs : List NodeName) → AllByRecursion P xs → AllByRecursion P (drop 1 xs)
-all-dropped P [] h = tt
-all-dropped P (x ∷ xs) h = h.1
+    from : (a : Option NodeName) → parent_of p.trees x ≡ a → Leads None p (option_map_or (λ parent. if is_empty (texts_after p.trees x) then [] else joining x parent (texts_after p.trees x) p) a [])
+    from None e = leads-nothing None p i
+    from (Some parent) e = leads-if None p (is_empty (texts_after p.trees x)) [] (joining x parent (texts_after p.trees x) p) (leads-nothing None p i) (leads-joining x parent p i t e)
 
 -- the nodes of a tree are there
 pub descend-there : (ts : Trees) (x : NodeName) → AllByRecursion (λ y. 1 ≤ times_in ts y) (inclusive_descendants ts x)

@@ -1,145 +1,30 @@
 -- Extractions and deletions of ranges' contents keep the ends of ranges within their nodes.
-use Rattle.std.proofs.Common.{◌≡◌, ◌≤◌, ℕ, ◌-◌, Bool, true, false, List, [], ◌∷◌, ◌++◌, length, Option, Some, None, refl, sym, ap, ◌∙◌, arith, true≢false, subst}
-use Rattle.std.specs.Prelude.{if◌then◌else◌, ⊤, min}
+use Rattle.std.proofs.Common.{◌≡◌, ◌≤◌, ℕ, ◌-◌, true, List, [], ◌∷◌, ◌++◌, Option, Some, None, refl, sym, ap, ◌∙◌, arith, subst}
+use Rattle.std.specs.Prelude.{⊤}
 use Rattle.std.specs.List.{AllByRecursion}
-use Rattle.std.specs.Option.{option_map_or}
 use Rattle.dom_base.specs.declared.NodeName.{NodeName}
-use Rattle.dom_model.specs.Names.{DomString, name_eq, is_in, is_empty}
-use Rattle.dom_model.specs.Tree.{Node, node_in, kind_of, is_fragment, has_data, children_of, parent_of, inclusive_descendants}
-use Rattle.dom_model.specs.TreeChanges.{with_name, with_document, with_data_replaced}
-use Rattle.dom_model.specs.Output.{child_list}
+use Rattle.dom_model.specs.Names.{name_eq}
+use Rattle.dom_model.specs.Tree.{Node, node_in, kind_of, has_data}
+use Rattle.dom_model.specs.TreeChanges.{with_name}
 use Rattle.dom_model.specs.Part.{Part, next_name}
-use Rattle.dom_model.specs.Steps.{Step, make, place, take_out, queue_record, part_step, after}
-use Rattle.dom_model.specs.Changes.{in_turn, steps_of, Observing, observed, suppressed, telling, removal_record, removing, removing_from, changing_document, adopting, document_below, placed_nodes, emptying, making_room, placing, sibling_before, inserting_nodes, inserting}
+use Rattle.dom_model.specs.Steps.{Step, make, part_step, after}
+use Rattle.dom_model.specs.Changes.{observed, inserting}
 use Rattle.dom_model.specs.TextChanges.{replacing_data}
 use Rattle.dom_model.specs.Extract.{Pieces, nothing, whole, cut, clone, clone_part, making_below, taking}
-use Rattle.dom_model.proofs.OwnerLaws.{name_eq-same}
 use Rattle.dom_isolation.specs.Worlds.{IsPart}
 use Rattle.dom_isolation.proofs.Bounds.{nowhere, HasRoom, room-make}
-use Rattle.dom_isolation.proofs.Childs.{childs, childs-taken_out, childs-placed, childs-with_node, childs-map_nodes, childs-parent, children-childs}
+use Rattle.dom_isolation.proofs.Childs.{childs-parent}
 use Rattle.dom_isolation.proofs.Insides.{inside, parent-there}
 use Rattle.dom_isolation.proofs.NodesRead.{node-new}
 use Rattle.dom_isolation.proofs.Lists.{all-then}
-use Rattle.dom_isolation.proofs.PartSteps.{some-keeps, next-absent}
-use Rattle.dom_isolation.proofs.PlanBounds.{room-inserting, room-replacing_data, IsOpen, open-still, documented}
-use Rattle.dom_isolation.proofs.PlanPlaces.{Changed, MayGo, may-still, still, taken-step, telling-trees, after-append, emptied_of, leads-then, leads-eased, leads-one, leads-removing, leads-adopting, leads-placing, leads-emptied, leads-making_room, placed-may, leads-inserting}
+use Rattle.dom_isolation.proofs.PartSteps.{next-absent}
+use Rattle.dom_isolation.proofs.PlanBounds.{room-inserting, room-replacing_data, IsOpen, open-still}
+use Rattle.dom_isolation.proofs.PlanChildren.{IsChild, IsNot, child-inserting, child-replacing_data, child-make}
+use Rattle.dom_isolation.proofs.PlanPlaces.{Changed, MayGo, still, after-append, leads-then, leads-eased, leads-one, leads-inserting}
 use Rattle.dom_isolation.proofs.PlanTexts.{new-there, next-not, new-may, leads-replacing_data}
 use Rattle.dom_isolation.proofs.PlanContents.{OldIn, old-may, old-still, whole-then, changed-inner, leads-making_below, leads-taking}
 use Rattle.dom_isolation.proofs.Plans.{AllWhole}
 use Rattle.dom_isolation.proofs.TableSteps.{There}
-use Rattle.dom_isolation.proofs.Tests.{by_cases, either_way}
-use Rattle.dom_isolation.proofs.Trees.{name_eq-true}
-
--- x is a child of y.
-abbrev pub IsChild : NodeName → NodeName → Part → Type 0
-IsChild x y p = 1 ≤ childs p.trees x y
-
--- other nodes
-abbrev pub IsNot : NodeName → NodeName → Type 0
-IsNot x z = name_eq z x ≡ false
-
--- It stays a child where others leave.
-child-removing : (x y : NodeName) (how : Observing) (z : NodeName) (p : Part) → IsPart p → IsNot x z → IsChild x y p → IsChild x y (after p (removing how z p))
-child-removing x y how z p i d h = from (parent_of p.trees z) refl
-  where
-    from : (o : Option NodeName) → parent_of p.trees z ≡ o → IsChild x y (after p (option_map_or (removing_from how z p.trees) o []))
-    from None e = h
-    from (Some parent) e =
-        subst (λ ts. 1 ≤ childs ts x y) (sym (telling-trees how (removal_record p.trees parent z) (part_step p (take_out z)) ∙ ap (λ (q : Part). q.trees) (taken-step p z parent e)))
-        (let s = childs-taken_out p.trees z x y i.unique d in omega arith)
-
--- steps after steps
-child-then : (x y : NodeName) (p : Part) (xs ys : List Step) → IsChild x y (after (after p xs) ys) → IsChild x y (after p (xs ++ ys))
-child-then x y p xs ys h = subst (IsChild x y) (sym (after-append p xs ys)) h
-
--- many that leave
-pub child-removals : (x y : NodeName) (how : Observing) (zs : List NodeName) (p : Part) → IsPart p → AllByRecursion (IsNot x) zs → IsChild x y p → IsChild x y (after p (in_turn (removing how) zs p))
-child-removals x y how [] p i d h = h
-child-removals x y how (z ∷ zs) p i d h =
-    let q = after p (removing how z p) in
-    child-then x y p (removing how z p) (in_turn (removing how) zs q) (child-removals x y how zs q (leads-removing how z p i).changed.part d.1 (child-removing x y how z p i d.0 h))
-
--- an adoption
-child-adopting : (x y d z : NodeName) (p : Part) → IsPart p → IsNot x z → IsChild x y p → IsChild x y (after p (adopting d z p))
-child-adopting x y d z p i n h =
-    let q = after p (removing observed z p) in
-    let g = child-removing x y observed z p i n h in
-    child-then x y p (removing observed z p) (changing_document d z q)
-    (documented d z q (λ ts. 1 ≤ childs ts x y) g
-    (let s = childs-map_nodes (λ n. if is_in name_eq n.name (inclusive_descendants q.trees z) then with_document d n else n) (λ n. (some-keeps (λ (n : Node). is_in name_eq n.name (inclusive_descendants q.trees z)) (with_document d) (λ n. (refl, refl)) n).0) q.trees x y in omega arith))
-
--- another one that is placed
-child-placing : (x y parent : NodeName) (before : Option NodeName) (p : Part) (z : NodeName) → IsPart p → MayGo parent p z → IsNot x z → IsChild x y p → IsChild x y (after p (placing parent before z p))
-child-placing x y parent before p z i m n h =
-    let doc = document_below p.trees parent in
-    let steps = adopting doc z p in
-    let q = after p steps in
-    let first = leads-eased (Some parent) p steps (leads-adopting doc z p i m.owner) in
-    let k = may-still parent p q z first.changed m in
-    let g = child-adopting x y doc z p i n h in
-    child-then x y p steps (place z parent before ∷ []) (let s = childs-placed q.trees z parent before x y first.changed.part.unique k.below k.apart n in omega arith)
-
--- all others that are placed
-child-each : (x y parent : NodeName) (before : Option NodeName) (zs : List NodeName) (p : Part) → IsPart p → AllByRecursion (MayGo parent p) zs → AllByRecursion (IsNot x) zs → IsChild x y p → IsChild x y (after p (in_turn (placing parent before) zs p))
-child-each x y parent before [] p i m d h = h
-child-each x y parent before (z ∷ zs) p i m d h =
-    let steps = placing parent before z p in
-    let q = after p steps in
-    let c = (leads-placing parent before p z i m.0).changed in
-    child-then x y p steps (in_turn (placing parent before) zs q) (child-each x y parent before zs q c.part (all-then (MayGo parent p) (MayGo parent q) (λ a. may-still parent p q a c) zs m.1) d.1 (child-placing x y parent before p z i m.0 d.0 h))
-
--- what is placed is another one, where neither x nor its parent is inserted
-others-placed : (x y node : NodeName) (p : Part) → IsPart p → IsNot x node → IsNot y node → IsChild x y p → AllByRecursion (IsNot x) (placed_nodes p.trees node)
-others-placed x y node p i a b h =
-    either_way (AllByRecursion (IsNot x)) (is_fragment (kind_of p.trees node)) (children_of p.trees node) (node ∷ [])
-    (all-then (λ z. 1 ≤ childs p.trees z node) (IsNot x)
-    (λ z g. by_cases (name_eq z x)
-    (λ e. let same = name_eq-true z x e in
-    let one = childs-parent p.trees x node i.unique (subst (λ n. 1 ≤ childs p.trees n node) same g) in
-    let two = childs-parent p.trees x y i.unique h in
-    let both : Some node ≡ Some y = sym one ∙ two in let is : node ≡ y = cc in
-    absurd (true≢false (sym (name_eq-same node) ∙ ap (name_eq node) is ∙ b)))
-    (λ e. e)) (children_of p.trees node) (children-childs p.trees node)) (a, tt)
-
--- an insertion
-pub child-inserting : (x y : NodeName) (how : Observing) (node parent : NodeName) (before : Option NodeName) (p : Part) → IsPart p → MayGo parent p node → IsNot x node → IsNot y node → IsChild x y p → IsChild x y (after p (inserting how node parent before p))
-child-inserting x y how node parent before p i m a b h =
-    let spot = Some parent in
-    let moved = placed_nodes p.trees node in
-    let told = telling how (child_list parent moved [] (sibling_before p.trees parent before) before) in
-    let one = emptied_of p node p in
-    let l = leads-eased spot p one (leads-emptied node p i) in
-    let q = after p one in
-    let two = making_room parent before (length moved) q in
-    let lb = leads-eased spot q two (leads-making_room parent before (length moved) q l.changed.part) in
-    let ab = leads-then spot p one two l lb in
-    let r = after p (one ++ two) in
-    let three = in_turn (placing parent before) moved r in
-    let others = others-placed x y node p i a b h in
-    let n = all-then (MayGo parent p) (MayGo parent r) (λ z. may-still parent p r z ab.changed) moved (placed-may parent p node i m) in
-    let s = after p ((one ++ two) ++ three) in
-    either_way (λ steps. IsChild x y (after p steps)) (is_empty moved) [] (inserting_nodes how node moved parent before p) h
-    (child-then x y p ((one ++ two) ++ three) told (subst (λ ts. 1 ≤ childs ts x y) (sym (telling-trees how (child_list parent moved [] (sibling_before p.trees parent before) before) s))
-    (child-then x y p (one ++ two) three (child-each x y parent before moved r ab.changed.part n others
-    (child-then x y p one two (unmoved before (length moved) q (emptied (is_fragment (kind_of p.trees node)) moved others)))))))
-  where
-    unmoved : (before : Option NodeName) (count : ℕ) (q : Part) → IsChild x y q → IsChild x y (after q (making_room parent before count q))
-    unmoved None count q g = g
-    unmoved (Some child) count q g = g
-
-    emptied : (t : Bool) (moved : List NodeName) → AllByRecursion (IsNot x) moved → IsChild x y (after p ((if t then emptying node moved else steps_of []) p))
-    emptied false moved others = h
-    emptied true moved others = child-then x y p (in_turn (removing suppressed) moved p) (queue_record (child_list node [] moved None None) ∷ []) (child-removals x y suppressed moved p i others h)
-
--- data
-pub child-replacing_data : (x y z : NodeName) (offset count : ℕ) (new : DomString) (p : Part) → IsChild x y p → IsChild x y (after p (replacing_data z offset count new p))
-child-replacing_data x y z offset count new p h =
-    let few = min count (length (node_in p.trees z).text - offset) in
-    let s = childs-map_nodes (λ n. if name_eq n.name z then with_data_replaced offset few new n else n) (λ n. (some-keeps (λ (n : Node). name_eq n.name z) (with_data_replaced offset few new) (λ n. (refl, refl)) n).0) p.trees x y in omega arith
-
--- a new node
-pub child-make : (x y : NodeName) (n : Node) (p : Part) → IsChild x y p → IsChild x y (part_step p (make n))
-child-make x y n p h = let s = childs-with_node (with_name (next_name p) n) p.trees x y in omega arith
 
 -- Extraction: what is known of pieces.
 abbrev pub AreFit : (NodeName → Type 0) → (NodeName → Type 0) → (NodeName → Type 0) → Pieces → Type 0
@@ -184,7 +69,7 @@ children-missed (x ∷ xs) y z p q t m f h =
     let one = f x m.1.0 first.0.0 in ((one, rest.0), t)
 
 -- a child is there
-child-there_in : (p : Part) (x y : NodeName) → IsPart p → IsChild x y p → There p x
+pub child-there_in : (p : Part) (x y : NodeName) → IsPart p → IsChild x y p → There p x
 child-there_in p x y i h = Rattle.dom_isolation.proofs.Insides.child-there p.trees x y (childs-parent p.trees x y i.unique h)
 
 -- the part after a new node went below another one

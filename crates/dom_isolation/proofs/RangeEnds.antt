@@ -20,7 +20,9 @@ use Rattle.dom_isolation.proofs.Insides.{parent-there}
 use Rattle.dom_isolation.proofs.Kids.{kids, rooted, kids-below, root-below, index-below, length-children}
 use Rattle.dom_isolation.proofs.NodesRead.{length-kids}
 use Rattle.dom_isolation.proofs.PlanBounds.{IsOpen}
-use Rattle.dom_isolation.proofs.RangeBounds.{IsChild, AreChildren}
+use Rattle.dom_isolation.proofs.PlanChildren.{IsChild}
+use Rattle.dom_isolation.proofs.RangeBounds.{AreChildren}
+use Rattle.dom_isolation.proofs.Roots.{all-in, root-above}
 use Rattle.dom_isolation.proofs.TableSteps.{There}
 use Rattle.dom_isolation.proofs.TableRecords.{IfSome, last-all, before-all, inside-alone}
 use Rattle.dom_isolation.proofs.Lists.{all-append, all-then}
@@ -64,11 +66,6 @@ among-up_to a (x ∷ xs) z h =
     (λ e. subst (λ ys. times_among (ys ++ a ∷ []) z ≤ times_among (x ∷ xs) z) (sym (cond-false (name_eq a x) [] (x ∷ items_before name_eq a xs) e))
     (let b = among-up_to a xs z (or-later (name_eq a x) (is_in name_eq a xs) e h) in omega arith))
 
--- what holds of all holds of one that is there
-all-one : (P : NodeName → Type 0) (a : NodeName) (xs : List NodeName) → AllByRecursion P xs → is_in name_eq a xs ≡ true → P a
-all-one P a [] h e = absurd (true≢false (sym e))
-all-one P a (x ∷ xs) h e = by_cases (name_eq a x) (λ k. subst P (sym (name_eq-true a x k)) h.0) (λ k. all-one P a xs h.1 (or-later (name_eq a x) (is_in name_eq a xs) k e))
-
 -- The start itself, where its node has children.
 room-start : (p : Part) (r : Range NodeName) → IsPart p → There p r.start.node → IsOpen p r.start.node → r.start.offset ≤ length_of p.trees r.start.node → IsRoomAt p r r.start
 room-start p r i t o le =
@@ -97,7 +94,7 @@ room-behind p r a y i h t e above =
       held = before ++ a ∷ [];
       count = let s : index_of ts a ≡ length before = ap (λ (o : Option NodeName). length (items_before name_eq a (option_map_or (children_of ts) o (a ∷ [])))) e in let l = length-append before (a ∷ []) in omega arith;
       once = λ z. let b = among-up_to a all z listed in let c = children-among ts y z in let u = i.unique z in omega arith;
-      children = (all-append (λ x. IsChild x y p) before (a ∷ []) (before-all (λ x. IsChild x y p) a all each) (all-one (λ x. IsChild x y p) a all each listed, tt), parent-there ts a y e);
+      children = (all-append (λ x. IsChild x y p) before (a ∷ []) (before-all (λ x. IsChild x y p) a all each) (all-in (λ x. IsChild x y p) a all each listed, tt), parent-there ts a y e);
       opened = kids-open p y h (omega arith);
       spared = spared-up_to ts r a y i.unique e t above;
     }
@@ -109,19 +106,6 @@ listed-each (x ∷ xs) = (
   Rattle.dom_isolation.proofs.Tests.or-first (name_eq x x) (is_in name_eq x xs) (Rattle.dom_model.proofs.OwnerLaws.name_eq-same x),
   all-then (λ a. is_in name_eq a xs ≡ true) (λ a. is_in name_eq a (x ∷ xs) ≡ true) (λ a h. Rattle.dom_isolation.proofs.Tests.or-second (name_eq a x) (is_in name_eq a xs) h) xs (listed-each xs),
 )
-
--- the root of a node that is there is one
-root-above : (ts : Trees) (z : NodeName) → 1 ≤ times_in ts z → is_inclusive_ancestor ts (root_of ts z) z ≡ true
-root-above ts z t =
-    let at = ancestors-present ts z t in
-    from (last_of (inclusive_ancestors ts z)) (last-all (λ a. is_in name_eq a (inclusive_ancestors ts z) ≡ true) (inclusive_ancestors ts z) (listed-each (inclusive_ancestors ts z))) (self at.0 at.1)
-  where
-    self : (path : List NodeName) → inclusive_ancestors ts z ≡ z ∷ path → is_inclusive_ancestor ts z z ≡ true
-    self path e = ap (is_in name_eq z) e ∙ Rattle.dom_isolation.proofs.Tests.or-first (name_eq z z) (is_in name_eq z path) (Rattle.dom_model.proofs.OwnerLaws.name_eq-same z)
-
-    from : (o : Option NodeName) → IfSome (λ a. is_in name_eq a (inclusive_ancestors ts z) ≡ true) o → is_inclusive_ancestor ts z z ≡ true → is_inclusive_ancestor ts (unwrap_or o z) z ≡ true
-    from None h s = s
-    from (Some a) h s = h
 
 -- a node in whose tree another one stands has children
 pub above-kids : (p : Part) (x z : NodeName) → IsPart p → is_inclusive_ancestor p.trees x z ≡ true → name_eq x z ≡ false → 1 ≤ kids p.trees x

@@ -29,7 +29,8 @@ use Rattle.dom_isolation.proofs.PlanBounds.{room-then, room-removals, room-repla
 use Rattle.dom_isolation.proofs.PlanPlaces.{Changed, MayGo, still, after-append, leads-one, leads-nothing, leads-inserting}
 use Rattle.dom_isolation.proofs.PlanTexts.{new-there, next-not, new-may, leads-removals, leads-replacing_data}
 use Rattle.dom_isolation.proofs.PlanContents.{OldIn, old-there, whole-then, leads-making_below, pieces-there, leads-taking}
-use Rattle.dom_isolation.proofs.RangeBounds.{IsChild, IsNot, AreChildren, AreFit, Misses, IsData, IsOpenIn, fits-still, child-removals, child-replacing_data, child-make, room-taking}
+use Rattle.dom_isolation.proofs.PlanChildren.{IsChild, IsNot, child-removals, child-replacing_data, child-make}
+use Rattle.dom_isolation.proofs.RangeBounds.{AreChildren, AreFit, Misses, IsData, IsOpenIn, fits-still, room-taking}
 use Rattle.dom_isolation.proofs.RangeEnds.{room-at, above-kids, room-place_new}
 use Rattle.dom_isolation.proofs.TableSteps.{There}
 use Rattle.dom_isolation.proofs.Tests.{by_cases, either_way, which_way, or-first}

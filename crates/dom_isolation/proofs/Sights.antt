@@ -18,33 +18,9 @@ use Rattle.dom_isolation.proofs.ComponentPaths.{chain-alone, chain-under}
 use Rattle.dom_isolation.proofs.Hiding.{ancestors-owned, not_in, shadow_including-page, page-not_hidden}
 use Rattle.dom_isolation.proofs.FollowEvents.{root-owned}
 use Rattle.dom_isolation.proofs.ReachedFacts.{root-alone}
-use Rattle.dom_isolation.proofs.Tests.{by_cases, or-later, or-first}
+use Rattle.dom_isolation.proofs.Roots.{all-in, last_from, last-is, last-in}
+use Rattle.dom_isolation.proofs.Tests.{by_cases}
 use Rattle.dom_isolation.proofs.Trees.{name_eq-true, ancestors-root, root-there, by_times, ancestors-present, ancestors-absent}
-
--- what holds of all holds of one of them
-all-in : (P : NodeName → Type 0) (x : NodeName) (ys : List NodeName) → AllByRecursion P ys → is_in name_eq x ys ≡ true → P x
-all-in P x [] h e = absurd (true≢false (sym e))
-all-in P x (y ∷ ys) h e =
-    by_cases (name_eq x y) (λ t. subst P (sym (name_eq-true x y t)) h.0) (λ t. all-in P x ys h.1 (or-later (name_eq x y) (is_in name_eq x ys) t e))
-
--- the last node of a list that begins with y
-abbrev last_from : NodeName → List NodeName → NodeName
-last_from y [] = y
-last_from y (z ∷ zs) = last_from z zs
-
--- the same, as the model says it
-last-is : (y : NodeName) (ys : List NodeName) → last_or (Some y) ys ≡ Some (last_from y ys)
-last-is y [] = refl
-last-is y (z ∷ zs) = last-is z zs
-
--- the last of a list is in it
-last-in : (y : NodeName) (ys : List NodeName) → is_in name_eq (last_from y ys) (y ∷ ys) ≡ true
-last-in y [] = or-first (name_eq y y) false (name_eq-same y)
-last-in y (z ∷ zs) = by (name_eq (last_from z zs) y) (last-in z zs)
-  where
-    by : (t : Bool) → is_in name_eq (last_from z zs) (z ∷ zs) ≡ true → (t || is_in name_eq (last_from z zs) (z ∷ zs)) ≡ true
-    by true h = refl
-    by false h = h
 
 -- one of two lists
 in-append : (x : NodeName) (ys zs : List NodeName) → is_in name_eq x zs ≡ false → is_in name_eq x (ys ++ zs) ≡ is_in name_eq x ys

@@ -34,15 +34,17 @@ use Rattle.dom_isolation.proofs.Acceptance.{or-none, next-test, part-accepted}
 use Rattle.dom_isolation.proofs.Descents.{inside-ancestor}
 use Rattle.dom_isolation.proofs.Insides.{inside-itself, inside-no_ancestor, times-has_node, parent-there}
 use Rattle.dom_isolation.proofs.KindCommands.{has_node-times}
-use Rattle.dom_isolation.proofs.Lists.{all-append, all-then, all-filter, all-map}
+use Rattle.dom_isolation.proofs.Lists.{all-dropped, all-append, all-then, all-filter, all-map}
 use Rattle.dom_isolation.proofs.PageCommands.{owner-named}
 use Rattle.dom_isolation.proofs.PlanPlaces.{MayGo, leads-removing, leads-adopting, leads-inserting}
 use Rattle.dom_isolation.proofs.PlanTexts.{leads-replacing, leads-setting_attribute, leads-unsetting_attribute, leads-replacing_data, leads-splitting, leads-normalizing, leads-setting_text}
 use Rattle.dom_isolation.proofs.PlanContents.{range-ends, leads-extracting, leads-deleting, leads-inserting_into_range}
 use Rattle.dom_isolation.proofs.ShadowRoots.{not_taken}
 use Rattle.dom_isolation.proofs.TableSteps.{There, MadeIn, all-set}
-use Rattle.dom_isolation.proofs.TableRecords.{StandsIn, all-stand, IfSome, first-all, last-all, before-all, after-all, all-descend, iterator-moved}
-use Rattle.dom_isolation.proofs.Tests.{either_way}
+use Rattle.dom_isolation.proofs.PlanRoots.{ends-at}
+use Rattle.dom_isolation.proofs.TableRecords.{StandsIn, all-stand, IfSome, all-get, first-all, last-all, before-all, after-all, all-descend, iterator-moved}
+use Rattle.dom_isolation.proofs.Roots.{roots-equal, roots-same}
+use Rattle.dom_isolation.proofs.Tests.{either_way, which_way}
 use Rattle.dom_isolation.proofs.Trees.{IsUnique, ancestors-there}
 
 -- the tables after an effect, or its steps
@@ -79,26 +81,18 @@ exists-second p x y rest thing h =
     let more = has_node p.trees (named p y) && rest in
     has_node-times p.trees (named p y) (and_parts (has_node p.trees (named p y)) rest (and_parts (has_node p.trees (named p x)) more (and_parts (has_node p.trees (named p x) && more) thing h).0).1).0
 
--- Of what is found in a table.
-pub all-get : {X : Type 0} (P : X → Type 0) (xs : List X) (k : ℕ) → AllByRecursion P xs → IfSome P (slice_get xs k)
-all-get P [] k h = tt
-all-get P (x ∷ xs) zero h = h.0
-all-get P (x ∷ xs) (suc k) h = all-get P xs k h.1
+-- the third of three
+pub exists-third : (p : Part) (x y z : Spelled) → ((has_node p.trees (named p x) && (has_node p.trees (named p y) && (has_node p.trees (named p z) && true))) && true) ≡ true → There p (named p z)
+exists-third p x y z h =
+    let last = has_node p.trees (named p z) && true in
+    let more = has_node p.trees (named p y) && last in
+    let both = and_parts (has_node p.trees (named p x)) more (and_parts (has_node p.trees (named p x) && more) true h).0 in
+    has_node-times p.trees (named p z) (and_parts (has_node p.trees (named p z)) true (and_parts (has_node p.trees (named p y)) last both.1).1).0
 
--- what holds in each case holds of what is made of it
+-- What holds in each case holds of what is made of it.
 some-holds : {X : Type 0} (P : X → Type 0) (p : Part) (o : Option X) (f : X → Effect) (d : Effect) → IfSome P o → ((x : X) → P x → Holds p (f x)) → Holds p d → Holds p (option_map_or f o d)
 some-holds P p None f d h g k = k
 some-holds P p (Some x) f d h g k = g x h
-
--- the ends of a range that is looked up
-ends-at : (p : Part) (k : ℕ) → HasTables p → EndsIn p.trees (range_at p k)
-ends-at p k h = each p.ranges k h.ranges
-  where
-    each : (rs : List (Option (Range NodeName))) (k : ℕ) → AllByRecursion (EndsIn p.trees) rs → EndsIn p.trees (option_flatten (slice_get rs k))
-    each [] k g = tt
-    each (None ∷ rs) zero g = tt
-    each (Some r ∷ rs) zero g = g.0
-    each (r ∷ rs) (suc k) g = each rs k g.1
 
 -- a range that is written
 tables-range : (p : Part) (k : ℕ) (r : Option (Range NodeName)) → HasTables p → EndsIn p.trees r → HasTables (with_range p k r)
@@ -112,16 +106,21 @@ ends-mapped ts f g (Some r) h = g r h
 
 -- another start or end
 ends-with_start : (ts : Trees) (b : Boundary NodeName) → IsNodeIn ts b.node → (r : Range NodeName) → HasEnds ts r → HasEnds ts (with_start ts b r)
-ends-with_start ts b t r h = either_way (HasEnds ts) (same_root ts b.node r.end.node && not (is_before ts r.end b)) (from_to b r.end) (from_to b b) (record { start = t; end = h.end }) (record { start = t; end = t })
+ends-with_start ts b t r h =
+    which_way (HasEnds ts) (same_root ts b.node r.end.node && not (is_before ts r.end b)) (from_to b r.end) (from_to b b)
+    (λ e. record { start = t; end = h.end; one_root = (and_parts (same_root ts b.node r.end.node) (not (is_before ts r.end b)) e).0 }) (λ e. record { start = t; end = t; one_root = roots-same ts b.node b.node refl })
 
 -- another end
 ends-with_end : (ts : Trees) (b : Boundary NodeName) → IsNodeIn ts b.node → (r : Range NodeName) → HasEnds ts r → HasEnds ts (with_end ts b r)
-ends-with_end ts b t r h = either_way (HasEnds ts) (same_root ts b.node r.start.node && not (is_before ts b r.start)) (from_to r.start b) (from_to b b) (record { start = h.start; end = t }) (record { start = t; end = t })
+ends-with_end ts b t r h =
+    which_way (HasEnds ts) (same_root ts b.node r.start.node && not (is_before ts b r.start)) (from_to r.start b) (from_to b b)
+    (λ e. record { start = h.start; end = t; one_root = roots-same ts r.start.node b.node (sym (roots-equal ts b.node r.start.node (and_parts (same_root ts b.node r.start.node) (not (is_before ts b r.start)) e).0)) })
+    (λ e. record { start = t; end = t; one_root = roots-same ts b.node b.node refl })
 
 -- both at one of them
 ends-collapsed : (ts : Trees) (to_start : Bool) (r : Range NodeName) → HasEnds ts r → HasEnds ts (collapsed_to to_start r)
-ends-collapsed ts true r h = record { start = h.start; end = h.start }
-ends-collapsed ts false r h = record { start = h.end; end = h.end }
+ends-collapsed ts true r h = record { start = h.start; end = h.start; one_root = roots-same ts r.start.node r.start.node refl }
+ends-collapsed ts false r h = record { start = h.end; end = h.end; one_root = roots-same ts r.end.node r.end.node refl }
 
 -- Iterators and walkers move to nodes that are there.
 iterator-next : (ts : Trees) (i : Iterator) → IsUnique ts → IsIteratorIn ts i → IfSome (StandsIn ts i.root) (iterator_next_node ts i)
@@ -151,20 +150,15 @@ find-all : (P : NodeName → Type 0) (test : NodeName → Bool) (xs : List NodeN
 find-all P test [] h = tt
 find-all P test (x ∷ xs) h = either_way (IfSome P) (test x) (Some x) (find test xs) h.0 (find-all P test xs h.1)
 
--- all but the first
-all-but_first : (P : NodeName → Type 0) (xs : List NodeName) → AllByRecursion P xs → AllByRecursion P (drop 1 xs)
-all-but_first P [] h = tt
-all-but_first P (x ∷ xs) h = h.1
-
 -- ancestors are nodes
 all-ancestors : (ts : Trees) (x : NodeName) → AllByRecursion (IsNodeIn ts) (ancestors ts x)
-all-ancestors ts x = all-but_first (IsNodeIn ts) (inclusive_ancestors ts x) (all-then (λ y. 1 ≤ times_in ts y) (IsNodeIn ts) (times-has_node ts) (inclusive_ancestors ts x) (ancestors-there ts x))
+all-ancestors ts x = all-dropped (IsNodeIn ts) (inclusive_ancestors ts x) (all-then (λ y. 1 ≤ times_in ts y) (IsNodeIn ts) (times-has_node ts) (inclusive_ancestors ts x) (ancestors-there ts x))
 
 -- a step of a walker
 walker-stepped : (ts : Trees) (w : Walker) (m : Move) → IfSome (IsNodeIn ts) (walker_step ts w m)
 walker-stepped ts w Parent = either_way (IfSome (IsNodeIn ts)) (name_eq w.current w.root) None (find (λ y. accepts ts w.filter y && is_inclusive_ancestor ts w.root y) (ancestors ts w.current)) tt (find-all (IsNodeIn ts) (λ y. accepts ts w.filter y && is_inclusive_ancestor ts w.root y) (ancestors ts w.current) (all-ancestors ts w.current))
-walker-stepped ts w First = first-all (IsNodeIn ts) (walker_children ts w) (all-filter (IsNodeIn ts) _ (drop 1 (inclusive_descendants ts w.current)) (all-but_first (IsNodeIn ts) (inclusive_descendants ts w.current) (all-descend ts w.current)))
-walker-stepped ts w Last = last-all (IsNodeIn ts) (walker_children ts w) (all-filter (IsNodeIn ts) _ (drop 1 (inclusive_descendants ts w.current)) (all-but_first (IsNodeIn ts) (inclusive_descendants ts w.current) (all-descend ts w.current)))
+walker-stepped ts w First = first-all (IsNodeIn ts) (walker_children ts w) (all-filter (IsNodeIn ts) _ (drop 1 (inclusive_descendants ts w.current)) (all-dropped (IsNodeIn ts) (inclusive_descendants ts w.current) (all-descend ts w.current)))
+walker-stepped ts w Last = last-all (IsNodeIn ts) (walker_children ts w) (all-filter (IsNodeIn ts) _ (drop 1 (inclusive_descendants ts w.current)) (all-dropped (IsNodeIn ts) (inclusive_descendants ts w.current) (all-descend ts w.current)))
 walker-stepped ts w Next =
     let items = items_after name_eq w.current (inclusive_descendants ts w.root) in
     first-all (IsNodeIn ts) (walker_nodes ts w items) (all-filter (IsNodeIn ts) _ items (after-all (IsNodeIn ts) w.current (inclusive_descendants ts w.root) (all-descend ts w.root)))
@@ -254,13 +248,17 @@ parent-of_range p range t = from (start_reference p.trees range)
     from None = t
     from (Some x) = of (parent_of p.trees x) (up x (parent_of p.trees x) refl)
 
--- the node of an accepted `insert-node` may go there
-insert_node-may : (p : Part) (k : ℕ) (x : Spelled) → IsPart p → HasTables p → There p (named p x) → own_refusal p (Command.insert_node k x) ≡ None → (range : Range NodeName) → range_at p k ≡ Some range → MayGo (insertion_parent p.trees range) p (named p x)
-insert_node-may p k x i h t r range e =
+-- an accepted `insert-node` is valid
+pub insert_node-valid : (p : Part) (k : ℕ) (x : Spelled) → own_refusal p (Command.insert_node k x) ≡ None → (range : Range NodeName) → range_at p k ≡ Some range → insert_node_refusal p.trees range (named p x) ≡ None
+insert_node-valid p k x r range e =
     let tests = λ (q : Range NodeName). option_or (insert_node_refusal p.trees q (named p x)) (limit_on p.node_count (made_by_insert_node p q)) in
     let here : tests range ≡ None = sym (ap (λ a. option_map_or tests a None) e) ∙ r in
-    let first = or-none (insert_node_refusal p.trees range (named p x)) (limit_on p.node_count (made_by_insert_node p range)) here in
-    let valid = not_taken (cannot_take_node p.trees range (named p x)) (insertion_refusal p.trees (insertion_parent p.trees range) (named p x) (start_reference p.trees range)) first.0 in
+    (or-none (insert_node_refusal p.trees range (named p x)) (limit_on p.node_count (made_by_insert_node p range)) here).0
+
+-- so its node may go there
+pub insert_node-may : (p : Part) (k : ℕ) (x : Spelled) → IsPart p → HasTables p → There p (named p x) → own_refusal p (Command.insert_node k x) ≡ None → (range : Range NodeName) → range_at p k ≡ Some range → MayGo (insertion_parent p.trees range) p (named p x)
+insert_node-may p k x i h t r range e =
+    let valid = not_taken (cannot_take_node p.trees range (named p x)) (insertion_refusal p.trees (insertion_parent p.trees range) (named p x) (start_reference p.trees range)) (insert_node-valid p k x r range e) in
     named-may p x (insertion_parent p.trees range) i t (parent-of_range p range (range-ends p k h range e).0) (insertion-apart p.trees (insertion_parent p.trees range) (named p x) (start_reference p.trees range) valid)
 
 -- Every accepted command.
@@ -293,7 +291,7 @@ holds-effect p i h f (Command.set_text x s) r =
     let k = part-accepted p (Command.set_text x s) r in
     (leads-setting_text (named p x) s p i (exists-first p x true true k.exist)).made
 holds-effect p i h f Command.range_new r =
-    record { hosts = h.hosts; ranges = all-append (EndsIn p.trees) p.ranges (Some (both_at (at (first_node p) 0)) ∷ []) h.ranges (record { start = f; end = f }, tt); iterators = h.iterators; walkers = h.walkers; registrations = h.registrations; pending = h.pending; listeners = h.listeners }
+    record { hosts = h.hosts; ranges = all-append (EndsIn p.trees) p.ranges (Some (both_at (at (first_node p) 0)) ∷ []) h.ranges (record { start = f; end = f; one_root = roots-same p.trees (first_node p) (first_node p) refl }, tt); iterators = h.iterators; walkers = h.walkers; registrations = h.registrations; pending = h.pending; listeners = h.listeners }
 holds-effect p i h f (Command.range_start k x j) r =
     let a = part-accepted p (Command.range_start k x j) r in
     let b = at (named p x) j in
@@ -320,7 +318,7 @@ holds-effect p i h f (Command.extract k) r = range-made p k (λ range. extractin
 holds-effect p i h f (Command.delete k) r = range-made p k (λ range. deleting k range p) (λ range e. (leads-deleting k range p i (range-ends p k h range e).0).made)
 holds-effect p i h f (Command.insert_node k x) r =
     let a = part-accepted p (Command.insert_node k x) r in
-    range-made p k (λ range. inserting_into_range k range (named p x) p) (λ range e. (leads-inserting_into_range k range (named p x) p i h (insert_node-may p k x i h (exists-first p x true (has_range p k) a.exist) a.own range e)).made)
+    range-made p k (λ range. inserting_into_range k range (named p x) p) (λ range e. (leads-inserting_into_range k range (named p x) p i h e (insert_node-may p k x i h (exists-first p x true (has_range p k) a.exist) a.own range e)).made)
 holds-effect p i h f (Command.iterator_new x w) r =
     let a = part-accepted p (Command.iterator_new x w) r in
     let t = times-has_node p.trees (named p x) (exists-first p x true true a.exist) in

@@ -28,7 +28,7 @@ use Rattle.dom_model.specs.World.{World, Task, micro_task, notify_task, find_par
 use Rattle.dom_model.proofs.PartLaws.{part_of-with_part-other, owner-part_of}
 use Rattle.dom_model.proofs.StepLaws.{Component-IsNoPage}
 use Rattle.dom_isolation.specs.Laws.{IsReached}
-use Rattle.dom_isolation.specs.Tables.{IsNodeIn, IsRegistrationIn, IsListenerIn, HasTables, IsNodeAt, IsWhole}
+use Rattle.dom_isolation.specs.Tables.{IsNodeIn, IsRegistrationIn, IsListenerIn, IsRecordIn, HasTables, HasRecords, IsNodeAt, IsWhole}
 use Rattle.dom_isolation.specs.Wholes.{FirstIsWhole, StepKeepsWhole, EndingKeepsWhole, FinishKeepsWhole, ScriptsStayWhole}
 use Rattle.dom_isolation.specs.Worlds.{HasOwners, IsThere}
 use Rattle.dom_isolation.proofs.Acceptance.{accepted-facts}
@@ -41,6 +41,8 @@ use Rattle.dom_isolation.proofs.OwnerSteps.{IsPeopled}
 use Rattle.dom_isolation.proofs.Owners.{there-hosted}
 use Rattle.dom_isolation.proofs.Reached.{first-is_reached, step-keeps_reached, ending-keeps_reached, finish-keeps_reached}
 use Rattle.dom_isolation.proofs.ReachedFacts.{shadow_roots-are_roots}
+use Rattle.dom_isolation.proofs.Recorded.{records-emptied}
+use Rattle.dom_isolation.proofs.RecordedCommands.{Records, records-effect}
 use Rattle.dom_isolation.proofs.TableCommands.{Holds, holds-effect, queue-below, more-registered}
 use Rattle.dom_isolation.proofs.TableEffects.{KeepsBase, base-effect}
 use Rattle.dom_isolation.proofs.TableSteps.{Grows}
@@ -86,7 +88,7 @@ frame-visits e (v ∷ vs) w d f =
     let p = part_of w o in
     let heard = visited name_eq e (record d { listeners = p.listeners }) v in
     let t = tables-heard p heard.listeners (f.tables o) (after-visit (IsListenerIn p.trees) e v (record d { listeners = p.listeners }) (f.tables o).listeners) in
-    frame-visits e vs (with_part w (record p { listeners = heard.listeners })) heard (frame-with_part w (record p { listeners = heard.listeners }) o (owner-part_of w o) t (λ y h. h) f)
+    frame-visits e vs (with_part w (record p { listeners = heard.listeners })) heard (frame-with_part w (record p { listeners = heard.listeners }) o (owner-part_of w o) t (f.records o) (λ y h. h) f)
 
 -- a dispatch
 frame-dispatch : (w : World) (x : NodeName) (related : Option NodeName) (e : EventWords) → Frame w → Frame (dispatch_in w x related e).run.0
@@ -118,9 +120,9 @@ frame-running : (w : World) (t : Task) → Frame w → Frame (running_task w t).
 frame-running w (micro_task o label) f = f
 frame-running w (notify_task o) f =
     let calm = without_signals w o in
-    let base : Frame calm = record { tables = f.tables; first = f.first; signalled = all-filter (IsNodeAt w) (λ s. not (is_owned_by o s)) w.signalled f.signalled } in
+    let base : Frame calm = record { tables = f.tables; records = f.records; first = f.first; signalled = all-filter (IsNodeAt w) (λ s. not (is_owned_by o s)) w.signalled f.signalled } in
     let told = with_part calm (notified (part_of w o)) in
-    frame-firings (filter (is_owned_by o) w.signalled) told (frame-with_part calm (notified (part_of w o)) o (owner-part_of w o) (tables-notified (part_of w o) (f.tables o)) (λ y h. h) base)
+    frame-firings (filter (is_owned_by o) w.signalled) told (frame-with_part calm (notified (part_of w o)) o (owner-part_of w o) (tables-notified (part_of w o) (f.tables o)) (records-emptied (IsRecordIn (part_of w o).trees) (part_of w o).pending (part_of w o).record_queues (f.records o)) (λ y h. h) base)
 
 -- all tasks
 frame-running_all : (ts : List Task) (w : World) → Frame w → Frame (run_each running_task w ts).0
@@ -129,7 +131,7 @@ frame-running_all (t ∷ ts) w f = frame-running_all ts (running_task w t).0 (fr
 
 -- the ending of a turn
 frame-ending_turn : (w : World) → Frame w → Frame (ending_turn w).0
-frame-ending_turn w f = frame-running_all w.tasks (record w { tasks = []; turn = None }) (record { tables = f.tables; first = f.first; signalled = f.signalled })
+frame-ending_turn w f = frame-running_all w.tasks (record w { tasks = []; turn = None }) (record { tables = f.tables; records = f.records; first = f.first; signalled = f.signalled })
 
 -- of another component's turn
 frame-ending_other : (w : World) (o : Owner) → Frame w → Frame (ending_other_turn w o).0
@@ -163,11 +165,11 @@ frame-attaching w x i t f =
     let hosted : HasTables more = record { hosts = all-append (IsNodeIn p.trees) p.attached (x ∷ []) h.hosts (t, tt); ranges = h.ranges; iterators = h.iterators; walkers = h.walkers; registrations = h.registrations; pending = h.pending; listeners = h.listeners } in
     let marked = with_part w more in
     let mine : more.owner ≡ Page = owner-part_of w Page in
-    let g = frame-with_part w more Page mine hosted (λ y k. k) f in
+    let g = frame-with_part w more Page mine hosted (f.records Page) (λ y k. k) f in
     let d = (node_in p.trees x).document in
     let root = part_with_root c Shadow d in
     let other : part_of marked c ≡ part_of w c = part_of-with_part-other w more c (λ e. Component-IsNoPage (suc (length p.attached)) (sym e ∙ mine)) in
-    frame-with_part marked root c refl (tables-root c d) (subst (λ (q : Part). Grows q.trees root.trees) (sym other) (absent-grows w c root (new-absent w i))) g
+    frame-with_part marked root c refl (tables-root c d) tt (subst (λ (q : Part). Grows q.trees root.trees) (sym other) (absent-grows w c root (new-absent w i))) g
 
 -- which is the page's alone
 frame-attach_of : (w : World) (o : Owner) (x : Spelled) → is_command_of o (Command.attach x) ≡ true → part_refusal (part_of w o) (Command.attach x) ≡ None → HasOwners w → Frame w → Frame (perform w o (Command.attach x)).0
@@ -175,10 +177,10 @@ frame-attach_of w Page x g r i f = frame-attaching w (named (part_of w Page) x) 
 frame-attach_of w (Component k) x g r i f = absurd (true≢false (sym g))
 
 -- An accepted command.
-frame-effect : (w : World) (o : Owner) (e : Effect) → Ground w → KeepsBase (part_of w o) e → Holds (part_of w o) e → Frame w → Frame (effect_in w o e).0
-frame-effect w o (tables p lines v) g base h f =
-    frame-with_part w p o (base.0 ∙ owner-part_of w o) h (λ y k. subst (λ ts. IsNodeIn ts y) (sym base.1.trees) k) f
-frame-effect w o (changes steps v) g base h f = frame-world_after o steps w g h f
+frame-effect : (w : World) (o : Owner) (e : Effect) → Ground w → KeepsBase (part_of w o) e → Holds (part_of w o) e → Records (part_of w o) e → Frame w → Frame (effect_in w o e).0
+frame-effect w o (tables p lines v) g base h r f =
+    frame-with_part w p o (base.0 ∙ owner-part_of w o) h r (λ y k. subst (λ ts. IsNodeIn ts y) (sym base.1.trees) k) f
+frame-effect w o (changes steps v) g base h r f = frame-world_after o steps w g h r f
 
 -- what is asked beside
 record Facts (w : World) (o : Owner) : Type 0 where
@@ -192,9 +194,9 @@ frame-perform w o (Command.attach x) k g r f = frame-attach_of w o x g r k.owner
 frame-perform w o (Command.connected x) k g r f = f
 frame-perform w o (Command.assigned x) k g r f = f
 frame-perform w o (Command.dispatch x e related) k g r f = frame-dispatch w (named (part_of w o) x) (option_map (named (part_of w o)) related) e f
-frame-perform w o (Command.micro label) k g r f = record { tables = f.tables; first = f.first; signalled = f.signalled }
+frame-perform w o (Command.micro label) k g r f = record { tables = f.tables; records = f.records; first = f.first; signalled = f.signalled }
 frame-perform w o Command.end_turn k g r f = frame-ending_turn w f
-frame-perform w o c k g r f = frame-effect w o (effect (part_of w o) c) k.ground (base-effect (part_of w o) c) (holds-effect (part_of w o) (k.ground.parts o) (f.tables o) k.first c r) f
+frame-perform w o c k g r f = frame-effect w o (effect (part_of w o) c) k.ground (base-effect (part_of w o) c) (holds-effect (part_of w o) (k.ground.parts o) (f.tables o) k.first c r) (records-effect (part_of w o) (k.ground.parts o) (f.tables o) (f.records o) c r) f
 
 -- with the turn that it opens
 facts-opening : (w : World) (o : Owner) → Facts w o → HasOwners (opening_turn w o) → Facts (opening_turn w o) o
@@ -210,7 +212,7 @@ frame-accepted : (w : World) (o : Owner) (c : Command) → IsThere w o → IsPeo
 frame-accepted w o Command.end_turn t i k g r f = frame-ending_turn w f
 frame-accepted w o c t i k g r f =
     frame-perform (opening_turn w o) o c (facts-opening w o k (peopled-opening w o t i).owners) g (ap (λ p. part_refusal p c) (part_of-opening w o o) ∙ r)
-    (either_way Frame (is_some w.turn) w (record w { turn = Some o }) f (record { tables = f.tables; first = f.first; signalled = f.signalled }))
+    (either_way Frame (is_some w.turn) w (record w { turn = Some o }) f (record { tables = f.tables; records = f.records; first = f.first; signalled = f.signalled }))
 
 -- An owner that is there has its first node.
 first-there : {only_log : Bool} (w : World) → IsReached only_log w → IsNodeIn (part_of w Page).trees (node_of Page 0) → (o : Owner) → IsThere w o → IsNodeIn (part_of w o).trees (first_node (part_of w o))
@@ -239,11 +241,11 @@ frame-line {only_log = b} w (command o c) r f = frame-command (ending_other_turn
 
 -- The laws.
 frame-of : {only_log : Bool} (w : World) → IsReached only_log w → IsWhole w → Frame w
-frame-of w r h = record { tables = h.tables; first = subst (λ a. IsNodeIn (part_of w Page).trees (node_of a 0)) (owner-part_of w Page) (h.first Page r.world.page); signalled = h.signalled }
+frame-of w r h = record { tables = h.tables; records = h.records; first = subst (λ a. IsNodeIn (part_of w Page).trees (node_of a 0)) (owner-part_of w Page) (h.first Page r.world.page); signalled = h.signalled }
 
 -- and back
 whole-of : {only_log : Bool} (w : World) → IsReached only_log w → Frame w → IsWhole w
-whole-of w r f = record { tables = f.tables; first = first-there w r f.first; signalled = f.signalled }
+whole-of w r f = record { tables = f.tables; records = f.records; first = first-there w r f.first; signalled = f.signalled }
 
 -- whatever the listeners do
 pub any-reached : {only_log : Bool} (w : World) → IsReached only_log w → IsReached false w
@@ -251,8 +253,12 @@ any-reached w r = record { world = r.world; kinds = r.kinds; owners = r.owners; 
 
 -- the first world
 frame-first : Frame first_world
-frame-first = record { tables = tables; first = refl; signalled = tt }
+frame-first = record { tables = tables; records = records; first = refl; signalled = tt }
   where
+    records : (o : Owner) → HasRecords (part_of first_world o)
+    records Page = tt
+    records (Component k) = tt
+
     tables : (o : Owner) → HasTables (part_of first_world o)
     tables Page = record { hosts = tt; ranges = tt; iterators = tt; walkers = tt; registrations = tt; pending = tt; listeners = tt }
     tables (Component k) = record { hosts = tt; ranges = tt; iterators = tt; walkers = tt; registrations = tt; pending = tt; listeners = tt }

@@ -1,6 +1,6 @@
 -- Steps with removals, records and iterators keep the tables of their part; and so does every step that fits.
-use Rattle.std.proofs.Common.{suc, ◌≡◌, ◌≤◌, ◌<◌, ℕ, Bool, true, false, not, ◌||◌, List, [], ◌∷◌, ◌++◌, map, filter, fold, length, Option, Some, None, option_map, refl, sym, ap, ◌∙◌, arith, true≢false, subst}
-use Rattle.std.specs.Prelude.{if◌then◌else◌, IsTrue, ⊤, slice_set, nat_eq}
+use Rattle.std.proofs.Common.{zero, suc, ◌≡◌, ◌≤◌, ◌<◌, ℕ, Bool, true, false, not, ◌||◌, List, [], ◌∷◌, ◌++◌, map, filter, fold, length, Option, Some, None, option_map, refl, sym, ap, ◌∙◌, arith, true≢false, subst}
+use Rattle.std.specs.Prelude.{if◌then◌else◌, IsTrue, ⊤, slice_get, slice_set, nat_eq}
 use Rattle.std.specs.List.{AllByRecursion, last_or}
 use Rattle.std.specs.Option.{option_map_or}
 use Rattle.std.proofs.lemmas.Bool.{cond-true, cond-false, not-true}
@@ -9,7 +9,7 @@ use Rattle.dom_base.specs.declared.NodeName.{NodeName}
 use Rattle.dom_model.specs.Names.{name_eq, is_in, first_of, last_of, items_after, items_before, append_once}
 use Rattle.dom_model.specs.Tree.{Trees, Node, nodes, subtree, parent_of, index_of, inclusive_descendants, inclusive_ancestors, is_inclusive_ancestor}
 use Rattle.dom_model.specs.TreeChanges.{without, taken_out}
-use Rattle.dom_model.specs.Ranges.{map_ends, after_insert, after_removal, after_replace_data, after_split, after_join}
+use Rattle.dom_model.specs.Ranges.{Range, map_ends, after_insert, after_removal, after_replace_data, after_split, after_join}
 use Rattle.dom_model.specs.Traversal.{Iterator, moved_to, adjusted_iterator}
 use Rattle.dom_model.specs.Observers.{target_of, fits, fitting, interested, Registration, copied_from, copied_from_transient, transients_for, registrations_on, copied_source, is_transient}
 use Rattle.dom_model.specs.Output.{Change}
@@ -18,14 +18,15 @@ use Rattle.dom_model.specs.Steps.{Step, make, make_room, place, take_out, set_do
 use Rattle.dom_isolation.specs.Worlds.{times_in, IsPart}
 use Rattle.dom_isolation.specs.Tables.{IsNodeIn, EndsIn, IsIteratorIn, IsWalkerIn, IsSourceIn, IsRegistrationIn, IsListenerIn, HasTables}
 use Rattle.dom_isolation.proofs.Lists.{all-distinct, all-append, all-then, all-filter, all-from, all-flat_map, all-map}
+use Rattle.dom_isolation.proofs.Roots.{roots-equal, roots-same, roots-left}
 use Rattle.dom_isolation.proofs.Tests.{by_cases, either_way, or-second, or-neither}
 use Rattle.dom_isolation.proofs.Trees.{IsUnique, by_times, times-subtree, nodes-there, name_eq-true, root-there}
 use Rattle.dom_isolation.proofs.TreeChangeLaws.{root-subtree}
 use Rattle.dom_isolation.proofs.PartSteps.{part-step}
 use Rattle.dom_isolation.proofs.KindCommands.{has_node-times}
 use Rattle.dom_isolation.proofs.Descents.{ancestor-inside, inside-ancestor, inside-subtree, inside-left, inside-comparable, before-apart, descend-begins}
-use Rattle.dom_isolation.proofs.Insides.{inside, inside-itself, inside-absent, inside-nested, inside-no_ancestor, inside-put_root, times-inside, times-taken_out_all, parent-there, child-there, times-has_node}
-use Rattle.dom_isolation.proofs.TableSteps.{Fits, MadeIn, Grows, grows-times, grows-step, ancestors-step, tables-trees, ranges-moved, tables-ends, moves-insert, moves-removal, moves-data, moves-split, moves-join, all-set, ends-grow, walker-grows, registration-grows}
+use Rattle.dom_isolation.proofs.Insides.{inside, inside-itself, inside-absent, inside-nested, inside-no_ancestor, inside-put_root, times-inside, times-taken_out_all, child-there, times-has_node}
+use Rattle.dom_isolation.proofs.TableSteps.{Fits, MadeIn, Grows, grows-times, grows-step, ancestors-step, tables-trees, tables-ends, moves-insert, moves-removal, moves-data, moves-split, moves-join, all-set, walker-grows, registration-grows}
 
 -- Records and transient registrations: of the registrations on a path.
 all-registered : (P : Registration NodeName → Type 0) (path : List NodeName) (rs : List (Registration NodeName)) → AllByRecursion P rs → AllByRecursion P (registrations_on name_eq path rs)
@@ -103,6 +104,12 @@ last-or-all P o (x ∷ xs) g h = last-or-all P (Some x) xs h.0 h.1
 -- the last
 pub last-all : {X : Type 0} (P : X → Type 0) (xs : List X) → AllByRecursion P xs → IfSome P (last_of xs)
 last-all P xs h = last-or-all P None xs tt h
+
+-- what is found in a table
+pub all-get : {X : Type 0} (P : X → Type 0) (xs : List X) (k : ℕ) → AllByRecursion P xs → IfSome P (slice_get xs k)
+all-get P [] k h = tt
+all-get P (x ∷ xs) zero h = h.0
+all-get P (x ∷ xs) (suc k) h = all-get P xs k h.1
 
 -- items before and behind one
 pub before-all : (P : NodeName → Type 0) (x : NodeName) (xs : List NodeName) → AllByRecursion P xs → AllByRecursion P (items_before name_eq x xs)
@@ -225,6 +232,22 @@ iterator-left ts x i u v g h =
     (let stands = left-stands ts x root i.reference u v (g i.reference h.reference) (inside-no_ancestor ts x i.reference u k) held in
     record { root = g root h.root; reference = stands.0; within = stands.1 })))
 
+-- The ends of a range where a node leaves: they keep one root.
+ends-left : (ts : Trees) (x parent : NodeName) → IsUnique ts → IsUnique (taken_out x ts) → parent_of ts x ≡ Some parent → Grows ts (taken_out x ts) → (r : Option (Range NodeName)) → EndsIn ts r →
+    EndsIn (taken_out x ts) (option_map (map_ends (after_removal name_eq (is_inclusive_ancestor ts x) parent (index_of ts x))) r)
+ends-left ts x parent u v e g None h = tt
+ends-left ts x parent u v e g (Some r) h =
+    let move = after_removal name_eq (is_inclusive_ancestor ts x) parent (index_of ts x) in
+    let a = moves-removal ts x parent u e r.start h.start in
+    let b = moves-removal ts x parent u e r.end h.end in
+    let y = (move r.start).node in
+    let z = (move r.end).node in
+    record {
+      start = g y a.0.0;
+      end = g z b.0.0;
+      one_root = roots-same (taken_out x ts) y z (roots-left ts x u v y z (has_node-times ts y a.0.0) (has_node-times ts z b.0.0) a.1 b.1 (a.0.1 ∙ roots-equal ts r.start.node r.end.node h.one_root ∙ sym b.0.1));
+    }
+
 -- A node leaves its parent.
 tables-left : (p : Part) (x parent : NodeName) → IsPart p → parent_of p.trees x ≡ Some parent → Grows p.trees (taken_out x p.trees) → HasTables p → HasTables (leave p x parent)
 tables-left p x parent i e g h =
@@ -232,13 +255,12 @@ tables-left p x parent i e g h =
     let us = taken_out x ts in
     let k = length p.record_queues in
     let move = after_removal name_eq (is_inclusive_ancestor ts x) parent (index_of ts x) in
-    let moved : AllByRecursion (EndsIn ts) (map (option_map (map_ends move)) p.ranges) = ranges-moved ts move (moves-removal ts (is_inclusive_ancestor ts x) parent (index_of ts x) (times-has_node ts parent (parent-there ts x parent e))) p.ranges h.ranges in
     let v : IsUnique us = λ y. let o = i.unique y in let t = times-taken_out_all ts x y i.unique in omega arith in
     let registered = all-append (IsRegistrationIn ts k) p.registrations (transients_for name_eq x (inclusive_ancestors ts parent) p.registrations) h.registrations
     (all-transients ts k x (inclusive_ancestors ts parent) p.registrations (times-has_node ts x (child-there ts x parent e)) h.registrations) in
     record {
       hosts = all-then (IsNodeIn ts) (IsNodeIn us) g p.attached h.hosts;
-      ranges = all-then (EndsIn ts) (EndsIn us) (ends-grow ts us g) (map (option_map (map_ends move)) p.ranges) moved;
+      ranges = all-map (EndsIn us) (option_map (map_ends move)) p.ranges (all-then (EndsIn ts) (λ r. EndsIn us (option_map (map_ends move) r)) (ends-left ts x parent i.unique v e g) p.ranges h.ranges);
       iterators = all-map (IsIteratorIn us) (adjusted_iterator ts x) p.iterators (all-then (IsIteratorIn ts) (λ j. IsIteratorIn us (adjusted_iterator ts x j)) (λ j. iterator-left ts x j i.unique v g) p.iterators h.iterators);
       walkers = all-then (IsWalkerIn ts) (IsWalkerIn us) (walker-grows ts us g) p.walkers h.walkers;
       registrations = all-then (IsRegistrationIn ts k) (IsRegistrationIn us k) (registration-grows ts us g k) (p.registrations ++ transients_for name_eq x (inclusive_ancestors ts parent) p.registrations) registered;
@@ -248,25 +270,25 @@ tables-left p x parent i e g h =
 
 -- Every step that fits keeps the tables.
 pub tables-step : (p : Part) (s : Step) → IsPart p → Fits p s → HasTables p → HasTables (part_step p s)
-tables-step p (make n) i f h = tables-trees p (part_step p (make n)).trees (suc p.node_count) (grows-step p (make n) i f) (ancestors-step p (make n) i f tt) h
+tables-step p (make n) i f h = tables-trees p (part_step p (make n)).trees (suc p.node_count) (part-step p (make n) i).unique (grows-step p (make n) i f) (ancestors-step p (make n) i f tt) h
 tables-step p (make_room parent index count) i f h = tables-ends p (after_insert name_eq parent index count) (moves-insert p.trees parent index count) h
-tables-step p (place x parent before) i f h = tables-trees p (part_step p (place x parent before)).trees p.node_count (grows-step p (place x parent before) i f) (ancestors-step p (place x parent before) i f tt) h
+tables-step p (place x parent before) i f h = tables-trees p (part_step p (place x parent before)).trees p.node_count (part-step p (place x parent before) i).unique (grows-step p (place x parent before) i f) (ancestors-step p (place x parent before) i f tt) h
 tables-step p (take_out x) i f h = from (parent_of p.trees x) refl
   where
     from : (o : Option NodeName) → parent_of p.trees x ≡ o → HasTables (option_map_or (leave p x) o p)
     from None e = h
     from (Some parent) e = tables-left p x parent i e (grows-times p.trees (taken_out x p.trees) (λ y. let a = times-taken_out_all p.trees x y i.unique in omega arith)) h
-tables-step p (set_document x d) i f h = tables-trees p (part_step p (set_document x d)).trees p.node_count (grows-step p (set_document x d) i f) (ancestors-step p (set_document x d) i f tt) h
-tables-step p (set_attribute x a v) i f h = tables-trees p (part_step p (set_attribute x a v)).trees p.node_count (grows-step p (set_attribute x a v) i f) (ancestors-step p (set_attribute x a v) i f tt) h
+tables-step p (set_document x d) i f h = tables-trees p (part_step p (set_document x d)).trees p.node_count (part-step p (set_document x d) i).unique (grows-step p (set_document x d) i f) (ancestors-step p (set_document x d) i f tt) h
+tables-step p (set_attribute x a v) i f h = tables-trees p (part_step p (set_attribute x a v)).trees p.node_count (part-step p (set_attribute x a v) i).unique (grows-step p (set_attribute x a v) i f) (ancestors-step p (set_attribute x a v) i f tt) h
 tables-step p (replace_data x offset count new) i f h =
     let us = (part_step p (replace_data x offset count new)).trees in
-    tables-ends (record p { trees = us }) (after_replace_data name_eq x offset count (length new)) (moves-data us x offset count (length new)) (tables-trees p us p.node_count (grows-step p (replace_data x offset count new) i f) (ancestors-step p (replace_data x offset count new) i f tt) h)
-tables-step p (split_at x offset new parent index) i f h = tables-ends p (after_split name_eq x offset new parent index) (moves-split p.trees x offset new parent index (times-has_node p.trees new f)) h
-tables-step p (join_at first size next parent index) i f h = tables-ends p (after_join name_eq first size next parent index) (moves-join p.trees first size next parent index (times-has_node p.trees first f)) h
+    tables-ends (record p { trees = us }) (after_replace_data name_eq x offset count (length new)) (moves-data us x offset count (length new)) (tables-trees p us p.node_count (part-step p (replace_data x offset count new) i).unique (grows-step p (replace_data x offset count new) i f) (ancestors-step p (replace_data x offset count new) i f tt) h)
+tables-step p (split_at x offset new parent index) i f h = tables-ends p (after_split name_eq x offset new parent index) (moves-split p.trees x offset new parent index (times-has_node p.trees new f.0) f.1) h
+tables-step p (join_at first size next parent index) i f h = tables-ends p (after_join name_eq first size next parent index) (moves-join p.trees first size next parent index (times-has_node p.trees first f.0) f.1 f.2) h
 tables-step p (set_range k r) i f h =
     record {
       hosts = h.hosts;
-      ranges = all-set (EndsIn p.trees) p.ranges k (Some r) h.ranges (record { start = times-has_node p.trees r.start.node f.0; end = times-has_node p.trees r.end.node f.1 });
+      ranges = all-set (EndsIn p.trees) p.ranges k (Some r) h.ranges (record { start = times-has_node p.trees r.start.node f.0; end = times-has_node p.trees r.end.node f.1; one_root = roots-same p.trees r.start.node r.end.node f.2 });
       iterators = h.iterators;
       walkers = h.walkers;
       registrations = h.registrations;

@@ -1,11 +1,12 @@
 -- A step that loses no node keeps the tables of its part, where what it names is there.
-use Rattle.std.proofs.Common.{zero, suc, ◌≡◌, ◌≤◌, ℕ, Bool, true, false, not, ◌&&◌, ◌||◌, List, [], ◌∷◌, map, length, Option, Some, None, option_map, refl, arith, subst}
+use Rattle.std.proofs.Common.{zero, suc, ◌≡◌, ◌≤◌, ℕ, Bool, true, false, not, ◌&&◌, ◌||◌, List, [], ◌∷◌, map, length, Option, Some, None, option_map, refl, sym, ap, ◌∙◌, arith, subst}
 use Rattle.std.specs.Prelude.{if◌then◌else◌, IsTrue, ⊤, slice_set, nat_eq, nat_lt, nat_le, ◌+◌, ◌-◌}
 use Rattle.std.specs.List.{AllByRecursion}
 use Rattle.std.specs.Option.{option_map_or}
+use Rattle.std.proofs.lemmas.Bool.{and_parts}
 use Rattle.dom_base.specs.declared.NodeName.{NodeName}
 use Rattle.dom_model.specs.Names.{name_eq, is_in}
-use Rattle.dom_model.specs.Tree.{Trees, Node, parent_of, inclusive_descendants, is_inclusive_ancestor}
+use Rattle.dom_model.specs.Tree.{Trees, Node, parent_of, root_of, index_of, inclusive_descendants, is_inclusive_ancestor}
 use Rattle.dom_model.specs.TreeChanges.{map_nodes, with_name, with_document, with_data_replaced, with_attribute}
 use Rattle.dom_model.specs.Place.{Boundary}
 use Rattle.dom_model.specs.Ranges.{Range, at, map_ends, boundary_eq, after_insert, after_removal, after_replace_data, after_split, after_join}
@@ -16,26 +17,27 @@ use Rattle.dom_model.specs.Steps.{Step, make, place, take_out, set_document, set
 use Rattle.dom_isolation.specs.Worlds.{times_in, IsPart}
 use Rattle.dom_isolation.specs.Tables.{IsNodeIn, EndsIn, IsIteratorIn, IsWalkerIn, IsSourceIn, IsRegistrationIn, IsListenerIn, HasTables}
 use Rattle.dom_isolation.proofs.Lists.{all-then, all-map}
-use Rattle.dom_isolation.proofs.Tests.{either_way}
+use Rattle.dom_isolation.proofs.Roots.{KeepsRoots, parent-apart, root-one, root-parent_of, roots-equal, roots-same, roots-stay}
+use Rattle.dom_isolation.proofs.Tests.{either_way, which_way}
 use Rattle.dom_isolation.proofs.Trees.{IsUnique, name_eq-true}
 use Rattle.dom_isolation.proofs.TreeChangeLaws.{times-with_node, times-map_nodes, HasRoot}
 use Rattle.dom_isolation.proofs.PartSteps.{KeepsNames, some-keeps, attribute-keeps, part-step}
 use Rattle.dom_isolation.proofs.KindCommands.{has_node-times}
 use Rattle.dom_isolation.proofs.Descents.{ancestor-inside, inside-ancestor, inside-placed_all, inside-with_node_all}
-use Rattle.dom_isolation.proofs.Insides.{inside, inside-map_nodes, times-taken_out_all, times-placed_all, times-has_node}
+use Rattle.dom_isolation.proofs.Insides.{inside, inside-map_nodes, inside-no_ancestor, parent-there, times-taken_out_all, times-placed_all, times-has_node}
 
 -- A node is there, by its count.
 abbrev pub There : Part → NodeName → Type 0
 There p x = 1 ≤ times_in p.trees x
 
 -- What a step may name in the part in which it is made: a node is placed below another one that does not stand in its
--- tree, and is a root before; and boundaries are moved to nodes that are there.
+-- tree, and is a root before; and boundaries are moved to nodes that are there and have their roots.
 abbrev pub Fits : Part → Step → Type 0
 Fits p (place x parent before) = There p parent × (inside p.trees x parent ≡ 0) × HasRoot p.trees x
 Fits p (set_document x d) = x.owner ≡ p.owner
-Fits p (split_at x offset new parent index) = There p new
-Fits p (join_at first size next parent index) = There p first
-Fits p (set_range k r) = There p r.start.node × There p r.end.node
+Fits p (split_at x offset new parent index) = There p new × (root_of p.trees new ≡ root_of p.trees x)
+Fits p (join_at first size next parent index) = There p first × (root_of p.trees first ≡ root_of p.trees next) × (root_of p.trees first ≡ root_of p.trees parent)
+Fits p (set_range k r) = There p r.start.node × There p r.end.node × (root_of p.trees r.start.node ≡ root_of p.trees r.end.node)
 Fits p s = ⊤
 
 -- steps that each fit where they are made
@@ -113,9 +115,14 @@ ancestors-step p s i h t = stays-inside p.trees (part_step p s).trees (part-step
 -- What tables name stays.
 module _ (ts us : Trees) (g : Grows ts us) where
   -- ends of ranges
-  pub ends-grow : (r : Option (Range NodeName)) → EndsIn ts r → EndsIn us r
-  ends-grow None h = tt
-  ends-grow (Some r) h = record { start = g r.start.node h.start; end = g r.end.node h.end }
+  pub ends-grow : KeepsRoots ts us → (r : Option (Range NodeName)) → EndsIn ts r → EndsIn us r
+  ends-grow k None h = tt
+  ends-grow k (Some r) h =
+      record {
+        start = g r.start.node h.start;
+        end = g r.end.node h.end;
+        one_root = roots-same us r.start.node r.end.node (k r.start.node r.end.node (has_node-times ts r.start.node h.start) (has_node-times ts r.end.node h.end) (roots-equal ts r.start.node r.end.node h.one_root));
+      }
 
   -- iterators
   iterator-grows : Stays ts us → (i : Iterator) → IsIteratorIn ts i → IsIteratorIn us i
@@ -136,12 +143,12 @@ module _ (ts us : Trees) (g : Grows ts us) where
   registration-grows k r h = record { node = g r.node h.node; observer = h.observer; source = source-grows r.source h.source }
 
 -- A part with other trees, and another count.
-pub tables-trees : (p : Part) (us : Trees) (count : ℕ) → Grows p.trees us → Stays p.trees us → HasTables p → HasTables (record p { trees = us; node_count = count })
-tables-trees p us count g k h =
+pub tables-trees : (p : Part) (us : Trees) (count : ℕ) → IsUnique us → Grows p.trees us → Stays p.trees us → HasTables p → HasTables (record p { trees = us; node_count = count })
+tables-trees p us count u g k h =
     let ts = p.trees in
     record {
       hosts = all-then (IsNodeIn ts) (IsNodeIn us) g p.attached h.hosts;
-      ranges = all-then (EndsIn ts) (EndsIn us) (ends-grow ts us g) p.ranges h.ranges;
+      ranges = all-then (EndsIn ts) (EndsIn us) (ends-grow ts us g (roots-stay ts us u k)) p.ranges h.ranges;
       iterators = all-then (IsIteratorIn ts) (IsIteratorIn us) (iterator-grows ts us g k) p.iterators h.iterators;
       walkers = all-then (IsWalkerIn ts) (IsWalkerIn us) (walker-grows ts us g) p.walkers h.walkers;
       registrations = all-then (IsRegistrationIn ts (length p.record_queues)) (IsRegistrationIn us (length p.record_queues)) (registration-grows ts us g (length p.record_queues)) p.registrations h.registrations;
@@ -149,14 +156,21 @@ tables-trees p us count g k h =
       listeners = all-then (IsListenerIn ts) (IsListenerIn us) (λ l. g l.node) p.listeners h.listeners;
     }
 
--- Boundaries that are moved to nodes that are there.
+-- A boundary's node is there, and has the root of another node.
+abbrev pub IsUnder : Trees → NodeName → Boundary NodeName → Type 0
+IsUnder ts x c = IsNodeIn ts c.node × (root_of ts c.node ≡ root_of ts x)
+
+-- Boundaries that are moved to nodes that are there, and have the same root.
 abbrev pub MovesIn : Trees → (Boundary NodeName → Boundary NodeName) → Type 0
-MovesIn ts f = (b : Boundary NodeName) → IsNodeIn ts b.node → IsNodeIn ts (f b).node
+MovesIn ts f = (b : Boundary NodeName) → IsNodeIn ts b.node → IsUnder ts b.node (f b)
 
 -- the ends of a range
 ends-moved : (ts : Trees) (f : Boundary NodeName → Boundary NodeName) → MovesIn ts f → (r : Option (Range NodeName)) → EndsIn ts r → EndsIn ts (option_map (map_ends f) r)
 ends-moved ts f m None h = tt
-ends-moved ts f m (Some r) h = record { start = m r.start h.start; end = m r.end h.end }
+ends-moved ts f m (Some r) h =
+    let a = m r.start h.start in
+    let b = m r.end h.end in
+    record { start = a.0; end = b.0; one_root = roots-same ts (f r.start).node (f r.end).node (a.1 ∙ roots-equal ts r.start.node r.end.node h.one_root ∙ sym b.1) }
 
 -- of all ranges
 pub ranges-moved : (ts : Trees) (f : Boundary NodeName → Boundary NodeName) → MovesIn ts f → (rs : List (Option (Range NodeName))) → AllByRecursion (EndsIn ts) rs → AllByRecursion (EndsIn ts) (map (option_map (map_ends f)) rs)
@@ -179,41 +193,53 @@ tables-ends p f m h =
 pub moves-insert : (ts : Trees) (parent : NodeName) (index count : ℕ) → MovesIn ts (after_insert name_eq parent index count)
 moves-insert ts parent index count b h = from (name_eq b.node parent) refl
   where
-    from : (t : Bool) → name_eq b.node parent ≡ t → IsNodeIn ts (if t && nat_lt index b.offset then at parent (b.offset + count) else b).node
-    from true e = either_way (λ (c : Boundary NodeName). IsNodeIn ts c.node) (nat_lt index b.offset) (at parent (b.offset + count)) b (subst (IsNodeIn ts) (name_eq-true b.node parent e) h) h
-    from false e = h
+    from : (t : Bool) → name_eq b.node parent ≡ t → IsUnder ts b.node (if t && nat_lt index b.offset then at parent (b.offset + count) else b)
+    from true e = either_way (IsUnder ts b.node) (nat_lt index b.offset) (at parent (b.offset + count)) b (subst (λ x. IsUnder ts b.node (at x 0)) (name_eq-true b.node parent e) (h, refl)) (h, refl)
+    from false e = (h, refl)
 
--- at a removal
-pub moves-removal : (ts : Trees) (inner : NodeName → Bool) (parent : NodeName) (index : ℕ) → IsNodeIn ts parent → MovesIn ts (after_removal name_eq inner parent index)
-moves-removal ts inner parent index k b h =
-    either_way (λ (c : Boundary NodeName). IsNodeIn ts c.node) (inner b.node) (at parent index) (if name_eq b.node parent && nat_lt index b.offset then at parent (b.offset - 1) else b) k
-    (either_way (λ (c : Boundary NodeName). IsNodeIn ts c.node) (name_eq b.node parent && nat_lt index b.offset) (at parent (b.offset - 1)) b k h)
+-- at a removal: to where nothing leaves
+pub moves-removal : (ts : Trees) (x parent : NodeName) → IsUnique ts → parent_of ts x ≡ Some parent → (b : Boundary NodeName) → IsNodeIn ts b.node →
+    let c = after_removal name_eq (is_inclusive_ancestor ts x) parent (index_of ts x) b in IsUnder ts b.node c × (inside ts x c.node ≡ 0)
+moves-removal ts x parent u e b h =
+    which_way P (is_inclusive_ancestor ts x b.node) (at parent (index_of ts x)) (if name_eq b.node parent && nat_lt (index_of ts x) b.offset then at parent (b.offset - 1) else b)
+    (λ t. ((times-has_node ts parent (parent-there ts x parent e), root-parent_of ts u x parent e ∙ root-one ts u x b.node t), parent-apart ts x parent u e))
+    (λ t. which_way P (name_eq b.node parent && nat_lt (index_of ts x) b.offset) (at parent (b.offset - 1)) b
+    (λ k. subst (λ y. P (at y 0)) (name_eq-true b.node parent (and_parts (name_eq b.node parent) (nat_lt (index_of ts x) b.offset) k).0) (here t)) (λ k. here t))
+  where
+    P : Boundary NodeName → Type 0
+    P c = IsUnder ts b.node c × (inside ts x c.node ≡ 0)
+
+    here : is_inclusive_ancestor ts x b.node ≡ false → IsUnder ts b.node b × (inside ts x b.node ≡ 0)
+    here t = ((h, refl), inside-no_ancestor ts x b.node u t)
 
 -- at a change of data
 pub moves-data : (ts : Trees) (x : NodeName) (offset count size : ℕ) → MovesIn ts (after_replace_data name_eq x offset count size)
 moves-data ts x offset count size b h = from (name_eq b.node x) refl
   where
-    from : (t : Bool) → name_eq b.node x ≡ t → IsNodeIn ts (if not t || nat_le b.offset offset then b else (if nat_le b.offset (offset + count) then at x offset else at x (b.offset + size - count))).node
+    from : (t : Bool) → name_eq b.node x ≡ t → IsUnder ts b.node (if not t || nat_le b.offset offset then b else (if nat_le b.offset (offset + count) then at x offset else at x (b.offset + size - count)))
     from true e =
-        let k : IsNodeIn ts x = subst (IsNodeIn ts) (name_eq-true b.node x e) h in
-        either_way (λ (c : Boundary NodeName). IsNodeIn ts c.node) (nat_le b.offset offset) b (if nat_le b.offset (offset + count) then at x offset else at x (b.offset + size - count)) h
-        (either_way (λ (c : Boundary NodeName). IsNodeIn ts c.node) (nat_le b.offset (offset + count)) (at x offset) (at x (b.offset + size - count)) k k)
-    from false e = h
+        let k : IsUnder ts b.node (at x 0) = subst (λ y. IsUnder ts b.node (at y 0)) (name_eq-true b.node x e) (h, refl) in
+        either_way (IsUnder ts b.node) (nat_le b.offset offset) b (if nat_le b.offset (offset + count) then at x offset else at x (b.offset + size - count)) (h, refl)
+        (either_way (IsUnder ts b.node) (nat_le b.offset (offset + count)) (at x offset) (at x (b.offset + size - count)) k k)
+    from false e = (h, refl)
 
 -- at a split
-pub moves-split : (ts : Trees) (x : NodeName) (offset : ℕ) (new parent : NodeName) (index : ℕ) → IsNodeIn ts new → MovesIn ts (after_split name_eq x offset new parent index)
-moves-split ts x offset new parent index k b h =
-    either_way (λ (c : Boundary NodeName). IsNodeIn ts c.node) (name_eq b.node x && nat_lt offset b.offset) (at new (b.offset - offset)) (if boundary_eq name_eq b (at parent (index + 1)) then at parent (index + 2) else b) k (from (name_eq b.node parent) refl)
+pub moves-split : (ts : Trees) (x : NodeName) (offset : ℕ) (new parent : NodeName) (index : ℕ) → IsNodeIn ts new → root_of ts new ≡ root_of ts x → MovesIn ts (after_split name_eq x offset new parent index)
+moves-split ts x offset new parent index k e b h =
+    which_way (IsUnder ts b.node) (name_eq b.node x && nat_lt offset b.offset) (at new (b.offset - offset)) (if boundary_eq name_eq b (at parent (index + 1)) then at parent (index + 2) else b)
+    (λ t. (k, e ∙ ap (root_of ts) (sym (name_eq-true b.node x (and_parts (name_eq b.node x) (nat_lt offset b.offset) t).0)))) (λ t. from (name_eq b.node parent) refl)
   where
-    from : (t : Bool) → name_eq b.node parent ≡ t → IsNodeIn ts (if t && nat_eq b.offset (index + 1) then at parent (index + 2) else b).node
-    from true e = either_way (λ (c : Boundary NodeName). IsNodeIn ts c.node) (nat_eq b.offset (index + 1)) (at parent (index + 2)) b (subst (IsNodeIn ts) (name_eq-true b.node parent e) h) h
-    from false e = h
+    from : (t : Bool) → name_eq b.node parent ≡ t → IsUnder ts b.node (if t && nat_eq b.offset (index + 1) then at parent (index + 2) else b)
+    from true e = either_way (IsUnder ts b.node) (nat_eq b.offset (index + 1)) (at parent (index + 2)) b (subst (λ y. IsUnder ts b.node (at y 0)) (name_eq-true b.node parent e) (h, refl)) (h, refl)
+    from false e = (h, refl)
 
 -- at a join
-pub moves-join : (ts : Trees) (first : NodeName) (size : ℕ) (next parent : NodeName) (index : ℕ) → IsNodeIn ts first → MovesIn ts (after_join name_eq first size next parent index)
-moves-join ts first size next parent index k b h =
-    either_way (λ (c : Boundary NodeName). IsNodeIn ts c.node) (name_eq b.node next) (at first (b.offset + size)) (if boundary_eq name_eq b (at parent index) then at first size else b) k
-    (either_way (λ (c : Boundary NodeName). IsNodeIn ts c.node) (boundary_eq name_eq b (at parent index)) (at first size) b k h)
+pub moves-join : (ts : Trees) (first : NodeName) (size : ℕ) (next parent : NodeName) (index : ℕ) → IsNodeIn ts first → root_of ts first ≡ root_of ts next → root_of ts first ≡ root_of ts parent → MovesIn ts (after_join name_eq first size next parent index)
+moves-join ts first size next parent index k e f b h =
+    which_way (IsUnder ts b.node) (name_eq b.node next) (at first (b.offset + size)) (if boundary_eq name_eq b (at parent index) then at first size else b)
+    (λ t. (k, e ∙ ap (root_of ts) (sym (name_eq-true b.node next t))))
+    (λ t. which_way (IsUnder ts b.node) (boundary_eq name_eq b (at parent index)) (at first size) b
+    (λ s. (k, f ∙ ap (root_of ts) (sym (name_eq-true b.node parent (and_parts (name_eq b.node parent) (nat_eq b.offset index) s).0)))) (λ s. (h, refl)))
 
 -- A list with one item set.
 pub all-set : {X : Type 0} (P : X → Type 0) (xs : List X) (k : ℕ) (x : X) → AllByRecursion P xs → P x → AllByRecursion P (slice_set xs k x)

@@ -18,10 +18,11 @@ use Rattle.dom_model.proofs.OwnerLaws.{owner_eq-true, owner_eq-false}
 use Rattle.dom_model.proofs.PartLaws.{part_of-with_part, part_of-with_part-other, owner-part_of}
 use Rattle.dom_model.proofs.StepLaws.{owner-part_step, part_of-stepped, part_of-with_signals, part_of-with_removal_signals, part_of-with_notify_if, Component-IsNoPage, part_of-world_step}
 use Rattle.dom_isolation.specs.Worlds.{times_in, IsPart}
-use Rattle.dom_isolation.specs.Tables.{IsNodeIn, HasTables, IsNodeAt}
+use Rattle.dom_isolation.specs.Tables.{IsNodeIn, HasTables, HasRecords, IsNodeAt}
 use Rattle.dom_isolation.proofs.Insides.{times-has_node}
 use Rattle.dom_isolation.proofs.Lists.{all-append, all-filter, all-then, all-map, all-distinct}
 use Rattle.dom_isolation.proofs.PartSteps.{part-step, rest-step}
+use Rattle.dom_isolation.proofs.Recorded.{Tells, TellsIn, records-step}
 use Rattle.dom_isolation.proofs.ShadowRoots.{found-absent}
 use Rattle.dom_isolation.proofs.TableSteps.{Fits, MadeIn, Grows, grows-step}
 use Rattle.dom_isolation.proofs.TableRecords.{tables-step, IfSome}
@@ -37,9 +38,10 @@ pub record Ground (w : World) : Type 0 where
   pub parts : (o : Owner) → IsPart (part_of w o)
   pub no_hosts : (o : Owner) → o ≢ Page → (part_of w o).attached ≡ []
 
--- The tables, the page's first document, and the signalled slots.
+-- The tables, the records, the page's first document, and the signalled slots.
 pub record Frame (w : World) : Type 0 where
   pub tables : (o : Owner) → HasTables (part_of w o)
+  pub records : (o : Owner) → HasRecords (part_of w o)
   pub first : IsNodeIn (part_of w Page).trees (node_of Page 0)
   pub signalled : AllByRecursion (IsNodeAt w) w.signalled
 
@@ -55,17 +57,22 @@ pub grow-with_part : (w : World) (p : Part) (o : Owner) → p.owner ≡ o → Gr
 grow-with_part w p o e g = each-part (λ x q. Grows (part_of w x).trees q.trees) w p o e g (λ x y h. h)
 
 -- a world in which all parts have grown
-pub frame-grown : (w v : World) → AllGrow w v → ((o : Owner) → HasTables (part_of v o)) → AllByRecursion (IsNodeAt w) v.signalled → Frame w → Frame v
-frame-grown w v g t s f = record { tables = t; first = g Page (node_of Page 0) f.first; signalled = all-then (IsNodeAt w) (IsNodeAt v) (λ x. g x.owner x) v.signalled s }
+pub frame-grown : (w v : World) → AllGrow w v → ((o : Owner) → HasTables (part_of v o)) → ((o : Owner) → HasRecords (part_of v o)) → AllByRecursion (IsNodeAt w) v.signalled → Frame w → Frame v
+frame-grown w v g t r s f = record { tables = t; records = r; first = g Page (node_of Page 0) f.first; signalled = all-then (IsNodeAt w) (IsNodeAt v) (λ x. g x.owner x) v.signalled s }
 
 -- another part
-pub frame-with_part : (w : World) (p : Part) (o : Owner) → p.owner ≡ o → HasTables p → Grows (part_of w o).trees p.trees → Frame w → Frame (with_part w p)
-frame-with_part w p o e h g f = frame-grown w (with_part w p) (grow-with_part w p o e g) (each-part (λ x q. HasTables q) w p o e h f.tables) f.signalled f
+pub frame-with_part : (w : World) (p : Part) (o : Owner) → p.owner ≡ o → HasTables p → HasRecords p → Grows (part_of w o).trees p.trees → Frame w → Frame (with_part w p)
+frame-with_part w p o e h r g f =
+    frame-grown w (with_part w p) (grow-with_part w p o e g) (each-part (λ x q. HasTables q) w p o e h f.tables) (each-part (λ x q. HasRecords q) w p o e r f.records) f.signalled f
 
 -- with its hosts
 ground-with_part : (w : World) (p : Part) (o : Owner) → p.owner ≡ o → IsPart p → p.attached ≡ (part_of w o).attached → Ground w → Ground (with_part w p)
 ground-with_part w p o e i a g =
     record { parts = each-part (λ x q. IsPart q) w p o e i g.parts; no_hosts = each-part (λ x q. x ≢ Page → q.attached ≡ []) w p o e (λ n. a ∙ g.no_hosts o n) g.no_hosts }
+
+-- What is asked of a step: it fits where it is made, and what it records is there.
+abbrev pub Suits : Part → Step → Type 0
+Suits p s = Fits p s × Tells p s
 
 -- A step in its part.
 owner-stepped : (w : World) (o : Owner) (s : Step) → (part_step (part_of w o) s).owner ≡ o
@@ -80,9 +87,9 @@ grow-stepped : (o : Owner) (w : World) (s : Step) → Fits (part_of w o) s → G
 grow-stepped o w s h g = grow-with_part w (part_step (part_of w o) s) o (owner-stepped w o s) (grows-step (part_of w o) s (g.parts o) h)
 
 -- tables
-frame-stepped : (o : Owner) (w : World) (s : Step) → Fits (part_of w o) s → Ground w → Frame w → Frame (stepped o w s)
+frame-stepped : (o : Owner) (w : World) (s : Step) → Suits (part_of w o) s → Ground w → Frame w → Frame (stepped o w s)
 frame-stepped o w s h g f =
-    frame-with_part w (part_step (part_of w o) s) o (owner-stepped w o s) (tables-step (part_of w o) s (g.parts o) h (f.tables o)) (grows-step (part_of w o) s (g.parts o) h) f
+    frame-with_part w (part_step (part_of w o) s) o (owner-stepped w o s) (tables-step (part_of w o) s (g.parts o) h.0 (f.tables o)) (records-step (part_of w o) s (g.parts o) h.0 h.1 (f.records o)) (grows-step (part_of w o) s (g.parts o) h.0) f
 
 -- Slots that are signalled are nodes. First, a node of a part is one of its owner's trees.
 at-owner : (w : World) → Ground w → (o : Owner) (x : NodeName) → 1 ≤ times_in (part_of w o).trees x → IsNodeAt w x
@@ -164,6 +171,7 @@ frame-signal : (w : World) (s : NodeName) → IsNodeAt w s → Frame w → Frame
 frame-signal w s h f =
     record {
       tables = f.tables;
+      records = f.records;
       first = f.first;
       signalled = either_way (AllByRecursion (IsNodeAt w)) (is_in name_eq s w.signalled) w.signalled (w.signalled ++ s ∷ []) f.signalled (all-append (IsNodeAt w) w.signalled (s ∷ []) f.signalled (h, tt));
     }
@@ -179,13 +187,13 @@ ground-each_signal [] w g = g
 ground-each_signal (s ∷ ss) w g = ground-each_signal ss (with_signal w s) (record { parts = g.parts; no_hosts = g.no_hosts })
 
 -- the signals of a step
-frame-signals : (o : Owner) (w : World) (s : Step) → Fits (part_of w o) s → Ground w → Frame w → (x around : NodeName) (is_move : Bool) → Frame (with_signals w (stepped o w s) x around is_move)
+frame-signals : (o : Owner) (w : World) (s : Step) → Suits (part_of w o) s → Ground w → Frame w → (x around : NodeName) (is_move : Bool) → Frame (with_signals w (stepped o w s) x around is_move)
 frame-signals o w s h g f x around is_move =
     let now = stepped o w s in
-    frame-each_signal (signals w now x around is_move) now (signals-at w now g (ground-stepped o w s g) (grow-stepped o w s h g) x around is_move) (frame-stepped o w s h g f)
+    frame-each_signal (signals w now x around is_move) now (signals-at w now g (ground-stepped o w s g) (grow-stepped o w s h.0 g) x around is_move) (frame-stepped o w s h g f)
 
 -- of a removal
-frame-removal : (o : Owner) (w : World) (s : Step) → Fits (part_of w o) s → Ground w → Frame w → (x : NodeName) (parent : Option NodeName) → Frame (with_removal_signals w (stepped o w s) x parent)
+frame-removal : (o : Owner) (w : World) (s : Step) → Suits (part_of w o) s → Ground w → Frame w → (x : NodeName) (parent : Option NodeName) → Frame (with_removal_signals w (stepped o w s) x parent)
 frame-removal o w s h g f x None = frame-stepped o w s h g f
 frame-removal o w s h g f x (Some parent) = frame-signals o w s h g f x parent true
 
@@ -203,7 +211,7 @@ frame-documents : (cs : List Owner) (d : NodeName) (w : World) → Ground w → 
 frame-documents [] d w g f = f
 frame-documents (c ∷ cs) d w g f =
     let s = set_document (shadow_root_of c) d in
-    frame-documents cs d (stepped c w s) (ground-stepped c w s g) (frame-stepped c w s (fits-document w c d) g f)
+    frame-documents cs d (stepped c w s) (ground-stepped c w s g) (frame-stepped c w s (fits-document w c d, tt) g f)
 
 -- names and hosts stay
 ground-documents : (cs : List Owner) (d : NodeName) (w : World) → Ground w → Ground (fold (with_shadow_document d) w cs)
@@ -212,7 +220,7 @@ ground-documents (c ∷ cs) d w g = ground-documents cs d (with_shadow_document 
 
 -- a notification, if so
 frame-notify : (b : Bool) (o : Owner) (w : World) → Frame w → Frame (with_notify_if b o w)
-frame-notify true o w f = record { tables = f.tables; first = f.first; signalled = f.signalled }
+frame-notify true o w f = record { tables = f.tables; records = f.records; first = f.first; signalled = f.signalled }
 frame-notify false o w f = f
 
 -- names and hosts stay
@@ -221,7 +229,7 @@ ground-notify true o w g = record { parts = g.parts; no_hosts = g.no_hosts }
 ground-notify false o w g = g
 
 -- Steps.
-frame-world_step : (o : Owner) (w : World) (s : Step) → Fits (part_of w o) s → Ground w → Frame w → Frame (world_step o w s)
+frame-world_step : (o : Owner) (w : World) (s : Step) → Suits (part_of w o) s → Ground w → Frame w → Frame (world_step o w s)
 frame-world_step o w (place x parent before) h g f = frame-signals o w (place x parent before) h g f x parent true
 frame-world_step o w (take_out x) h g f = frame-removal o w (take_out x) h g f x (parent_of (part_of w o).trees x)
 frame-world_step o w (set_attribute x a v) h g f = frame-signals o w (set_attribute x a v) h g f x x false
@@ -274,7 +282,8 @@ part-own_step Page w s g h = part_of-world_step w s
 part-own_step (Component k) w s g h = part-component_step k w s g h
 
 -- many steps, each of which fits where it is made
-pub frame-world_after : (o : Owner) (steps : List Step) (w : World) → Ground w → MadeIn (part_of w o) steps → Frame w → Frame (world_after o w steps)
-frame-world_after o [] w g h f = f
-frame-world_after o (s ∷ steps) w g h f =
-    frame-world_after o steps (world_step o w s) (ground-world_step o w s g) (subst (λ p. MadeIn p steps) (sym (part-own_step o w s g h.0)) h.1) (frame-world_step o w s h.0 g f)
+pub frame-world_after : (o : Owner) (steps : List Step) (w : World) → Ground w → MadeIn (part_of w o) steps → TellsIn (part_of w o) steps → Frame w → Frame (world_after o w steps)
+frame-world_after o [] w g h t f = f
+frame-world_after o (s ∷ steps) w g h t f =
+    let own = sym (part-own_step o w s g h.0) in
+    frame-world_after o steps (world_step o w s) (ground-world_step o w s g) (subst (λ p. MadeIn p steps) own h.1) (subst (λ p. TellsIn p steps) own t.1) (frame-world_step o w s (h.0, t.0) g f)

@@ -18,15 +18,14 @@ use Rattle.dom_model.specs.TextChanges.{replacing_data, new_text_node, replacing
 use Rattle.dom_model.proofs.OwnerLaws.{name_eq-same}
 use Rattle.dom_isolation.specs.Worlds.{times_in, times_among, IsPart}
 use Rattle.dom_isolation.proofs.Bounds.{nowhere, HasRoom, room-make, room-record, room-split, room-join, length-replaced, length-like}
-use Rattle.dom_isolation.proofs.Insides.{parent-there}
 use Rattle.dom_isolation.proofs.Kids.{kids, index-below}
 use Rattle.dom_isolation.proofs.NodesRead.{node-with_node, node-new, node-map_nodes, length-data, length-kids}
-use Rattle.dom_isolation.proofs.Lists.{all-then, all-from, all-filter, all-take_while, all-passed}
+use Rattle.dom_isolation.proofs.Lists.{all-dropped, all-then, all-from, all-filter, all-take_while, all-passed}
 use Rattle.dom_isolation.proofs.NodeKinds.{name-node_in}
 use Rattle.dom_isolation.proofs.PartSteps.{some-keeps, next-absent}
 use Rattle.dom_isolation.proofs.PlanBounds.{room-then, room-plan, room-removing, room-removals, room-inserting, room-replacing_data, IsOpen, open-still, texts-inserting, kids-plain}
 use Rattle.dom_isolation.proofs.PlanPlaces.{Changed, Leads, MayGo, may-still, still, after-append, leads-then, leads-eased, leads-nothing, leads-one, leads-inserting}
-use Rattle.dom_isolation.proofs.PlanTexts.{next-not, new-there, new-may, descend-there, leads-removals, leads-tail, leads-joins, leads-replacing_data, leads-normalizing_text}
+use Rattle.dom_isolation.proofs.PlanTexts.{MayFollow, may-follow, texts-beside, next-not, new-there, new-may, descend-there, leads-removals, leads-tail, leads-joins, leads-replacing_data, leads-normalizing_text}
 use Rattle.dom_isolation.proofs.TableSteps.{There}
 use Rattle.dom_isolation.proofs.TableRecords.{all-kept}
 use Rattle.dom_isolation.proofs.Tests.{by_cases, either_way}
@@ -81,14 +80,14 @@ record IsTail (p : Part) (x : NodeName) (offset : ℕ) (q : Part) (new : NodeNam
   root : HasRoot q.trees new
 
 -- the steps that place it
-room-tail : (p : Part) (x : NodeName) (offset : ℕ) (q : Part) (new : NodeName) (o : Option NodeName) → parent_of q.trees x ≡ o → IsTail p x offset q new → ((parent : NodeName) → o ≡ Some parent → MayGo parent q new) → HasRoom nowhere (after q (placing_tail x offset new o q))
+room-tail : (p : Part) (x : NodeName) (offset : ℕ) (q : Part) (new : NodeName) (o : Option NodeName) → parent_of q.trees x ≡ o → IsTail p x offset q new → ((parent : NodeName) → o ≡ Some parent → MayFollow x parent q new) → HasRoom nowhere (after q (placing_tail x offset new o q))
 room-tail p x offset q new None e t m = t.room
 room-tail p x offset q new (Some parent) e t m =
     let index = index_of q.trees x in
     let before = next_sibling q.trees x in
     let steps = inserting observed new parent before q in
     let r = after q steps in
-    let may = m parent refl in
+    let may = (m parent refl).may in
     let below = index-below q.trees x parent t.part.unique e in
     let opened = kids-open q parent t.room (omega arith) in
     let c = (leads-inserting observed new parent before q t.part may).changed in
@@ -133,7 +132,7 @@ room-splitting x offset p i t k h =
       size = let a = ap (λ (n : Node). length n.text) same in let b = ap (λ (n : Node). length n.text) made in let c = length-drop offset old.text in omega arith;
       root = root-put_root_new new (tree (with_name new tail) none none) p.trees new (root-first (with_name new tail) none none new (name_eq-same new));
     } in
-    let may = λ (parent : NodeName) (e : spot ≡ Some parent). new-may p tail parent i (parent-there p.trees x parent e) in
+    let may = λ (parent : NodeName) (e : spot ≡ Some parent). may-follow p tail x parent i refl e in
     room-plan spot (doing (make tail) and_then placing_tail x offset new spot) (replacing_data x offset (length old.text - offset) []) p
     (leads-then spot p (make tail ∷ []) (placing_tail x offset new spot q) (leads-eased spot p (make tail ∷ []) first) (leads-tail x offset new spot q first.changed.part (new-there p tail) may))
     (room-tail p x offset q new spot (parent-with_node (with_name new tail) p.trees x other) is may)
@@ -171,22 +170,23 @@ room-joins ts x parent size (y ∷ ys) q a b h =
     room-joins ts x parent (size + length_of ts y) ys (part_step q (join_at x size y parent (index_of ts y))) (omega arith) b.1
     (room-join q x size y parent (index_of ts y) (let b0 = b.0 in omega arith) h)
 
+-- a name that is not among some differs from each
+pub none-among : (x : NodeName) (xs : List NodeName) → times_among xs x ≡ 0 → AllByRecursion (λ y. name_eq x y ≡ false) xs
+none-among x [] h = tt
+none-among x (y ∷ xs) h =
+    by_cases (name_eq y x)
+    (λ e. absurd (let one : times_among (y ∷ xs) x ≡ 1 + times_among xs x = ap (λ k. k + times_among xs x) (cond-true (name_eq y x) 1 0 e) in omega arith))
+    (λ e. let zero_more : times_among (y ∷ xs) x ≡ 0 + times_among xs x = ap (λ k. k + times_among xs x) (cond-false (name_eq y x) 1 0 e) in (name_eq-sym x y ∙ e, none-among x xs (omega arith)))
+
 -- what stands behind an item among others is another, where it is there once
-among-behind : (x : NodeName) (xs : List NodeName) → times_among xs x ≤ 1 → AllByRecursion (λ y. name_eq x y ≡ false) (items_after name_eq x xs)
+pub among-behind : (x : NodeName) (xs : List NodeName) → times_among xs x ≤ 1 → AllByRecursion (λ y. name_eq x y ≡ false) (items_after name_eq x xs)
 among-behind x [] h = tt
 among-behind x (y ∷ xs) h =
     by_cases (name_eq x y)
     (λ e. let one : times_among (y ∷ xs) x ≡ 1 + times_among xs x = ap (λ k. k + times_among xs x) (cond-true (name_eq y x) 1 0 (name_eq-sym y x ∙ e)) in
-    subst (AllByRecursion (λ z. name_eq x z ≡ false)) (sym (cond-true (name_eq x y) xs (items_after name_eq x xs) e)) (absent-all xs (omega arith)))
+    subst (AllByRecursion (λ z. name_eq x z ≡ false)) (sym (cond-true (name_eq x y) xs (items_after name_eq x xs) e)) (none-among x xs (omega arith)))
     (λ e. let zero_more : times_among (y ∷ xs) x ≡ 0 + times_among xs x = ap (λ k. k + times_among xs x) (cond-false (name_eq y x) 1 0 (name_eq-sym y x ∙ e)) in
     subst (AllByRecursion (λ z. name_eq x z ≡ false)) (sym (cond-false (name_eq x y) xs (items_after name_eq x xs) e)) (among-behind x xs (omega arith)))
-  where
-    absent-all : (xs : List NodeName) → times_among xs x ≡ 0 → AllByRecursion (λ y. name_eq x y ≡ false) xs
-    absent-all [] h = tt
-    absent-all (y ∷ xs) h =
-        by_cases (name_eq y x)
-        (λ e. absurd (let one : times_among (y ∷ xs) x ≡ 1 + times_among xs x = ap (λ k. k + times_among xs x) (cond-true (name_eq y x) 1 0 e) in omega arith))
-        (λ e. let zero_more : times_among (y ∷ xs) x ≡ 0 + times_among xs x = ap (λ k. k + times_among xs x) (cond-false (name_eq y x) 1 0 e) in (name_eq-sym x y ∙ e, absent-all xs (omega arith)))
 
 -- roots are there as often as nodes, or less
 roots-among : (ts : Trees) (x : NodeName) → times_among (names_of (roots ts)) x ≤ times_in ts x
@@ -230,7 +230,7 @@ room-joining x parent p i t k e h =
     length-data q.trees y (ap (λ (n : Node). has_data n.kind) n ∙ h.0) ∙ ap (λ (n : Node). length n.text) n ∙ sym (length-data ts y h.0)) nexts (all-both (λ y. has_data (kind_of ts y) ≡ true) (λ y. name_eq x y ≡ false) nexts texts others) in
     room-plan None (replacing_data x size 0 all and_then steps_of (joins ts x parent size nexts)) (in_turn (removing observed) nexts) p
     (leads-then None p (replacing_data x size 0 all p) (joins ts x parent size nexts) (leads-replacing_data x size 0 all p i)
-    (leads-joins ts x parent size nexts q (leads-replacing_data x size 0 all p i).changed.part (still (leads-replacing_data x size 0 all p i).changed x t)))
+    (leads-joins ts x parent size nexts q (leads-replacing_data x size 0 all p i).changed.part (still (leads-replacing_data x size 0 all p i).changed x t) (texts-beside x parent size all p i e)))
     (room-then nowhere p (replacing_data x size 0 all p) (joins ts x parent size nexts) (room-joins ts x parent size nexts q (omega arith) same (room-replacing_data x size 0 all p i k h)))
     (λ r c g. room-removals nowhere observed nexts r c.part g)
   where
@@ -264,18 +264,13 @@ room-normalizing_text p x i t h =
     from None e = h
     from (Some parent) e = either_way (λ steps. HasRoom nowhere (after p steps)) (is_empty (texts_after p.trees x)) [] (joining x parent (texts_after p.trees x) p) h (room-joining x parent p i t.0 (text-data (kind_of p.trees x) t.1) e h)
 
--- the first left out
-rest-of : (P : NodeName → Type 0) (xs : List NodeName) → AllByRecursion P xs → AllByRecursion P (drop 1 xs)
-rest-of P [] h = tt
-rest-of P (x ∷ xs) h = h.1
-
 -- all Texts below a node
 pub room-normalizing : (x : NodeName) (p : Part) → IsPart p → HasRoom nowhere p → HasRoom nowhere (after p (normalizing x p))
 room-normalizing x p i h =
     let is = λ (y : NodeName). is_text (kind_of p.trees y) in
     let texts = filter is (descendants p.trees x) in
     room-turns TextIn normalizing_text (λ q y j t. leads-normalizing_text q y j t.0) room-normalizing_text (λ q r y c t. (still c y t.0, ap is_text (c.kinds y t.0) ∙ t.1)) texts p i
-    (all-kept (There p) is (descendants p.trees x) (rest-of (There p) (inclusive_descendants p.trees x) (descend-there p.trees x))) h
+    (all-kept (There p) is (descendants p.trees x) (all-dropped (There p) (inclusive_descendants p.trees x) (descend-there p.trees x))) h
 
 -- Text content.
 room-replaced : (x : NodeName) (p : Part) (made told : List Step) (old added : List NodeName) → Leads (Some x) p made → AllByRecursion (MayGo x (after p made)) added → There p x → IsOpen p x → HasRoom nowhere (after p made) → ((q : Part) → HasRoom nowhere q → HasRoom nowhere (after q told)) →

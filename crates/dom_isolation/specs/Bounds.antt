@@ -1,13 +1,13 @@
--- The ends of ranges are within their nodes: after each line but those that insert into a range, or take the contents of one
--- whose ends are in different trees.
-use Rattle.std.specs.Prelude.{ℕ, ◌≡◌, ◌≤◌, Bool, IsTrue, [], Option, Some, None, ⊤}
+-- The ends of ranges are within their nodes, in every world that the machine reaches.
+use Rattle.std.specs.Prelude.{◌≡◌, ◌≤◌, ◌+◌, ℕ, if◌then◌else◌, Bool, IsTrue, List, [], map, Option, Some, None, ⊤}
 use Rattle.std.specs.List.{AllByRecursion}
 use Rattle.dom_base.specs.declared.NodeName.{NodeName}
 use Rattle.dom_base.specs.declared.Owner.{Owner}
-use Rattle.dom_model.specs.Command.{Command, Line, no_owner, no_command, command}
-use Rattle.dom_model.specs.DocumentMachine.{first_world, step, finish}
-use Rattle.dom_model.specs.Part.{Part, range_at}
-use Rattle.dom_model.specs.Place.{Boundary, same_root}
+use Rattle.dom_model.specs.Command.{Line}
+use Rattle.dom_model.specs.DocumentMachine.{first_world, step, run_lines, finish}
+use Rattle.dom_model.specs.Names.{name_eq}
+use Rattle.dom_model.specs.Part.{Part}
+use Rattle.dom_model.specs.Place.{Boundary}
 use Rattle.dom_model.specs.Ranges.{Range}
 use Rattle.dom_model.specs.Tree.{Trees, kind_of, has_data, children_of, length_of}
 use Rattle.dom_model.specs.Turns.{ending_other_turn}
@@ -29,34 +29,32 @@ pub record HasBounds (p : Part) : Type 0 where
   pub ranges : AllByRecursion (EndsWithin p.trees) p.ranges
   pub leaves : (x : NodeName) → IsTrue (has_data (kind_of p.trees x)) → children_of p.trees x ≡ []
 
+-- a boundary point is not past the end of its node, nor, in x, past it by more than a count (own rule: room that was made)
+abbrev pub IsWithinRoom : NodeName → ℕ → Trees → Boundary NodeName → Type 0
+IsWithinRoom x count ts b = b.offset ≤ length_of ts b.node + (if name_eq x b.node then count else 0)
+
+-- both ends of a range that was not dropped
+abbrev pub EndsWithinRoom : NodeName → ℕ → Trees → Option (Range NodeName) → Type 0
+EndsWithinRoom x count ts None = ⊤
+EndsWithinRoom x count ts (Some r) = IsWithinRoom x count ts r.start × IsWithinRoom x count ts r.end
+
+-- The ends of a part's ranges are within their nodes but for room in x for so many children to come, and no Text or Comment has
+-- children (own rule).
+pub record HasRoomFor (x : NodeName) (count : ℕ) (p : Part) : Type 0 where
+  pub ranges : AllByRecursion (EndsWithinRoom x count p.trees) p.ranges
+  pub leaves : (y : NodeName) → IsTrue (has_data (kind_of p.trees y)) → children_of p.trees y ≡ []
+
 -- in all parts
 abbrev pub IsBounded : World → Type 0
 IsBounded w = (o : Owner) → HasBounds (part_of w o)
 
--- the ends of a range that is there are in one tree (DOM Standard, 5.3: a range's ends have the same root)
-abbrev pub HasOneTree : Part → ℕ → Type 0
-HasOneTree p k = (r : Range NodeName) → range_at p k ≡ Some r → IsTrue (same_root p.trees r.start.node r.end.node)
-
--- a command that inserts into no range, and takes the contents of a range only where its ends are in one tree
-abbrev pub LeavesBounds : Part → Command → Type 0
-LeavesBounds p (Command.extract k) = HasOneTree p k
-LeavesBounds p (Command.delete k) = HasOneTree p k
-LeavesBounds p (Command.insert_node k x) = ⊥
-LeavesBounds p c = ⊤
-
--- a line with such a command, or with none: in the world in which the command is run
-abbrev pub IsOtherLine : World → Line → Type 0
-IsOtherLine w no_owner = ⊤
-IsOtherLine w (no_command o) = ⊤
-IsOtherLine w (command o c) = LeavesBounds (part_of (ending_other_turn w o).0 o) c
-
--- The first world is bounded, and each such line keeps that.
+-- The first world is bounded, and each line keeps that.
 abbrev pub FirstIsBounded : Type 0
 FirstIsBounded = IsBounded first_world
 
--- each such line
-abbrev pub OtherStepsKeepBounds : Type 0
-OtherStepsKeepBounds = (only_log : Bool) (w : World) (l : Line) → IsReached only_log w → IsWhole w → IsBounded w → IsOtherLine w l → IsBounded (step w l).0
+-- each line
+abbrev pub StepKeepsBounds : Type 0
+StepKeepsBounds = (only_log : Bool) (w : World) (l : Line) → IsReached only_log w → IsWhole w → IsBounded w → IsBounded (step w l).0
 
 -- the ending of another component's turn
 abbrev pub EndingKeepsBounds : Type 0
@@ -65,3 +63,7 @@ EndingKeepsBounds = (only_log : Bool) (w : World) (o : Owner) → IsReached only
 -- the end of input
 abbrev pub FinishKeepsBounds : Type 0
 FinishKeepsBounds = (only_log : Bool) (w : World) → IsReached only_log w → IsBounded w → IsBounded (finish w).0
+
+-- So each script leads to such a world.
+abbrev pub ScriptsStayBounded : {L : Type 0} → (L → Line) → Type 0
+ScriptsStayBounded {L = L} read = (ls : List L) → IsBounded (run_lines first_world (map read ls)).0

@@ -7,10 +7,10 @@ ghost use Rattle.dom_model.specs.Command.{Command, Line};
 ghost use Rattle.dom_model.specs.World.{World};
 ghost use Rattle.dom_model.specs.Isolation.{ForeignIsRefused, PagePartAgrees, PageSeesItsTrace, SamePage};
 ghost use Rattle.dom_isolation.specs.Laws.{VisitIsUnseen, FoldSkipsComponents, PageVisitsAgree, OutwardVisitsAgree, PageDispatchAgrees, ComponentDispatchAgrees, NotificationIsUnseen, TurnEndingAgrees, OtherEndingIsUnseen, PageLineAgrees, OtherLineAgrees, FinishAgrees, PageRunAgrees, TraceGoesOn, IsReached, IsQuiet, FirstIsReached, StepKeepsReached, EndingKeepsReached, FinishKeepsReached, ScriptsReach, QuietScriptsReach, ShadowRootsAreRoots, NoOtherShadowRoots, AttachedAreThere, HostsAreTheirs, AssignedArePage};
-ghost use Rattle.dom_isolation.specs.Wholes.{FirstIsWhole, StepKeepsWhole, EndingKeepsWhole, FinishKeepsWhole, ScriptsStayWhole};
+ghost use Rattle.dom_isolation.specs.Wholes.{FirstIsWhole, StepKeepsWhole, EndingKeepsWhole, FinishKeepsWhole, ScriptsStayWhole, FirstHasOneRoots, StepKeepsOneRoots, EndingKeepsOneRoots, FinishKeepsOneRoots, ScriptsKeepOneRoots};
 ghost use Rattle.dom_isolation.specs.Follows.{PathFollowsParents};
 ghost use Rattle.dom_isolation.specs.Sights.{HiddenByRoots, RetargetedByRoots};
-ghost use Rattle.dom_isolation.specs.Bounds.{FirstIsBounded, OtherStepsKeepBounds, EndingKeepsBounds, FinishKeepsBounds};
+ghost use Rattle.dom_isolation.specs.Bounds.{FirstIsBounded, StepKeepsBounds, EndingKeepsBounds, FinishKeepsBounds, ScriptsStayBounded};
 ghost use Rattle.dom_isolation.specs.Offering.{offering};
 ghost use Rattle.dom_isolation.specs.Texts.{ReadsPrefix, DecodeReadsPrefix, OfferingReadsPrefix, TraceHasPageLines, OutputHasPageLines, PageViewIsItsOutput, PageLinesAgree, PageLinesAgreeSoFar, PageTextAgrees, SamePageText, ForeignLineIsRefused};
 ghost use Rattle.dom_isolation.specs.Words.{ReadsPlainWords, DecodeReadsPlainWords, OfferingReadsPlainWords, OutputHasItsLines, PickedLinesAgree};
@@ -62,8 +62,8 @@ pub fn reached_worlds()
 {}
 
 /// Of every world that the machine reaches the tables name what is there: hosts, the ends of ranges, iterators, walkers,
-/// registrations, listeners and signalled slots are at nodes of their owners, observers have their record queues, and each
-/// owner that is there has its first node.
+/// registrations, listeners and signalled slots are at nodes of their owners, both ends of a range in one tree, queued records
+/// name nodes of their owners, observers have their record queues, and each owner that is there has its first node.
 pub fn whole_worlds()
     ensures first { FirstIsWhole }
     ensures kept { StepKeepsWhole }
@@ -72,13 +72,22 @@ pub fn whole_worlds()
     ensures script { (read : List ℕ → Line) → ScriptsStayWhole read }
 {}
 
-/// The ends of ranges are within their nodes: in the first world, and after each line but those with `insert-node`, and those with
-/// `extract` or `delete` of a range whose ends are in different trees. Of these lines it is not shown yet.
+/// Both ends of each live range have one root, in every world that the machine reaches (DOM Standard, 5.3 and 5.5).
+pub fn ranges_have_one_root()
+    ensures first { FirstHasOneRoots }
+    ensures kept { StepKeepsOneRoots }
+    ensures ending { EndingKeepsOneRoots }
+    ensures finish { FinishKeepsOneRoots }
+    ensures script { (read : List ℕ → Line) → ScriptsKeepOneRoots read }
+{}
+
+/// The ends of live ranges are within their nodes, in every world that the machine reaches (DOM Standard, 5.2 and 5.5).
 pub fn ranges_stay_bounded()
     ensures first { FirstIsBounded }
-    ensures other_lines { OtherStepsKeepBounds }
+    ensures kept { StepKeepsBounds }
     ensures ending { EndingKeepsBounds }
     ensures finish { FinishKeepsBounds }
+    ensures script { (read : List ℕ → Line) → ScriptsStayBounded read }
 {}
 
 /// The whole path of an event begins at its target, goes from each node to its event parent, through slots and shadow roots, and
