@@ -1,9 +1,10 @@
 -- An owner's tables as a `Doc` holds them, with keys in place of names, and where each owner's are.
-use Rattle.std.specs.Prelude.{◌≡◌, ℕ, zero, suc, ◌≤◌, List, [], ◌∷◌, ◌++◌, length, map, Option, Some, None, slice_get}
+use Rattle.std.specs.Prelude.{◌≡◌, ℕ, zero, suc, ◌≤◌, List, [], ◌∷◌, ◌++◌, length, map, Option, Some, None, slice_get, slice_set}
 use Rattle.dom_base.specs.declared.Owner.{Owner}
 use Rattle.dom_base.specs.declared.Owner.TheVariants.{Page, Component}
 use Rattle.dom_base.specs.declared.NodeName.{NodeName}
 use Rattle.dom_model.specs.Traversal.{adjusted_iterator}
+use Rattle.dom_model.specs.World.{Task, micro_task, notify_task}
 use Rattle.dom_tree.specs.Forest.{NamedTrees, name_at}
 use Rattle.dom_traversal.specs.Iterators.{KeyedIterator, iterator_view, IsIteratorOf, HasLeft}
 use Rattle.dom_traversal.specs.Walkers.{KeyedWalker, walker_view, IsWalkerOf}
@@ -13,6 +14,10 @@ use Rattle.dom_mutation.specs.Contents.{Tables, no_tables}
 pub record KeyedTables : Type 0 where
   pub iterators : List KeyedIterator
   pub walkers : List KeyedWalker
+
+-- no iterators and no walkers
+abbrev pub no_keyed_tables : KeyedTables
+no_keyed_tables = record { iterators = []; walkers = [] }
 
 -- the same tables in names
 abbrev pub tables_view : List NodeName → KeyedTables → Tables
@@ -43,6 +48,34 @@ abbrev pub table_of : {X : Type 0} → List X → Owner → Option X
 table_of ts Page = slice_get ts 0
 table_of ts (Component zero) = None
 table_of ts (Component (suc k)) = slice_get ts (suc k)
+
+-- ---- all tables
+
+-- what a `Doc` holds beside its trees: each owner's tables, at its place, and the tasks (own rule)
+pub record AllTables : Type 0 where
+  pub each : List KeyedTables
+  pub tasks : List Task
+
+-- those with the tables at a place written
+abbrev pub with_table_at : AllTables → ℕ → KeyedTables → AllTables
+with_table_at tables place u = record tables { each = slice_set tables.each place u }
+
+-- those with one owner's written
+abbrev pub with_table : AllTables → Owner → KeyedTables → AllTables
+with_table tables o u = with_table_at tables (place_of o) u
+
+-- those with other tasks
+abbrev pub with_queue : AllTables → List Task → AllTables
+with_queue tables tasks = record tables { tasks = tasks }
+
+-- where the page alone is there, and has none
+abbrev pub first_tables : AllTables
+first_tables = record { each = no_keyed_tables ∷ []; tasks = [] }
+
+-- a task that prints a label
+abbrev pub IsLabel : Task → Type 0
+IsLabel (micro_task o label) = Unit {0}
+IsLabel (notify_task o) = ⊥
 
 -- ---- what holds of an owner's tables
 
