@@ -1,10 +1,10 @@
 -- A new node, alone in its tree, changes nothing of what is assigned.
-use Rattle.std.proofs.Common.{◌≡◌, ◌⊎◌, inl, inr, ℕ, ◌+◌, ◌<◌, ◌≤◌, Bool, true, false, List, [], ◌∷◌, ◌++◌, All, map, filter, drop, length, Option, Some, None, refl, sym, ap, subst, ◌∙◌, arith, true≢false}
-use Rattle.std.specs.Prelude.{nat_eq, find, if◌then◌else◌, option_to_list, unwrap_or, slice_get}
+use Rattle.std.proofs.Common.{◌≡◌, ◌⊎◌, inl, inr, ℕ, ◌+◌, ◌<◌, ◌≤◌, Bool, true, false, List, [], ◌∷◌, ◌++◌, All, map, filter, drop, length, Option, Some, None, refl, sym, ap, subst, ◌∙◌, arith}
+use Rattle.std.specs.Prelude.{nat_eq, find, if◌then◌else◌, option_to_list, unwrap_or}
 use Rattle.std.specs.Option.{option_map, option_map_or, option_and_then, option_or}
 use Rattle.std.proofs.lemmas.Bool.{cases_Bool, cond-false, eqb-true}
 use Rattle.std.proofs.lemmas.List.{length_push}
-use Rattle.std.proofs.lemmas.List.Elements.{All-nil, All-push, All-head, All-tail}
+use Rattle.std.proofs.lemmas.List.Elements.{All-head, All-tail}
 use Rattle.std.proofs.lemmas.List.Folds.{find-append}
 use Rattle.std.proofs.lemmas.Option.{same_Some, none-some}
 use Rattle.std.proofs.Math.ListN.{get_or-append}
@@ -13,18 +13,18 @@ use Rattle.std.proofs.Math.Seq.{get_or-append_seam}
 use Rattle.dom_base.specs.declared.NodeName.{NodeName}
 use Rattle.dom_base.specs.declared.Owner.TheVariants.{Page}
 use Rattle.dom_model.specs.Names.{name_eq, name_before, node_of, is_in, first_of, last_of}
-use Rattle.dom_model.specs.Tree.{Trees, none, tree, Node, nodes, roots, names_of, no_node, node_in, or_else, subtree, on_top, inclusive_ancestors, parent_of, root_of, trees_below, children_of}
+use Rattle.dom_model.specs.Tree.{Trees, none, tree, Node, nodes, roots, names_of, no_node, node_in, or_else, subtree, inclusive_ancestors, parent_of, root_of, trees_below, children_of}
 use Rattle.dom_model.specs.TreeChanges.{with_node, put_root}
 use Rattle.dom_model.specs.Slots.{is_slot_element, slots_among, slot_in}
 use Rattle.dom_tree.specs.Forest.{NamedTrees, name_at}
 use Rattle.dom_traversal.proofs.Counts.{Once-forest}
-use Rattle.dom_traversal.proofs.Lists.{name_eq-from, name_eq-other, name_eq-true, same_or_not}
+use Rattle.dom_traversal.proofs.Lists.{name_eq-from, name_eq-other, same_or_not}
 use Rattle.dom_traversal.proofs.Removal.{above-put_others}
 use Rattle.dom_traversal.proofs.Shapes.{Has, Once, above-absent, subtree-absent}
 use Rattle.dom_slots.specs.Hosts.{ShadowHost, HostsAreNodes, host_named, root_named, host_of_root}
 use Rattle.dom_slots.specs.Kept.{SlotsNow, HasOneMore, AreSlotsOf}
 use Rattle.dom_slots.specs.Shadows.{ShadowTrees, shadow_trees, slot_at, assigned_at, assigned_under}
-use Rattle.dom_slots.specs.Tables.{SlotTable, list_of, IsTableOf}
+use Rattle.dom_slots.specs.Tables.{list_of}
 
 -- ---- a tree of one node among others
 

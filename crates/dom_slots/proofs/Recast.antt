@@ -2,18 +2,15 @@
 use Rattle.std.proofs.Common.{◌≡◌, inl, inr, Bool, true, false, List, [], ◌∷◌, ◌++◌, All, map, filter, drop, Option, Some, None, refl, sym, ap, ◌∙◌}
 use Rattle.std.specs.Prelude.{find, if◌then◌else◌, option_to_list, unwrap_or}
 use Rattle.std.specs.Option.{option_map, option_map_or, option_and_then}
-use Rattle.std.proofs.lemmas.Bool.{cases_Bool, cond-true, cond-false}
 use Rattle.std.proofs.lemmas.List.{map-append}
 use Rattle.dom_base.specs.declared.NodeName.{NodeName}
-use Rattle.dom_base.specs.declared.Kind.{Kind}
 use Rattle.dom_model.specs.Names.{DomString, Word, name_eq, is_in, first_of}
-use Rattle.dom_model.specs.Tree.{Trees, none, tree, Node, Attribute, nodes, roots, names_of, no_node, node_in, or_else, subtree, on_top, inclusive_ancestors, parent_of, root_of, trees_below, children_of}
+use Rattle.dom_model.specs.Tree.{Trees, none, tree, Node, nodes, roots, names_of, no_node, node_in, or_else, subtree, inclusive_ancestors, trees_below, children_of}
 use Rattle.dom_model.specs.TreeChanges.{map_nodes}
-use Rattle.dom_model.specs.Slots.{has_slot_name, slottable_name, slot_in}
+use Rattle.dom_model.specs.Slots.{has_slot_name, slottable_name}
 use Rattle.dom_tree.specs.Forest.{NamedTrees, name_at}
 use Rattle.dom_slots.specs.Hosts.{ShadowHost, host_named, root_named}
-use Rattle.dom_slots.specs.Shadows.{ShadowTrees, shadow_trees, slot_at, assigned_at, assigned_under}
-use Rattle.dom_slots.specs.Tables.{SlotTable, IsTableOf}
+use Rattle.dom_slots.specs.Shadows.{ShadowTrees, shadow_trees, slot_at, assigned_at}
 use Rattle.dom_slots.specs.Kept.{SlotsNow, AreSlotsOf}
 
 -- a change of nodes that no slot sees

@@ -3,7 +3,7 @@ use Rattle.dom_model.specs.Names.{name_eq, is_in}
 use Rattle.dom_model.specs.Tree.{Node, inclusive_descendants}
 use Rattle.dom_model.specs.TreeChanges.{under_document, with_document, with_text}
 use Rattle.dom_slots.proofs.Added.{slots-more}
-use Rattle.dom_slots.proofs.Recast.{KeepsSlots, keeps_if, slots-recast}
+use Rattle.dom_slots.proofs.Recast.{keeps_if, slots-recast}
 use Rattle.dom_slots.proofs.laws.slots_stay.Goals as goal
 
 pub returns-clause-added : goal.returns-clause-added
