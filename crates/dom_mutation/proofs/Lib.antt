@@ -27,3 +27,7 @@ pub mod Grown
 pub mod Tails
 pub mod Emptied
 pub mod Joined
+pub mod HostedWorlds
+pub mod HostedSteps
+pub mod HostedDocuments
+pub mod OwnSteps
