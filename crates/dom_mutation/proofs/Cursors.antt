@@ -1,10 +1,10 @@
 -- An owner's tables written: what holds then, the world then, and that it is what a command of the model does.
-use Rattle.std.proofs.Common.{◌≡◌, ◌≢◌, ℕ, zero, suc, ◌+◌, ◌<◌, ◌≤◌, inl, inr, Bool, true, false, List, [], ◌∷◌, ◌++◌, length, Option, Some, None, option_map, unwrap_or, map, refl, sym, ap, subst, ◌∙◌, arith}
+use Rattle.std.proofs.Common.{◌≡◌, ℕ, zero, suc, inl, inr, Bool, true, false, List, [], ◌∷◌, ◌++◌, length, Option, Some, None, option_map, unwrap_or, map, refl, sym, ap, subst, ◌∙◌}
 use Rattle.std.specs.Prelude.{is_some, slice_get, slice_set}
-use Rattle.std.specs.Option.{ForSome, option_map_or}
+use Rattle.std.specs.Option.{option_map_or}
 use Rattle.std.proofs.lemmas.Bool.{cases_Bool, true≢false}
-use Rattle.std.proofs.lemmas.List.{length-set, map-set, map-append, length-map, length_push}
-use Rattle.std.proofs.lemmas.Option.{slice_get-map, none-some, same_Some}
+use Rattle.std.proofs.lemmas.List.{length-set, map-set, map-append, length-map}
+use Rattle.std.proofs.lemmas.Option.{slice_get-map, same_Some}
 use Rattle.dom_base.specs.declared.NodeName.{NodeName}
 use Rattle.dom_base.specs.declared.Owner.{Owner}
 use Rattle.dom_base.specs.declared.Move.{Move}
@@ -13,17 +13,17 @@ use Rattle.dom_model.specs.Tree.{Trees}
 use Rattle.dom_model.specs.Command.{Command, Filter, own}
 use Rattle.dom_model.specs.Output.{Value, nothing, a_node, an_iterator, a_walker, reference}
 use Rattle.dom_model.specs.Traversal.{Iterator, Walker, iterator_next_node, iterator_previous_node, moved_to, walker_move}
-use Rattle.dom_model.specs.Part.{Part, empty_part}
-use Rattle.dom_model.specs.World.{World, part_of, with_part, is_there}
+use Rattle.dom_model.specs.Part.{Part}
+use Rattle.dom_model.specs.World.{part_of, with_part, is_there}
 use Rattle.dom_model.specs.Effects.{Effect, effect, keeps, answers, node_or_null, moves_iterator, sets_walker, new_iterator, new_walker}
 use Rattle.dom_model.proofs.OwnerLaws.{owner_eq-true, owner_eq-false}
-use Rattle.dom_tree.specs.Forest.{NamedTrees, name_at, count_of}
+use Rattle.dom_tree.specs.Forest.{name_at, count_of}
 use Rattle.dom_tree.specs.Owners.{trees_of_owner}
 use Rattle.dom_tree.proofs.Owned.{stays_own}
 use Rattle.dom_traversal.specs.Iterators.{KeyedIterator, iterator_view, iterator_at}
 use Rattle.dom_traversal.specs.Walkers.{KeyedWalker, walker_view, walker_at}
-use Rattle.dom_mutation.specs.Contents.{no_tables, part_with, part_in, world_of}
-use Rattle.dom_mutation.specs.OwnTables.{KeyedTables, tables_view, place_of, owners_up_to, table_of, AreTablesOf}
+use Rattle.dom_mutation.specs.Contents.{part_with, part_in}
+use Rattle.dom_mutation.specs.OwnTables.{KeyedTables, tables_view, place_of, owners_up_to, table_of, AreTablesOf, AllTables, no_keyed_tables, with_table}
 use Rattle.dom_mutation.specs.Doc.{named_trees, own_tables, contents, world_from, IsHeld, Makes}
 use Rattle.dom_mutation.proofs.Worlds.{part_at, part_off, changed}
 use Rattle.dom_mutation.proofs.Places.{single_owners, table_set, table_set_other}
@@ -46,15 +46,15 @@ is_some_map f None = refl
 is_some_map f (Some x) = refl
 
 -- an owner without tables has no cursors
-no_items : (tables : List KeyedTables) (o : Owner) → (table_of tables o ≡ None) → own_tables tables o ≡ record { iterators = []; walkers = [] }
-no_items tables o e = ap (λ m. unwrap_or m (record { iterators = []; walkers = [] })) e
+no_items : (tables : AllTables) (o : Owner) → (table_of tables.each o ≡ None) → own_tables tables o ≡ no_keyed_tables
+no_items tables o e = ap (λ m. unwrap_or m no_keyed_tables) e
 
 -- the part of an owner has its tables in names
-module _ (names : List NodeName) (ts : Trees) (tables : List KeyedTables) (o : Owner) where
-  off_tables : is_there (world_from names ts tables) o ≡ false → table_of tables o ≡ None
-  off_tables off = by (table_of tables o) refl
+module _ (names : List NodeName) (ts : Trees) (tables : AllTables) (o : Owner) where
+  off_tables : is_there (world_from names ts tables) o ≡ false → table_of tables.each o ≡ None
+  off_tables off = by (table_of tables.each o) refl
     where
-      by : (m : Option KeyedTables) → table_of tables o ≡ m → m ≡ None
+      by : (m : Option KeyedTables) → table_of tables.each o ≡ m → m ≡ None
       by None e = refl
       by (Some t) e = absurd (true≢false (sym (there_table names ts tables o t e) ∙ off))
 
@@ -82,7 +82,7 @@ module _ (names : List NodeName) (ts : Trees) (tables : List KeyedTables) (o : O
       ∙ (ap is_some (slice_get-map (walker_view names) (own_tables tables o).walkers k) ∙ is_some_map (walker_view names) (slice_get (own_tables tables o).walkers k))
 
   -- and then the owner is there
-  there_by : {X : Type 0} (read : KeyedTables → List X) → read (record { iterators = []; walkers = [] }) ≡ [] → (k : ℕ) → is_some (slice_get (read (own_tables tables o)) k) ≡ true → is_there (world_from names ts tables) o ≡ true
+  there_by : {X : Type 0} (read : KeyedTables → List X) → read no_keyed_tables ≡ [] → (k : ℕ) → is_some (slice_get (read (own_tables tables o)) k) ≡ true → is_there (world_from names ts tables) o ≡ true
   there_by read none k h = elim (cases_Bool (is_there (world_from names ts tables) o)) [
     | inl there ↦ there
     | inr off ↦ absurd (true≢false (sym h ∙ ap (λ xs. is_some (slice_get xs k)) (ap read (no_items tables o (off_tables off)) ∙ none)))
@@ -94,7 +94,7 @@ module _ (names : List NodeName) (ts : Trees) (tables : List KeyedTables) (o : O
   pub there_walker : (k : ℕ) → is_some (slice_get (part_of (world_from names ts tables) o).walkers k) ≡ true → is_there (world_from names ts tables) o ≡ true
   there_walker k h = there_by (λ t. t.walkers) refl k (sym (has_walker k) ∙ h)
 
-module _ (names : List NodeName) (ts : Trees) (tables : List KeyedTables) (held : IsHeld names ts tables) (o : Owner) (t : KeyedTables) (at : table_of tables o ≡ Some t) where
+module _ (names : List NodeName) (ts : Trees) (tables : AllTables) (held : IsHeld names ts tables) (o : Owner) (t : KeyedTables) (at : table_of tables.each o ≡ Some t) where
   pub there : is_there (world_from names ts tables) o ≡ true
   there = there_table names ts tables o t at
 
@@ -103,53 +103,53 @@ module _ (names : List NodeName) (ts : Trees) (tables : List KeyedTables) (held 
   with_own v = part_with o (trees_of_owner o ts) (count_of o names) (tables_view names v)
 
   pub part_was : part_of (world_from names ts tables) o ≡ with_own t
-  part_was = part_at (contents names ts tables) o there ∙ ap (λ m. with_own (unwrap_or m (record { iterators = []; walkers = [] }))) at
+  part_was = part_at (contents names ts tables) o there ∙ ap (λ m. with_own (unwrap_or m no_keyed_tables)) at
 
   -- what a command reads and does not change
   pub makes_read : (c : Command) (v : Value) → effect (with_own t) c ≡ Effect.tables (with_own t) [] v → Makes o c v (world_from names ts tables) (world_from names ts tables)
   makes_read c v is = (
     ap (λ p. effect p c) part_was ∙ is ∙ ap (λ p. Effect.tables p [] v) (sym part_was),
-    changed (contents names ts tables) (contents names ts tables) o (part_in (contents names ts tables) o) (single_owners (length tables)) there (record { owners = refl; signalled = refl; tasks = refl; own = refl; others = λ q other. refl })
+    changed (contents names ts tables) (contents names ts tables) o (part_in (contents names ts tables) o) (single_owners (length tables.each)) there (record { owners = refl; signalled = refl; tasks = refl; own = refl; others = λ q other. refl })
         ∙ ap (with_part (world_from names ts tables)) (sym (part_at (contents names ts tables) o there)),
   )
 
   module _ (u : KeyedTables) where
-    abbrev pub set_tables : List KeyedTables
-    set_tables = slice_set tables (place_of o) u
+    abbrev pub set_tables : AllTables
+    set_tables = with_table tables o u
 
-    at_set : table_of (slice_set tables (place_of o) u) o ≡ Some u
-    at_set = table_set tables o t u at
+    at_set : table_of (slice_set tables.each (place_of o) u) o ≡ Some u
+    at_set = table_set tables.each o t u at
 
     -- what holds of the others
-    pub held_set : AreTablesOf (named_trees names ts) o u → IsHeld names ts (slice_set tables (place_of o) u)
+    pub held_set : AreTablesOf (named_trees names ts) o u → IsHeld names ts (with_table tables o u)
     held_set h =
-        held_with names ts tables held o there names ts (slice_set tables (place_of o) u) (length-set tables (place_of o) u) held.owned (λ p other. refl) held.present held.limited
+        held_with names ts tables held o there names ts (with_table tables o u) (length-set tables.each (place_of o) u) held.owned (λ p other. refl) held.present held.limited
         (λ p v e. elim (cases_Bool (owner_eq p o)) [
           | inl same ↦ own_case p v (owner_eq-true p o same) e
-          | inr other ↦ held.own p v (sym (table_set_other tables o t u at p (owner_eq-false p o other)) ∙ e)
+          | inr other ↦ held.own p v (sym (table_set_other tables.each o t u at p (owner_eq-false p o other)) ∙ e)
         ])
       where
-        own_case : (p : Owner) (v : KeyedTables) → p ≡ o → table_of (slice_set tables (place_of o) u) p ≡ Some v → AreTablesOf (named_trees names ts) p v
+        own_case : (p : Owner) (v : KeyedTables) → p ≡ o → table_of (slice_set tables.each (place_of o) u) p ≡ Some v → AreTablesOf (named_trees names ts) p v
         own_case p v same e =
-            let is : u ≡ v = same_Some u v (sym at_set ∙ ap (table_of (slice_set tables (place_of o) u)) (sym same) ∙ e) in
+            let is : u ≡ v = same_Some u v (sym at_set ∙ ap (table_of (slice_set tables.each (place_of o) u)) (sym same) ∙ e) in
             subst (λ q. AreTablesOf (named_trees names ts) q v) (sym same) (subst (AreTablesOf (named_trees names ts) o) is h)
 
-    there_set : is_there (world_from names ts (slice_set tables (place_of o) u)) o ≡ true
-    there_set = there_table names ts (slice_set tables (place_of o) u) o u at_set
+    there_set : is_there (world_from names ts (with_table tables o u)) o ≡ true
+    there_set = there_table names ts (with_table tables o u) o u at_set
 
-    part_now : part_of (world_from names ts (slice_set tables (place_of o) u)) o ≡ with_own u
-    part_now = part_at (contents names ts (slice_set tables (place_of o) u)) o there_set ∙ ap (λ m. with_own (unwrap_or m (record { iterators = []; walkers = [] }))) at_set
+    part_now : part_of (world_from names ts (with_table tables o u)) o ≡ with_own u
+    part_now = part_at (contents names ts (with_table tables o u)) o there_set ∙ ap (λ m. with_own (unwrap_or m no_keyed_tables)) at_set
 
     -- what a command does that writes the tables
-    pub makes_set : (c : Command) (v : Value) → effect (with_own t) c ≡ Effect.tables (with_own u) [] v → Makes o c v (world_from names ts tables) (world_from names ts (slice_set tables (place_of o) u))
+    pub makes_set : (c : Command) (v : Value) → effect (with_own t) c ≡ Effect.tables (with_own u) [] v → Makes o c v (world_from names ts tables) (world_from names ts (with_table tables o u))
     makes_set c v is = (
       ap (λ p. effect p c) part_was ∙ is ∙ ap (λ p. Effect.tables p [] v) (sym part_now),
-      changed (contents names ts tables) (contents names ts (slice_set tables (place_of o) u)) o (part_of (world_from names ts (slice_set tables (place_of o) u)) o) (single_owners (length tables)) there record {
-        owners = ap owners_up_to (length-set tables (place_of o) u);
+      changed (contents names ts tables) (contents names ts (with_table tables o u)) o (part_of (world_from names ts (with_table tables o u)) o) (single_owners (length tables.each)) there record {
+        owners = ap owners_up_to (length-set tables.each (place_of o) u);
         signalled = refl;
         tasks = refl;
-        own = sym (part_at (contents names ts (slice_set tables (place_of o) u)) o there_set);
-        others = λ q other. ap (λ m. part_with q (trees_of_owner q ts) (count_of q names) (tables_view names (unwrap_or m (record { iterators = []; walkers = [] })))) (table_set_other tables o t u at q other);
+        own = sym (part_at (contents names ts (with_table tables o u)) o there_set);
+        others = λ q other. ap (λ m. part_with q (trees_of_owner q ts) (count_of q names) (tables_view names (unwrap_or m no_keyed_tables))) (table_set_other tables.each o t u at q other);
       },
     )
 

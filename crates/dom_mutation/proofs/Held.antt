@@ -29,7 +29,7 @@ use Rattle.dom_tree.specs.Forest.{NamedTrees, name_at, next_name, count_of}
 use Rattle.dom_tree.specs.Owners.{AreOwned, trees_of_owner, IsOwnChange}
 use Rattle.dom_tree.proofs.OwnChanges.{added}
 use Rattle.dom_mutation.specs.Contents.{part_with}
-use Rattle.dom_mutation.specs.OwnTables.{KeyedTables, tables_view, place_of, owner_at, owners_up_to, table_of, AreTablesOf}
+use Rattle.dom_mutation.specs.OwnTables.{KeyedTables, tables_view, place_of, owner_at, owners_up_to, table_of, AreTablesOf, AllTables, no_keyed_tables, first_tables}
 use Rattle.dom_mutation.specs.Doc.{DocState, named_trees, own_tables, contents, world_from, state_from, IsHeld}
 use Rattle.dom_mutation.proofs.Worlds.{In, there_in, in_there, there_same, part_at, part_off}
 use Rattle.dom_mutation.proofs.Places.{place_within, owners_in, single_owners, table_place, table_owner}
@@ -38,33 +38,33 @@ use Rattle.dom_mutation.proofs.Standing.{KeepsAbove}
 use Rattle.dom_mutation.proofs.Keeping.{tables_kept, tables_more, view_same}
 
 -- so far the page alone is there
-pub there_page : (names : List NodeName) (ts : Trees) (tables : List KeyedTables) → IsHeld names ts tables → (o : Owner) → is_there (world_from names ts tables) o ≡ true → o ≡ Page
+pub there_page : (names : List NodeName) (ts : Trees) (tables : AllTables) → IsHeld names ts tables → (o : Owner) → is_there (world_from names ts tables) o ≡ true → o ≡ Page
 there_page names ts tables held o h =
     let page : In o (Page ∷ []) = subst (λ n. In o (owners_up_to n)) held.alone (there_in (contents names ts tables) o h) in
     elim page [ inl e ↦ sym e | inr never ↦ absurd never ]
 
 -- without hosts and registrations
-pub held_quiet : (names : List NodeName) (ts : Trees) (tables : List KeyedTables) → IsQuiet (contents names ts tables)
+pub held_quiet : (names : List NodeName) (ts : Trees) (tables : AllTables) → IsQuiet (contents names ts tables)
 held_quiet names ts tables = record { no_hosts = λ o. refl; no_observers = λ o. refl }
 
 -- an owner that is there has tables
-pub table_there : (names : List NodeName) (ts : Trees) (tables : List KeyedTables) (o : Owner) → is_there (world_from names ts tables) o ≡ true → (place_of o < length tables) × (owner_at (place_of o) ≡ o)
-table_there names ts tables o h = place_within (length tables) o (there_in (contents names ts tables) o h)
+pub table_there : (names : List NodeName) (ts : Trees) (tables : AllTables) (o : Owner) → is_there (world_from names ts tables) o ≡ true → (place_of o < length tables.each) × (owner_at (place_of o) ≡ o)
+table_there names ts tables o h = place_within (length tables.each) o (there_in (contents names ts tables) o h)
 
 -- and one that has tables is there
-pub there_table : (names : List NodeName) (ts : Trees) (tables : List KeyedTables) (o : Owner) (t : KeyedTables) → table_of tables o ≡ Some t → is_there (world_from names ts tables) o ≡ true
+pub there_table : (names : List NodeName) (ts : Trees) (tables : AllTables) (o : Owner) (t : KeyedTables) → table_of tables.each o ≡ Some t → is_there (world_from names ts tables) o ≡ true
 there_table names ts tables o t e =
-    in_there (contents names ts tables) o (owners_in (length tables) o (slice_get_within tables (place_of o) t (table_place tables o t e)) (table_owner tables o t e))
+    in_there (contents names ts tables) o (owners_in (length tables.each) o (slice_get_within tables.each (place_of o) t (table_place tables.each o t e)) (table_owner tables.each o t e))
 
 -- other trees and tables, where only one owner's trees change
-module _ (names : List NodeName) (ts : Trees) (tables : List KeyedTables) (held : IsHeld names ts tables) (o : Owner) (there : is_there (world_from names ts tables) o ≡ true)
-    (more : List NodeName) (us : Trees) (others : List KeyedTables) (same : length others ≡ length tables) where
+module _ (names : List NodeName) (ts : Trees) (tables : AllTables) (held : IsHeld names ts tables) (o : Owner) (there : is_there (world_from names ts tables) o ≡ true)
+    (more : List NodeName) (us : Trees) (others : AllTables) (same : length others.each ≡ length tables.each) where
   who : (p : Owner) → is_there (world_from more us others) p ≡ is_there (world_from names ts tables) p
   who p = there_same (contents more us others) (contents names ts tables) (ap owners_up_to same) p
 
   pub held_with : AreOwned us → ((p : Owner) → p ≢ o → trees_of_owner p us ≡ trees_of_owner p ts)
       → ((k : ℕ) → k < length more → is_there (world_from names ts tables) (name_at more k).owner ≡ true) → ((p : Owner) → count_of p more ≤ 1000000)
-      → ((p : Owner) → ForSome (table_of others p) (AreTablesOf (named_trees more us) p)) → IsHeld more us others
+      → ((p : Owner) → ForSome (table_of others.each p) (AreTablesOf (named_trees more us) p)) → IsHeld more us others
   held_with owned apart present limited own = record {
     owned = owned;
     present = λ k k<. who (name_at more k).owner ∙ present k k<;
@@ -75,7 +75,7 @@ module _ (names : List NodeName) (ts : Trees) (tables : List KeyedTables) (held 
     own = own;
   }
 
-pub held_changed : (names : List NodeName) (ts : Trees) (tables : List KeyedTables) → IsHeld names ts tables → (o : Owner) → is_there (world_from names ts tables) o ≡ true
+pub held_changed : (names : List NodeName) (ts : Trees) (tables : AllTables) → IsHeld names ts tables → (o : Owner) → is_there (world_from names ts tables) o ≡ true
     → (f : Trees → Trees) → IsOwnChange o f ts → KeepsAbove ts (f ts) → IsHeld names (f ts) tables
 held_changed names ts tables held o there f change keeps =
     held_with names ts tables held o there names (f ts) tables refl change.owned change.others held.present held.limited
@@ -100,7 +100,7 @@ limited_more names o p n few few_of other = elim (cases_Bool (owner_eq o p)) [
   | inr e ↦ let more : count_of p (names ++ node_of o n ∷ []) ≡ count_of p names + 0 = rw e at (count_more p names (node_of o n)) in omega arith
 ]
 
-present_more : (names : List NodeName) (ts : Trees) (tables : List KeyedTables) (x : NodeName) → is_there (world_from names ts tables) x.owner ≡ true
+present_more : (names : List NodeName) (ts : Trees) (tables : AllTables) (x : NodeName) → is_there (world_from names ts tables) x.owner ≡ true
     → ((k : ℕ) → k < length names → is_there (world_from names ts tables) (name_at names k).owner ≡ true)
     → (k : ℕ) → k < length (names ++ x ∷ []) → is_there (world_from names ts tables) (name_at (names ++ x ∷ []) k).owner ≡ true
 present_more names ts tables x there all k k< =
@@ -110,7 +110,7 @@ present_more names ts tables x there all k k< =
     at (inl same) = ap (λ (y : NodeName). is_there (world_from names ts tables) y.owner) (ap (λ j. name_at (names ++ x ∷ []) j) same ∙ get_or-append_seam names x [] (node_of Page 0)) ∙ there
     at (inr h) = ap (λ (y : NodeName). is_there (world_from names ts tables) y.owner) (get_or-append names (x ∷ []) (node_of Page 0) k h) ∙ all k h
 
-module _ (names : List NodeName) (ts : Trees) (tables : List KeyedTables) (held : IsHeld names ts tables) (o : Owner) (there : is_there (world_from names ts tables) o ≡ true)
+module _ (names : List NodeName) (ts : Trees) (tables : AllTables) (held : IsHeld names ts tables) (o : Owner) (there : is_there (world_from names ts tables) o ≡ true)
     (n : Node) (is : n.name ≡ next_name o names) (new : (k : ℕ) → k < length names → name_at names k ≢ next_name o names) where
   abbrev grown : List NodeName
   grown = names ++ next_name o names ∷ []
@@ -126,16 +126,16 @@ module _ (names : List NodeName) (ts : Trees) (tables : List KeyedTables) (held 
 
   -- each owner's tables are the same in names
   view_grown : (q : Owner) → tables_view grown (own_tables tables q) ≡ tables_view names (own_tables tables q)
-  view_grown q = by (table_of tables q) refl
+  view_grown q = by (table_of tables.each q) refl
     where
-      by : (m : Option KeyedTables) → table_of tables q ≡ m → tables_view grown (unwrap_or m (record { iterators = []; walkers = [] })) ≡ tables_view names (unwrap_or m (record { iterators = []; walkers = [] }))
+      by : (m : Option KeyedTables) → table_of tables.each q ≡ m → tables_view grown (unwrap_or m no_keyed_tables) ≡ tables_view names (unwrap_or m no_keyed_tables)
       by None e = refl
       by (Some t) e = view_same names (next_name o names) ts q t (held.own q t e)
 
   -- the world with one node more
   world_more : world_from (names ++ next_name o names ∷ []) (with_node n ts) tables ≡ world_step o (world_from names ts tables) (make n)
   world_more =
-      world_stepped (contents names ts tables) (contents grown (with_node n ts) tables) o (make n) (held_quiet names ts tables) (held_quiet grown (with_node n ts) tables) (single_owners (length tables)) there record {
+      world_stepped (contents names ts tables) (contents grown (with_node n ts) tables) o (make n) (held_quiet names ts tables) (held_quiet grown (with_node n ts) tables) (single_owners (length tables.each)) there record {
         owners = refl;
         signalled = refl;
         tasks = refl;
@@ -159,11 +159,11 @@ abbrev trees_named : List NodeName → Trees → NamedTrees
 trees_named ns ts = record { names = ns; trees = ts }
 
 -- an owner's next name, as its part says it and as the names of all nodes do
-next_same : (names : List NodeName) (ts : Trees) (tables : List KeyedTables) (o : Owner) → is_there (world_from names ts tables) o ≡ true → part_next (part_of (world_from names ts tables) o) ≡ next_name o names
+next_same : (names : List NodeName) (ts : Trees) (tables : AllTables) (o : Owner) → is_there (world_from names ts tables) o ≡ true → part_next (part_of (world_from names ts tables) o) ≡ next_name o names
 next_same names ts tables o there = ap part_next (part_at (contents names ts tables) o there)
 
 -- what a call that makes a node ensures
-abbrev pub Added : NamedTrees → List KeyedTables → Owner → (List NodeName → NodeName → Node) → {T : Type 0} → Result T Fault → DocState → Type 0
+abbrev pub Added : NamedTrees → AllTables → Owner → (List NodeName → NodeName → Node) → {T : Type 0} → Result T Fault → DocState → Type 0
 Added g tables o n r d =
     OnOk r (g.names ≡ d.names ++ part_next (part_of d.world o) ∷ [])
     × OnOk r (world_from g.names g.trees tables ≡ world_step o d.world (make (n d.names (part_next (part_of d.world o)))))
@@ -172,7 +172,7 @@ Added g tables o n r d =
 abbrev pub TellApart : List NodeName → Type 0
 TellApart names = (j k : ℕ) → j < length names → k < length names → name_at names j ≡ name_at names k → j ≡ k
 
-module _ (f g : NamedTrees) {tables : List KeyedTables} (held : IsHeld f.names f.trees tables) (o : Owner) (there : is_there (world_from f.names f.trees tables) o ≡ true)
+module _ (f g : NamedTrees) {tables : AllTables} (held : IsHeld f.names f.trees tables) (o : Owner) (there : is_there (world_from f.names f.trees tables) o ≡ true)
     (n : List NodeName → NodeName → Node) (own_name : (ns : List NodeName) (x : NodeName) → (n ns x).name ≡ x) (apart : TellApart g.names) where
   -- the new name is none of the others
   new_name : g.names ≡ f.names ++ next_name o f.names ∷ [] → (k : ℕ) → k < length f.names → name_at f.names k ≢ next_name o f.names
@@ -203,7 +203,7 @@ module _ (f g : NamedTrees) {tables : List KeyedTables} (held : IsHeld f.names f
       )
   added_at (Err e) names trees limit same = (subst (λ (p : NamedTrees). IsHeld p.names p.trees tables) (sym same) held, (tt, tt))
 
-pub added_held : (f g : NamedTrees) {tables : List KeyedTables} (d : DocState) → state_from f.names f.trees tables ≡ d → IsHeld f.names f.trees tables → (o : Owner) → is_there d.world o ≡ true
+pub added_held : (f g : NamedTrees) {tables : AllTables} (d : DocState) → state_from f.names f.trees tables ≡ d → IsHeld f.names f.trees tables → (o : Owner) → is_there d.world o ≡ true
     → (n : List NodeName → NodeName → Node) → ((ns : List NodeName) (x : NodeName) → (n ns x).name ≡ x) → TellApart g.names → {T : Type 0} (r : Result T Fault)
     → OnOk r (g.names ≡ f.names ++ next_name o f.names ∷ []) → OnOk r (g.trees ≡ with_node (n f.names (next_name o f.names)) f.trees)
     → ((r ≡ Err (Refused Limit)) ↔ (count_of o f.names ≡ 1000000)) → OnErr r (g ≡ f)
@@ -215,7 +215,7 @@ added_held f g {tables} d is_d held o there n own_name apart r names trees limit
 -- ---- the first node
 
 -- without nodes, where the page alone is there
-empty_held : IsHeld [] none (record { iterators = []; walkers = [] } ∷ [])
+empty_held : IsHeld [] none first_tables
 empty_held = record {
   owned = record { owners = tt; order = tt };
   present = λ k k<. absurd (omega arith);
@@ -225,28 +225,28 @@ empty_held = record {
   own = λ o t e. subst (AreTablesOf (named_trees [] none) o) (same_own o t e) record { iterators = λ k i is. absurd (none-some i is); walkers = λ k w is. absurd (none-some w is); few_iterators = omega arith; few_walkers = omega arith };
 }
   where
-    same_own : (o : Owner) (t : KeyedTables) → table_of (record { iterators = []; walkers = [] } ∷ []) o ≡ Some t → record { iterators = []; walkers = [] } ≡ t
-    same_own Page t e = same_Some (record { iterators = []; walkers = [] }) t e
+    same_own : (o : Owner) (t : KeyedTables) → table_of (no_keyed_tables ∷ []) o ≡ Some t → no_keyed_tables ≡ t
+    same_own Page t e = same_Some no_keyed_tables t e
     same_own (Component zero) t e = absurd (none-some t e)
     same_own (Component (suc k)) t e = absurd (none-some t e)
 
 -- with the first one
-pub first_held : (g : NamedTrees) (tables : List KeyedTables) (n : Node) → n.name ≡ node_of Page 0 → tables ≡ record { iterators = []; walkers = [] } ∷ [] → g.names ≡ node_of Page 0 ∷ [] → g.trees ≡ with_node n none → IsHeld g.names g.trees tables
+pub first_held : (g : NamedTrees) (tables : AllTables) (n : Node) → n.name ≡ node_of Page 0 → tables ≡ first_tables → g.names ≡ node_of Page 0 ∷ [] → g.trees ≡ with_node n none → IsHeld g.names g.trees tables
 first_held g tables n is one names trees =
     subst (IsHeld g.names g.trees) (sym one)
-    (subst (λ ns. IsHeld ns g.trees (record { iterators = []; walkers = [] } ∷ [])) (sym names)
-    (subst (λ ts. IsHeld (node_of Page 0 ∷ []) ts (record { iterators = []; walkers = [] } ∷ [])) (sym trees)
-    (held_more [] none (record { iterators = []; walkers = [] } ∷ []) empty_held Page refl n is (λ k less. absurd (omega arith)) (λ e. omega arith))))
+    (subst (λ ns. IsHeld ns g.trees first_tables) (sym names)
+    (subst (λ ts. IsHeld (node_of Page 0 ∷ []) ts first_tables) (sym trees)
+    (held_more [] none first_tables empty_held Page refl n is (λ k less. absurd (omega arith)) (λ e. omega arith))))
 
 -- when there is no room for one node more
-limit_at : (names : List NodeName) (ts : Trees) (tables : List KeyedTables) → IsHeld names ts tables → (o : Owner) → is_there (world_from names ts tables) o ≡ true
+limit_at : (names : List NodeName) (ts : Trees) (tables : AllTables) → IsHeld names ts tables → (o : Owner) → is_there (world_from names ts tables) o ≡ true
     → (count_of o names ≡ 1000000) ↔ (past_limit (part_of (world_from names ts tables) o).node_count 1 ≡ true)
 limit_at names ts tables held o there =
     let count : (part_of (world_from names ts tables) o).node_count ≡ count_of o names = ap (λ (p : Part). p.node_count) (part_at (contents names ts tables) o there) in
     limit_count (count_of o names) (part_of (world_from names ts tables) o).node_count count (held.limited o)
 
 -- no owner has more nodes than it may
-pub within_limit : (names : List NodeName) (ts : Trees) {tables : List KeyedTables} → IsHeld names ts tables → (o : Owner) → past_limit (part_of (world_from names ts tables) o).node_count 0 ≡ false
+pub within_limit : (names : List NodeName) (ts : Trees) {tables : AllTables} → IsHeld names ts tables → (o : Owner) → past_limit (part_of (world_from names ts tables) o).node_count 0 ≡ false
 within_limit names ts {tables} held o = elim (cases_Bool (is_there (world_from names ts tables) o)) [
   | inl there ↦
       let count : (part_of (world_from names ts tables) o).node_count ≡ count_of o names = ap (λ (p : Part). p.node_count) (part_at (contents names ts tables) o there) in
@@ -255,7 +255,7 @@ within_limit names ts {tables} held o = elim (cases_Bool (is_there (world_from n
   | inr off ↦ ap (λ (p : Part). past_limit p.node_count 0) (part_off (contents names ts tables) o off)
 ]
 
-pub limit_held : (f : NamedTrees) {tables : List KeyedTables} (d : DocState) → state_from f.names f.trees tables ≡ d → IsHeld f.names f.trees tables → (o : Owner) → is_there d.world o ≡ true
+pub limit_held : (f : NamedTrees) {tables : AllTables} (d : DocState) → state_from f.names f.trees tables ≡ d → IsHeld f.names f.trees tables → (o : Owner) → is_there d.world o ≡ true
     → {P : Type 0} → (P ↔ (count_of o f.names ≡ 1000000)) → P ↔ (past_limit (part_of d.world o).node_count 1 ≡ true)
 limit_held f {tables} d is_d held o there {P} limit =
     subst (λ (e : DocState). is_there e.world o ≡ true → P ↔ (past_limit (part_of e.world o).node_count 1 ≡ true)) is_d

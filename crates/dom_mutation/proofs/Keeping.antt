@@ -1,25 +1,23 @@
 -- What holds of owners' tables stays so when trees change.
-use Rattle.std.proofs.Common.{◌≡◌, ◌≢◌, ℕ, zero, suc, ◌<◌, inl, inr, true, false, List, [], ◌∷◌, ◌++◌, length, map, Some, refl, sym, ap, subst, ◌∙◌, arith}
-use Rattle.std.specs.Prelude.{slice_get, filter}
-use Rattle.std.specs.Option.{ForSome}
+use Rattle.std.proofs.Common.{◌≡◌, ◌≢◌, ℕ, zero, suc, ◌<◌, inl, inr, true, false, List, [], ◌∷◌, ◌++◌, length, map, refl, sym, ap, subst, ◌∙◌, arith}
+use Rattle.std.specs.Prelude.{slice_get}
 use Rattle.std.proofs.lemmas.Bool.{cases_Bool}
 use Rattle.std.proofs.lemmas.List.{length_push}
 use Rattle.std.proofs.lemmas.Option.{none-some, same_Some}
 use Rattle.std.proofs.Math.ListN.{get_or-append}
-use Rattle.std.proofs.Math.Seq.{get_or-append_seam}
 use Rattle.dom_base.specs.declared.NodeName.{NodeName}
 use Rattle.dom_base.specs.declared.Owner.{Owner}
 use Rattle.dom_base.specs.declared.Owner.TheVariants.{Page}
-use Rattle.dom_model.specs.Names.{name_eq, node_of}
+use Rattle.dom_model.specs.Names.{node_of}
 use Rattle.dom_model.specs.Tree.{Trees, Node, is_inclusive_ancestor}
-use Rattle.dom_model.specs.TreeChanges.{taken_out, with_node}
+use Rattle.dom_model.specs.TreeChanges.{with_node}
 use Rattle.dom_model.specs.Traversal.{Iterator, Walker, adjusted_iterator}
 use Rattle.dom_tree.specs.Forest.{NamedTrees, name_at}
 use Rattle.dom_tree.specs.Owners.{AreOwned, trees_of_owner}
 use Rattle.dom_tree.proofs.Owned.{stays_own}
 use Rattle.dom_traversal.specs.Iterators.{KeyedIterator, iterator_view, IsIteratorOf, HasLeft, with_taken_out}
 use Rattle.dom_traversal.specs.Walkers.{KeyedWalker, walker_view}
-use Rattle.dom_mutation.specs.OwnTables.{KeyedTables, tables_view, EachItem, table_of, place_of, IsOwnIterator, IsOwnWalker, AreTablesOf, IsLeft, AreLeft}
+use Rattle.dom_mutation.specs.OwnTables.{KeyedTables, tables_view, EachItem, IsOwnIterator, IsOwnWalker, AreTablesOf, IsLeft, AreLeft}
 use Rattle.dom_mutation.specs.Contents.{Tables, no_tables}
 use Rattle.dom_mutation.specs.Doc.{named_trees}
 use Rattle.dom_mutation.proofs.Standing.{KeepsAbove, above_added}

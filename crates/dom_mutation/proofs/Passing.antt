@@ -1,10 +1,8 @@
 -- Calls that pass a command on to an owner's tables: what they ask, what holds after them, and that they do what the model
 -- says of the command.
-use Rattle.std.proofs.Common.{◌≡◌, ◌≢◌, ℕ, ◌+◌, ◌<◌, ◌≤◌, Bool, true, List, [], ◌∷◌, ◌++◌, length, Option, Some, None, Result, Ok, Err, option_map, unwrap_or, get_or, refl, sym, ap, subst, ◌∙◌, arith}
+use Rattle.std.proofs.Common.{◌≡◌, ◌≢◌, ℕ, ◌<◌, ◌≤◌, Bool, true, List, [], ◌∷◌, ◌++◌, length, Option, Some, None, Result, Ok, Err, option_map, unwrap_or, get_or, refl, sym, ap, subst, ◌∙◌, arith}
 use Rattle.std.specs.Prelude.{is_some, slice_get, slice_set, IfOk, OnOk, OnErr, ◌↔◌}
-use Rattle.std.specs.Option.{ForSome}
 use Rattle.std.proofs.lemmas.List.{length-set, length-map, length_push}
-use Rattle.std.proofs.lemmas.Option.{same_Some, none-some}
 use Rattle.dom_base.specs.declared.Fault.{Fault}
 use Rattle.dom_base.specs.declared.Fault.TheVariants.{Refused}
 use Rattle.dom_base.specs.declared.Refusal.TheVariants.{Limit}
@@ -21,7 +19,7 @@ use Rattle.dom_tree.specs.Forest.{NamedTrees, name_at}
 use Rattle.dom_traversal.specs.Iterators.{KeyedIterator, IsIteratorOf, iterator_view, iterator_at}
 use Rattle.dom_traversal.specs.Walkers.{KeyedWalker, IsWalkerOf, walker_view, walker_at}
 use Rattle.dom_traversal.proofs.Counts.{StandOnce, above-itself}
-use Rattle.dom_mutation.specs.OwnTables.{KeyedTables, EachItem, place_of, table_of, IsOwnIterator, IsOwnWalker, AreTablesOf}
+use Rattle.dom_mutation.specs.OwnTables.{KeyedTables, EachItem, place_of, table_of, IsOwnIterator, IsOwnWalker, AreTablesOf, AllTables, no_keyed_tables, with_table_at}
 use Rattle.dom_mutation.specs.Doc.{DocState, own_tables, world_from, state_from, IsHeld, Makes}
 use Rattle.dom_mutation.proofs.Places.{set_items, push_items}
 use Rattle.dom_tree.specs.Owners.{AreOwned}
@@ -30,7 +28,7 @@ use Rattle.dom_mutation.proofs.Held.{table_there, limit_count}
 use Rattle.dom_mutation.proofs.Shown.{table_at}
 use Rattle.dom_mutation.proofs.Cursors.{iterators_in, walkers_in, iterator_effect_new, walker_effect_new, has_iterator, has_walker, there_iterator, there_walker, with_own, makes_read, makes_set, held_set}
 
-module _ (f : NamedTrees) {tables : List KeyedTables} (held : IsHeld f.names f.trees tables) {d : DocState} (is_d : state_from f.names f.trees tables ≡ d) (o : Owner) where
+module _ (f : NamedTrees) {tables : AllTables} (held : IsHeld f.names f.trees tables) {d : DocState} (is_d : state_from f.names f.trees tables ≡ d) (o : Owner) where
   -- whoever has a cursor is there
   pub there_iter : (k : ℕ) → is_some (slice_get (part_of d.world o).iterators k) ≡ true → is_there (world_from f.names f.trees tables) o ≡ true
   there_iter k h = there_iterator f.names f.trees tables o k (subst (λ (e : DocState). is_some (slice_get (part_of e.world o).iterators k) ≡ true) (sym is_d) h)
@@ -38,12 +36,12 @@ module _ (f : NamedTrees) {tables : List KeyedTables} (held : IsHeld f.names f.t
   pub there_walk : (k : ℕ) → is_some (slice_get (part_of d.world o).walkers k) ≡ true → is_there (world_from f.names f.trees tables) o ≡ true
   there_walk k h = there_walker f.names f.trees tables o k (subst (λ (e : DocState). is_some (slice_get (part_of e.world o).walkers k) ≡ true) (sym is_d) h)
 
-  module _ (there : is_there (world_from f.names f.trees tables) o ≡ true) (place : ℕ) (is_place : place ≡ place_of o) (t : KeyedTables) (read : t ≡ get_or tables place t) where
-    pub at : table_of tables o ≡ Some t
+  module _ (there : is_there (world_from f.names f.trees tables) o ≡ true) (place : ℕ) (is_place : place ≡ place_of o) (t : KeyedTables) (read : t ≡ get_or tables.each place t) where
+    pub at : table_of tables.each o ≡ Some t
     at = table_at f held is_d o there place t is_place read
 
     pub own_is : own_tables tables o ≡ t
-    own_is = ap (λ m. unwrap_or m (record { iterators = []; walkers = [] })) at
+    own_is = ap (λ m. unwrap_or m no_keyed_tables) at
 
     -- the iterator of a number
     pub iter_there : (k : ℕ) → is_some (slice_get (part_of d.world o).iterators k) ≡ true → is_some (slice_get t.iterators k) ≡ true
@@ -69,17 +67,17 @@ module _ (f : NamedTrees) {tables : List KeyedTables} (held : IsHeld f.names f.t
     -- a command that writes
     module _ (u w : KeyedTables) (is_u : u ≡ w) where
       pub writes : (c : List NodeName → Command) (v : List NodeName → Value) → effect (with_own f.names f.trees tables held o t at t) (c f.names) ≡ Effect.tables (with_own f.names f.trees tables held o t at w) [] (v f.names)
-          → Makes o (c d.names) (v d.names) d.world (world_from f.names f.trees (slice_set tables place u))
+          → Makes o (c d.names) (v d.names) d.world (world_from f.names f.trees (with_table_at tables place u))
       writes c v is =
-          subst (λ (e : DocState). Makes o (c e.names) (v e.names) e.world (world_from f.names f.trees (slice_set tables place u))) is_d
-          (subst (λ x. Makes o (c f.names) (v f.names) (world_from f.names f.trees tables) (world_from f.names f.trees (slice_set tables place x))) (sym is_u)
-          (subst (λ n. Makes o (c f.names) (v f.names) (world_from f.names f.trees tables) (world_from f.names f.trees (slice_set tables n w))) (sym is_place)
+          subst (λ (e : DocState). Makes o (c e.names) (v e.names) e.world (world_from f.names f.trees (with_table_at tables place u))) is_d
+          (subst (λ x. Makes o (c f.names) (v f.names) (world_from f.names f.trees tables) (world_from f.names f.trees (with_table_at tables place x))) (sym is_u)
+          (subst (λ n. Makes o (c f.names) (v f.names) (world_from f.names f.trees tables) (world_from f.names f.trees (with_table_at tables n w))) (sym is_place)
           (makes_set f.names f.trees tables held o t at w (c f.names) (v f.names) is)))
 
-      pub held_written : AreTablesOf f o w → IsHeld f.names f.trees (slice_set tables place u)
+      pub held_written : AreTablesOf f o w → IsHeld f.names f.trees (with_table_at tables place u)
       held_written h =
-          subst (λ x. IsHeld f.names f.trees (slice_set tables place x)) (sym is_u)
-          (subst (λ n. IsHeld f.names f.trees (slice_set tables n w)) (sym is_place) (held_set f.names f.trees tables held o t at w h))
+          subst (λ x. IsHeld f.names f.trees (with_table_at tables place x)) (sym is_u)
+          (subst (λ n. IsHeld f.names f.trees (with_table_at tables n w)) (sym is_place) (held_set f.names f.trees tables held o t at w h))
 
     -- ---- what holds of the tables written
 
@@ -139,13 +137,13 @@ walk_stays f owned o w h m (Some j) value kept = record { stands = kept; own = h
 
 -- ---- cursors that are made
 
-module _ (f : NamedTrees) {tables : List KeyedTables} (held : IsHeld f.names f.trees tables) {d : DocState} (is_d : state_from f.names f.trees tables ≡ d) (o : Owner) (there : is_there (world_from f.names f.trees tables) o ≡ true)
+module _ (f : NamedTrees) {tables : AllTables} (held : IsHeld f.names f.trees tables) {d : DocState} (is_d : state_from f.names f.trees tables ≡ d) (o : Owner) (there : is_there (world_from f.names f.trees tables) o ≡ true)
     (place : ℕ) (is_place : place ≡ place_of o) where
   -- an owner that is there has its place
-  pub place_there : place < length tables
+  pub place_there : place < length tables.each
   place_there = let w = (table_there f.names f.trees tables o there).0 in omega arith
 
-  module _ (t : KeyedTables) (read : t ≡ get_or tables place t) where
+  module _ (t : KeyedTables) (read : t ≡ get_or tables.each place t) where
     full : (n m : ℕ) → m ≡ n → n ≤ 1000000 → {P : Type 0} → (P ↔ (n ≡ 1000000)) → P ↔ (past_limit m 1 ≡ true)
     full n m same few limit = let both = limit_count n m same few in (λ p. both.0 (limit.0 p), λ e. limit.1 (both.1 e))
 
@@ -165,7 +163,7 @@ module _ (f : NamedTrees) {tables : List KeyedTables} (held : IsHeld f.names f.t
 
     module _ (root : ℕ) (filter : Filter) (own_root : (name_at f.names root).owner ≡ o) where
       pub iter_made : root < length f.names → StandOnce f → (u : KeyedTables) (r : Result ℕ Fault) → OnOk r (u ≡ record t { iterators = t.iterators ++ record { root = root; reference = root; before = true; filter = filter } ∷ [] })
-          → ((r ≡ Err (Refused Limit)) ↔ (length t.iterators ≡ 1000000)) → OnErr r (u ≡ t) → IsHeld f.names f.trees (slice_set tables place u)
+          → ((r ≡ Err (Refused Limit)) ↔ (length t.iterators ≡ 1000000)) → OnErr r (u ≡ t) → IsHeld f.names f.trees (with_table_at tables place u)
       iter_made node once u (Ok n) is limit same =
           held_written f held is_d o there place is_place t read u (record t { iterators = t.iterators ++ record { root = root; reference = root; before = true; filter = filter } ∷ [] }) is
           (iter_pushed f held is_d o there place is_place t read (record { root = root; reference = root; before = true; filter = filter })
@@ -174,7 +172,7 @@ module _ (f : NamedTrees) {tables : List KeyedTables} (held : IsHeld f.names f.t
       iter_made node once u (Err e) is limit same = held_written f held is_d o there place is_place t read u t same (held.own o t (at f held is_d o there place is_place t read))
 
       pub walk_made : root < length f.names → (u : KeyedTables) (r : Result ℕ Fault) → OnOk r (u ≡ record t { walkers = t.walkers ++ record { root = root; current = root; filter = filter } ∷ [] })
-          → ((r ≡ Err (Refused Limit)) ↔ (length t.walkers ≡ 1000000)) → OnErr r (u ≡ t) → IsHeld f.names f.trees (slice_set tables place u)
+          → ((r ≡ Err (Refused Limit)) ↔ (length t.walkers ≡ 1000000)) → OnErr r (u ≡ t) → IsHeld f.names f.trees (with_table_at tables place u)
       walk_made node u (Ok n) is limit same =
           held_written f held is_d o there place is_place t read u (record t { walkers = t.walkers ++ record { root = root; current = root; filter = filter } ∷ [] }) is
           (walk_pushed f held is_d o there place is_place t read (record { root = root; current = root; filter = filter })
@@ -183,18 +181,18 @@ module _ (f : NamedTrees) {tables : List KeyedTables} (held : IsHeld f.names f.t
       walk_made node u (Err e) is limit same = held_written f held is_d o there place is_place t read u t same (held.own o t (at f held is_d o there place is_place t read))
 
       pub iter_made_writes : (u : KeyedTables) (r : Result ℕ Fault) → OnOk r (u ≡ record t { iterators = t.iterators ++ record { root = root; reference = root; before = true; filter = filter } ∷ [] }) → IfOk r (λ n. n ≡ length t.iterators)
-          → IfOk r (λ n. Makes o (Command.iterator_new (own (name_at d.names root).number) filter) (an_iterator n) d.world (world_from f.names f.trees (slice_set tables place u)))
+          → IfOk r (λ n. Makes o (Command.iterator_new (own (name_at d.names root).number) filter) (an_iterator n) d.world (world_from f.names f.trees (with_table_at tables place u)))
       iter_made_writes u (Ok n) is number =
-          subst (λ k. Makes o (Command.iterator_new (own (name_at d.names root).number) filter) (an_iterator k) d.world (world_from f.names f.trees (slice_set tables place u))) (sym number)
+          subst (λ k. Makes o (Command.iterator_new (own (name_at d.names root).number) filter) (an_iterator k) d.world (world_from f.names f.trees (with_table_at tables place u))) (sym number)
           (writes f held is_d o there place is_place t read u (record t { iterators = t.iterators ++ record { root = root; reference = root; before = true; filter = filter } ∷ [] }) is
           (λ ns. Command.iterator_new (own (name_at ns root).number) filter) (λ ns. an_iterator (length t.iterators))
           (iterator_effect_new f.names f.trees tables held o t (at f held is_d o there place is_place t read) root filter own_root))
       iter_made_writes u (Err e) is number = tt
 
       pub walk_made_writes : (u : KeyedTables) (r : Result ℕ Fault) → OnOk r (u ≡ record t { walkers = t.walkers ++ record { root = root; current = root; filter = filter } ∷ [] }) → IfOk r (λ n. n ≡ length t.walkers)
-          → IfOk r (λ n. Makes o (Command.walker_new (own (name_at d.names root).number) filter) (a_walker n) d.world (world_from f.names f.trees (slice_set tables place u)))
+          → IfOk r (λ n. Makes o (Command.walker_new (own (name_at d.names root).number) filter) (a_walker n) d.world (world_from f.names f.trees (with_table_at tables place u)))
       walk_made_writes u (Ok n) is number =
-          subst (λ k. Makes o (Command.walker_new (own (name_at d.names root).number) filter) (a_walker k) d.world (world_from f.names f.trees (slice_set tables place u))) (sym number)
+          subst (λ k. Makes o (Command.walker_new (own (name_at d.names root).number) filter) (a_walker k) d.world (world_from f.names f.trees (with_table_at tables place u))) (sym number)
           (writes f held is_d o there place is_place t read u (record t { walkers = t.walkers ++ record { root = root; current = root; filter = filter } ∷ [] }) is
           (λ ns. Command.walker_new (own (name_at ns root).number) filter) (λ ns. a_walker (length t.walkers))
           (walker_effect_new f.names f.trees tables held o t (at f held is_d o there place is_place t read) root filter own_root))

@@ -1,6 +1,6 @@
 -- What the forest says of a node is what its owner's part in the world says of it.
 use Rattle.std.proofs.Common.{◌≡◌, ℕ, ◌<◌, inl, inr, true, List, length, Result, Ok, Err, Option, Some, None, option_map, get_or, refl, sym, ap, subst, ◌∙◌}
-use Rattle.std.specs.Prelude.{OnOk, OnErr, is_some, slice_set}
+use Rattle.std.specs.Prelude.{OnOk, OnErr, is_some}
 use Rattle.std.specs.Option.{ForSome}
 use Rattle.std.proofs.lemmas.Bool.{cases_Bool}
 use Rattle.std.proofs.lemmas.Option.{slice_get-get_or}
@@ -16,7 +16,7 @@ use Rattle.dom_model.specs.WorldSteps.{world_step}
 use Rattle.dom_tree.specs.Forest.{NamedTrees, name_at}
 use Rattle.dom_tree.specs.Owners.{trees_of_owner, IsReadOwn, IsOwnChange}
 use Rattle.dom_tree.proofs.Owned.{read_own}
-use Rattle.dom_mutation.specs.OwnTables.{KeyedTables, place_of, table_of, AreLeft}
+use Rattle.dom_mutation.specs.OwnTables.{KeyedTables, place_of, table_of, AreLeft, AllTables, with_table_at}
 use Rattle.dom_mutation.specs.Doc.{DocState, contents, state_from, world_from, IsHeld, name_in, owner_in, trees_in, stepped}
 use Rattle.dom_mutation.proofs.Worlds.{part_at, part_off}
 use Rattle.dom_mutation.proofs.Places.{single_owners, table_placed}
@@ -30,7 +30,7 @@ abbrev state_with : List NodeName → World → DocState
 state_with ns w = record { names = ns; world = w }
 
 -- the trees of a part
-pub own_in_part : (names : List NodeName) (ts : Trees) {tables : List KeyedTables} → IsHeld names ts tables → (o : Owner) → trees_of_owner o ts ≡ (part_of (world_from names ts tables) o).trees
+pub own_in_part : (names : List NodeName) (ts : Trees) {tables : AllTables} → IsHeld names ts tables → (o : Owner) → trees_of_owner o ts ≡ (part_of (world_from names ts tables) o).trees
 own_in_part names ts {tables} held o = elim (cases_Bool (is_there (world_from names ts tables) o)) [
   | inl there ↦ ap (λ (p : Part). p.trees) (sym (part_at (contents names ts tables) o there))
   | inr off ↦ held.absent o off ∙ ap (λ (p : Part). p.trees) (sym (part_off (contents names ts tables) o off))
@@ -41,7 +41,7 @@ pub of_owner : (names : List NodeName) (o : Owner) (given : Option ℕ) → ForS
 of_owner names o None h x e = cc
 of_owner names o (Some k) h x e = let same : name_at names k ≡ x = cc in subst (λ (y : NodeName). y.owner ≡ o) same (h k refl)
 
-module _ (f : NamedTrees) {tables : List KeyedTables} (held : IsHeld f.names f.trees tables) {d : DocState} (is_d : state_from f.names f.trees tables ≡ d) where
+module _ (f : NamedTrees) {tables : AllTables} (held : IsHeld f.names f.trees tables) {d : DocState} (is_d : state_from f.names f.trees tables ≡ d) where
   -- a read of one node
   pub shown : {R : Type 0} (read : Trees → NodeName → R) (value : List NodeName → R) (k : ℕ)
       → value f.names ≡ read f.trees (name_at f.names k)
@@ -96,38 +96,38 @@ module _ (f : NamedTrees) {tables : List KeyedTables} (held : IsHeld f.names f.t
   pub untold : (k : ℕ) → k < length d.names → (c : Change NodeName) → d ≡ stepped (owner_in d k) (queue_record c) d
   untold k k< c =
       subst (λ (e : DocState). e ≡ stepped (owner_in e k) (queue_record c) e) is_d
-      (ap (λ w. state_with f.names w) (record_step (contents f.names f.trees tables) (name_at f.names k).owner (held_quiet f.names f.trees tables) (single_owners (length tables)) (owner_there k k<) c))
+      (ap (λ w. state_with f.names w) (record_step (contents f.names f.trees tables) (name_at f.names k).owner (held_quiet f.names f.trees tables) (single_owners (length tables.each)) (owner_there k k<) c))
 
   -- ---- tables
 
   -- the tables of an owner that is there, as they were read
-  pub table_at : (o : Owner) → is_there (world_from f.names f.trees tables) o ≡ true → (at : ℕ) (t : KeyedTables) → at ≡ place_of o → t ≡ get_or tables at t → table_of tables o ≡ Some t
+  pub table_at : (o : Owner) → is_there (world_from f.names f.trees tables) o ≡ true → (at : ℕ) (t : KeyedTables) → at ≡ place_of o → t ≡ get_or tables.each at t → table_of tables.each o ≡ Some t
   table_at o there at t place read =
       let w = table_there f.names f.trees tables o there in
-      table_placed tables o w.1
-      ∙ slice_get-get_or tables (place_of o) t w.0
-      ∙ ap (λ k. Some (get_or tables k t)) (sym place)
+      table_placed tables.each o w.1
+      ∙ slice_get-get_or tables.each (place_of o) t w.0
+      ∙ ap (λ k. Some (get_or tables.each k t)) (sym place)
       ∙ ap Some (sym read)
 
   -- those of a node's owner
-  pub table_read : (k : ℕ) → k < length d.names → (at : ℕ) (t : KeyedTables) → at ≡ place_of (name_at f.names k).owner → t ≡ get_or tables at t → table_of tables (name_at f.names k).owner ≡ Some t
+  pub table_read : (k : ℕ) → k < length d.names → (at : ℕ) (t : KeyedTables) → at ≡ place_of (name_at f.names k).owner → t ≡ get_or tables.each at t → table_of tables.each (name_at f.names k).owner ≡ Some t
   table_read k k< at t place read = table_at (name_at f.names k).owner (owner_there k k<) at t place read
 
   -- a removal
-  module _ (k : ℕ) (k< : k < length d.names) (stay : Stays f) (t u : KeyedTables) (at : table_of tables (name_at f.names k).owner ≡ Some t) (left : AreLeft f k t.iterators u.iterators) (walkers : u.walkers ≡ t.walkers)
+  module _ (k : ℕ) (k< : k < length d.names) (stay : Stays f) (t u : KeyedTables) (at : table_of tables.each (name_at f.names k).owner ≡ Some t) (left : AreLeft f k t.iterators u.iterators) (walkers : u.walkers ≡ t.walkers)
       (place : ℕ) (is_place : place ≡ place_of (name_at f.names k).owner) (g : NamedTrees) (names : g.names ≡ f.names) (trees : g.trees ≡ taken_out (name_at f.names k) f.trees) where
     node_there : k < length f.names
     node_there = known (λ e. k < length e.names) k<
 
-    pub held_left : IsHeld g.names g.trees (slice_set tables place u)
+    pub held_left : IsHeld g.names g.trees (with_table_at tables place u)
     held_left =
-        subst (λ (ns : List NodeName). IsHeld ns g.trees (slice_set tables place u)) (sym names)
-        (subst (λ (us : Trees). IsHeld f.names us (slice_set tables place u)) (sym trees)
-        (subst (λ n. IsHeld f.names (taken_out (name_at f.names k) f.trees) (slice_set tables n u)) (sym is_place) (left_held f held stay k node_there (name_at f.names k).owner refl t u at left walkers)))
+        subst (λ (ns : List NodeName). IsHeld ns g.trees (with_table_at tables place u)) (sym names)
+        (subst (λ (us : Trees). IsHeld f.names us (with_table_at tables place u)) (sym trees)
+        (subst (λ n. IsHeld f.names (taken_out (name_at f.names k) f.trees) (with_table_at tables n u)) (sym is_place) (left_held f held stay k node_there (name_at f.names k).owner refl t u at left walkers)))
 
-    pub step_left : is_some (parent_of (trees_in (state_from f.names f.trees tables) k) (name_at f.names k)) ≡ true → state_from g.names g.trees (slice_set tables place u) ≡ stepped (owner_in d k) (take_out (name_in d k)) d
+    pub step_left : is_some (parent_of (trees_in (state_from f.names f.trees tables) k) (name_at f.names k)) ≡ true → state_from g.names g.trees (with_table_at tables place u) ≡ stepped (owner_in d k) (take_out (name_in d k)) d
     step_left has =
-        subst (λ (e : DocState). state_from g.names g.trees (slice_set tables place u) ≡ stepped (owner_in e k) (take_out (name_in e k)) e) is_d
-        (ap (λ ns. state_from ns g.trees (slice_set tables place u)) names ∙ ap (λ us. state_from f.names us (slice_set tables place u)) trees
-        ∙ ap (λ n. state_from f.names (taken_out (name_at f.names k) f.trees) (slice_set tables n u)) is_place
+        subst (λ (e : DocState). state_from g.names g.trees (with_table_at tables place u) ≡ stepped (owner_in e k) (take_out (name_in e k)) e) is_d
+        (ap (λ ns. state_from ns g.trees (with_table_at tables place u)) names ∙ ap (λ us. state_from f.names us (with_table_at tables place u)) trees
+        ∙ ap (λ n. state_from f.names (taken_out (name_at f.names k) f.trees) (with_table_at tables n u)) is_place
         ∙ ap (λ w. state_with f.names w) (left_world f held stay k node_there (name_at f.names k).owner refl t u at left walkers has))

@@ -1,12 +1,12 @@
 -- What stands above a node stays above it when trees are placed, added and given other contents.
 use Rattle.std.proofs.Common.{◌≡◌, ◌⊎◌, inl, inr, Bool, true, false, cond, List, [], ◌∷◌, Option, None, refl, sym, ap, subst, ◌∙◌}
-use Rattle.std.proofs.lemmas.Bool.{cases_Bool, cond-true, cond-false, both_ways}
+use Rattle.std.proofs.lemmas.Bool.{cases_Bool, both_ways}
 use Rattle.dom_base.specs.declared.NodeName.{NodeName}
 use Rattle.dom_model.specs.Names.{name_eq, is_in}
 use Rattle.dom_model.specs.Tree.{Trees, none, tree, Node, subtree, on_top, inclusive_ancestors, is_inclusive_ancestor, inclusive_descendants, parent_of}
-use Rattle.dom_model.specs.TreeChanges.{without, followed_by, put_before, put_below, placed, with_node, is_given, map_nodes, change_node, change_subtree}
-use Rattle.dom_traversal.proofs.Lists.{In, In-from, is_in-from, In-left, In-right, same_or_not, name_eq-from, name_eq-other, name_eq-true}
-use Rattle.dom_traversal.proofs.Shapes.{Has, Once, IsTreeOf, has_or_not, above-absent, above-present, above-here, above-beside, Has-above, above-root, subtree-present, subtree-absent, subtree-within, Has-subtree, Once-subtree, above-from_below, below-from_above}
+use Rattle.dom_model.specs.TreeChanges.{without, put_before, put_below, placed, with_node, is_given, map_nodes, change_node, change_subtree}
+use Rattle.dom_traversal.proofs.Lists.{In, In-from, is_in-from, In-left, same_or_not, name_eq-from, name_eq-other}
+use Rattle.dom_traversal.proofs.Shapes.{Has, Once, IsTreeOf, has_or_not, above-absent, above-present, above-here, Has-above, above-root, subtree-present, subtree-within, Once-subtree, above-from_below, below-from_above}
 use Rattle.dom_traversal.proofs.Removal.{Has-without, without-apart, above-without, above-put_others}
 use Rattle.dom_traversal.proofs.Chains.{above-chain}
 use Rattle.dom_mutation.proofs.Paths.{IsOnce, lacks_from}

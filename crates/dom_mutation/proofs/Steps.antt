@@ -24,7 +24,7 @@ use Rattle.dom_tree.proofs.OwnChanges.{taken}
 use Rattle.dom_traversal.specs.Iterators.{iterator_view, with_taken_out}
 use Rattle.dom_traversal.specs.Walkers.{walker_view}
 use Rattle.dom_mutation.specs.Contents.{no_tables, part_with, part_in}
-use Rattle.dom_mutation.specs.OwnTables.{KeyedTables, tables_view, place_of, owners_up_to, table_of, AreTablesOf, AreLeft}
+use Rattle.dom_mutation.specs.OwnTables.{KeyedTables, tables_view, place_of, owners_up_to, table_of, AreTablesOf, AreLeft, AllTables, no_keyed_tables, with_table}
 use Rattle.dom_mutation.specs.Doc.{named_trees, own_tables, contents, world_from, IsHeld}
 use Rattle.dom_mutation.proofs.Worlds.{part_at}
 use Rattle.dom_mutation.proofs.Places.{single_owners, table_set, table_set_other}
@@ -45,44 +45,44 @@ left_part p no_ranges no_registrations x parent =
     left_with : List (Option (Range NodeName)) → List (Registration NodeName) → Part
     left_with ranges registrations = record p { ranges = ranges; iterators = map (adjusted_iterator p.trees x) p.iterators; trees = taken_out x p.trees; registrations = registrations }
 
-module _ (names : List NodeName) (ts : Trees) (tables : List KeyedTables) (o : Owner) (there : is_there (world_from names ts tables) o ≡ true) where
+module _ (names : List NodeName) (ts : Trees) (tables : AllTables) (o : Owner) (there : is_there (world_from names ts tables) o ≡ true) where
   -- ---- changes of trees
 
   pub placed_world : (x parent : NodeName) (before : Option NodeName) → IsOwnChange o (placed x parent before) ts
       → world_from names (placed x parent before ts) tables ≡ world_step o (world_from names ts tables) (place x parent before)
-  placed_world x parent before change = tree_step (contents names ts tables) o (place x parent before) (placed x parent before) (held_quiet names ts tables) (single_owners (length tables)) there change refl
+  placed_world x parent before change = tree_step (contents names ts tables) o (place x parent before) (placed x parent before) (held_quiet names ts tables) (single_owners (length tables.each)) there change refl
 
   pub attribute_world : (x : NodeName) (a : Word) (v : Option DomString) → IsOwnChange o (change_node (with_attribute a v) x) ts
       → world_from names (change_node (with_attribute a v) x ts) tables ≡ world_step o (world_from names ts tables) (set_attribute x a v)
-  attribute_world x a v change = tree_step (contents names ts tables) o (set_attribute x a v) (change_node (with_attribute a v) x) (held_quiet names ts tables) (single_owners (length tables)) there change refl
+  attribute_world x a v change = tree_step (contents names ts tables) o (set_attribute x a v) (change_node (with_attribute a v) x) (held_quiet names ts tables) (single_owners (length tables.each)) there change refl
 
   pub document_world : (x d : NodeName) → IsOwnChange o (change_subtree (with_document d) x) ts
       → world_from names (change_subtree (with_document d) x ts) tables ≡ world_step o (world_from names ts tables) (set_document x d)
-  document_world x d change = tree_step (contents names ts tables) o (set_document x d) (change_subtree (with_document d) x) (held_quiet names ts tables) (single_owners (length tables)) there change refl
+  document_world x d change = tree_step (contents names ts tables) o (set_document x d) (change_subtree (with_document d) x) (held_quiet names ts tables) (single_owners (length tables.each)) there change refl
 
   pub data_world : (x : NodeName) (offset count : ℕ) (new : DomString) → IsOwnChange o (change_node (with_data_replaced offset count new) x) ts
       → world_from names (change_node (with_data_replaced offset count new) x ts) tables ≡ world_step o (world_from names ts tables) (replace_data x offset count new)
-  data_world x offset count new change = tree_step (contents names ts tables) o (replace_data x offset count new) (change_node (with_data_replaced offset count new) x) (held_quiet names ts tables) (single_owners (length tables)) there change refl
+  data_world x offset count new change = tree_step (contents names ts tables) o (replace_data x offset count new) (change_node (with_data_replaced offset count new) x) (held_quiet names ts tables) (single_owners (length tables.each)) there change refl
 
   -- ---- steps that change nothing so far
 
   pub room_world : (parent : NodeName) (index count : ℕ) → world_from names ts tables ≡ world_step o (world_from names ts tables) (make_room parent index count)
-  room_world parent index count = same_step (contents names ts tables) o (make_room parent index count) (held_quiet names ts tables) (single_owners (length tables)) there refl
+  room_world parent index count = same_step (contents names ts tables) o (make_room parent index count) (held_quiet names ts tables) (single_owners (length tables.each)) there refl
 
   pub split_world : (x : NodeName) (offset : ℕ) (new parent : NodeName) (index : ℕ) → world_from names ts tables ≡ world_step o (world_from names ts tables) (split_at x offset new parent index)
-  split_world x offset new parent index = same_step (contents names ts tables) o (split_at x offset new parent index) (held_quiet names ts tables) (single_owners (length tables)) there refl
+  split_world x offset new parent index = same_step (contents names ts tables) o (split_at x offset new parent index) (held_quiet names ts tables) (single_owners (length tables.each)) there refl
 
   pub join_world : (first : NodeName) (size : ℕ) (next parent : NodeName) (index : ℕ) → world_from names ts tables ≡ world_step o (world_from names ts tables) (join_at first size next parent index)
-  join_world first size next parent index = same_step (contents names ts tables) o (join_at first size next parent index) (held_quiet names ts tables) (single_owners (length tables)) there refl
+  join_world first size next parent index = same_step (contents names ts tables) o (join_at first size next parent index) (held_quiet names ts tables) (single_owners (length tables.each)) there refl
 
 -- ---- a removal
 
 -- an owner that has tables
-own_table : (tables : List KeyedTables) (o : Owner) (t : KeyedTables) → table_of tables o ≡ Some t → own_tables tables o ≡ t
-own_table tables o t e = ap (λ m. unwrap_or m (record { iterators = []; walkers = [] })) e
+own_table : (tables : AllTables) (o : Owner) (t : KeyedTables) → table_of tables.each o ≡ Some t → own_tables tables o ≡ t
+own_table tables o t e = ap (λ m. unwrap_or m no_keyed_tables) e
 
-module _ (f : NamedTrees) {tables : List KeyedTables} (held : IsHeld f.names f.trees tables) (stay : Stays f) (node : ℕ) (at_node : node < length f.names) (o : Owner) (own : (name_at f.names node).owner ≡ o)
-    (t u : KeyedTables) (at : table_of tables o ≡ Some t) (left : AreLeft f node t.iterators u.iterators) (walkers : u.walkers ≡ t.walkers) where
+module _ (f : NamedTrees) {tables : AllTables} (held : IsHeld f.names f.trees tables) (stay : Stays f) (node : ℕ) (at_node : node < length f.names) (o : Owner) (own : (name_at f.names node).owner ≡ o)
+    (t u : KeyedTables) (at : table_of tables.each o ≡ Some t) (left : AreLeft f node t.iterators u.iterators) (walkers : u.walkers ≡ t.walkers) where
   abbrev x : NodeName
   x = name_at f.names node
 
@@ -93,43 +93,43 @@ module _ (f : NamedTrees) {tables : List KeyedTables} (held : IsHeld f.names f.t
   change = taken f.trees held.owned o (name_at f.names node) own
 
   -- what holds after it
-  pub left_held : IsHeld f.names (taken_out (name_at f.names node) f.trees) (slice_set tables (place_of o) u)
+  pub left_held : IsHeld f.names (taken_out (name_at f.names node) f.trees) (with_table tables o u)
   left_held =
-      held_with f.names f.trees tables held o there f.names (taken_out (name_at f.names node) f.trees) (slice_set tables (place_of o) u) (length-set tables (place_of o) u) change.owned change.others held.present held.limited
+      held_with f.names f.trees tables held o there f.names (taken_out (name_at f.names node) f.trees) (with_table tables o u) (length-set tables.each (place_of o) u) change.owned change.others held.present held.limited
       (λ p v e. elim (cases_Bool (owner_eq p o)) [
         | inl same ↦ own_case p v (owner_eq-true p o same) e
-        | inr other ↦ tables_apart f held.owned stay node at_node p (λ same. owner_eq-false p o other (sym same ∙ own)) v (held.own p v (sym (table_set_other tables o t u at p (owner_eq-false p o other)) ∙ e))
+        | inr other ↦ tables_apart f held.owned stay node at_node p (λ same. owner_eq-false p o other (sym same ∙ own)) v (held.own p v (sym (table_set_other tables.each o t u at p (owner_eq-false p o other)) ∙ e))
       ])
     where
-      own_case : (p : Owner) (v : KeyedTables) → p ≡ o → table_of (slice_set tables (place_of o) u) p ≡ Some v → AreTablesOf (named_trees f.names (taken_out (name_at f.names node) f.trees)) p v
+      own_case : (p : Owner) (v : KeyedTables) → p ≡ o → table_of (slice_set tables.each (place_of o) u) p ≡ Some v → AreTablesOf (named_trees f.names (taken_out (name_at f.names node) f.trees)) p v
       own_case p v same e =
-          let is : u ≡ v = same_Some u v (sym (table_set tables o t u at) ∙ ap (table_of (slice_set tables (place_of o) u)) (sym same) ∙ e) in
+          let is : u ≡ v = same_Some u v (sym (table_set tables.each o t u at) ∙ ap (table_of (slice_set tables.each (place_of o) u)) (sym same) ∙ e) in
           subst (λ q. AreTablesOf (with_taken_out f node) q v) (sym same) (subst (AreTablesOf (with_taken_out f node) o) is (tables_left f held.owned stay node at_node o t u (held.own o t at) left walkers))
 
   -- and the world then
   pub left_world : is_some (parent_of (part_of (world_from f.names f.trees tables) o).trees (name_at f.names node)) ≡ true
-      → world_from f.names (taken_out (name_at f.names node) f.trees) (slice_set tables (place_of o) u) ≡ world_step o (world_from f.names f.trees tables) (take_out (name_at f.names node))
+      → world_from f.names (taken_out (name_at f.names node) f.trees) (with_table tables o u) ≡ world_step o (world_from f.names f.trees tables) (take_out (name_at f.names node))
   left_world has =
-      let now = contents f.names (taken_out (name_at f.names node) f.trees) (slice_set tables (place_of o) u) in
+      let now = contents f.names (taken_out (name_at f.names node) f.trees) (with_table tables o u) in
       let was = contents f.names f.trees tables in
-      let now_tables : own_tables (slice_set tables (place_of o) u) o ≡ u = own_table (slice_set tables (place_of o) u) o u (table_set tables o t u at) in
+      let now_tables : own_tables (with_table tables o u) o ≡ u = own_table (with_table tables o u) o u (table_set tables.each o t u at) in
       let iterators : map (iterator_view f.names) u.iterators ≡ map (adjusted_iterator (trees_of_owner o f.trees) (name_at f.names node)) (map (iterator_view f.names) (own_tables tables o).iterators) =
       views_left f held.owned stay node at_node o own t.iterators u.iterators (held.own o t at).iterators left
       ∙ ap (λ (v : KeyedTables). map (adjusted_iterator (trees_of_owner o f.trees) (name_at f.names node)) (map (iterator_view f.names) v.iterators)) (sym (own_table tables o t at)) in
       let same_walkers : map (walker_view f.names) u.walkers ≡ map (walker_view f.names) (own_tables tables o).walkers =
       ap (map (walker_view f.names)) (walkers ∙ ap (λ (v : KeyedTables). v.walkers) (sym (own_table tables o t at))) in
-      world_stepped was now o (take_out (name_at f.names node)) (held_quiet f.names f.trees tables) (held_quiet f.names (taken_out (name_at f.names node) f.trees) (slice_set tables (place_of o) u)) (single_owners (length tables)) there record {
-        owners = ap owners_up_to (length-set tables (place_of o) u);
+      world_stepped was now o (take_out (name_at f.names node)) (held_quiet f.names f.trees tables) (held_quiet f.names (taken_out (name_at f.names node) f.trees) (with_table tables o u)) (single_owners (length tables.each)) there record {
+        owners = ap owners_up_to (length-set tables.each (place_of o) u);
         signalled = refl;
         tasks = refl;
-        own = ap (λ us. part_with o us (count_of o f.names) (tables_view f.names (own_tables (slice_set tables (place_of o) u) o))) change.own
+        own = ap (λ us. part_with o us (count_of o f.names) (tables_view f.names (own_tables (with_table tables o u) o))) change.own
             ∙ ap (λ v. part_with o (taken_out (name_at f.names node) (trees_of_owner o f.trees)) (count_of o f.names) (tables_view f.names v)) now_tables
             ∙ ap (λ is. part_of_lists is (map (walker_view f.names) u.walkers)) iterators
             ∙ ap (λ ws. part_of_lists (map (adjusted_iterator (trees_of_owner o f.trees) (name_at f.names node)) (map (iterator_view f.names) (own_tables tables o).iterators)) ws) same_walkers
             ∙ sym (up (parent_of (trees_of_owner o f.trees) (name_at f.names node)) (ap (λ (p : Part). is_some (parent_of p.trees (name_at f.names node))) (sym (part_at was o there)) ∙ has));
         others = λ q other.
-            ap (λ us. part_with q us (count_of q f.names) (tables_view f.names (own_tables (slice_set tables (place_of o) u) q))) (change.others q other)
-            ∙ ap (λ m. part_with q (trees_of_owner q f.trees) (count_of q f.names) (tables_view f.names (unwrap_or m (record { iterators = []; walkers = [] })))) (table_set_other tables o t u at q other);
+            ap (λ us. part_with q us (count_of q f.names) (tables_view f.names (own_tables (with_table tables o u) q))) (change.others q other)
+            ∙ ap (λ m. part_with q (trees_of_owner q f.trees) (count_of q f.names) (tables_view f.names (unwrap_or m no_keyed_tables))) (table_set_other tables.each o t u at q other);
       }
     where
       part_of_lists : List Iterator → List Walker → Part

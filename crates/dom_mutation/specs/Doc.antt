@@ -3,7 +3,6 @@ use Rattle.std.specs.Prelude.{◌≡◌, ℕ, ◌<◌, ◌≤◌, true, false, �
 use Rattle.std.specs.List.{AllByRecursion}
 use Rattle.std.specs.Option.{ForSome}
 use Rattle.dom_base.specs.declared.Owner.{Owner}
-use Rattle.dom_base.specs.declared.Owner.TheVariants.{Page}
 use Rattle.dom_base.specs.declared.NodeName.{NodeName}
 use Rattle.dom_base.specs.declared.Kind.{Kind}
 use Rattle.dom_base.specs.declared.Kind.TheVariants.{Document, Shadow}
@@ -22,10 +21,11 @@ use Rattle.dom_model.specs.TextChanges.{placing_tail, replacing_data}
 use Rattle.dom_model.specs.Validity.{first_refusal}
 use Rattle.dom_model.specs.CommandRefusals.{past_end, past_limit}
 use Rattle.dom_model.specs.Output.{Value, child_list}
+use Rattle.dom_mutation.specs.declared.doc.Doc.TheInside.{Inside}
 use Rattle.dom_mutation.specs.declared.doc.removing.Telling.{Telling}
 use Rattle.dom_mutation.specs.declared.doc.removing.Telling.TheVariants.{Observed, Suppressed}
 use Rattle.dom_mutation.specs.Contents.{Contents, world_of}
-use Rattle.dom_mutation.specs.OwnTables.{KeyedTables, tables_view, owners_up_to, table_of, AreTablesOf}
+use Rattle.dom_mutation.specs.OwnTables.{KeyedTables, AllTables, no_keyed_tables, tables_view, owners_up_to, table_of, AreTablesOf}
 use Rattle.dom_tree.specs.Forest.{NamedTrees, name_at, count_of}
 use Rattle.dom_tree.specs.Owners.{trees_of_owner, AreOwned}
 
@@ -38,14 +38,18 @@ pub record DocState : Type 0 where
 abbrev pub named_trees : List NodeName → Trees → NamedTrees
 named_trees names ts = record { names = names; trees = ts }
 
+-- the tables that the code holds
+abbrev pub all_tables : Inside → AllTables
+all_tables d = record { each = d.tables.items }
+
 -- an owner's tables; one that is not there has none
-abbrev pub own_tables : List KeyedTables → Owner → KeyedTables
-own_tables tables o = unwrap_or (table_of tables o) (record { iterators = []; walkers = [] })
+abbrev pub own_tables : AllTables → Owner → KeyedTables
+own_tables tables o = unwrap_or (table_of tables.each o) no_keyed_tables
 
 -- what is held
-abbrev pub contents : List NodeName → Trees → List KeyedTables → Contents
+abbrev pub contents : List NodeName → Trees → AllTables → Contents
 contents names ts tables = record {
-  owners = owners_up_to (length tables);
+  owners = owners_up_to (length tables.each);
   names = names;
   trees = ts;
   tables = λ o. tables_view names (own_tables tables o);
@@ -54,21 +58,21 @@ contents names ts tables = record {
 }
 
 -- its world
-abbrev pub world_from : List NodeName → Trees → List KeyedTables → World
+abbrev pub world_from : List NodeName → Trees → AllTables → World
 world_from names ts tables = world_of (contents names ts tables)
 
-abbrev pub state_from : List NodeName → Trees → List KeyedTables → DocState
+abbrev pub state_from : List NodeName → Trees → AllTables → DocState
 state_from names ts tables = record { names = names; world = world_from names ts tables }
 
 -- what holds of a `Doc`: each tree has one owner, each node's owner is there and no other one has trees, no owner has more
 -- nodes than it may make, so far the page alone is there, and each owner's tables are of its own nodes
-pub record IsHeld (names : List NodeName) (ts : Trees) (tables : List KeyedTables) : Type 0 where
+pub record IsHeld (names : List NodeName) (ts : Trees) (tables : AllTables) : Type 0 where
   pub owned : AreOwned ts
   pub present : (k : ℕ) → k < length names → is_there (world_from names ts tables) (name_at names k).owner ≡ true
   pub absent : (o : Owner) → is_there (world_from names ts tables) o ≡ false → trees_of_owner o ts ≡ none
   pub limited : (o : Owner) → count_of o names ≤ 1000000
-  pub alone : length tables ≡ 1
-  pub own : (o : Owner) → ForSome (table_of tables o) (AreTablesOf (named_trees names ts) o)
+  pub alone : length tables.each ≡ 1
+  pub own : (o : Owner) → ForSome (table_of tables.each o) (AreTablesOf (named_trees names ts) o)
 
 -- the world after an owner's plan
 abbrev pub made : Owner → Plan → World → World

@@ -1,5 +1,5 @@
 -- An owner's tables as a `Doc` holds them, with keys in place of names, and where each owner's are.
-use Rattle.std.specs.Prelude.{◌≡◌, ℕ, zero, suc, ◌≤◌, List, [], ◌∷◌, ◌++◌, length, map, Option, Some, None, slice_get}
+use Rattle.std.specs.Prelude.{◌≡◌, ℕ, zero, suc, ◌≤◌, List, [], ◌∷◌, ◌++◌, length, map, Option, Some, None, slice_get, slice_set}
 use Rattle.dom_base.specs.declared.Owner.{Owner}
 use Rattle.dom_base.specs.declared.Owner.TheVariants.{Page, Component}
 use Rattle.dom_base.specs.declared.NodeName.{NodeName}
@@ -13,6 +13,10 @@ use Rattle.dom_mutation.specs.Contents.{Tables, no_tables}
 pub record KeyedTables : Type 0 where
   pub iterators : List KeyedIterator
   pub walkers : List KeyedWalker
+
+-- no iterators and no walkers
+abbrev pub no_keyed_tables : KeyedTables
+no_keyed_tables = record { iterators = []; walkers = [] }
 
 -- the same tables in names
 abbrev pub tables_view : List NodeName → KeyedTables → Tables
@@ -43,6 +47,24 @@ abbrev pub table_of : {X : Type 0} → List X → Owner → Option X
 table_of ts Page = slice_get ts 0
 table_of ts (Component zero) = None
 table_of ts (Component (suc k)) = slice_get ts (suc k)
+
+-- ---- all tables
+
+-- what a `Doc` holds beside its trees: each owner's tables, at its place (own rule)
+pub record AllTables : Type 0 where
+  pub each : List KeyedTables
+
+-- those with the tables at a place written
+abbrev pub with_table_at : AllTables → ℕ → KeyedTables → AllTables
+with_table_at tables place u = record tables { each = slice_set tables.each place u }
+
+-- those with one owner's written
+abbrev pub with_table : AllTables → Owner → KeyedTables → AllTables
+with_table tables o u = with_table_at tables (place_of o) u
+
+-- where the page alone is there, and has none
+abbrev pub first_tables : AllTables
+first_tables = record { each = no_keyed_tables ∷ [] }
 
 -- ---- what holds of an owner's tables
 

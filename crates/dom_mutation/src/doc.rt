@@ -51,15 +51,15 @@ pub struct Doc {
 impl Model for Doc {
     ghost use Rattle.std.specs.Coded.{codes};
     ghost use Rattle.dom_model.specs.Codes.{trees_code};
-    ghost use Rattle.dom_mutation.specs.Doc.{DocState, state_from, IsHeld};
+    ghost use Rattle.dom_mutation.specs.Doc.{DocState, all_tables, state_from, IsHeld};
 
     ghost Value = { DocState };
 
     ghost coded = { Prim.hlevel (codes, trees_code) };
 
-    ghost view = { λ d. state_from d.forest.names d.forest.trees d.tables.items };
+    ghost view = { λ d. state_from d.forest.names d.forest.trees (all_tables d) };
 
-    ghost invariant = { λ d. IsHeld d.forest.names d.forest.trees d.tables.items };
+    ghost invariant = { λ d. IsHeld d.forest.names d.forest.trees (all_tables d) };
 }
 
 impl Doc {

@@ -7,7 +7,7 @@ ghost use Rattle.dom_tree.specs.Forest.{name_at};
 ghost use Rattle.dom_traversal.specs.Filters.{filter_of};
 ghost use Rattle.dom_traversal.specs.Iterators.{KeyedIterator, iterator_view, iterator_at, IsIteratorOf};
 ghost use Rattle.dom_traversal.specs.Walkers.{walker_view, walker_at, IsWalkerOf};
-ghost use Rattle.dom_mutation.specs.OwnTables.{EachItem, AreLeft};
+ghost use Rattle.dom_mutation.specs.OwnTables.{EachItem, AreLeft, no_keyed_tables};
 
 use dom_base::{Fault, MAX_NODES, Move, Refusal};
 use dom_traversal::{Filter, Iter, Walker};
@@ -34,7 +34,7 @@ impl Model for OwnTables {
 impl OwnTables {
     /// Empty tables.
     pub(crate) fn new(alloc: Global) -> Self
-        ensures { result ≡ record { iterators = []; walkers = [] } }
+        ensures { result ≡ no_keyed_tables }
     {
         OwnTables {
             iterators: Vec::new(alloc),

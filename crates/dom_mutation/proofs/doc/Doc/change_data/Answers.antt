@@ -8,6 +8,7 @@ use Rattle.dom_mutation.proofs.Standing.{keeps_changed}
 use Rattle.dom_mutation.proofs.Steps.{data_world}
 use Rattle.dom_mutation.proofs.Shown.{owner_there, shown, known, step_held, step_done}
 use Rattle.dom_mutation.proofs.Spliced.{data_changed}
+use Rattle.dom_mutation.specs.Doc.{all_tables}
 use Rattle.dom_mutation.proofs.doc.Doc.change_data.Goals as goal
 
 pub returns-in_err-text-clause-whole : goal.returns-in_err-text-clause-whole
@@ -37,5 +38,5 @@ returns-clause-ok c =
     (c.set_data.ensures.trees ∙ ap (λ units. change_node (with_text units) x f.trees) (c.in_ok-text.ensures.items ∙ ap (replaced c.args.offset c.args.count c.args.data.items) c.text.ensures)
     ∙ data_changed x c.args.offset c.args.count c.args.data.items f.trees (omega arith))
     (λ ns. replace_data (name_at ns c.args.node) c.args.offset c.args.count c.args.data.items)
-    (data_world f.names f.trees c.self.inside.tables.items x.owner (owner_there f c.self.invariant c.self.view_is c.args.node c.requires) x c.args.offset c.args.count c.args.data.items
+    (data_world f.names f.trees (all_tables c.self.inside) x.owner (owner_there f c.self.invariant c.self.view_is c.args.node c.requires) x c.args.offset c.args.count c.args.data.items
     (changed_node f.trees c.self.invariant.owned x.owner h x (λ n. refl) refl))

@@ -1,17 +1,12 @@
-use Rattle.std.proofs.Common.{◌≡◌, ℕ, ◌<◌, Bool, true, false, [], length, List, Option, Some, None, option_map, refl, sym, ap, subst, ◌∙◌}
-use Rattle.std.specs.Prelude.{slice_get, slice_set, is_some}
-use Rattle.std.specs.Option.{ForSome}
-use Rattle.dom_model.specs.Command.{Command, own}
-use Rattle.dom_model.specs.Output.{nothing, a_node, an_iterator, a_walker, reference}
-use Rattle.dom_model.specs.Effects.{Effect, node_or_null}
-use Rattle.dom_tree.specs.Forest.{NamedTrees, name_at}
-use Rattle.dom_traversal.specs.Iterators.{KeyedIterator, IsIteratorOf, iterator_at}
-use Rattle.dom_traversal.specs.Walkers.{KeyedWalker, walker_at, walker_view}
-use Rattle.dom_mutation.specs.OwnTables.{KeyedTables}
-use Rattle.dom_mutation.proofs.Shown.{known}
-use Rattle.dom_mutation.proofs.Own.{moved_own}
-use Rattle.dom_mutation.proofs.Cursors.{item_there, with_own, next_effect, previous_effect, at_effect, walk_effect, walk_at_effect, walk_set_effect}
-use Rattle.dom_mutation.proofs.Passing.{there_iter, there_walk, at, iter_there, walk_there, iters_of, walks_of, reads, writes, held_written, iter_moved, walk_moved, name_known}
+use Rattle.std.proofs.Common.{ℕ, ◌<◌, Bool, [], length, sym, ap, subst, ◌∙◌}
+use Rattle.std.specs.Prelude.{slice_get}
+use Rattle.dom_model.specs.Command.{Command}
+use Rattle.dom_model.specs.Output.{reference}
+use Rattle.dom_model.specs.Effects.{Effect}
+use Rattle.dom_tree.specs.Forest.{name_at}
+use Rattle.dom_mutation.proofs.Cursors.{item_there, with_own, at_effect}
+use Rattle.dom_mutation.proofs.Passing.{there_iter, at, iter_there, reads, name_known}
+use Rattle.dom_mutation.specs.Doc.{all_tables}
 use Rattle.dom_mutation.proofs.doc.Doc.iter_at.Goals as goal
 
 pub returns-clause-node : goal.returns-clause-node
@@ -30,5 +25,5 @@ returns-clause-value c =
     let t = c.index-tables.result.now in
     let item = item_there (slice_get t.iterators c.args.number) (iter_there f c.self.invariant c.self.view_is c.args.owner there c.place_of.result c.place_of.ensures t c.index-tables.ensures c.args.number c.requires) in
     reads f c.self.invariant c.self.view_is c.args.owner there c.place_of.result c.place_of.ensures t c.index-tables.ensures (λ ns. Command.iterator_at c.args.number) (λ ns. reference (name_at ns c.iter_at.result.0) c.iter_at.result.1)
-    (at_effect f.names f.trees c.self.inside.tables.items c.self.invariant c.args.owner t (at f c.self.invariant c.self.view_is c.args.owner there c.place_of.result c.place_of.ensures t c.index-tables.ensures) c.args.number item.0 item.1
-    ∙ ap (λ (p : ℕ × Bool). Effect.tables (with_own f.names f.trees c.self.inside.tables.items c.self.invariant c.args.owner t (at f c.self.invariant c.self.view_is c.args.owner there c.place_of.result c.place_of.ensures t c.index-tables.ensures) t) [] (reference (name_at f.names p.0) p.1)) (sym (c.iter_at.ensures item.0 item.1)))
+    (at_effect f.names f.trees (all_tables c.self.inside) c.self.invariant c.args.owner t (at f c.self.invariant c.self.view_is c.args.owner there c.place_of.result c.place_of.ensures t c.index-tables.ensures) c.args.number item.0 item.1
+    ∙ ap (λ (p : ℕ × Bool). Effect.tables (with_own f.names f.trees (all_tables c.self.inside) c.self.invariant c.args.owner t (at f c.self.invariant c.self.view_is c.args.owner there c.place_of.result c.place_of.ensures t c.index-tables.ensures) t) [] (reference (name_at f.names p.0) p.1)) (sym (c.iter_at.ensures item.0 item.1)))

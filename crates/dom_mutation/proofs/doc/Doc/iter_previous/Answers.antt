@@ -1,17 +1,12 @@
-use Rattle.std.proofs.Common.{◌≡◌, ℕ, ◌<◌, true, false, length, List, Option, Some, None, option_map, refl, sym, ap, subst, ◌∙◌}
-use Rattle.std.specs.Prelude.{slice_get, slice_set, is_some}
-use Rattle.std.specs.Option.{ForSome}
-use Rattle.dom_model.specs.Command.{Command, own}
-use Rattle.dom_model.specs.Output.{nothing, a_node, an_iterator, a_walker, reference}
+use Rattle.std.proofs.Common.{true, Some, option_map, subst}
+use Rattle.std.specs.Prelude.{slice_get, slice_set}
+use Rattle.dom_model.specs.Command.{Command}
 use Rattle.dom_model.specs.Effects.{node_or_null}
-use Rattle.dom_tree.specs.Forest.{NamedTrees, name_at}
-use Rattle.dom_traversal.specs.Iterators.{KeyedIterator, IsIteratorOf, iterator_at}
-use Rattle.dom_traversal.specs.Walkers.{KeyedWalker, walker_at, walker_view}
-use Rattle.dom_mutation.specs.OwnTables.{KeyedTables}
-use Rattle.dom_mutation.proofs.Shown.{known}
-use Rattle.dom_mutation.proofs.Own.{moved_own}
-use Rattle.dom_mutation.proofs.Cursors.{item_there, next_effect, previous_effect, at_effect, walk_effect, walk_at_effect, walk_set_effect}
-use Rattle.dom_mutation.proofs.Passing.{there_iter, there_walk, at, iter_there, walk_there, iters_of, walks_of, reads, writes, held_written, iter_moved, walk_moved, name_known}
+use Rattle.dom_tree.specs.Forest.{name_at}
+use Rattle.dom_traversal.specs.Iterators.{IsIteratorOf, iterator_at}
+use Rattle.dom_mutation.proofs.Cursors.{item_there, previous_effect}
+use Rattle.dom_mutation.proofs.Passing.{there_iter, at, iter_there, iters_of, writes, held_written, iter_moved, name_known}
+use Rattle.dom_mutation.specs.Doc.{all_tables}
 use Rattle.dom_mutation.proofs.doc.Doc.iter_previous.Goals as goal
 
 pub iter_previous-requires-clause-there : goal.iter_previous-requires-clause-there
@@ -54,4 +49,4 @@ returns-clause-world c =
     let item = item_there (slice_get t.iterators c.args.number) (iter_there f c.self.invariant c.self.view_is c.args.owner there c.place_of.result c.place_of.ensures t c.index_mut-tables.ensures.value c.args.number c.requires) in
     writes f c.self.invariant c.self.view_is c.args.owner there c.place_of.result c.place_of.ensures t c.index_mut-tables.ensures.value c.iter_previous.new.self (record t { iterators = slice_set t.iterators c.args.number (iterator_at item.0 true c.iter_previous.result) }) (c.iter_previous.ensures.state item.0 item.1)
     (λ ns. Command.iterator_previous c.args.number) (λ ns. node_or_null (option_map (name_at ns) c.iter_previous.result))
-    (previous_effect f.names f.trees c.self.inside.tables.items c.self.invariant c.args.owner t (at f c.self.invariant c.self.view_is c.args.owner there c.place_of.result c.place_of.ensures t c.index_mut-tables.ensures.value) c.args.number item.0 c.iter_previous.result item.1 (c.iter_previous.ensures.value item.0 item.1))
+    (previous_effect f.names f.trees (all_tables c.self.inside) c.self.invariant c.args.owner t (at f c.self.invariant c.self.view_is c.args.owner there c.place_of.result c.place_of.ensures t c.index_mut-tables.ensures.value) c.args.number item.0 c.iter_previous.result item.1 (c.iter_previous.ensures.value item.0 item.1))

@@ -7,13 +7,13 @@ use Rattle.dom_model.specs.Changes.{steps_of}
 use Rattle.dom_model.specs.World.{World, is_there}
 use Rattle.dom_model.specs.WorldSteps.{world_after}
 use Rattle.dom_tree.specs.Forest.{name_at}
-use Rattle.dom_mutation.specs.OwnTables.{KeyedTables}
-use Rattle.dom_mutation.specs.Doc.{DocState, world_from, name_in, owner_in, planned}
+use Rattle.dom_mutation.specs.OwnTables.{AllTables}
+use Rattle.dom_mutation.specs.Doc.{DocState, world_from, name_in, owner_in, planned, all_tables}
 use Rattle.dom_mutation.proofs.Steps.{join_world}
 use Rattle.dom_mutation.proofs.Shown.{owner_there}
 use Rattle.dom_mutation.proofs.doc.Doc.join_each.Goals as goal
 
-joined : (names : List NodeName) (ts us : Trees) (tables : List KeyedTables) (o : Owner) → is_there (world_from names ts tables) o ≡ true → (x parent : NodeName) (size : ℕ) (ys : List NodeName)
+joined : (names : List NodeName) (ts us : Trees) (tables : AllTables) (o : Owner) → is_there (world_from names ts tables) o ≡ true → (x parent : NodeName) (size : ℕ) (ys : List NodeName)
     → world_from names ts tables ≡ world_after o (world_from names ts tables) (joins us x parent size ys)
 joined names ts us tables o there x parent size [] = refl
 joined names ts us tables o there x parent size (y ∷ ys) =
@@ -25,4 +25,4 @@ returns c us =
     let f = c.self.inside.forest in
     let x = name_at f.names c.args.first in
     subst (λ (e : DocState). e ≡ planned (owner_in e c.args.first) (steps_of (joins us (name_in e c.args.first) (name_in e c.args.parent) c.args.size (map (name_in e) c.args.nexts.now))) e) c.self.view_is
-    (ap (λ w. record { names = f.names; world = w }) (joined f.names f.trees us c.self.inside.tables.items x.owner (owner_there f c.self.invariant c.self.view_is c.args.first c.requires) x (name_at f.names c.args.parent) c.args.size (map (name_at f.names) c.args.nexts.now)))
+    (ap (λ w. record { names = f.names; world = w }) (joined f.names f.trees us (all_tables c.self.inside) x.owner (owner_there f c.self.invariant c.self.view_is c.args.first c.requires) x (name_at f.names c.args.parent) c.args.size (map (name_at f.names) c.args.nexts.now)))

@@ -6,7 +6,7 @@ use Rattle.dom_model.specs.World.{part_of, is_there}
 use Rattle.dom_tree.specs.Owners.{trees_of_owner}
 use Rattle.dom_mutation.proofs.Once.{once_forest, once_own, times_count}
 use Rattle.dom_tree.specs.Forest.{name_at}
-use Rattle.dom_mutation.specs.Doc.{owner_in, StepsAlone}
+use Rattle.dom_mutation.specs.Doc.{owner_in, StepsAlone, all_tables}
 use Rattle.dom_model.specs.CommandRefusals.{past_limit}
 use Rattle.dom_mutation.proofs.Held.{there_page, within_limit}
 use Rattle.dom_mutation.proofs.Made.{page_alone}
@@ -30,7 +30,7 @@ returns-clause-present c k k< =
 pub returns-clause-alone : goal.returns-clause-alone
 returns-clause-alone c k k< =
     let f = c.self.inside.forest in
-    let page = there_page f.names f.trees c.self.inside.tables.items c.self.invariant (name_at f.names k).owner (owner_there f c.self.invariant c.self.view_is k k<) in
+    let page = there_page f.names f.trees (all_tables c.self.inside) c.self.invariant (name_at f.names k).owner (owner_there f c.self.invariant c.self.view_is k k<) in
     subst (λ e. StepsAlone (owner_in e k)) c.self.view_is (subst StepsAlone (sym page) page_alone)
 
 pub returns-clause-limited : goal.returns-clause-limited

@@ -1,4 +1,4 @@
-use Rattle.std.proofs.Common.{◌≡◌, List, [], ◌∷◌, ◌++◌, None, refl, ap, ◌∙◌}
+use Rattle.std.proofs.Common.{List, [], ◌∷◌, ◌++◌, None, refl, ap, ◌∙◌}
 use Rattle.dom_base.specs.declared.Kind.TheVariants.{Document}
 use Rattle.dom_base.specs.declared.Owner.TheVariants.{Page}
 use Rattle.dom_model.specs.Names.{node_of}
@@ -12,7 +12,7 @@ use Rattle.dom_mutation.proofs.doc.Doc.new.Goals as goal
 pub invariant_of-result : goal.invariant_of-result
 invariant_of-result c =
     let first : NodeData = record { kind = Document; element = c.new.result; attributes = c.new-2.result; text = c.new-3.result; document = None } in
-    first_held c.add.new.self c.push.new.self.items (node_from [] (node_of Page 0) first) refl
-    (c.in-Ok.ensures.items ∙ ap (λ (ts : List KeyedTables). ts ++ c.new-4.result ∷ []) c.new-tables.ensures.items ∙ ap (λ (t : KeyedTables). t ∷ []) c.new-4.ensures)
+    first_held c.add.new.self (record { each = c.push.new.self.items }) (node_from [] (node_of Page 0) first) refl
+    (ap (λ (ts : List KeyedTables). record { each = ts }) (c.in-Ok.ensures.items ∙ ap (λ (ts : List KeyedTables). ts ++ c.new-4.result ∷ []) c.new-tables.ensures.items ∙ ap (λ (t : KeyedTables). t ∷ []) c.new-4.ensures))
     (c.in-Ok-add.ensures.names ∙ ap (λ (g : NamedTrees). g.names ++ next_name Page g.names ∷ []) c.new-forest.ensures)
     (c.in-Ok-add.ensures.trees ∙ ap (λ (g : NamedTrees). with_node (node_from g.names (next_name Page g.names) first) g.trees) c.new-forest.ensures)

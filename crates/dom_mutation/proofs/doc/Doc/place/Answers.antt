@@ -5,7 +5,7 @@ use Rattle.dom_model.specs.TreeChanges.{placed}
 use Rattle.dom_model.specs.Steps.{place}
 use Rattle.dom_tree.specs.Forest.{name_at}
 use Rattle.dom_tree.proofs.OwnChanges.{put}
-use Rattle.dom_mutation.specs.Doc.{name_in, owner_in, trees_in}
+use Rattle.dom_mutation.specs.Doc.{name_in, owner_in, trees_in, all_tables}
 use Rattle.dom_traversal.proofs.Counts.{Once-forest, Has-forest}
 use Rattle.dom_mutation.proofs.Once.{once_forest}
 use Rattle.dom_mutation.proofs.Standing.{keeps_placed}
@@ -51,5 +51,5 @@ returns c =
     let b = option_map (name_at f.names) c.args.before in
     step_done f c.self.invariant c.self.view_is c.args.parent (placed x p b) c.link_before.new.self c.link_before.ensures.names c.link_before.ensures.trees
     (λ ns. place (name_at ns c.args.node) (name_at ns c.args.parent) (option_map (name_at ns) c.args.before))
-    (placed_world f.names f.trees c.self.inside.tables.items p.owner (owner_there f c.self.invariant c.self.view_is c.args.parent c.requires.parent_is_node) x p b
+    (placed_world f.names f.trees (all_tables c.self.inside) p.owner (owner_there f c.self.invariant c.self.view_is c.args.parent c.requires.parent_is_node) x p b
     (put f.trees c.self.invariant.owned p.owner x p b (known f c.self.invariant c.self.view_is (λ e. owner_in e c.args.node ≡ owner_in e c.args.parent) c.requires.one_owner) refl))

@@ -1,13 +1,10 @@
-use Rattle.std.proofs.Common.{◌≡◌, ◌<◌, length, true, Some, get_or, refl, sym, ap, subst, ◌∙◌}
-use Rattle.std.specs.Prelude.{is_some, slice_set, slice_get}
+use Rattle.std.proofs.Common.{◌≡◌, true, sym, ap, ◌∙◌}
+use Rattle.std.specs.Prelude.{is_some}
 use Rattle.dom_model.specs.Tree.{parent_of}
-use Rattle.dom_model.specs.TreeChanges.{taken_out}
-use Rattle.dom_model.specs.Steps.{take_out}
 use Rattle.dom_tree.specs.Forest.{name_at}
-use Rattle.dom_traversal.specs.Iterators.{IsIteratorOf}
-use Rattle.dom_mutation.specs.OwnTables.{KeyedTables, place_of, table_of}
+use Rattle.dom_mutation.specs.OwnTables.{place_of}
 use Rattle.dom_mutation.specs.Doc.{name_in, trees_in}
-use Rattle.dom_mutation.proofs.Shown.{known, owner_there, table_read, step_left, held_left}
+use Rattle.dom_mutation.proofs.Shown.{known, table_read, step_left, held_left}
 use Rattle.dom_mutation.proofs.doc.Doc.take_out.Goals as goal
 
 pub leave-requires-clause-iterators : goal.leave-requires-clause-iterators

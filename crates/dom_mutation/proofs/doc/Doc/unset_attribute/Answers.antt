@@ -6,6 +6,7 @@ use Rattle.dom_tree.proofs.OwnChanges.{changed_node}
 use Rattle.dom_mutation.proofs.Standing.{keeps_changed}
 use Rattle.dom_mutation.proofs.Steps.{attribute_world}
 use Rattle.dom_mutation.proofs.Shown.{owner_there, step_held, step_done}
+use Rattle.dom_mutation.specs.Doc.{all_tables}
 use Rattle.dom_mutation.proofs.doc.Doc.unset_attribute.Goals as goal
 
 pub invariant_of-self : goal.invariant_of-self
@@ -22,5 +23,5 @@ returns c =
     let x = name_at f.names c.args.node in
     let h = with_attribute c.args.name.now None in
     step_done f c.self.invariant c.self.view_is c.args.node (change_node h x) c.remove_attr.new.self c.remove_attr.ensures.names c.remove_attr.ensures.trees (λ ns. set_attribute (name_at ns c.args.node) c.args.name.now None)
-    (attribute_world f.names f.trees c.self.inside.tables.items x.owner (owner_there f c.self.invariant c.self.view_is c.args.node c.requires) x c.args.name.now None
+    (attribute_world f.names f.trees (all_tables c.self.inside) x.owner (owner_there f c.self.invariant c.self.view_is c.args.node c.requires) x c.args.name.now None
     (changed_node f.trees c.self.invariant.owned x.owner h x (λ n. refl) refl))

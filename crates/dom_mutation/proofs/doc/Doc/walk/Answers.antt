@@ -1,17 +1,12 @@
-use Rattle.std.proofs.Common.{◌≡◌, ℕ, ◌<◌, true, false, length, List, Option, Some, None, option_map, refl, sym, ap, subst, ◌∙◌}
-use Rattle.std.specs.Prelude.{slice_get, slice_set, is_some}
-use Rattle.std.specs.Option.{ForSome}
-use Rattle.dom_model.specs.Command.{Command, own}
-use Rattle.dom_model.specs.Output.{nothing, a_node, an_iterator, a_walker, reference}
+use Rattle.std.proofs.Common.{option_map, subst}
+use Rattle.std.specs.Prelude.{slice_get, slice_set}
+use Rattle.dom_model.specs.Command.{Command}
 use Rattle.dom_model.specs.Effects.{node_or_null}
-use Rattle.dom_tree.specs.Forest.{NamedTrees, name_at}
-use Rattle.dom_traversal.specs.Iterators.{KeyedIterator, IsIteratorOf, iterator_at}
-use Rattle.dom_traversal.specs.Walkers.{KeyedWalker, IsWalkerOf, walker_at, walker_view}
-use Rattle.dom_mutation.specs.OwnTables.{KeyedTables}
-use Rattle.dom_mutation.proofs.Shown.{known}
-use Rattle.dom_mutation.proofs.Own.{moved_own}
-use Rattle.dom_mutation.proofs.Cursors.{item_there, next_effect, previous_effect, at_effect, walk_effect, walk_at_effect, walk_set_effect}
-use Rattle.dom_mutation.proofs.Passing.{there_iter, there_walk, at, iter_there, walk_there, iters_of, walks_of, reads, writes, held_written, iter_moved, walk_moved, walk_stays, name_known}
+use Rattle.dom_tree.specs.Forest.{name_at}
+use Rattle.dom_traversal.specs.Walkers.{IsWalkerOf, walker_at}
+use Rattle.dom_mutation.proofs.Cursors.{item_there, walk_effect}
+use Rattle.dom_mutation.proofs.Passing.{there_walk, at, walk_there, walks_of, writes, held_written, walk_moved, walk_stays, name_known}
+use Rattle.dom_mutation.specs.Doc.{all_tables}
 use Rattle.dom_mutation.proofs.doc.Doc.walk.Goals as goal
 
 pub walk-requires-clause-there : goal.walk-requires-clause-there
@@ -55,4 +50,4 @@ returns-clause-world c =
     let item = item_there (slice_get t.walkers c.args.number) (walk_there f c.self.invariant c.self.view_is c.args.owner there c.place_of.result c.place_of.ensures t c.index_mut-tables.ensures.value c.args.number c.requires) in
     writes f c.self.invariant c.self.view_is c.args.owner there c.place_of.result c.place_of.ensures t c.index_mut-tables.ensures.value c.walk.new.self (record t { walkers = slice_set t.walkers c.args.number (walker_at item.0 c.walk.result) }) (c.walk.ensures.state item.0 item.1)
     (λ ns. Command.walk c.args.number c.args.step) (λ ns. node_or_null (option_map (name_at ns) c.walk.result))
-    (walk_effect f.names f.trees c.self.inside.tables.items c.self.invariant c.args.owner t (at f c.self.invariant c.self.view_is c.args.owner there c.place_of.result c.place_of.ensures t c.index_mut-tables.ensures.value) c.args.number item.0 c.args.step c.walk.result item.1 (c.walk.ensures.value item.0 item.1))
+    (walk_effect f.names f.trees (all_tables c.self.inside) c.self.invariant c.args.owner t (at f c.self.invariant c.self.view_is c.args.owner there c.place_of.result c.place_of.ensures t c.index_mut-tables.ensures.value) c.args.number item.0 c.args.step c.walk.result item.1 (c.walk.ensures.value item.0 item.1))

@@ -1,18 +1,12 @@
-use Rattle.std.proofs.Common.{◌≡◌, ℕ, ◌<◌, true, false, length, List, Option, Some, None, option_map, refl, sym, ap, subst, ◌∙◌}
-use Rattle.std.specs.Prelude.{slice_get, slice_set, is_some}
-use Rattle.std.specs.Option.{ForSome}
+use Rattle.std.proofs.Common.{◌≡◌, ◌<◌, length}
+use Rattle.std.specs.Prelude.{slice_get, slice_set}
 use Rattle.dom_model.specs.Command.{Command, own}
-use Rattle.dom_model.specs.Output.{nothing, a_node, an_iterator, a_walker, reference}
-use Rattle.dom_model.specs.Effects.{node_or_null}
-use Rattle.dom_tree.specs.Forest.{NamedTrees, name_at}
-use Rattle.dom_traversal.specs.Iterators.{KeyedIterator, IsIteratorOf, iterator_at}
-use Rattle.dom_traversal.specs.Walkers.{KeyedWalker, walker_at, walker_view}
-use Rattle.dom_mutation.specs.OwnTables.{KeyedTables}
-use Rattle.dom_mutation.specs.Doc.{owner_in}
+use Rattle.dom_model.specs.Output.{nothing}
+use Rattle.dom_tree.specs.Forest.{name_at}
+use Rattle.dom_mutation.specs.Doc.{owner_in, all_tables}
 use Rattle.dom_mutation.proofs.Shown.{known}
-use Rattle.dom_mutation.proofs.Own.{moved_own}
-use Rattle.dom_mutation.proofs.Cursors.{item_there, next_effect, previous_effect, at_effect, walk_effect, walk_at_effect, walk_set_effect}
-use Rattle.dom_mutation.proofs.Passing.{there_iter, there_walk, at, iter_there, walk_there, iters_of, walks_of, reads, writes, held_written, iter_moved, walk_moved, name_known}
+use Rattle.dom_mutation.proofs.Cursors.{item_there, walk_set_effect}
+use Rattle.dom_mutation.proofs.Passing.{there_walk, at, walk_there, writes, held_written, walk_moved}
 use Rattle.dom_mutation.proofs.doc.Doc.walk_set.Goals as goal
 
 pub set_walker-requires : goal.set_walker-requires
@@ -43,4 +37,4 @@ returns-clause-world c =
     let own_current = known f c.self.invariant c.self.view_is (λ e. owner_in e c.args.current ≡ c.args.owner) c.requires.own in
     writes f c.self.invariant c.self.view_is c.args.owner there c.place_of.result c.place_of.ensures t c.index_mut-tables.ensures.value c.set_walker.new.self (record t { walkers = slice_set t.walkers c.args.number (record item.0 { current = c.args.current }) }) (c.set_walker.ensures item.0 item.1)
     (λ ns. Command.walker_set c.args.number (own (name_at ns c.args.current).number)) (λ ns. nothing)
-    (walk_set_effect f.names f.trees c.self.inside.tables.items c.self.invariant c.args.owner t (at f c.self.invariant c.self.view_is c.args.owner there c.place_of.result c.place_of.ensures t c.index_mut-tables.ensures.value) c.args.number item.0 c.args.current item.1 own_current)
+    (walk_set_effect f.names f.trees (all_tables c.self.inside) c.self.invariant c.args.owner t (at f c.self.invariant c.self.view_is c.args.owner there c.place_of.result c.place_of.ensures t c.index_mut-tables.ensures.value) c.args.number item.0 c.args.current item.1 own_current)
