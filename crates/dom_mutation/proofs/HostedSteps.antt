@@ -73,18 +73,18 @@ pub names_pushed : (ns : List NodeName) (x : NodeName) → KeepsNames ns (ns ++ 
 names_pushed ns x = record { longer = omega (arith, length_push ns x); same = λ k h. get_or-append ns (x ∷ []) (node_of Page 0) k h }
 
 module _ (ns ms : List NodeName) (keeps : KeepsNames ns ms) where
-  nodes_renamed : (hosts : List ShadowHost) → HostsAreNodes ns hosts → HostsAreNodes ms hosts
+  pub nodes_renamed : (hosts : List ShadowHost) → HostsAreNodes ns hosts → HostsAreNodes ms hosts
   nodes_renamed [] nodes = tt
   nodes_renamed (h ∷ hosts) nodes = let longer = keeps.longer in let host = nodes.0 in let root = nodes.1 in (omega arith, omega arith, nodes_renamed hosts nodes.2)
 
-  made_renamed : (hosts : List ShadowHost) (k : ℕ) → HostsAreNodes ns hosts → AreMadeFrom ns k hosts → AreMadeFrom ms k hosts
+  pub made_renamed : (hosts : List ShadowHost) (k : ℕ) → HostsAreNodes ns hosts → AreMadeFrom ns k hosts → AreMadeFrom ms k hosts
   made_renamed [] k nodes made = tt
   made_renamed (h ∷ hosts) k nodes made = (
     record { owner = made.0.owner; root = keeps.same h.root nodes.1 ∙ made.0.root; host = ap (λ (x : NodeName). x.owner) (keeps.same h.host nodes.0) ∙ made.0.host },
     made_renamed hosts (suc k) nodes.2 made.1,
   )
 
-  names_renamed : (hosts : List ShadowHost) → HostsAreNodes ns hosts → host_names ns hosts ≡ host_names ms hosts
+  pub names_renamed : (hosts : List ShadowHost) → HostsAreNodes ns hosts → host_names ns hosts ≡ host_names ms hosts
   names_renamed [] nodes = refl
   names_renamed (h ∷ hosts) nodes = let here = sym (keeps.same h.host nodes.0) in let rest = names_renamed hosts nodes.2 in λ j. here j ∷ rest j
 

@@ -47,11 +47,11 @@ module _ {X : Type 0} (p : X → Bool) (x : X) (xs : List X) where
 -- ---- the list of hosts
 
 -- components tell the attaches apart
-made-number : (j k : ℕ) → component_made Page j ≡ component_made Page k → j ≡ k
+pub made-number : (j k : ℕ) → component_made Page j ≡ component_made Page k → j ≡ k
 made-number j k e = let same : suc j ≡ suc k = ap place_of e in omega arith
 
 -- and none is the page
-made-no_page : (j : ℕ) → component_made Page j ≡ Page → ⊥
+pub made-no_page : (j : ℕ) → component_made Page j ≡ Page → ⊥
 made-no_page j e = cc
 
 module _ (names : List NodeName) where

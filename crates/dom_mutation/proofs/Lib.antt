@@ -30,4 +30,7 @@ pub mod Joined
 pub mod HostedWorlds
 pub mod HostedSteps
 pub mod HostedDocuments
+pub mod EveryNode
 pub mod OwnSteps
+pub mod ShadowRoots
+pub mod AttachedWorlds

@@ -8,9 +8,9 @@ use Rattle.std.proofs.lemmas.Bool.{cases_Bool}
 use Rattle.dom_base.specs.declared.NodeName.{NodeName}
 use Rattle.dom_base.specs.declared.Owner.{Owner}
 use Rattle.dom_base.specs.declared.Owner.TheVariants.{Page}
-use Rattle.dom_model.specs.Names.{name_eq, name_before, owner_eq, max_depth, is_in}
-use Rattle.dom_model.specs.Tree.{Trees, none, tree, Node, nodes, names_of, or_else, subtree, parent_of, inclusive_descendants}
-use Rattle.dom_model.specs.TreeChanges.{followed_by, without, is_given, put_before, put_below, put_root, map_nodes, with_document, with_attribute, with_data_replaced}
+use Rattle.dom_model.specs.Names.{name_eq, owner_eq, max_depth, is_in}
+use Rattle.dom_model.specs.Tree.{Trees, none, tree, Node, nodes, names_of, subtree, parent_of, inclusive_descendants}
+use Rattle.dom_model.specs.TreeChanges.{with_name, with_node, placed, taken_out, map_nodes, with_document, with_attribute, with_data_replaced}
 use Rattle.dom_model.specs.Changes.{Plan, ◌and_then◌}
 use Rattle.dom_model.specs.Part.{Part, next_name}
 use Rattle.dom_model.specs.Steps.{Step, make, make_room, place, take_out, set_document, set_attribute, replace_data, split_at, join_at, set_range, queue_record, part_step, after, leave, is_taken}
@@ -25,6 +25,7 @@ use Rattle.dom_tree.proofs.Owned.{AreOf-own}
 use Rattle.dom_mutation.specs.Contents.{Contents, world_of}
 use Rattle.dom_mutation.specs.Doc.{made}
 use Rattle.dom_mutation.specs.Hosting.{AreHostsOf, SetsOwnDocuments, OwnsNoHosts}
+use Rattle.dom_mutation.proofs.EveryNode.{EachNode, each_subtree, each_placed, each_taken, each_put_root, each_mapped}
 use Rattle.dom_mutation.proofs.Made.{after_more}
 use Rattle.dom_mutation.proofs.HostedSteps.{attached_step}
 use Rattle.dom_mutation.proofs.HostedWorlds.{attached_other, trees_hosted}
@@ -32,45 +33,23 @@ use Rattle.dom_mutation.proofs.HostedWorlds.{attached_other, trees_hosted}
 -- ---- a step keeps nodes an owner's
 
 module _ (o : Owner) where
-  own_either : (b : Bool) (ts us : Trees) → AreOf o ts → AreOf o us → AreOf o (if b then ts else us)
-  own_either true ts us h g = h
-  own_either false ts us h g = g
+  -- a node of the owner
+  abbrev IsOwn : Node → Type 0
+  IsOwn n = n.name.owner ≡ o
 
-  own_followed : (ts us : Trees) → AreOf o ts → AreOf o us → AreOf o (followed_by ts us)
-  own_followed none us h g = g
-  own_followed (tree n c r) us h g = (h.0, h.1, own_followed r us h.2 g)
+  own_each : (ts : Trees) → AreOf o ts → EachNode IsOwn ts
+  own_each none h = tt
+  own_each (tree n c r) h = (h.0, own_each c h.1, own_each r h.2)
 
-  own_or_else : (ts us : Trees) → AreOf o ts → AreOf o us → AreOf o (or_else ts us)
-  own_or_else none us h g = g
-  own_or_else (tree n c r) us h g = h
+  each_own : (ts : Trees) → EachNode IsOwn ts → AreOf o ts
+  each_own none h = tt
+  each_own (tree n c r) h = (h.0, each_own c h.1, each_own r h.2)
 
   own_subtree : (ts : Trees) (x : NodeName) → AreOf o ts → AreOf o (subtree ts x)
-  own_subtree none x h = tt
-  own_subtree (tree n c r) x h = own_either (name_eq n.name x) (tree n c none) (or_else (subtree c x) (subtree r x)) (h.0, h.1, tt) (own_or_else (subtree c x) (subtree r x) (own_subtree c x h.1) (own_subtree r x h.2))
-
-  own_without : (x : NodeName) (ts : Trees) → AreOf o ts → AreOf o (without x ts)
-  own_without x none h = tt
-  own_without x (tree n c r) h =
-      let rest = own_without x r h.2 in
-      own_either (name_eq n.name x) (without x r) (tree n (without x c) (without x r)) rest (h.0, own_without x c h.1, rest)
-
-  own_put_before : (before : Option NodeName) (new ts : Trees) → AreOf o new → AreOf o ts → AreOf o (put_before before new ts)
-  own_put_before before new none g h = g
-  own_put_before before new (tree n c r) g h = own_either (is_given before n.name) (followed_by new (tree n c r)) (tree n c (put_before before new r)) (own_followed new (tree n c r) g h) (h.0, h.1, own_put_before before new r g h.2)
-
-  own_put_below : (parent : NodeName) (before : Option NodeName) (new ts : Trees) → AreOf o new → AreOf o ts → AreOf o (put_below parent before new ts)
-  own_put_below parent before new none g h = tt
-  own_put_below parent before new (tree n c r) g h =
-      let below = own_put_below parent before new c g h.1 in
-      (h.0, own_either (name_eq n.name parent) (put_before before new (put_below parent before new c)) (put_below parent before new c) (own_put_before before new (put_below parent before new c) g below) below, own_put_below parent before new r g h.2)
-
-  own_put_root : (x : NodeName) (new ts : Trees) → AreOf o new → AreOf o ts → AreOf o (put_root x new ts)
-  own_put_root x new none g h = g
-  own_put_root x new (tree n c r) g h = own_either (name_before x n.name) (followed_by new (tree n c r)) (tree n c (put_root x new r)) (own_followed new (tree n c r) g h) (h.0, h.1, own_put_root x new r g h.2)
+  own_subtree ts x h = each_own (subtree ts x) (each_subtree IsOwn ts x (own_each ts h))
 
   own_mapped : (f : Node → Node) → ((n : Node) → (f n).name ≡ n.name) → (ts : Trees) → AreOf o ts → AreOf o (map_nodes f ts)
-  own_mapped f keeps none h = tt
-  own_mapped f keeps (tree n c r) h = (ap (λ (x : NodeName). x.owner) (keeps n) ∙ h.0, own_mapped f keeps c h.1, own_mapped f keeps r h.2)
+  own_mapped f keeps ts h = each_own (map_nodes f ts) (each_mapped IsOwn f (λ n is. ap (λ (x : NodeName). x.owner) (keeps n) ∙ is) ts (own_each ts h))
 
   -- a change of some nodes keeps their names
   name_if : (b : Bool) (m n : Node) → m.name ≡ n.name → (if b then m else n).name ≡ n.name
@@ -78,14 +57,16 @@ module _ (o : Owner) where
   name_if false m n e = refl
 
   pub own_step : (p : Part) (s : Step) → p.owner ≡ o → AreOf o p.trees → AreOf o (part_step p s).trees
-  own_step p (make n) is own = own_put_root (next_name p) (tree (record n { name = next_name p }) none none) p.trees (is, tt, tt) own
+  own_step p (make n) is own =
+      let new = with_name (next_name p) n in
+      each_own (with_node new p.trees) (each_put_root IsOwn (next_name p) (tree new none none) p.trees (is, tt, tt) (own_each p.trees own))
   own_step p (make_room parent index count) is own = own
-  own_step p (place x parent before) is own = own_put_below parent before (subtree p.trees x) (without x p.trees) (own_subtree p.trees x own) (own_without x p.trees own)
+  own_step p (place x parent before) is own = each_own (placed x parent before p.trees) (each_placed IsOwn x parent before p.trees (own_each p.trees own))
   own_step p (take_out x) is own = by (parent_of p.trees x)
     where
       by : (m : Option NodeName) → AreOf o (option_map_or (leave p x) m p).trees
       by None = own
-      by (Some parent) = own_put_root x (subtree p.trees x) (without x p.trees) (own_subtree p.trees x own) (own_without x p.trees own)
+      by (Some parent) = each_own (taken_out x p.trees) (each_taken IsOwn x p.trees (own_each p.trees own))
   own_step p (set_document x d) is own =
       own_mapped (λ n. if is_in name_eq n.name (inclusive_descendants p.trees x) then with_document d n else n) (λ n. name_if (is_in name_eq n.name (inclusive_descendants p.trees x)) (with_document d n) n refl) p.trees own
   own_step p (set_attribute x a v) is own = own_mapped (λ n. if name_eq n.name x then with_attribute a v n else n) (λ n. name_if (name_eq n.name x) (with_attribute a v n) n (by v n)) p.trees own

@@ -1,19 +1,20 @@
 -- How a list of hosts and what is held belong together; and signals and node documents in what is held.
-use Rattle.std.specs.Prelude.{◌≡◌, ◌≢◌, ℕ, suc, false, List, [], ◌∷◌, map, fold, find, filter_map, Option, None, option_map}
+use Rattle.std.specs.Prelude.{◌≡◌, ◌≢◌, ℕ, suc, false, List, [], ◌∷◌, ◌++◌, map, fold, find, filter_map, Option, None, option_map}
 use Rattle.dom_base.specs.declared.Kind.TheVariants.{Shadow}
 use Rattle.dom_base.specs.declared.NodeName.{NodeName}
 use Rattle.dom_base.specs.declared.Owner.{Owner}
 use Rattle.dom_base.specs.declared.Owner.TheVariants.{Page}
 use Rattle.dom_model.specs.Names.{name_eq, append_once}
 use Rattle.dom_model.specs.Tree.{Trees, none, kind_of, parent_of, inclusive_descendants}
-use Rattle.dom_model.specs.TreeChanges.{change_subtree, with_document}
+use Rattle.dom_model.specs.TreeChanges.{with_node, change_subtree, with_document}
+use Rattle.dom_model.specs.DocumentMachine.{new_root}
 use Rattle.dom_model.specs.Steps.{Step, set_document}
 use Rattle.dom_model.specs.World.{World, component_made, shadow_root_of, part_of, is_there, queued_notify}
 use Rattle.dom_slots.specs.Hosts.{ShadowHost, HostsAreNodes, root_named}
 use Rattle.dom_slots.specs.Shadows.{ShadowTrees, shadow_trees}
 use Rattle.dom_tree.specs.Forest.{name_at}
 use Rattle.dom_tree.specs.Owners.{AreOf, AreOwned, trees_of_owner}
-use Rattle.dom_mutation.specs.Contents.{Contents, world_of}
+use Rattle.dom_mutation.specs.Contents.{Contents, no_tables, world_of}
 
 -- ---- hosts
 
@@ -103,3 +104,17 @@ SetsOwnDocuments o s = Unit {0}
 pub record OwnsNoHosts (w : World) (o : Owner) : Type 0 where
   pub attached : (part_of w o).attached ≡ []
   pub own : AreOf o (part_of w o).trees
+
+-- ---- attaching
+
+-- what is held, with one host more: a node gets a shadow root, node 0 of a new component, under this node document (own
+-- rule; DOM Standard, concept: attach a shadow root)
+pub record IsAttached (a b : Contents) (c : Owner) (x : NodeName) (d : Option NodeName) : Type 0 where
+  pub owners : b.owners ≡ a.owners ++ c ∷ []
+  pub names : b.names ≡ a.names ++ shadow_root_of c ∷ []
+  pub trees : b.trees ≡ with_node (new_root (shadow_root_of c) Shadow d) a.trees
+  pub page : b.tables Page ≡ record (a.tables Page) { attached = (a.tables Page).attached ++ x ∷ [] }
+  pub new : b.tables c ≡ no_tables
+  pub rest : (q : Owner) → q ≢ Page → q ≢ c → b.tables q ≡ a.tables q
+  pub signalled : b.signalled ≡ a.signalled
+  pub tasks : b.tasks ≡ a.tasks
