@@ -32,5 +32,6 @@ pub mod HostedSteps
 pub mod HostedDocuments
 pub mod EveryNode
 pub mod OwnSteps
+pub mod OwnPlans
 pub mod ShadowRoots
 pub mod AttachedWorlds

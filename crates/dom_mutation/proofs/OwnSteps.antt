@@ -45,7 +45,7 @@ module _ (o : Owner) where
   each_own none h = tt
   each_own (tree n c r) h = (h.0, each_own c h.1, each_own r h.2)
 
-  own_subtree : (ts : Trees) (x : NodeName) → AreOf o ts → AreOf o (subtree ts x)
+  pub own_subtree : (ts : Trees) (x : NodeName) → AreOf o ts → AreOf o (subtree ts x)
   own_subtree ts x h = each_own (subtree ts x) (each_subtree IsOwn ts x (own_each ts h))
 
   own_mapped : (f : Node → Node) → ((n : Node) → (f n).name ≡ n.name) → (ts : Trees) → AreOf o ts → AreOf o (map_nodes f ts)

@@ -1,5 +1,6 @@
 -- How a list of hosts and what is held belong together; and signals and node documents in what is held.
 use Rattle.std.specs.Prelude.{◌≡◌, ◌≢◌, ℕ, suc, false, List, [], ◌∷◌, ◌++◌, map, fold, find, filter_map, Option, None, option_map}
+use Rattle.std.specs.List.{AllByRecursion}
 use Rattle.dom_base.specs.declared.Kind.TheVariants.{Shadow}
 use Rattle.dom_base.specs.declared.NodeName.{NodeName}
 use Rattle.dom_base.specs.declared.Owner.{Owner}
@@ -8,6 +9,8 @@ use Rattle.dom_model.specs.Names.{name_eq, append_once}
 use Rattle.dom_model.specs.Tree.{Trees, none, kind_of, parent_of, inclusive_descendants}
 use Rattle.dom_model.specs.TreeChanges.{with_node, change_subtree, with_document}
 use Rattle.dom_model.specs.DocumentMachine.{new_root}
+use Rattle.dom_model.specs.Changes.{Plan}
+use Rattle.dom_model.specs.Part.{Part}
 use Rattle.dom_model.specs.Steps.{Step, set_document}
 use Rattle.dom_model.specs.World.{World, component_made, shadow_root_of, part_of, is_there, queued_notify}
 use Rattle.dom_slots.specs.Hosts.{ShadowHost, HostsAreNodes, root_named}
@@ -118,3 +121,12 @@ pub record IsAttached (a b : Contents) (c : Owner) (x : NodeName) (d : Option No
   pub rest : (q : Owner) → q ≢ Page → q ≢ c → b.tables q ≡ a.tables q
   pub signalled : b.signalled ≡ a.signalled
   pub tasks : b.tasks ≡ a.tasks
+
+-- a part that is this owner's, with its own nodes alone
+pub record IsOwnPart (o : Owner) (p : Part) : Type 0 where
+  pub owner : p.owner ≡ o
+  pub own : AreOf o p.trees
+
+-- a plan sets the node documents of the owner's own nodes alone, in each part of its own
+abbrev pub PlansOwn : Owner → Plan → Type 0
+PlansOwn o f = (p : Part) → IsOwnPart o p → AllByRecursion (SetsOwnDocuments o) (f p)
