@@ -28,6 +28,7 @@ pub mod Tails
 pub mod Emptied
 pub mod Joined
 pub mod HostedWorlds
+pub mod HostedKeys
 pub mod HostedSteps
 pub mod HostedDocuments
 pub mod EveryNode
