@@ -1,8 +1,8 @@
 -- Attaching in the world of what is held with hosts: the component that is made was not there, the world is the one after
 -- the command, and the list of hosts with the new one belongs to what is held then.
-use Rattle.std.proofs.Common.{◌≡◌, ◌≢◌, ℕ, zero, suc, ◌+◌, ◌<◌, ◌≤◌, Bool, true, false, cond, List, [], ◌∷◌, ◌++◌, Option, Some, None, map, length, refl, sym, ap, subst, ◌∙◌, ◌⊎◌, inl, inr, arith, zero-add}
+use Rattle.std.proofs.Common.{◌≡◌, ◌≢◌, ℕ, suc, ◌+◌, ◌<◌, Bool, true, false, cond, List, [], ◌∷◌, ◌++◌, Option, Some, None, length, refl, sym, ap, subst, ◌∙◌, ◌⊎◌, inl, inr, arith, zero-add}
 use Rattle.std.specs.Prelude.{nat_eq, find, option_map, if◌then◌else◌}
-use Rattle.std.proofs.lemmas.Bool.{cases_Bool, false_from_ne_true, or_parts, eqb-true}
+use Rattle.std.proofs.lemmas.Bool.{cases_Bool, false_from_ne_true, or_parts}
 use Rattle.std.proofs.lemmas.List.{length-map, length_push, map-append}
 use Rattle.std.proofs.lemmas.List.Sums.{sum_by-cons}
 use Rattle.std.proofs.Math.Seq.{get_or-append_seam}
@@ -11,11 +11,11 @@ use Rattle.dom_base.specs.declared.NodeName.{NodeName}
 use Rattle.dom_base.specs.declared.Owner.{Owner}
 use Rattle.dom_base.specs.declared.Owner.TheVariants.{Page}
 use Rattle.dom_model.specs.Names.{owner_eq, name_eq, is_in, node_of}
-use Rattle.dom_model.specs.Tree.{Trees, none, tree, Node, node_in}
+use Rattle.dom_model.specs.Tree.{none, tree, Node, node_in}
 use Rattle.dom_model.specs.TreeChanges.{with_node}
 use Rattle.dom_model.specs.DocumentMachine.{new_root, part_with_root, attaching}
 use Rattle.dom_model.specs.Part.{Part}
-use Rattle.dom_model.specs.World.{World, part_of, with_part, is_there, component_made, shadow_root_of}
+use Rattle.dom_model.specs.World.{World, with_part, is_there, component_made, shadow_root_of}
 use Rattle.dom_model.proofs.OwnerLaws.{owner_eq-true, owner_eq-false, owner_eq-same, ne-owner_eq}
 use Rattle.dom_slots.specs.Hosts.{ShadowHost, HostsAreNodes, root_of_host}
 use Rattle.dom_slots.proofs.Hosted.{AreDistinct, key-test}
@@ -23,13 +23,13 @@ use Rattle.dom_tree.specs.Forest.{name_at, count_of}
 use Rattle.dom_tree.specs.Owners.{AreOwned, IsOwnChange, trees_of_owner}
 use Rattle.dom_tree.proofs.OwnChanges.{added}
 use Rattle.dom_tree.proofs.Owned.{read_own}
-use Rattle.dom_mutation.specs.Contents.{Contents, Tables, no_tables, part_with, part_in, world_of}
+use Rattle.dom_mutation.specs.Contents.{Contents, Tables, part_with, part_in, world_of}
 use Rattle.dom_mutation.specs.Hosting.{IsMadeAs, AreMadeFrom, host_names, host_owners, AreHostsOf, IsAttached}
 use Rattle.dom_mutation.proofs.Held.{count_more}
 use Rattle.dom_mutation.proofs.HostedSteps.{names_pushed, nodes_renamed, made_renamed, names_renamed}
 use Rattle.dom_mutation.proofs.HostedWorlds.{made-number, made-no_page, single_hosted, page_hosted}
 use Rattle.dom_mutation.proofs.Places.{In-push, In-end}
-use Rattle.dom_mutation.proofs.Worlds.{In, there_in, in_there, there_same, part_at, IsChangeOf, changed, joined}
+use Rattle.dom_mutation.proofs.Worlds.{In, there_in, in_there, there_same, part_at, changed, joined}
 
 -- ---- the list of hosts
 
@@ -169,10 +169,10 @@ module _ (a : Contents) (hosts : List ShadowHost) (held : AreHostsOf a hosts) wh
         record {
           owners = one.owners ∙ (ap (λ os. os ++ next_component ∷ []) held.owners ∙ ap (λ os. Page ∷ os) (sym (map-append (λ (g : ShadowHost). g.owner) hosts (h ∷ []))));
           made = made_pushed b.names hosts 0 h (subst (λ ns. AreMadeFrom ns 0 hosts) (sym one.names) made) record {
-              owner = ap (component_made Page) (sym (zero-add (length hosts)));
-              root = ap (λ ns. name_at ns (length a.names)) one.names ∙ get_or-append_seam a.names (shadow_root_of next_component) [] (node_of Page 0);
-              host = ap (λ (y : NodeName). y.owner) host_name ∙ own;
-            };
+            owner = ap (component_made Page) (sym (zero-add (length hosts)));
+            root = ap (λ ns. name_at ns (length a.names)) one.names ∙ get_or-append_seam a.names (shadow_root_of next_component) [] (node_of Page 0);
+            host = ap (λ (y : NodeName). y.owner) host_name ∙ own;
+          };
           nodes = nodes_pushed b.names hosts h (subst (λ ns. HostsAreNodes ns hosts) (sym one.names) nodes) (omega (arith, long)) (omega (arith, long));
           attached = ap (λ (t : Tables). t.attached) one.page
               ∙ (ap (λ xs. xs ++ x ∷ []) (held.attached ∙ (named ∙ ap (λ ns. host_names ns hosts) (sym one.names)))
@@ -184,8 +184,8 @@ module _ (a : Contents) (hosts : List ShadowHost) (held : AreHostsOf a hosts) wh
           owned = subst AreOwned (sym one.trees) new_change.owned;
           absent = λ q off.
               let apart : q ≢ next_component = λ e.
-                  let on : is_there (world_of b) q ≡ true = in_there b q (subst (In q) (sym one.owners) (subst (λ p. In p (a.owners ++ next_component ∷ [])) (sym e) (In-end a.owners next_component))) in
-                  cc in
+              let on : is_there (world_of b) q ≡ true = in_there b q (subst (In q) (sym one.owners) (subst (λ p. In p (a.owners ++ next_component ∷ [])) (sym e) (In-end a.owners next_component))) in
+              cc in
               trees_other q apart
               ∙ held.absent q (false_from_ne_true _ (λ there. let on : is_there (world_of b) q ≡ true = in_there b q (subst (In q) (sym one.owners) (In-push q a.owners next_component (there_in a q there))) in cc));
         }

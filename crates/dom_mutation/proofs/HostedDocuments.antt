@@ -1,10 +1,9 @@
 -- Node documents in the world of what is held with hosts: a tree's, and those of the shadow trees of the hosts in it.
-use Rattle.std.proofs.Common.{◌≡◌, ◌≢◌, true, List, [], ◌∷◌, Option, Some, None, fold, map, filter_map, refl, sym, ap, subst, ◌∙◌, inl, inr}
+use Rattle.std.proofs.Common.{◌≡◌, true, List, [], ◌∷◌, Option, Some, None, fold, map, filter_map, refl, sym, ap, subst, ◌∙◌, inl, inr}
 use Rattle.std.specs.Prelude.{option_map}
 use Rattle.std.specs.List.{cons_option}
 use Rattle.dom_base.specs.declared.NodeName.{NodeName}
 use Rattle.dom_base.specs.declared.Owner.{Owner}
-use Rattle.dom_model.specs.Names.{max_depth}
 use Rattle.dom_model.specs.Tree.{inclusive_descendants}
 use Rattle.dom_model.specs.TreeChanges.{change_subtree, with_document}
 use Rattle.dom_model.specs.Steps.{set_document, part_step}
@@ -15,7 +14,7 @@ use Rattle.dom_tree.specs.Forest.{count_of}
 use Rattle.dom_tree.specs.Owners.{IsOwnChange}
 use Rattle.dom_tree.proofs.OwnChanges.{changed_subtree}
 use Rattle.dom_mutation.specs.Contents.{Contents, part_in, part_with, world_of}
-use Rattle.dom_mutation.specs.Hosting.{component_named, AreHostsOf, document_in, roots_below, documents_in}
+use Rattle.dom_mutation.specs.Hosting.{component_named, AreHostsOf, document_in, documents_in}
 use Rattle.dom_mutation.proofs.Worlds.{In, IsChangeOf, there_same}
 use Rattle.dom_mutation.proofs.HostedWorlds.{root-component, below_looked, below_there}
 use Rattle.dom_mutation.proofs.HostedSteps.{names_same, hosts_stepped, stepped_hosted}

@@ -1,6 +1,6 @@
 -- Steps in the world of what is held with hosts: where one owner's part changes as the step says, and the slots are
 -- signalled that the hosts tell, the world is the one after the step.
-use Rattle.std.proofs.Common.{◌≡◌, ◌≢◌, ℕ, zero, suc, ◌+◌, ◌<◌, ◌≤◌, Bool, true, false, List, [], ◌∷◌, ◌++◌, Option, Some, None, fold, length, refl, sym, ap, subst, ◌∙◌, inl, inr, arith}
+use Rattle.std.proofs.Common.{◌≡◌, ℕ, suc, ◌<◌, ◌≤◌, Bool, true, false, List, [], ◌∷◌, ◌++◌, Option, Some, None, fold, length, refl, sym, ap, subst, ◌∙◌, inl, inr, arith}
 use Rattle.std.specs.Prelude.{option_map, if◌then◌else◌}
 use Rattle.std.specs.Option.{option_map_or}
 use Rattle.std.proofs.lemmas.Bool.{cases_Bool}
@@ -13,22 +13,22 @@ use Rattle.dom_model.specs.Names.{Word, DomString, name_eq, owner_eq, append_onc
 use Rattle.dom_model.specs.Tree.{Trees, parent_of}
 use Rattle.dom_model.specs.Output.{Change}
 use Rattle.dom_model.specs.Part.{Part}
-use Rattle.dom_model.specs.Slots.{signals, with_signal}
+use Rattle.dom_model.specs.Slots.{with_signal}
 use Rattle.dom_model.specs.Steps.{Step, make, make_room, place, take_out, set_document, set_attribute, replace_data, split_at, join_at, set_range, queue_record, part_step, leave, is_taken}
 use Rattle.dom_model.specs.World.{World, Task, part_of, is_there, queued_notify}
 use Rattle.dom_model.specs.WorldSteps.{world_step, stepped, with_signals, with_removal_signals, with_notify_if}
 use Rattle.dom_model.proofs.OwnerLaws.{owner_eq-true, owner_eq-false}
 use Rattle.dom_slots.specs.Hosts.{ShadowHost, HostsAreNodes}
-use Rattle.dom_slots.specs.Shadows.{ShadowTrees, shadow_trees, signals_at}
+use Rattle.dom_slots.specs.Shadows.{signals_at}
 use Rattle.dom_slots.specs.Steps.{step_signals}
 use Rattle.dom_slots.specs.declared.step.Step.TheVariants.{Place, Removal, Attribute}
 use Rattle.dom_slots.proofs.Shown.{signals-shown}
 use Rattle.dom_tree.specs.Forest.{name_at}
-use Rattle.dom_tree.specs.Owners.{AreOwned, trees_of_owner}
+use Rattle.dom_tree.specs.Owners.{AreOwned}
 use Rattle.dom_tree.proofs.Owned.{read_own}
 use Rattle.dom_mutation.specs.Contents.{Contents, Tables, part_in, world_of}
-use Rattle.dom_mutation.specs.Hosting.{IsMadeAs, AreMadeFrom, host_names, host_owners, AreHostsOf, shadows_in, signal_in, signals_in}
-use Rattle.dom_mutation.proofs.Worlds.{Single, IsChangeOf, part_at, changed, there_same}
+use Rattle.dom_mutation.specs.Hosting.{AreMadeFrom, host_names, AreHostsOf, shadows_in, signal_in, signals_in}
+use Rattle.dom_mutation.proofs.Worlds.{IsChangeOf, part_at, changed, there_same}
 use Rattle.dom_mutation.proofs.HostedWorlds.{single_hosted, trees_hosted, world_shown}
 
 -- ---- signals
@@ -195,7 +195,7 @@ module _ (a : Contents) (hosts : List ShadowHost) (held : AreHostsOf a hosts) (o
     pub place_hosted : (x parent : ℕ) (before left : Option ℕ)
         → IsChangeOf a moved o (part_step (part_in a o) (place (name_at a.names x) (name_at a.names parent) (option_map (name_at a.names) before)))
         → world_of (signals_in moved (step_signals a.names (shadows_in a hosts) (shadows_in moved hosts) (Place x parent before) left))
-            ≡ world_step o (world_of a) (place (name_at a.names x) (name_at a.names parent) (option_map (name_at a.names) before))
+        ≡ world_step o (world_of a) (place (name_at a.names x) (name_at a.names parent) (option_map (name_at a.names) before))
     place_hosted x parent before left change =
         told (place (name_at a.names x) (name_at a.names parent) (option_map (name_at a.names) before)) change (name_at a.names x) (name_at a.names parent) true
 

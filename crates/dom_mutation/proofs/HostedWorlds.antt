@@ -1,15 +1,15 @@
 -- The world of what is held with hosts: its hosts, and the components in a tree, are looked up in the list of hosts.
-use Rattle.std.proofs.Common.{◌≡◌, ◌≢◌, ℕ, zero, suc, ◌+◌, ◌<◌, ◌≤◌, Bool, true, false, ltb, List, [], ◌∷◌, ◌++◌, Option, Some, None, map, filter_map, flat_map, position, length, refl, sym, ap, subst, ◌∙◌, ◌⊎◌, inl, inr, arith, zero-add}
+use Rattle.std.proofs.Common.{◌≡◌, ◌≢◌, ℕ, zero, suc, ◌+◌, ◌<◌, ◌≤◌, Bool, true, false, ltb, List, [], ◌∷◌, Option, Some, None, filter_map, flat_map, position, length, refl, sym, ap, subst, ◌∙◌, ◌⊎◌, inl, inr, arith, zero-add}
 use Rattle.std.specs.Prelude.{find, if◌then◌else◌, slice_get, option_map}
 use Rattle.std.specs.List.{cons_option, position_or_len}
-use Rattle.std.proofs.lemmas.Bool.{cases_Bool, cond-true, cond-false, lt-ltb, le-ltb, cases_lt}
+use Rattle.std.proofs.lemmas.Bool.{cases_Bool, lt-ltb, le-ltb, cases_lt}
 use Rattle.std.proofs.Math.Numerals.{one-add}
 use Rattle.dom_base.specs.declared.NodeName.{NodeName}
 use Rattle.dom_base.specs.declared.Owner.{Owner}
 use Rattle.dom_base.specs.declared.Owner.TheVariants.{Page, Component}
 use Rattle.dom_model.specs.Names.{owner_eq, name_eq, max_depth}
 use Rattle.dom_model.specs.Tree.{inclusive_descendants}
-use Rattle.dom_model.specs.World.{World, part_of, is_there, component_at, component_made, components_below, host_of, shadow_root_of, trees_with}
+use Rattle.dom_model.specs.World.{part_of, is_there, component_at, component_made, components_below, host_of, shadow_root_of, trees_with}
 use Rattle.dom_model.proofs.OwnerLaws.{owner_eq-true, owner_eq-false}
 use Rattle.dom_slots.specs.Hosts.{ShadowHost, host_named, root_named}
 use Rattle.dom_slots.specs.Shadows.{IsShownBy, shadow_trees}
@@ -18,7 +18,7 @@ use Rattle.dom_tree.specs.Forest.{name_at}
 use Rattle.dom_tree.specs.Owners.{trees_of_owner}
 use Rattle.dom_tree.proofs.Owned.{read_own}
 use Rattle.dom_mutation.specs.Contents.{Contents, world_of}
-use Rattle.dom_mutation.specs.Hosting.{IsMadeAs, AreMadeFrom, host_names, host_owners, component_named, AreHostsOf}
+use Rattle.dom_mutation.specs.Hosting.{AreMadeFrom, host_names, host_owners, component_named, AreHostsOf}
 use Rattle.dom_mutation.specs.OwnTables.{place_of}
 use Rattle.dom_mutation.proofs.Worlds.{In, Single, part_at, part_off, in_there}
 

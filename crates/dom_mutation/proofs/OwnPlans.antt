@@ -1,16 +1,16 @@
 -- The plans of changes set the node documents of their owner's nodes alone. So a component's plans do in its own part what
 -- they do in a part alone, where it has no hosts, one plan after another.
-use Rattle.std.proofs.Common.{◌≡◌, ℕ, Bool, true, false, not, List, [], ◌∷◌, ◌++◌, Option, Some, None, map, filter, drop, length, flat_map, min, ◌+◌, ◌-◌, refl, sym, ap, subst, ◌∙◌}
+use Rattle.std.proofs.Common.{◌≡◌, ℕ, Bool, true, false, not, List, [], ◌∷◌, ◌++◌, Option, Some, None, map, filter, drop, length, flat_map, ◌+◌, ◌-◌, ◌∙◌}
 use Rattle.std.specs.Prelude.{if◌then◌else◌, ◌&&◌, ◌==◌}
 use Rattle.std.specs.List.{AllByRecursion}
 use Rattle.std.specs.Option.{option_map_or}
 use Rattle.dom_base.specs.declared.NodeName.{NodeName}
 use Rattle.dom_base.specs.declared.Owner.{Owner}
 use Rattle.dom_model.specs.Names.{Word, DomString, is_empty}
-use Rattle.dom_model.specs.Tree.{Trees, Node, roots, names_of, node_in, children_of, child_nodes, descendants, kind_of, is_document, is_fragment, is_text, has_data, attribute_value, length_of, index_of, next_sibling, previous_sibling, parent_of, subtree, trees_below, none, tree}
+use Rattle.dom_model.specs.Tree.{Trees, roots, names_of, node_in, children_of, descendants, kind_of, is_document, is_fragment, is_text, has_data, attribute_value, length_of, index_of, next_sibling, previous_sibling, parent_of, subtree, trees_below, none, tree}
 use Rattle.dom_model.specs.Output.{Change, attributes, child_list}
 use Rattle.dom_model.specs.Part.{Part, next_name}
-use Rattle.dom_model.specs.Steps.{Step, make, make_room, place, take_out, set_document, set_attribute, queue_record, split_at, join_at, part_step, after}
+use Rattle.dom_model.specs.Steps.{Step, make, make_room, place, set_document, set_attribute, queue_record, split_at, part_step, after}
 use Rattle.dom_model.specs.Changes.{Plan, ◌and_then◌, in_turn, doing, steps_of, only_if, Observing, observed, suppressed, telling, removing, removing_from, document_below, has_document, changing_document, adopting, placed_nodes, emptying, making_room, placing, sibling_before, inserting_nodes, inserting, reference_for, pre_inserting, replacing, setting_attribute, unsetting_attribute}
 use Rattle.dom_model.specs.TextChanges.{replacing_data, replacing_all_data, new_text_node, placing_tail, splitting, joins, joining, texts_after, normalizing_text, normalizing, replacing_children, setting_text}
 use Rattle.dom_model.specs.World.{World, part_of}

@@ -14,11 +14,11 @@ use Rattle.dom_model.specs.TreeChanges.{with_name, with_node, placed, taken_out,
 use Rattle.dom_model.specs.Changes.{Plan, ◌and_then◌}
 use Rattle.dom_model.specs.Part.{Part, next_name}
 use Rattle.dom_model.specs.Steps.{Step, make, make_room, place, take_out, set_document, set_attribute, replace_data, split_at, join_at, set_range, queue_record, part_step, after, leave, is_taken}
-use Rattle.dom_model.specs.World.{World, part_of, component_at, component_made, components_below, shadow_root_of, trees_with}
+use Rattle.dom_model.specs.World.{World, part_of, component_at, component_made, components_below, trees_with}
 use Rattle.dom_model.specs.WorldSteps.{world_step, world_after, stepped, with_shadow_document}
 use Rattle.dom_model.proofs.OwnerLaws.{owner_eq-true, owner_eq-false}
 use Rattle.dom_model.proofs.PartLaws.{owner-part_of}
-use Rattle.dom_model.proofs.StepLaws.{owner-part_step, part_of-stepped, part_of-with_signals, part_of-with_removal_signals, part_of-with_notify_if, part_of-world_after}
+use Rattle.dom_model.proofs.StepLaws.{part_of-stepped, part_of-with_signals, part_of-with_removal_signals, part_of-with_notify_if, part_of-world_after}
 use Rattle.dom_slots.specs.Hosts.{ShadowHost}
 use Rattle.dom_tree.specs.Owners.{AreOf}
 use Rattle.dom_tree.proofs.Owned.{AreOf-own}

@@ -3,11 +3,10 @@ use Rattle.std.proofs.Common.{◌≡◌, ◌≢◌, ℕ, suc, ◌<◌, Bool, tru
 use Rattle.std.specs.Prelude.{find, if◌then◌else◌, unwrap_or}
 use Rattle.std.specs.List.{AllByRecursion}
 use Rattle.std.proofs.lemmas.Bool.{cases_Bool}
-use Rattle.dom_base.specs.declared.Kind.{Kind}
 use Rattle.dom_base.specs.declared.Kind.TheVariants.{Shadow}
 use Rattle.dom_base.specs.declared.NodeName.{NodeName}
 use Rattle.dom_model.specs.Names.{name_eq, name_before, is_in, first_of}
-use Rattle.dom_model.specs.Tree.{Trees, none, tree, Node, nodes, names_of, node_in, no_node, kind_of, has_node, inclusive_ancestors, parent_of}
+use Rattle.dom_model.specs.Tree.{Trees, none, tree, Node, nodes, names_of, no_node, kind_of, has_node, inclusive_ancestors, parent_of}
 use Rattle.dom_model.specs.TreeChanges.{placed, taken_out, with_node, put_root, map_nodes}
 use Rattle.dom_model.specs.World.{shadow_root_of}
 use Rattle.dom_slots.specs.Hosts.{ShadowHost, HostsAreNodes}
