@@ -53,7 +53,8 @@ module _ (n : Node) (ts : Trees) where
   new_gone : IsOnce (with_node n ts) → times_in ts n.name ≡ 0
   new_gone once = let a = root_counted n n.name ts in let b = once n.name in omega arith
 
-  new_root : IsOnce (with_node n ts) → parent_of (with_node n ts) n.name ≡ None
+  -- it is a root
+  pub new_root : IsOnce (with_node n ts) → parent_of (with_node n ts) n.name ≡ None
   new_root once = ap (λ path. first_of (drop 1 path)) (path_root n.name n.name n none ts (name_eq-same n.name) (new_gone once))
 
   new_below_none : IsOnce (with_node n ts) → (y : NodeName) → name_eq n.name y ≡ false → is_inclusive_ancestor (with_node n ts) n.name y ≡ false

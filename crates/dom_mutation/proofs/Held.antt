@@ -105,7 +105,7 @@ limit_count n m same few = (
 
 -- ---- one node more
 
-count_more : (o : Owner) (names : List NodeName) (x : NodeName) → count_of o (names ++ x ∷ []) ≡ count_of o names + cond (owner_eq x.owner o) 1 0
+pub count_more : (o : Owner) (names : List NodeName) (x : NodeName) → count_of o (names ++ x ∷ []) ≡ count_of o names + cond (owner_eq x.owner o) 1 0
 count_more o names x = sum_by-append (λ y. cond (owner_eq y.owner o) 1 0) names (x ∷ []) ∙ ap (λ n. count_of o names + n) (zero-add (cond (owner_eq x.owner o) 1 0))
 
 limited_more : (names : List NodeName) (o p : Owner) (n : ℕ) → count_of o names ≤ 1000000 → count_of p names ≤ 1000000 → count_of o names ≢ 1000000 → count_of p (names ++ node_of o n ∷ []) ≤ 1000000

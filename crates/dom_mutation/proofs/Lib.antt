@@ -28,3 +28,12 @@ pub mod Grown
 pub mod Tails
 pub mod Emptied
 pub mod Joined
+pub mod HostedWorlds
+pub mod HostedKeys
+pub mod HostedSteps
+pub mod HostedDocuments
+pub mod EveryNode
+pub mod OwnSteps
+pub mod OwnPlans
+pub mod ShadowRoots
+pub mod AttachedWorlds

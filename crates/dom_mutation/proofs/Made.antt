@@ -17,7 +17,8 @@ page_alone = part_of-world_after
 abbrev state_with : DocState → World → DocState
 state_with d w = record d { world = w }
 
-after_more : (o : Owner) (w : World) (steps more : List Step) → world_after o w (steps ++ more) ≡ world_after o (world_after o w steps) more
+-- steps after others
+pub after_more : (o : Owner) (w : World) (steps more : List Step) → world_after o w (steps ++ more) ≡ world_after o (world_after o w steps) more
 after_more o w [] more = refl
 after_more o w (s ∷ steps) more = after_more o (world_step o w s) steps more
 

@@ -58,12 +58,13 @@ place_within (suc n) o h = elim (In-append o (owners_up_to n) (owner_at n ∷ []
     last (inl e) = let at : place_of o ≡ n = ap place_of (sym e) ∙ place_owner n in (omega arith, ap owner_at at ∙ e)
     last (inr none) = absurd none
 
-In-push : (o : Owner) (os : List Owner) (q : Owner) → In o os → In o (os ++ q ∷ [])
+-- one of these is still one with another behind them
+pub In-push : (o : Owner) (os : List Owner) (q : Owner) → In o os → In o (os ++ q ∷ [])
 In-push o [] q h = absurd h
 In-push o (p ∷ os) q (inl e) = inl e
 In-push o (p ∷ os) q (inr h) = inr (In-push o os q h)
 
-In-end : (os : List Owner) (q : Owner) → In q (os ++ q ∷ [])
+pub In-end : (os : List Owner) (q : Owner) → In q (os ++ q ∷ [])
 In-end [] q = inl refl
 In-end (p ∷ os) q = inr (In-end os q)
 

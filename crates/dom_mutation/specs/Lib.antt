@@ -2,3 +2,4 @@
 pub mod Contents
 pub mod OwnTables
 pub mod Doc
+pub mod Hosting

@@ -1,8 +1,8 @@
 -- A table that is filled slot by slot and tree by tree.
-use Rattle.std.proofs.Common.{◌≡◌, ◌⊎◌, inl, inr, ℕ, zero, suc, ◌+◌, ◌<◌, ◌≤◌, Bool, true, false, ◌||◌, List, [], ◌∷◌, ◌++◌, All, map, take, length, get_or, filter, Option, Some, None, refl, sym, ap, subst, ◌∙◌, true≢false}
+use Rattle.std.proofs.Common.{◌≡◌, ◌⊎◌, inl, inr, ℕ, zero, suc, ◌+◌, ◌<◌, ◌≤◌, Bool, true, false, ◌||◌, List, [], ◌∷◌, ◌++◌, All, map, take, length, get_or, filter, Option, Some, None, refl, sym, ap, subst, ◌∙◌, true≢false, arith}
 use Rattle.std.specs.Prelude.{nat_eq, if◌then◌else◌, slice_get, find, option_to_list}
 use Rattle.std.specs.Option.{option_map, option_map_or, option_and_then}
-use Rattle.std.proofs.lemmas.Bool.{eqb-true, false_from_ne_true, and_parts, or_left, or_right}
+use Rattle.std.proofs.lemmas.Bool.{eqb-true, ne_eqb, false_from_ne_true, and_parts, or_left, or_right}
 use Rattle.std.proofs.lemmas.List.{map-append, take_more, take_all}
 use Rattle.std.proofs.lemmas.List.Folds.{list_any-append}
 use Rattle.std.proofs.lemmas.Option.{slice_get_cases}
@@ -56,6 +56,10 @@ module _ (f : NamedTrees) (hosts : List ShadowHost) (apart : AreDistinct f.names
       by : (b : Bool) → All (λ j. j < length f.names) (if b then list else list_of mid k)
       by true = here
       by false = before k
+
+  -- what is no node has the list that it had
+  pub entered_beyond : (s : ℕ) → s < length f.names → (list : List ℕ) (mid new : SlotTable) → ((k : ℕ) → list_of new k ≡ (if nat_eq s k then list else list_of mid k)) → (k : ℕ) → length f.names ≤ k → list_of new k ≡ list_of mid k
+  entered_beyond s node list mid new written k far = written k ∙ ap (λ (b : Bool). if b then list else list_of mid k) (ne_eqb s k (λ e. omega arith))
 
 module _ (f : NamedTrees) (hosts : List ShadowHost) where
   -- no slot of the trees of these hosts has this name

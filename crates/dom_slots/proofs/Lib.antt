@@ -10,3 +10,5 @@ pub mod Entering
 pub mod Ended
 pub mod Hostless
 pub mod Attaching
+pub mod Recast
+pub mod Added

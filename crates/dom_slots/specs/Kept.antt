@@ -1,9 +1,10 @@
 -- What a contract sees of a `Slots`.
-use Rattle.std.specs.Prelude.{◌≡◌, ℕ, ◌<◌, true, count_by, slice_get, List, length, Option, Some, option_map}
+use Rattle.std.specs.Prelude.{◌≡◌, ℕ, ◌<◌, true, count_by, slice_get, List, [], ◌∷◌, ◌++◌, length, Option, Some, option_map}
 use Rattle.std.specs.Option.{ForSome}
 use Rattle.dom_base.specs.declared.NodeName.{NodeName}
 use Rattle.dom_model.specs.Names.{name_eq}
-use Rattle.dom_model.specs.Tree.{Trees, nodes, has_node}
+use Rattle.dom_model.specs.Tree.{Trees, Node, nodes, has_node}
+use Rattle.dom_model.specs.TreeChanges.{with_node}
 use Rattle.dom_tree.specs.Forest.{NamedTrees, name_at}
 use Rattle.dom_slots.specs.declared.step.Step.{Step}
 use Rattle.dom_slots.specs.Hosts.{ShadowHost, HostsAreNodes}
@@ -27,6 +28,14 @@ pub record SlotsNow : Type 0 where
 pub record StandsOnce (f : NamedTrees) : Type 0 where
   pub once : (k : ℕ) → k < length f.names → count_by (λ n. name_eq n.name (name_at f.names k)) (nodes f.trees) ≡ 1
   pub only : (x : NodeName) → has_node f.trees x ≡ true → (k : ℕ) × (slice_get f.names k ≡ Some x)
+
+-- a forest with a node more, which was just added and stands alone in its tree: what a forest's `add` says, and
+-- `nodes_stand_once` of the forest with it
+pub record HasOneMore (f g : NamedTrees) (n : Node) : Type 0 where
+  pub names : g.names ≡ f.names ++ n.name ∷ []
+  pub trees : g.trees ≡ with_node n f.trees
+  pub distinct : (j k : ℕ) → j < length g.names → k < length g.names → name_at g.names j ≡ name_at g.names k → j ≡ k
+  pub stands : StandsOnce g
 
 -- the slots of a forest when no step is begun
 pub record AreSlotsOf (f : NamedTrees) (s : SlotsNow) : Type 0 where

@@ -1,5 +1,5 @@
 -- The table of a `Slots`: which nodes are assigned to each slot.
-use Rattle.std.specs.Prelude.{◌≡◌, ◌⊎◌, ℕ, ◌<◌, nat_eq, Bool, false, not, List, [], map, length, All, unwrap_or}
+use Rattle.std.specs.Prelude.{◌≡◌, ◌⊎◌, ℕ, ◌<◌, ◌≤◌, nat_eq, Bool, false, not, List, [], map, length, All, unwrap_or}
 use Rattle.std.specs.Map.{lookup}
 use Rattle.dom_base.specs.declared.NodeName.{NodeName}
 use Rattle.dom_model.specs.Names.{list_eq, name_eq, is_in}
@@ -23,6 +23,7 @@ has_other_list was now slot = not (list_eq nat_eq (list_of was slot) (list_of no
 pub record IsTableOf (f : NamedTrees) (hosts : List ShadowHost) (table : SlotTable) : Type 0 where
   pub nodes : (k : ℕ) → All (λ j. j < length f.names) (list_of table k)
   pub lists : (k : ℕ) → k < length f.names → map (name_at f.names) (list_of table k) ≡ assigned_at (shadows f hosts) (name_at f.names k)
+  pub beyond : (k : ℕ) → length f.names ≤ k → list_of table k ≡ []
 
 -- After the slots of a tree were entered in a table: a node's list is what is assigned to it, or it is as it was and the
 -- node is none of these slots.

@@ -1,13 +1,17 @@
 //! Laws of slots, for callers that keep a world.
-ghost use Rattle.std.specs.Prelude.{◌≡◌, Bool as Truth, Some};
+ghost use Rattle.std.specs.Prelude.{◌≡◌, ℕ, ◌≤◌, Bool as Truth, false, [], length, Option as Maybe, None, Some};
 ghost use Rattle.dom_base.specs.declared.NodeName.{NodeName as Name};
 ghost use Rattle.dom_model.specs.World.{World};
-ghost use Rattle.dom_model.specs.Slots.{slot_of, assigned, signals};
+ghost use Rattle.dom_model.specs.Names.{DomString};
+ghost use Rattle.dom_model.specs.Slots.{slot_of, assigned, signals, is_slot_element, slots_among};
+ghost use Rattle.dom_model.specs.Tree.{Node, subtree};
+ghost use Rattle.dom_model.specs.TreeChanges.{change_node, change_subtree, under_document, with_document, with_text};
 ghost use Rattle.dom_slots.specs.Shadows.{ShadowTrees, IsShownBy, slot_at, assigned_at, signals_at};
-ghost use Rattle.dom_slots.specs.Kept.{BegunStep, SlotsNow, AreSlotsOf, IsBegun, IsEndOf};
+ghost use Rattle.dom_slots.specs.Kept.{BegunStep, SlotsNow, HasOneMore, AreSlotsOf, IsBegun, IsEndOf};
 ghost use Rattle.dom_slots.specs.Steps.{StepHasNodes, IsStepFrom};
 ghost use Rattle.dom_slots.specs.declared.step.Step.{Step};
-ghost use Rattle.dom_tree.specs.Forest.{NamedTrees};
+ghost use Rattle.dom_slots.specs.Hosts.{host_of_root};
+ghost use Rattle.dom_tree.specs.Forest.{NamedTrees, name_at};
 
 /// Holds of every world: where it has just the trees and the hosts that slots are read from, its slots, assigned nodes
 /// and signals are those that are read (DOM Standard, 4.2.2 Shadow tree).
@@ -20,4 +24,19 @@ pub fn slots_are_of_worlds()
 /// Holds of every forest: a step that was begun, and then done and nothing else, can be ended (own rule).
 pub fn steps_end()
     ensures { (old new : NamedTrees) (before after : SlotsNow) (step : Step) (b : BegunStep) → new.names ≡ old.names → StepHasNodes old.names step → AreSlotsOf old before → after.hosts ≡ before.hosts → after.table ≡ before.table → after.begun ≡ Some b → IsBegun old before.hosts step b → IsStepFrom old.names old.trees new.trees step b.left → IsEndOf old.trees new after b }
+{}
+
+/// Holds of every forest: a node more, alone in its tree, other node documents and other data leave the slots those of
+/// the forest (own rule).
+pub fn slots_stay()
+    ensures added { (f g : NamedTrees) (n : Node) (s : SlotsNow) → HasOneMore f g n → AreSlotsOf f s → AreSlotsOf g s }
+    ensures document { (f g : NamedTrees) (x : Name) (d : Maybe Name) (s : SlotsNow) → g.names ≡ f.names → g.trees ≡ change_node (under_document d) x f.trees → AreSlotsOf f s → AreSlotsOf g s }
+    ensures documents { (f g : NamedTrees) (x d : Name) (s : SlotsNow) → g.names ≡ f.names → g.trees ≡ change_subtree (with_document d) x f.trees → AreSlotsOf f s → AreSlotsOf g s }
+    ensures text { (f g : NamedTrees) (x : Name) (text : DomString) (s : SlotsNow) → g.names ≡ f.names → g.trees ≡ change_node (with_text text) x f.trees → AreSlotsOf f s → AreSlotsOf g s }
+{}
+
+/// Holds of every forest: a node that was just added and is no slot may be attached as a shadow root (own rule).
+pub fn new_nodes_are_free()
+    ensures bare { (f g : NamedTrees) (n : Node) → HasOneMore f g n → is_slot_element n ≡ false → slots_among (subtree g.trees (name_at g.names (length f.names))) ≡ [] }
+    ensures unhosted { (f : NamedTrees) (s : SlotsNow) (k : ℕ) → AreSlotsOf f s → length f.names ≤ k → host_of_root s.hosts k ≡ None }
 {}

@@ -11,6 +11,6 @@ mod table;
 #[cfg(test)]
 mod tests;
 
-pub use laws::{slots_are_of_worlds, steps_end};
+pub use laws::{new_nodes_are_free, slots_are_of_worlds, slots_stay, steps_end};
 pub use slots::Slots;
 pub use step::Step;

@@ -1,5 +1,5 @@
 //! Steps that are begun and ended, and the slots that they signal.
-ghost use Rattle.std.specs.Prelude.{◌≡◌, ℕ, ◌<◌, ◌^◌, slice_get, ◌++◌, ◌∷◌, [], Bool as Truth, Some, None, map, length, filter, All, option_to_list, is_some, if◌then◌else◌, ◌&&◌, OnOk, IfOk};
+ghost use Rattle.std.specs.Prelude.{◌≡◌, ℕ, ◌<◌, ◌≤◌, ◌^◌, slice_get, ◌++◌, ◌∷◌, [], Bool as Truth, Some, None, map, length, filter, All, option_to_list, is_some, if◌then◌else◌, ◌&&◌, OnOk, IfOk};
 ghost use Rattle.std.specs.Option.{option_map, option_map_or, ForSome};
 ghost use Rattle.dom_base.specs.declared.NodeName.{NodeName as Name};
 ghost use Rattle.dom_model.specs.Names.{name_eq, distinct};
@@ -162,6 +162,7 @@ impl Slots {
         requires hosts { HostsAreNodes forest.now.names self.now.hosts }
         ensures lists { OnOk result ((k : ℕ) → k < length forest.now.names → IsEntered forest.now self.now.hosts (slots_among (subtree forest.now.trees (name_at forest.now.names root))) table.old table.new k) }
         ensures nodes { OnOk result (((k : ℕ) → All (λ j. j < length forest.now.names) (list_of table.old k)) → (k : ℕ) → All (λ j. j < length forest.now.names) (list_of table.new k)) }
+        ensures beyond { OnOk result ((k : ℕ) → length forest.now.names ≤ k → list_of table.new k ≡ list_of table.old k) }
     {
         forest.nodes_stand_once();
         let slots = slots_below(self.alloc, forest, root)?;

@@ -3,12 +3,12 @@ use Rattle.std.proofs.lemmas.List.{take_all}
 use Rattle.std.proofs.lemmas.List.Elements.{All-get_or}
 use Rattle.dom_tree.specs.Forest.{name_at}
 use Rattle.dom_slots.specs.Tables.{IsEntered}
-use Rattle.dom_slots.proofs.Entering.{entered_none, entered_more, entered_nodes}
+use Rattle.dom_slots.proofs.Entering.{entered_none, entered_more, entered_nodes, entered_beyond}
 use Rattle.dom_slots.proofs.slots.Slots.add_tree.Goals as goal
 
 pub loop-slot-init : goal.loop-slot-init
 loop-slot-init c =
-    record { lists = λ k h. entered_none c.args.forest.now c.args.self.now.hosts c.nodes_stand_once.ensures.distinct (map (name_at c.args.forest.now.names) (take 0 c.deref-slot-items.result.now)) refl c.args.table.now k; nodes = λ h. h }
+    record { lists = λ k h. entered_none c.args.forest.now c.args.self.now.hosts c.nodes_stand_once.ensures.distinct (map (name_at c.args.forest.now.names) (take 0 c.deref-slot-items.result.now)) refl c.args.table.now k; nodes = λ h. h; beyond = λ k h. refl }
 
 pub loop-slot-preserved : goal.loop-slot-preserved
 loop-slot-preserved c =
@@ -21,6 +21,7 @@ loop-slot-preserved c =
     record {
       lists = λ k h. entered_more f c.args.self.now.hosts c.nodes_stand_once.ensures.distinct slots i s c.slot-item.is c.loop-slot-test.true node c.in_ok-list.list.items c.in_ok-list.ensures.value c.args.table.now c.loop-slot.table c.insert.new.self c.in_ok-insert.ensures k h (c.loop-slot.invariant.lists k h);
       nodes = λ all. entered_nodes f c.args.self.now.hosts c.nodes_stand_once.ensures.distinct s c.in_ok-list.list.items c.in_ok-list.ensures.nodes c.loop-slot.table c.insert.new.self c.in_ok-insert.ensures (c.loop-slot.invariant.nodes all);
+      beyond = λ k h. entered_beyond f c.args.self.now.hosts c.nodes_stand_once.ensures.distinct s node c.in_ok-list.list.items c.loop-slot.table c.insert.new.self c.in_ok-insert.ensures k h ∙ c.loop-slot.invariant.beyond k h;
     }
 
 pub returns-clause-lists : goal.returns-clause-lists

@@ -54,6 +54,7 @@ returns-clause-slots c =
     let table : IsTableOf f (old.hosts ++ h ∷ []) old.table = record {
       nodes = slots.table.nodes;
       lists = λ k node. slots.table.lists k node ∙ same_assigned f.names f.trees old.hosts h bare (λ y is. bare_unassigned f once old.hosts (name_at f.names c.args.root) bare y is) (name_at f.names k);
+      beyond = slots.table.beyond;
     } in
     record {
       hosts = subst (HostsAreNodes f.names) hosts_are (hosts_more f.names old.hosts h slots.hosts host root);

@@ -11,6 +11,7 @@ pub loop-root-init : goal.loop-root-init
 loop-root-init c = record {
   lists = λ k h. inr (ap (λ (t : SlotTable). list_of t k) c.new-table.ensures, tt);
   nodes = λ k. subst (λ (t : SlotTable). All (λ j. j < length c.args.forest.now.names) (list_of t k)) (sym c.new-table.ensures) (All-nil (λ j. j < length c.args.forest.now.names));
+  beyond = λ k h. ap (λ (t : SlotTable). list_of t k) c.new-table.ensures;
 }
 
 pub add_tree-requires-clause-node : goal.add_tree-requires-clause-node
@@ -30,6 +31,7 @@ loop-root-preserved c =
       lists = λ k h. subst (λ done. IsFilled f hosts done c.add_tree.new.table k) (sym v.4) (filled_more f hosts (take c.loop-root.index hosts) v.0 c.loop-root.table c.add_tree.new.table k (c.loop-root.invariant.lists k h)
           (subst (λ r. IsEntered f hosts (slots_among (subtree f.trees (name_at f.names r))) c.loop-root.table c.add_tree.new.table k) (sym v.3) (c.in_ok-add_tree.ensures.lists k h)));
       nodes = c.in_ok-add_tree.ensures.nodes c.loop-root.invariant.nodes;
+      beyond = λ k h. c.in_ok-add_tree.ensures.beyond k h ∙ c.loop-root.invariant.beyond k h;
     }
 
 pub returns : goal.returns
@@ -43,4 +45,5 @@ returns c =
         | inl r ↦ r
         | inr e ↦ ap (map (name_at f.names)) e.0 ∙ unslotted f hosts (name_at f.names k) e.1
       ];
+      beyond = c.loop-root.invariant.beyond;
     }
