@@ -134,3 +134,8 @@ module _ (f : NamedTrees) (hosts : List ShadowHost) (distinct : AreDistinct f.na
     -- of another node
     pub up-plain : x.is_shadow_root ≡ false → option_or (slot_at (shadows f hosts) (named x)) (parent_of f.trees (named x)) ≡ up
     up-plain e = sym (ap (λ b. if b then (if composed || not (name_eq (named x) (name top)) then host_named f.names hosts (named x) else None) else option_or (slot_at (shadows f hosts) (named x)) (parent_of f.trees (named x))) (sym place.shadow ∙ e))
+
+-- a related node by its place is that by its key
+pub related-key : (names : List NodeName) (r : Option Stand) (k : Option ℕ) → option_map (λ (a : Stand). a.node) r ≡ k → option_map (λ (a : Stand). name_at names a.node) r ≡ option_map (name_at names) k
+related-key names None k e = ap (option_map (name_at names)) e
+related-key names (Some a) k e = ap (option_map (name_at names)) e

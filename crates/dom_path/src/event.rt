@@ -1,8 +1,9 @@
 //! The rules by which a path is built.
-ghost use Rattle.std.specs.Prelude.{◌≡◌, ◌<◌, None, option_map, IfOk};
+ghost use Rattle.std.specs.Prelude.{◌≡◌, ◌<◌, length, None, option_map, IfOk};
 ghost use Rattle.std.specs.Option.{ForSome};
 ghost use Rattle.std.specs.List.{AllByRecursion};
 ghost use Rattle.dom_tree.specs.Forest.{name_at};
+ghost use Rattle.dom_slots.specs.Hosts.{HostsAreNodes};
 ghost use Rattle.dom_slots.specs.Kept.{AreSlotsOf};
 ghost use Rattle.dom_slots.specs.Shadows.{shadows, is_assigned_at};
 ghost use Rattle.dom_path.specs.Stands.{IsStand, item_from, ends_before, is_silent, related_from};
@@ -25,6 +26,34 @@ pub(crate) struct Event {
 }
 
 impl Event {
+    /// The places of a target and of the related node, if there is one.
+    pub(crate) fn new(
+        forest: &Forest,
+        slots: &Slots,
+        target: Key,
+        related: Option<Key>,
+        composed: bool,
+    ) -> Event
+        requires target_is_node { target < length forest.now.names }
+        requires related_is_node { ForSome related (λ k. k < length forest.now.names) }
+        requires hosts { HostsAreNodes forest.now.names slots.now.hosts }
+        ensures places { IsEvent forest.now slots.now.hosts result.target result.related }
+        ensures target { result.target.node ≡ target }
+        ensures related { option_map (λ x. x.node) result.related ≡ related }
+        ensures composed { result.composed ≡ composed }
+    {
+        let target = Stand::of(forest, slots, target, false);
+        let related = match related {
+            Some(related) => Some(Stand::of(forest, slots, related, false)),
+            None => None,
+        };
+        Event {
+            target,
+            related,
+            composed,
+        }
+    }
+
     /// The items of the path: of the target, and then each event parent's, up to where the path ends (DOM Standard, concept:
     /// dispatch). One look for a slot a node, and the walks up to roots are walks along the path.
     pub(crate) fn items(

@@ -1,5 +1,6 @@
 //! Event paths.
-ghost use Rattle.std.specs.Prelude.{◌≡◌, ℕ, ◌<◌, Some, None, All, length, map, option_map, slice_get, IfOk};
+ghost use Rattle.std.specs.Prelude.{◌≡◌, ℕ, ◌<◌, Some, None, length, map, option_map, slice_get, IfOk};
+ghost use Rattle.std.specs.List.{AllByRecursion};
 ghost use Rattle.std.specs.Option.{ForSome};
 ghost use Rattle.dom_model.specs.Paths.{View, views};
 ghost use Rattle.dom_model.specs.World.{World};
@@ -9,7 +10,6 @@ ghost use Rattle.dom_path.specs.Items.{IsWorldOf, HasNodes, item_named, view_nam
 
 use crate::event::Event;
 use crate::item::Item;
-use crate::stand::Stand;
 use dom_slots::Slots;
 use dom_tree::Forest;
 use node_arena::Key;
@@ -51,19 +51,10 @@ impl Path {
         requires slots { AreSlotsOf forest.now slots.now }
         ensures items { IfOk result (λ p. (w : World) → IsWorldOf forest.now slots.now.hosts w → map (item_named forest.now.names) p.items ≡ path_items w (name_at forest.now.names target) (option_map (name_at forest.now.names) related) composed) }
         ensures views { IfOk result (λ p. (w : World) → IsWorldOf forest.now slots.now.hosts w → map (view_named forest.now.names) p.views ≡ views w (name_at forest.now.names target) (option_map (name_at forest.now.names) related) composed) }
-        ensures nodes { IfOk result (λ p. All (HasNodes forest.now.names) p.items) }
+        ensures nodes { IfOk result (λ p. AllByRecursion (HasNodes forest.now.names) p.items) }
     {
         forest.nodes_stand_once();
-        let target = Stand::of(forest, slots, target, false);
-        let related = match related {
-            Some(related) => Some(Stand::of(forest, slots, related, false)),
-            None => None,
-        };
-        let event = Event {
-            target,
-            related,
-            composed,
-        };
+        let event = Event::new(forest, slots, target, related, composed);
         if event.is_silent() {
             return Ok(Path {
                 items: Vec::new(alloc),
