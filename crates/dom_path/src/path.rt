@@ -77,7 +77,7 @@ impl Path {
         requires { at < length self.now.items }
         ensures { IfOk result (λ nodes. option_map (λ (v : View ℕ). v.path) (slice_get self.now.views at) ≡ Some nodes.items) }
     {
-        let items = self.items.as_slice();
+        let items = self.items();
         let root = items[at].root;
         let mut nodes = Vec::new(self.alloc);
         for item in items {
