@@ -1,5 +1,8 @@
 //! Trees with shadow hosts for tests, and paths that are compared with rows.
-ghost use Rattle.std.specs.Prelude.{◌≡◌, ◌<◌, length, None, IfOk, OnOk};
+ghost use Rattle.std.specs.Prelude.{◌≡◌, ◌<◌, [], true, length, None, IfOk, OnOk};
+ghost use Rattle.dom_model.specs.Slots.{slots_among};
+ghost use Rattle.dom_model.specs.Tree.{subtree};
+ghost use Rattle.dom_tree.specs.Forest.{name_at};
 ghost use Rattle.dom_slots.specs.Kept.{AreSlotsOf};
 
 use crate::{Item, Path};
@@ -90,6 +93,21 @@ fn key_of(rt: &impl Abort, forest: &Forest, text: &str) -> Key
     forest.find(name(text)).expect(rt, "there is no such node")
 }
 
+// Whether a node is a shadow root without children, so that no slot is in its tree.
+fn is_alone(forest: &Forest, root: Key) -> bool
+    requires { root < length forest.now.names }
+    ensures { result ≡ true → slots_among (subtree forest.now.trees (name_at forest.now.names root)) ≡ [] }
+{
+    forest.nodes_stand_once();
+    let Kind::Shadow = forest.kind(root) else {
+        return false;
+    };
+    if !forest.is_inclusive_ancestor(root, root) {
+        return false;
+    }
+    forest.following(root, root).is_none()
+}
+
 // Attaches a shadow root without children.
 fn attach(
     rt: &impl Abort,
@@ -109,9 +127,7 @@ fn attach(
     let root = key_of(rt, forest, root);
     assert!(rt; slots.root_of(host).is_none());
     assert!(rt; slots.host_of(root).is_none());
-    assert!(rt; forest.is_inclusive_ancestor(root, root));
-    assert!(rt; forest.following(root, root).is_none());
-    assert!(rt; matches!(forest.kind(root), Kind::Shadow));
+    assert!(rt; is_alone(forest, root));
     slots.attach(host, root, owner)
 }
 
