@@ -1,16 +1,15 @@
 -- The places of nodes by keys are their places by names.
-use Rattle.std.proofs.Common.{◌≡◌, ℕ, ◌<◌, Bool, true, false, not, ◌&&◌, ◌||◌, List, [], ◌∷◌, length, Option, Some, None, refl, sym, ap, ◌∙◌, true≢false}
+use Rattle.std.proofs.Common.{◌≡◌, ℕ, ◌<◌, Bool, true, false, not, ◌&&◌, ◌||◌, List, [], ◌∷◌, length, Option, Some, None, refl, sym, ap, ◌∙◌}
 use Rattle.std.specs.Prelude.{nat_eq, option_map, option_to_list, unwrap_or, if◌then◌else◌}
-use Rattle.std.specs.Option.{ForSome, option_or, option_and_then}
+use Rattle.std.specs.Option.{ForSome, option_or}
 use Rattle.dom_base.specs.declared.NodeName.{NodeName}
 use Rattle.dom_model.specs.Names.{name_eq, is_in, last_of}
-use Rattle.dom_model.specs.Slots.{slot_in}
-use Rattle.dom_model.specs.Tree.{Trees, Node, is_shadow, is_element, is_text, inclusive_ancestors, node_in, parent_of, root_of, subtree}
+use Rattle.dom_model.specs.Tree.{Trees, inclusive_ancestors, parent_of, root_of}
 use Rattle.dom_isolation.specs.Sights.{seen_as}
 use Rattle.dom_tree.specs.Forest.{NamedTrees, name_at}
 use Rattle.dom_traversal.proofs.Shapes.{Has, Once, above-parent, above-present}
 use Rattle.dom_slots.specs.Hosts.{ShadowHost, HostsAreNodes, host_of_root, host_named}
-use Rattle.dom_slots.specs.Shadows.{ShadowTrees, shadows, slot_at}
+use Rattle.dom_slots.specs.Shadows.{shadows, slot_at}
 use Rattle.dom_slots.proofs.Hosted.{AreDistinct, key-test, host-named, found-test}
 use Rattle.dom_path.specs.declared.stand.Stand.{Stand}
 use Rattle.dom_path.specs.Stands.{IsStand, seen_from, related_from, is_key, ends_before, is_silent}

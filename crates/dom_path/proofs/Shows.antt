@@ -1,5 +1,5 @@
 -- The items of a path and what the event shows at each are those of every world that has these trees and hosts.
-use Rattle.std.proofs.Common.{◌≡◌, ℕ, ◌<◌, Bool, true, false, not, ◌&&◌, List, [], ◌∷◌, length, map, filter, take_while, Option, Some, None, option_map, refl, sym, ap, subst, ◌∙◌}
+use Rattle.std.proofs.Common.{◌≡◌, ℕ, Bool, true, false, not, ◌&&◌, List, [], ◌∷◌, map, filter, take_while, Option, Some, None, option_map, refl, sym, ap, subst, ◌∙◌}
 use Rattle.std.specs.Prelude.{nat_eq, is_some, if◌then◌else◌}
 use Rattle.std.specs.List.{AllByRecursion}
 use Rattle.std.specs.Option.{ForSome, option_and_then, option_map_or}
@@ -9,21 +9,21 @@ use Rattle.dom_base.specs.declared.NodeName.{NodeName}
 use Rattle.dom_model.specs.Names.{name_eq, first_of}
 use Rattle.dom_model.specs.Paths.{View, is_node, is_hidden_from, retarget, retarget_related, event_parent, event_path, whole_path, views, view_at, FollowsParents}
 use Rattle.dom_model.specs.Slots.{is_assigned_to}
-use Rattle.dom_model.specs.Tree.{has_node, is_shadow}
-use Rattle.dom_model.specs.World.{World, kind_at}
+use Rattle.dom_model.specs.Tree.{has_node}
+use Rattle.dom_model.specs.World.{World}
 use Rattle.dom_isolation.proofs.FollowEvents.{path-follows_parents}
 use Rattle.dom_isolation.proofs.Tests.{by_cases}
 use Rattle.dom_model.proofs.OwnerLaws.{name_eq-same}
 use Rattle.dom_tree.specs.Forest.{NamedTrees, name_at}
 use Rattle.dom_slots.specs.Hosts.{ShadowHost}
-use Rattle.dom_slots.specs.Shadows.{shadows, is_assigned_at}
+use Rattle.dom_slots.specs.Shadows.{shadows}
 use Rattle.dom_slots.proofs.Hosted.{AreDistinct, key-test}
 use Rattle.dom_path.specs.declared.item.Item.{Item}
 use Rattle.dom_path.specs.declared.stand.Stand.{Stand}
 use Rattle.dom_path.specs.Built.{IsItemOf, IsWay, GoesOn, next_name}
-use Rattle.dom_path.specs.Items.{PathItem, IsWorldOf, HasNodes, item_named, view_named, path_item, items_along, path_items}
-use Rattle.dom_path.specs.Stands.{IsStand, seen_from, related_from, key_if, item_from, is_hidden_item, shown_nodes, view_in}
-use Rattle.dom_path.specs.Ways.{host_above_at, is_hidden_at, unless_ended, event_parent_at, ends_at, is_empty_at}
+use Rattle.dom_path.specs.Items.{IsWorldOf, HasNodes, item_named, view_named, path_item, items_along, path_items}
+use Rattle.dom_path.specs.Stands.{IsStand, seen_from, key_if, is_hidden_item, shown_nodes, view_in}
+use Rattle.dom_path.specs.Ways.{unless_ended, ends_at, is_empty_at}
 use Rattle.dom_path.proofs.Places.{tree-test, host-place, seen-named, related-named, seen-node, related-node}
 use Rattle.dom_path.proofs.Sightings.{kind-is, there-is, hidden-is, seen-is, related-is, ends-is, empty-is, entered-is, up-is}
 

@@ -1,5 +1,5 @@
 -- What is read of trees with hosts is what is read of a world that has just these: roots, hosts, event parents, and what is hidden.
-use Rattle.std.proofs.Common.{◌≡◌, inl, inr, Bool, true, false, ◌&&◌, ◌||◌, not, List, Option, Some, None, option_map, refl, sym, ap, ◌∙◌}
+use Rattle.std.proofs.Common.{◌≡◌, inl, inr, Bool, true, false, ◌&&◌, ◌||◌, not, List, Option, Some, None, refl, sym, ap, ◌∙◌}
 use Rattle.std.specs.Prelude.{if◌then◌else◌, is_some, IsTrue}
 use Rattle.std.specs.Option.{option_and_then, option_or}
 use Rattle.std.proofs.lemmas.Bool.{cases_Bool, both_ways}
@@ -12,7 +12,6 @@ use Rattle.dom_isolation.specs.Sights.{seen_as}
 use Rattle.dom_isolation.specs.Tables.{IsNodeAt}
 use Rattle.dom_isolation.proofs.FollowPaths.{shadow-name}
 use Rattle.dom_isolation.proofs.Sights.{hidden-by_roots, retarget-by_roots}
-use Rattle.dom_isolation.proofs.Tests.{by_cases}
 use Rattle.dom_tree.specs.Forest.{NamedTrees}
 use Rattle.dom_tree.proofs.Owned.{read_own, stays_own}
 use Rattle.dom_traversal.proofs.Lists.{name_eq-true, name_eq-from}

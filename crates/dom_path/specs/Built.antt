@@ -1,5 +1,5 @@
 -- How the items of a path are built, by the trees and the hosts alone.
-use Rattle.std.specs.Prelude.{◌≡◌, ℕ, Bool, false, List, [], ◌∷◌, Option, Some, None, option_map}
+use Rattle.std.specs.Prelude.{◌≡◌, Bool, false, List, [], ◌∷◌, Option, Some, None, option_map}
 use Rattle.std.specs.Option.{ForSome}
 use Rattle.dom_base.specs.declared.NodeName.{NodeName}
 use Rattle.dom_tree.specs.Forest.{NamedTrees, name_at}

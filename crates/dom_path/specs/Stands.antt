@@ -1,7 +1,6 @@
 -- What the code keeps of a node of a path: its place, by keys.
 use Rattle.std.specs.Prelude.{◌≡◌, ℕ, ◌<◌, nat_eq, Bool, not, ◌&&◌, List, length, map, filter, Option, Some, None, option_map, is_some, unwrap_or, if◌then◌else◌}
 use Rattle.std.specs.Option.{ForSome, option_eq}
-use Rattle.dom_base.specs.declared.NodeName.{NodeName}
 use Rattle.dom_model.specs.Paths.{View}
 use Rattle.dom_model.specs.Tree.{is_shadow, node_in, root_of}
 use Rattle.dom_tree.specs.Forest.{NamedTrees, name_at}

@@ -1,11 +1,10 @@
-use Rattle.std.proofs.Common.{◌≡◌, false, true, [], map, None, Option, Bool, ℕ, List, sym, ap, ◌∙◌}
+use Rattle.std.proofs.Common.{◌≡◌, false, true, map, None, sym, ap, ◌∙◌}
 use Rattle.std.specs.Prelude.{option_map}
 use Rattle.dom_model.specs.Paths.{views}
 use Rattle.dom_tree.specs.Forest.{name_at}
 use Rattle.dom_slots.specs.Shadows.{shadows}
 use Rattle.dom_path.specs.declared.stand.Stand.{Stand}
-use Rattle.dom_path.specs.Items.{path_items, items_along, view_named, item_named}
-use Rattle.dom_path.specs.Stands.{view_in}
+use Rattle.dom_path.specs.Items.{path_items, items_along, item_named}
 use Rattle.dom_path.specs.Ways.{is_empty_at}
 use Rattle.dom_path.proofs.Places.{related-key, silent-named}
 use Rattle.dom_path.proofs.Shows.{nodes-are, none-are, nothing-shown, views-are, items-are, nodes-within}

@@ -1,13 +1,11 @@
-use Rattle.std.proofs.Common.{◌≡◌, Bool, ◌&&◌, not, false, List, [], ◌∷◌, Option, None, Some, filter, refl, sym, ap, ◌∙◌}
+use Rattle.std.proofs.Common.{◌≡◌, Bool, ◌&&◌, not, false, List, [], ◌∷◌, None, filter, refl, sym, ap, ◌∙◌}
 use Rattle.std.specs.Prelude.{if◌then◌else◌, codes}
 use Rattle.std.specs.Option.{option_map}
 use Rattle.dom_base.specs.declared.NodeName.{NodeName}
-use Rattle.dom_base.specs.declared.Kind.{Kind}
-use Rattle.dom_base.specs.declared.Kind.TheVariants.{Shadow}
 use Rattle.dom_model.specs.Names.{first_of, text_eq}
-use Rattle.dom_model.specs.Slots.{is_slot_element, slots_among}
-use Rattle.dom_model.specs.Tree.{node_in, subtree, is_element, inclusive_descendants}
-use Rattle.dom_tree.specs.Forest.{NamedTrees, name_at}
+use Rattle.dom_model.specs.Slots.{is_slot_element}
+use Rattle.dom_model.specs.Tree.{node_in, is_element}
+use Rattle.dom_tree.specs.Forest.{name_at}
 use Rattle.dom_traversal.specs.Within.{behind}
 use Rattle.dom_traversal.proofs.Climbing.{was_none}
 use Rattle.dom_traversal.proofs.Counts.{Once-forest}
