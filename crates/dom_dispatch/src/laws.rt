@@ -1,0 +1,10 @@
+//! Laws of listeners and dispatch, for callers that keep a world.
+ghost use Rattle.dom_dispatch.specs.Named.{ListenedByNames, UnlistenedByNames, DispatchedByNames};
+
+/// Holds of every forest, since names tell its nodes apart: what is done to listeners by keys, and what a dispatch along the views of
+/// a path by keys does, is what is done by names (DOM Standard, 2.7 and 2.9).
+pub fn keys_stand_for_names()
+    ensures listened { ListenedByNames }
+    ensures unlistened { UnlistenedByNames }
+    ensures dispatched { DispatchedByNames }
+{}
