@@ -87,3 +87,54 @@ module _ {N : Type 0} (same : N → N → Bool) (e : EventWords) where
         by false =
             calls-narrow v (filter (hears same e v) s.listeners) s
             ∙ ap (fold (called same e v) (narrowed c s)) (sym (filter-wider (hears same e v) c wider s.listeners))
+
+  -- ---- the other listeners
+
+  -- a visit that hears only listeners which are apart from those that pass c
+  module _ (c : Listener N → Bool) (v : Visit N)
+      (apart : (l m : Listener N) → hears same e v l ≡ true → c m ≡ true → is_listener same l.node l.words.event l.words.label l.words.capture m ≡ false) where
+    -- one that is for once is none of them
+    kept-apart : (l : Listener N) → hears same e v l ≡ true → (ls : List (Listener N)) → filter c (kept_after same l ls) ≡ filter c ls
+    kept-apart l h ls = by l.words.once
+      where
+        by : (b : Bool) → filter c (if b then unlistened same l.node l.words.event l.words.label l.words.capture ls else ls) ≡ filter c ls
+        by true = filter-wider c (λ m. not (is_listener same l.node l.words.event l.words.label l.words.capture m)) (λ m k. ap not (apart l m h k)) ls
+        by false = refl
+
+    -- an action leaves listeners
+    acted-apart : (a : Action) (cancels : Bool) (s : Dispatching N) → (after_action a cancels s).listeners ≡ s.listeners
+    acted-apart Log cancels s = refl
+    acted-apart Stop cancels s = refl
+    acted-apart StopNow cancels s = refl
+    acted-apart Cancel cancels s = refl
+
+    -- one call
+    called-apart : (s : Dispatching N) (l : Listener N) → hears same e v l ≡ true → filter c (called same e v s l).listeners ≡ filter c s.listeners
+    called-apart s l h = by s.stopped_now
+      where
+        by : (b : Bool) → filter c (if b then s else after_action l.words.action (may_cancel e l.words) (record s { listeners = kept_after same l s.listeners; lines = s.lines ++ line_of v l.words ∷ [] })).listeners ≡ filter c s.listeners
+        by true = refl
+        by false = ap (filter c) (acted-apart l.words.action (may_cancel e l.words) (record s { listeners = kept_after same l s.listeners; lines = s.lines ++ line_of v l.words ∷ [] })) ∙ kept-apart l h s.listeners
+
+    -- the calls of listeners that hear
+    calls-apart : (heard : List (Listener N)) → AllByRecursion (λ l. hears same e v l ≡ true) heard → (s : Dispatching N) → filter c (fold (called same e v) s heard).listeners ≡ filter c s.listeners
+    calls-apart [] h s = refl
+    calls-apart (l ∷ heard) h s = calls-apart heard h.1 (called same e v s l) ∙ called-apart s l h.0
+
+    -- those that are kept pass
+    passing : (ls : List (Listener N)) → AllByRecursion (λ l. hears same e v l ≡ true) (filter (hears same e v) ls)
+    passing [] = tt
+    passing (l ∷ ls) = by (hears same e v l) refl (passing ls)
+      where
+        by : (b : Bool) → hears same e v l ≡ b → AllByRecursion (λ l. hears same e v l ≡ true) (filter (hears same e v) ls)
+            → AllByRecursion (λ l. hears same e v l ≡ true) (if b then l ∷ filter (hears same e v) ls else filter (hears same e v) ls)
+        by true h rest = (h, rest)
+        by false h rest = rest
+
+    -- the visit
+    pub visited-apart : (s : Dispatching N) → filter c (visited same e s v).listeners ≡ filter c s.listeners
+    visited-apart s = by s.stopped
+      where
+        by : (b : Bool) → filter c (if b then s else fold (called same e v) s (filter (hears same e v) s.listeners)).listeners ≡ filter c s.listeners
+        by true = refl
+        by false = calls-apart (filter (hears same e v) s.listeners) (passing s.listeners) s

@@ -4,4 +4,4 @@
 
 mod laws;
 
-pub use laws::keys_stand_for_names;
+pub use laws::{keys_stand_for_names, one_list_serves_all};
