@@ -141,7 +141,7 @@ module _ {only_log : Bool} (w : World) (r : IsReached only_log w) (composed : Bo
   shadow-up y e = cond-true (is_shadow (kind_at w y)) (if composed || not (name_eq y (root_at w first)) then host_of w y.owner else None) (option_or (slot_of w y) (parent_at w y)) e
 
   -- a shadow root has its owner's first name
-  shadow-name : (y : NodeName) (o : Owner) → y.owner ≡ o → is_shadow (kind_at w y) ≡ true → (o ≡ Page → ⊥) × (y ≡ shadow_root_of y.owner)
+  pub shadow-name : (y : NodeName) (o : Owner) → y.owner ≡ o → is_shadow (kind_at w y) ≡ true → (o ≡ Page → ⊥) × (y ≡ shadow_root_of y.owner)
   shadow-name y o e h = named o e (subst (λ a. MayBeShadow a y) e (no_other_shadow_roots only_log w r y (shadow-kind (kind_at w y) h)))
     where
       named : (o : Owner) → y.owner ≡ o → MayBeShadow o y → (o ≡ Page → ⊥) × (y ≡ shadow_root_of y.owner)

@@ -1,0 +1,116 @@
+-- A dispatch with one list of all owners' listeners is the dispatch in the world.
+use Rattle.std.proofs.Common.{◌≡◌, ◌≢◌, Bool, true, false, not, ◌&&◌, List, [], ◌∷◌, filter, fold, map, Option, refl, sym, ap, subst, ◌∙◌, true≢false}
+use Rattle.std.specs.Prelude.{nat_eq}
+use Rattle.std.specs.Bool.{beq}
+use Rattle.dom_base.specs.declared.Owner.{Owner}
+use Rattle.dom_base.specs.declared.NodeName.{NodeName}
+use Rattle.dom_model.specs.Names.{owner_eq, name_eq, text_eq}
+use Rattle.dom_model.specs.Command.{EventWords}
+use Rattle.dom_model.specs.Listeners.{Listener, Visit, Dispatching, visited, begun, hears, is_listener}
+use Rattle.dom_model.specs.Dispatch.{world_visit, visits_of, event_output}
+use Rattle.dom_model.specs.Part.{Part}
+use Rattle.dom_model.specs.Paths.{views}
+use Rattle.dom_model.specs.World.{World, part_of, with_part}
+use Rattle.dom_model.proofs.OwnerLaws.{owner_eq-true, owner_eq-same, ne-owner_eq}
+use Rattle.dom_model.proofs.PartLaws.{part_of-with_part, part_of-with_part-other, owner-part_of}
+use Rattle.dom_isolation.proofs.Tests.{by_cases}
+use Rattle.dom_dispatch.specs.Kept.{is_of_owner, HasListeners, DispatchedAmong, DispatchedAlong, dispatch_along, dispatch_among}
+use Rattle.dom_dispatch.specs.Named.{listener_named, dispatching_named}
+use Rattle.dom_dispatch.proofs.Naming.{dispatched-named}
+use Rattle.dom_dispatch.proofs.Narrowing.{narrowed, visited-narrow, visited-apart}
+
+-- the first of two tests that hold
+and-first : (a b : Bool) → (a && b) ≡ true → a ≡ true
+and-first true b h = refl
+and-first false b h = absurd (true≢false (sym h))
+
+-- a first test that fails
+and-none : (a b : Bool) → a ≡ false → (a && b) ≡ false
+and-none true b h = absurd (true≢false h)
+and-none false b h = refl
+
+-- The world and the list are as far as one another.
+record IsAsFar (e : EventWords) (from w : World) (d s : Dispatching NodeName) : Type 0 where
+  parts : (o : Owner) → part_of w o ≡ record (part_of from o) { listeners = filter (is_of_owner o) s.listeners }
+  stopped : d.stopped ≡ s.stopped
+  stopped_now : d.stopped_now ≡ s.stopped_now
+  cancelled : d.cancelled ≡ s.cancelled
+  lines : d.lines ≡ s.lines
+
+module _ (e : EventWords) (from : World) where
+  -- who hears is of the visit's owner
+  hears-own : (v : Visit NodeName) (l : Listener NodeName) → hears name_eq e v l ≡ true → is_of_owner v.current.owner l ≡ true
+  hears-own v l h = and-first (owner_eq l.node.owner v.current.owner) (nat_eq l.node.number v.current.number) (and-first (name_eq l.node v.current) (text_eq l.words.event e.event && beq l.words.capture v.capturing) h)
+
+  -- and is none of another owner's
+  hears-apart : (v : Visit NodeName) (o : Owner) → v.current.owner ≢ o → (l m : Listener NodeName) → hears name_eq e v l ≡ true → is_of_owner o m ≡ true
+      → is_listener name_eq l.node l.words.event l.words.label l.words.capture m ≡ false
+  hears-apart v o other l m h k =
+      let own : l.node.owner ≡ v.current.owner = owner_eq-true l.node.owner v.current.owner (hears-own v l h) in
+      let its : m.node.owner ≡ o = owner_eq-true m.node.owner o k in
+      and-none (name_eq m.node l.node) (text_eq m.words.event l.words.event && (text_eq m.words.label l.words.label && beq m.words.capture l.words.capture))
+      (and-none (owner_eq m.node.owner l.node.owner) (nat_eq m.node.number l.node.number) (ne-owner_eq m.node.owner l.node.owner (λ same. other (sym own ∙ sym same ∙ its))))
+
+  -- one visit
+  visit-among : (w : World) (d s : Dispatching NodeName) (v : Visit NodeName) → IsAsFar e from w d s
+      → IsAsFar e from (world_visit e (w, d) v).0 (world_visit e (w, d) v).1 (visited name_eq e s v)
+  visit-among w d s v far =
+      let o = v.current.owner in
+      let p = part_of w o in
+      let begins : record d { listeners = p.listeners } ≡ narrowed name_eq e (is_of_owner o) s = λ j. record {
+        listeners = (ap (λ (q : Part). q.listeners) (far.parts o)) j;
+        stopped = far.stopped j;
+        stopped_now = far.stopped_now j;
+        cancelled = far.cancelled j;
+        lines = far.lines j;
+      } in
+      let heard = visited name_eq e (record d { listeners = p.listeners }) v in
+      let next = visited name_eq e s v in
+      let is : heard ≡ narrowed name_eq e (is_of_owner o) next = ap (λ x. visited name_eq e x v) begins ∙ sym (visited-narrow name_eq e (is_of_owner o) v (hears-own v) s) in
+      let new : Part = record p { listeners = heard.listeners } in
+      let P : Owner → Type 0 = λ a. part_of (with_part w new) a ≡ record (part_of from a) { listeners = filter (is_of_owner a) next.listeners } in
+      let own : P o = part_of-with_part w new o (owner-part_of w o) ∙ (λ j. record (far.parts o j) { listeners = (ap (λ (x : Dispatching NodeName). x.listeners) is) j }) in
+      record {
+        parts = λ a. by_cases (owner_eq o a)
+            (λ t. subst P (owner_eq-true o a t) own)
+            (λ t. let other : o ≢ a = λ same. true≢false (sym (ap (owner_eq o) (sym same) ∙ owner_eq-same o) ∙ t) in
+            part_of-with_part-other w new a (λ same. other (sym (owner-part_of w o) ∙ same))
+            ∙ far.parts a
+            ∙ ap (λ ls. record (part_of from a) { listeners = ls }) (sym (visited-apart name_eq e (is_of_owner a) v (hears-apart v a other) s)));
+        stopped = ap (λ (x : Dispatching NodeName). x.stopped) is;
+        stopped_now = ap (λ (x : Dispatching NodeName). x.stopped_now) is;
+        cancelled = ap (λ (x : Dispatching NodeName). x.cancelled) is;
+        lines = ap (λ (x : Dispatching NodeName). x.lines) is;
+      }
+
+  -- all visits
+  visits-among : (vs : List (Visit NodeName)) (w : World) (d s : Dispatching NodeName) → IsAsFar e from w d s
+      → IsAsFar e from (fold (world_visit e) (w, d) vs).0 (fold (world_visit e) (w, d) vs).1 (fold (visited name_eq e) s vs)
+  visits-among [] w d s far = far
+  visits-among (v ∷ vs) w d s far =
+      let next = world_visit e (w, d) v in
+      visits-among vs next.0 next.1 (visited name_eq e s v) (visit-among w d s v far)
+
+-- the law
+pub dispatched-among : DispatchedAmong
+dispatched-among w ls has target related e =
+    let far = visits-among e w (visits_of name_eq e.bubbles (views w target related e.composed)) w (begun []) (begun ls) (record {
+      parts = λ o j. record (part_of w o) { listeners = has o j };
+      stopped = refl;
+      stopped_now = refl;
+      cancelled = refl;
+      lines = refl;
+    }) in
+    (far.parts, ap (map event_output) far.lines, ap not far.cancelled)
+
+-- the law of keys
+pub dispatched-along : DispatchedAlong
+dispatched-along names apart ls at vs shown w has target related e path =
+    let all = dispatch_along ls e vs in
+    let same : dispatch_among w (map (listener_named names) ls) target related e ≡ dispatching_named names all =
+    ap (λ xs. fold (visited name_eq e) (begun (map (listener_named names) ls)) (visits_of name_eq e.bubbles xs)) (sym path) ∙ sym (dispatched-named names apart e ls at vs shown) in
+    let far = dispatched-among w (map (listener_named names) ls) has target related e in (
+      λ o. far.0 o ∙ ap (λ (d : Dispatching NodeName). record (part_of w o) { listeners = filter (is_of_owner o) d.listeners }) same,
+      far.1 ∙ ap (λ (d : Dispatching NodeName). map event_output d.lines) same,
+      far.2 ∙ ap (λ (d : Dispatching NodeName). not d.cancelled) same,
+    )

@@ -1,0 +1,4 @@
+pub mod Places
+pub mod Tracks
+pub mod Sightings
+pub mod Shows

@@ -1,0 +1,4 @@
+pub mod Ways
+pub mod Stands
+pub mod Built
+pub mod Items

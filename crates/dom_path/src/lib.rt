@@ -1,0 +1,13 @@
+//! Event paths (DOM Standard, 2.9 Dispatching events): the nodes that an event visits, through slots and closed shadow roots,
+//! and what it shows at each of them.
+#![tactic(auto)]
+
+mod event;
+mod item;
+mod path;
+mod stand;
+#[cfg(test)]
+mod tests;
+
+pub use item::Item;
+pub use path::Path;

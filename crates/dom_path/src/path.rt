@@ -1,0 +1,90 @@
+//! Event paths.
+ghost use Rattle.std.specs.Prelude.{◌≡◌, ℕ, ◌<◌, Some, None, length, map, option_map, slice_get, IfOk};
+ghost use Rattle.std.specs.List.{AllByRecursion};
+ghost use Rattle.std.specs.Option.{ForSome};
+ghost use Rattle.dom_model.specs.Paths.{View, views};
+ghost use Rattle.dom_model.specs.World.{World};
+ghost use Rattle.dom_tree.specs.Forest.{name_at};
+ghost use Rattle.dom_slots.specs.Kept.{AreSlotsOf};
+ghost use Rattle.dom_path.specs.Items.{IsWorldOf, HasNodes, item_named, view_named, path_items};
+
+use crate::event::Event;
+use crate::item::Item;
+use dom_slots::Slots;
+use dom_tree::Forest;
+use node_arena::Key;
+use std::alloc::{AllocError, Global};
+use std::marker::Model;
+
+/// The path of an event: its nodes in the order of bubbling, with what the event shows at each.
+#[derive(Drop)]
+pub struct Path {
+    items: Vec<Item>,
+    alloc: Global,
+}
+
+impl Model for Path {
+    ghost use Rattle.dom_path.specs.Items.{PathNow};
+
+    ghost Value = { PathNow };
+
+    ghost use Rattle.dom_path.specs.Stands.{view_in};
+    ghost use Rattle.std.specs.Prelude.{map};
+
+    ghost view = { λ p. record { items = p.items.items; views = map (view_in p.items.items) p.items.items } };
+}
+
+impl Path {
+    /// The path of an event at a target (DOM Standard, concept: dispatch). `related` is its related node, and an event that
+    /// isn't composed stays within the shadow tree of its target. Where memory is refused there is no path.
+    pub fn build(
+        alloc: Global,
+        forest: &Forest,
+        slots: &Slots,
+        target: Key,
+        related: Option<Key>,
+        composed: bool,
+    ) -> Result<Path, AllocError>
+        requires target_is_node { target < length forest.now.names }
+        requires related_is_node { ForSome related (λ k. k < length forest.now.names) }
+        requires free { slots.now.begun ≡ None }
+        requires slots { AreSlotsOf forest.now slots.now }
+        ensures items { IfOk result (λ p. (w : World) → IsWorldOf forest.now slots.now.hosts w → map (item_named forest.now.names) p.items ≡ path_items w (name_at forest.now.names target) (option_map (name_at forest.now.names) related) composed) }
+        ensures views { IfOk result (λ p. (w : World) → IsWorldOf forest.now slots.now.hosts w → map (view_named forest.now.names) p.views ≡ views w (name_at forest.now.names target) (option_map (name_at forest.now.names) related) composed) }
+        ensures nodes { IfOk result (λ p. AllByRecursion (HasNodes forest.now.names) p.items) }
+    {
+        forest.nodes_stand_once();
+        let event = Event::new(forest, slots, target, related, composed);
+        if event.is_silent() {
+            return Ok(Path {
+                items: Vec::new(alloc),
+                alloc,
+            });
+        }
+        let items = event.items(alloc, forest, slots)?;
+        Ok(Path { items, alloc })
+    }
+
+    /// The items of the path, the target's first.
+    pub fn items(&self) -> &[Item]
+        ensures { result.now ≡ self.now.items }
+    {
+        self.items.as_slice()
+    }
+
+    /// The nodes of the path that are not hidden from the item at this place (DOM Standard, composedPath()).
+    pub fn composed_path(&self, at: usize) -> Result<Vec<Key>, AllocError>
+        requires { at < length self.now.items }
+        ensures { IfOk result (λ nodes. option_map (λ (v : View ℕ). v.path) (slice_get self.now.views at) ≡ Some nodes.items) }
+    {
+        let items = self.items();
+        let root = items[at].root;
+        let mut nodes = Vec::new(self.alloc);
+        for item in items {
+            if !item.is_hidden_from(root) {
+                nodes.push(item.node)?;
+            }
+        }
+        Ok(nodes)
+    }
+}
