@@ -1,12 +1,12 @@
 -- A search along a run of `>` and `+`, step by step: what it has come to answers for what it began with.
 use Rattle.std.proofs.Common.{◌≡◌, inl, inr, Bool, true, false, List, [], ◌∷◌, ◌++◌, Option, Some, None, refl, ap, sym, subst, ◌∙◌, append_assoc, true≢false}
-use Rattle.std.specs.Prelude.{◌&&◌, ◌||◌, option_to_list}
+use Rattle.std.specs.Prelude.{◌&&◌, option_to_list}
 use Rattle.std.specs.List.{list_any}
-use Rattle.std.proofs.lemmas.Bool.{and_parts, and_left, and_right}
+use Rattle.std.proofs.lemmas.Bool.{and_parts, and_left}
 use Rattle.dom_base.specs.declared.NodeName.{NodeName}
 use Rattle.dom_model.specs.Names.{last_of}
 use Rattle.dom_model.specs.Tree.{Trees, ancestors, parent_of}
-use Rattle.dom_model.specs.Selectors.{Complex, alone, joined, Combinator, child, next, CompoundPart, compound_matches, complex_matches, combined_with, elements_before}
+use Rattle.dom_model.specs.Selectors.{Complex, joined, Combinator, child, next, CompoundPart, compound_matches, complex_matches, combined_with, elements_before}
 use Rattle.dom_traversal.proofs.Lists.{In, In-left, In-right, In-parts}
 use Rattle.dom_traversal.proofs.Shapes.{Has, Once}
 use Rattle.dom_traversal.proofs.Opening.{proper-parent}

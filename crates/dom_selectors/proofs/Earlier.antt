@@ -1,6 +1,6 @@
 -- The elements before a node among its siblings: how they split, and what stands above them.
 use Rattle.std.proofs.Common.{◌≡◌, inl, inr, ℕ, ◌<◌, Bool, true, false, List, [], ◌∷◌, ◌++◌, length, Option, Some, None, refl, ap, sym, subst, ◌∙◌, arith, append_assoc, length-append, true≢false}
-use Rattle.std.specs.Prelude.{◌&&◌, ◌||◌, filter, drop}
+use Rattle.std.specs.Prelude.{◌||◌, filter}
 use Rattle.std.specs.List.{list_any, find}
 use Rattle.std.specs.Option.{option_map, ForSome}
 use Rattle.std.proofs.lemmas.Option.{none-some, same_Some}
@@ -9,12 +9,12 @@ use Rattle.std.proofs.lemmas.Bool.{cases_Bool, or_left, or_right, or_cases, and_
 use Rattle.std.proofs.lemmas.List.Folds.{list_any-append}
 use Rattle.dom_base.specs.declared.NodeName.{NodeName}
 use Rattle.dom_model.specs.Names.{name_eq, last_of, items_before, items_after}
-use Rattle.dom_model.specs.Tree.{Trees, Node, nodes, names_of, no_node, node_in, is_element, kind_of, ancestors, inclusive_ancestors, parent_of}
+use Rattle.dom_model.specs.Tree.{Trees, Node, nodes, names_of, no_node, is_element, kind_of, ancestors, inclusive_ancestors, parent_of}
 use Rattle.dom_model.specs.Selectors.{compound_matches, elements_before, CompoundPart}
 use Rattle.dom_tree.specs.Forest.{NamedTrees, name_at}
-use Rattle.dom_traversal.proofs.Lists.{In, In-left, In-right, In-parts, split_at, last_split, no_last, name_eq-other, filter-yes, filter-no}
+use Rattle.dom_traversal.proofs.Lists.{In, split_at, last_split, no_last, name_eq-other, filter-yes, filter-no}
 use Rattle.dom_traversal.proofs.Shapes.{Has, Once, has_or_not, Has-above}
-use Rattle.dom_traversal.proofs.Children.{In-names, Has-names}
+use Rattle.dom_traversal.proofs.Children.{Has-names}
 use Rattle.dom_traversal.proofs.Opening.{above-proper, proper-parent}
 use Rattle.dom_traversal.proofs.Chains.{above-split}
 use Rattle.dom_traversal.proofs.Counts.{StandOnce, StandAlone, Once-forest, Has-forest}

@@ -1,6 +1,6 @@
 -- Complex selectors seen from the right, and the ancestors of a node one after another.
 use Rattle.std.proofs.Common.{◌≡◌, ℕ, suc, ◌<◌, Bool, true, false, List, [], ◌∷◌, ◌++◌, length, Option, Some, None, refl, ap, sym, ◌∙◌, arith}
-use Rattle.std.specs.Prelude.{◌&&◌, ◌||◌, map, fold}
+use Rattle.std.specs.Prelude.{◌||◌, map, fold}
 use Rattle.std.specs.List.{list_any}
 use Rattle.std.specs.Option.{option_map}
 use Rattle.std.proofs.lemmas.List.{map-append}
@@ -16,12 +16,7 @@ use Rattle.dom_selectors.specs.Views.{compound_view, combinator_view, link_view,
 use Rattle.dom_traversal.proofs.Counts.{StandOnce, StandAlone, Once-forest, Has-forest}
 use Rattle.dom_traversal.proofs.Shapes.{Has, Once, above-root}
 use Rattle.dom_traversal.proofs.Opening.{proper-parent}
-use Rattle.std.specs.Prelude.{drop, filter}
-use Rattle.std.proofs.lemmas.Bool.{or_right}
-use Rattle.std.proofs.lemmas.List.Elements.{filter-append}
-use Rattle.std.proofs.lemmas.List.Folds.{list_any-append}
-use Rattle.dom_traversal.proofs.Lists.{filter-yes}
-use Rattle.dom_selectors.proofs.Beside.{before_list, up_to}
+use Rattle.std.specs.Prelude.{drop}
 
 -- a last link is the outermost
 pub joined_last : (first : List Part) (left : List Link) (last : Link) → complex_from first (left ++ last ∷ []) ≡ link (complex_from first left) (link_view last)

@@ -1,12 +1,11 @@
 -- Where a search stops, and why the nearest node at which it holds answers for all that are farther.
-use Rattle.std.proofs.Common.{◌≡◌, ◌⊎◌, inl, inr, Bool, true, false, List, [], ◌∷◌, ◌++◌, Option, Some, None, refl, ap, sym, subst, ◌∙◌, append_assoc, true≢false}
-use Rattle.std.specs.Prelude.{◌&&◌, ◌||◌}
+use Rattle.std.proofs.Common.{◌≡◌, inl, inr, Bool, true, false, List, [], ◌∷◌, ◌++◌, refl, ap, sym, subst, ◌∙◌, true≢false}
 use Rattle.std.specs.List.{list_any}
-use Rattle.std.proofs.lemmas.Bool.{or_left, or_right, or_cases, false_from_ne_true, both_ways, cases_Bool}
+use Rattle.std.proofs.lemmas.Bool.{or_left, or_right, or_cases, false_from_ne_true}
 use Rattle.std.proofs.lemmas.List.Folds.{list_any-append}
 use Rattle.dom_base.specs.declared.NodeName.{NodeName}
 use Rattle.dom_model.specs.Tree.{Trees, ancestors}
-use Rattle.dom_model.specs.Selectors.{Complex, alone, joined, Combinator, descendant, child, next, later, CompoundPart, compound_matches, complex_matches, combined_with, elements_before}
+use Rattle.dom_model.specs.Selectors.{Complex, alone, joined, Combinator, descendant, child, next, later, CompoundPart, complex_matches, elements_before}
 use Rattle.dom_traversal.proofs.Lists.{In, In-left, In-right, In-parts}
 use Rattle.dom_traversal.proofs.Shapes.{Has, Once}
 use Rattle.dom_selectors.specs.Search.{elements_to, MatchesAbove, IsDescendant, IsSearched, StopsAt, ChainEnds, ChainIsBefore, SegmentEnds, SegmentIsAbove}

@@ -43,7 +43,10 @@ pub(crate) fn chain_end<'a>(
             Combinator::Child => forest.parent(at),
             Combinator::Next => element_before(forest, at),
             Combinator::Descendant | Combinator::Later => {
-                return Some(Place { links: rest, key: at });
+                return Some(Place {
+                    links: rest,
+                    key: at,
+                });
             }
         };
         at = next?;
@@ -52,7 +55,10 @@ pub(crate) fn chain_end<'a>(
     if !compound_matches(forest, first, at) {
         return None;
     }
-    Some(Place { links: rest, key: at })
+    Some(Place {
+        links: rest,
+        key: at,
+    })
 }
 
 /// Where the chain ends from the nearest element before a node among its siblings at which it holds.

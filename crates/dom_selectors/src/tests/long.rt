@@ -8,7 +8,9 @@ use std::process::Abort;
 use std::test::Fail;
 
 const MANY: u32 = 20_000;
+
 const SOME: u32 = 200;
+
 const FEW: u32 = 25;
 
 fn element(alloc: Global) -> Result<Forest, Fail> {

@@ -195,7 +195,11 @@ fn selectors_match_as_all_nodes_tried_do(rt: HostRuntime) -> Result<(), Fail> {
         for number in 0..COUNT {
             let wanted = matches_plainly(steps.as_slice(), number as usize);
             let key = key_of(&rt, &forest, Owner::Page, number);
-            assert_eq!(rt; selector.matches(&forest, key), wanted, "{text} at {number}");
+            assert_eq!(rt;
+                selector.matches(&forest, key),
+                wanted,
+                "{text} at {number}"
+            );
             if wanted {
                 matches = matches.saturating_add(1);
             }

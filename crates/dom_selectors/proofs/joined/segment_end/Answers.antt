@@ -1,5 +1,5 @@
 -- From the end of one chain to that of the next, left of `~`.
-use Rattle.std.proofs.Common.{◌≡◌, ◌<◌, length, true, false, refl, ap, sym, subst, ◌∙◌, arith, true≢false}
+use Rattle.std.proofs.Common.{◌≡◌, refl, ap, sym, subst, ◌∙◌, arith, true≢false}
 use Rattle.dom_model.specs.Selectors.{joined, later}
 use Rattle.dom_tree.specs.Forest.{name_at}
 use Rattle.dom_traversal.proofs.Counts.{Once-forest}
@@ -45,10 +45,10 @@ loop-last-preserved c =
       node = c.in-Some-chain_before.ensures.node;
       shorter = omega (arith, c.in-Some-split_last.ensures.cases.1, c.in-Some-chain_before.ensures.shorter);
       comes = comes-before f.trees (complex_from c.args.first.now c.args.links.now) (complex_from c.args.first.now end.links.now) left (complex_from c.args.first.now next.links.now) (compound_view last.compound.items) (name_at f.names c.args.key) (name_at f.names end.key) (name_at f.names next.key)
-            (Once-forest f c.nodes_stand_once.ensures.once c.nodes_stand_once.ensures.only)
-            (is ∙ ap (λ h. joined left (combinator_view h) (compound_view last.compound.items)) its_later)
-            c.loop-last.invariant.comes
-            c.in-Some-chain_before.ensures.ends;
+          (Once-forest f c.nodes_stand_once.ensures.once c.nodes_stand_once.ensures.only)
+          (is ∙ ap (λ h. joined left (combinator_view h) (compound_view last.compound.items)) its_later)
+          c.loop-last.invariant.comes
+          c.in-Some-chain_before.ensures.ends;
     }
 
 pub returns-then-not-matches-clause-ends : goal.returns-then-not-matches-clause-ends
