@@ -1,12 +1,12 @@
--- Complex selectors, from the right.
+-- Complex selectors seen from the right, and the ancestors of a node one after another.
 use Rattle.std.proofs.Common.{◌≡◌, ℕ, suc, ◌<◌, Bool, true, false, List, [], ◌∷◌, ◌++◌, length, Option, Some, None, refl, ap, sym, ◌∙◌, arith}
-use Rattle.std.specs.Prelude.{◌&&◌, ◌||◌, map, fold}
+use Rattle.std.specs.Prelude.{◌||◌, map, fold}
 use Rattle.std.specs.List.{list_any}
 use Rattle.std.specs.Option.{option_map}
 use Rattle.std.proofs.lemmas.List.{map-append}
 use Rattle.std.proofs.lemmas.List.Sums.{fold-append}
 use Rattle.dom_base.specs.declared.NodeName.{NodeName}
-use Rattle.dom_model.specs.Selectors.{alone, complex_matches, compound_matches, combined_with}
+use Rattle.dom_model.specs.Selectors.{alone, joined}
 use Rattle.dom_model.specs.SelectorText.{link}
 use Rattle.dom_model.specs.Tree.{Trees, ancestors, parent_of}
 use Rattle.dom_tree.specs.Forest.{NamedTrees, name_at}
@@ -16,23 +16,21 @@ use Rattle.dom_selectors.specs.Views.{compound_view, combinator_view, link_view,
 use Rattle.dom_traversal.proofs.Counts.{StandOnce, StandAlone, Once-forest, Has-forest}
 use Rattle.dom_traversal.proofs.Shapes.{Has, Once, above-root}
 use Rattle.dom_traversal.proofs.Opening.{proper-parent}
-use Rattle.std.specs.Prelude.{drop, filter}
-use Rattle.std.proofs.lemmas.Bool.{or_right}
-use Rattle.std.proofs.lemmas.List.Elements.{filter-append}
-use Rattle.std.proofs.lemmas.List.Folds.{list_any-append}
-use Rattle.dom_traversal.proofs.Lists.{filter-yes}
-use Rattle.dom_selectors.proofs.Beside.{before_list, up_to}
+use Rattle.std.specs.Prelude.{drop}
 
 -- a last link is the outermost
-joined_last : (first : List Part) (left : List Link) (last : Link) → complex_from first (left ++ last ∷ []) ≡ link (complex_from first left) (link_view last)
+pub joined_last : (first : List Part) (left : List Link) (last : Link) → complex_from first (left ++ last ∷ []) ≡ link (complex_from first left) (link_view last)
 joined_last first left last =
     ap (fold link (alone (compound_view first))) (map-append link_view left (last ∷ [])) ∙ fold-append link (alone (compound_view first)) (map link_view left) (link_view last ∷ [])
 
--- a node matches the last compound, and some node that stands to it as the last combinator says matches the others
-pub last_matches : (ts : Trees) (first : List Part) (links left : List Link) (last : Link) (x : NodeName) → links ≡ left ++ last ∷ []
-    → complex_matches ts (complex_from first links) x
-    ≡ (compound_matches ts (compound_view last.compound.items) x && list_any (complex_matches ts (complex_from first left)) (combined_with ts (combinator_view last.combinator) x))
-last_matches ts first links left last x e = ap (λ ls. complex_matches ts (complex_from first ls) x) e ∙ ap (λ c. complex_matches ts c x) (joined_last first left last)
+-- the same of links of which it is the last
+pub last-joined : (first : List Part) (links left : List Link) (last : Link) → links ≡ left ++ last ∷ [] → complex_from first links ≡ joined (complex_from first left) (combinator_view last.combinator) (compound_view last.compound.items)
+last-joined first links left last e = ap (complex_from first) e ∙ joined_last first left last
+
+-- without links there is the first compound alone
+pub no-links : (first : List Part) (links : List Link) → length links ≡ 0 → complex_from first links ≡ alone (compound_view first)
+no-links first [] e = refl
+no-links first (l ∷ ls) e = absurd (omega (arith, e))
 
 -- the ancestors of a node from one on; none where there is no node
 abbrev pub from_above : Trees → Option NodeName → List NodeName
@@ -40,7 +38,7 @@ from_above ts None = []
 from_above ts (Some x) = x ∷ ancestors ts x
 
 -- the ancestors of a node are its parent and those above it
-above-parent : (ts : Trees) (x : NodeName) → Once ts → Has ts x → (o : Option NodeName) → parent_of ts x ≡ o → ancestors ts x ≡ from_above ts o
+pub above-parent : (ts : Trees) (x : NodeName) → Once ts → Has ts x → (o : Option NodeName) → parent_of ts x ≡ o → ancestors ts x ≡ from_above ts o
 above-parent ts x once h None up = ap (drop 1) (above-root ts x h up)
 above-parent ts x once h (Some p) up = (proper-parent ts x p once h up).0
 
@@ -56,11 +54,7 @@ above_less f k at o is e =
     let longer : length (from_above f.trees (option_map (name_at f.names) at)) ≡ suc (length (ancestors f.trees (name_at f.names k))) = ap (λ o'. length (from_above f.trees (option_map (name_at f.names) o'))) is in
     omega (arith, longer, ap (length {A = NodeName}) e)
 
--- a node that passes is among them
-pub above_hit : (f : NamedTrees) (p : NodeName → Bool) (k : ℕ) (at : Option ℕ) → at ≡ Some k → p (name_at f.names k) ≡ true → list_any p (from_above f.trees (option_map (name_at f.names) at)) ≡ true
-above_hit f p k at is h = ap (λ o'. list_any p (from_above f.trees (option_map (name_at f.names) o'))) is ∙ ap (λ b. b || list_any p (ancestors f.trees (name_at f.names k))) h
-
--- one that does not is passed by
+-- an ancestor that fails a test is passed by
 pub above_miss : (f : NamedTrees) (p : NodeName → Bool) (k : ℕ) (at o : Option ℕ) → at ≡ Some k → p (name_at f.names k) ≡ false → ancestors f.trees (name_at f.names k) ≡ from_above f.trees (option_map (name_at f.names) o)
     → list_any p (from_above f.trees (option_map (name_at f.names) o)) ≡ list_any p (from_above f.trees (option_map (name_at f.names) at))
 above_miss f p k at o is h e =
@@ -68,28 +62,6 @@ above_miss f p k at o is h e =
     ∙ sym (ap (λ o'. list_any p (from_above f.trees (option_map (name_at f.names) o'))) is ∙ ap (λ b. b || list_any p (ancestors f.trees (name_at f.names k))) h)
 
 -- or not at all
-or_none : (b : Bool) → (b || false) ≡ b
+pub or_none : (b : Bool) → (b || false) ≡ b
 or_none true = refl
 or_none false = refl
-
-module _ (f : NamedTrees) (p m : NodeName → Bool) (k : ℕ) (at : Option ℕ) (is : at ≡ Some k) (yes : p (name_at f.names k) ≡ true) where
-  -- the nodes that pass, up to one that does
-  up_to_one : list_any m (filter p (up_to f.trees (option_map (name_at f.names) at))) ≡ (list_any m (filter p (before_list f.trees (name_at f.names k))) || (m (name_at f.names k) || false))
-  up_to_one =
-      let x = name_at f.names k in
-      let front = before_list f.trees x in
-      ap (λ o'. list_any m (filter p (up_to f.trees (option_map (name_at f.names) o')))) is
-      ∙ ap (list_any m) (filter-append p front (x ∷ []) ∙ ap (λ xs. filter p front ++ xs) (filter-yes p x [] yes))
-      ∙ list_any-append m (filter p front) (x ∷ [])
-
-  -- one that matches is found
-  pub earlier_hit : m (name_at f.names k) ≡ true → list_any m (filter p (up_to f.trees (option_map (name_at f.names) at))) ≡ true
-  earlier_hit h = up_to_one ∙ or_right (list_any m (filter p (before_list f.trees (name_at f.names k)))) (m (name_at f.names k) || false) (ap (λ b. b || false) h)
-
-  -- one that does not is passed by
-  pub earlier_miss : (o : Option ℕ) → m (name_at f.names k) ≡ false → before_list f.trees (name_at f.names k) ≡ up_to f.trees (option_map (name_at f.names) o)
-      → list_any m (filter p (up_to f.trees (option_map (name_at f.names) o))) ≡ list_any m (filter p (up_to f.trees (option_map (name_at f.names) at)))
-  earlier_miss o h step =
-      let front = before_list f.trees (name_at f.names k) in
-      ap (λ xs. list_any m (filter p xs)) (sym step)
-      ∙ sym (up_to_one ∙ ap (λ b. list_any m (filter p front) || (b || false)) h ∙ or_none (list_any m (filter p front)))

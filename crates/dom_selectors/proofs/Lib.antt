@@ -8,6 +8,9 @@ pub mod ValueLaws
 pub mod Beside
 pub mod Passing
 pub mod JoinedLaws
+pub mod Earlier
+pub mod Chains
+pub mod Searches
 pub mod QueryLaws
 pub mod Sound
 pub mod SoundLists

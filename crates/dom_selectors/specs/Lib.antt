@@ -1,4 +1,5 @@
 pub mod Views
+pub mod Search
 pub mod Reads
 pub mod Texts
 pub mod Grammar

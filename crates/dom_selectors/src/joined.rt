@@ -1,99 +1,69 @@
-//! Which elements match complex selectors, from the right by links. Only left of white space and of `~` is there more
-//! than one node to try: the ancestors and the elements before, the nearest first.
-ghost use Rattle.std.specs.Prelude.{◌≡◌, ◌<◌, length};
+//! Which elements match complex selectors, from the right by links. Left of `~` and of white space there is more than
+//! one node to try, the nearest first. What is left of these again is tried from the first alone at which all up to it
+//! matches, since what stands before or above another one stands before or above that one too: no choice is taken back.
+ghost use Rattle.std.specs.Prelude.{◌≡◌, ◌<◌, ◌≤◌, false, length, MatchOption, IfSome};
 ghost use Rattle.std.specs.List.{list_any};
-ghost use Rattle.std.specs.Option.{option_map, ForSome};
-ghost use Rattle.std.specs.Prelude.{option_to_list};
 ghost use Rattle.dom_model.specs.Tree.{ancestors};
-ghost use Rattle.dom_model.specs.Selectors.{complex_matches as spec_complex_matches, combined_with, elements_before};
+ghost use Rattle.dom_model.specs.Selectors.{complex_matches as spec_complex_matches};
 ghost use Rattle.dom_tree.specs.Forest.{name_at};
-ghost use Rattle.dom_selectors.specs.Views.{complex_from, complex_view, combinator_view};
+ghost use Rattle.dom_selectors.specs.Search.{SegmentEnds, SegmentIsAbove};
+ghost use Rattle.dom_selectors.specs.Views.{complex_from, complex_view};
 
-use crate::matching::compound_matches;
+use crate::chain::{Place, chain_before, chain_end};
 use crate::selector::{Combinator, Complex, Link, Part};
-use crate::siblings::{element_before, is_element};
 use dom_tree::Forest;
 use node_arena::Key;
 
-/// Whether a node matches a compound with what is joined to it on the right: the last compound is the node's.
-#[cycle(joined)]
-fn joined_matches(forest: &Forest, first: &[Part], links: &[Link], key: Key) -> bool
-    requires { key < length forest.now.names }
-    ensures { result ≡ spec_complex_matches forest.now.trees (complex_from first.now links.now) (name_at forest.now.names key) }
-{
-    let Some((last, left)) = links.split_last() else {
-        return compound_matches(forest, first, key);
-    };
-    if !compound_matches(forest, last.compound.as_slice(), key) {
-        return false;
-    }
-    combined_matches(forest, first, left, last.combinator, key)
-}
-
-/// Whether some node that stands to a node as a combinator says matches.
-#[cycle(joined)]
-fn combined_matches(
+/// Where the segment from a node, chains joined by `~`, ends: before white space or with the first compound; none where
+/// some chain holds at no element before.
+fn segment_end<'a>(
     forest: &Forest,
     first: &[Part],
-    left: &[Link],
-    combinator: Combinator,
+    links: &'a [Link],
     key: Key,
-) -> bool
+) -> Option<Place<'a>>
     requires { key < length forest.now.names }
-    ensures { result ≡ list_any (spec_complex_matches forest.now.trees (complex_from first.now left.now)) (combined_with forest.now.trees (combinator_view combinator) (name_at forest.now.names key)) }
+    ensures ends { MatchOption result (spec_complex_matches forest.now.trees (complex_from first.now links.entry.now) (name_at forest.now.names key) ≡ false) (λ end. SegmentEnds forest.now.trees (complex_from first.now links.entry.now) (name_at forest.now.names key) (complex_from first.now end.links.now) (name_at forest.now.names end.key)) }
+    ensures node { IfSome result (λ end. end.key < length forest.now.names) }
+    ensures shorter { IfSome result (λ end. length end.links.now ≤ length links.entry.now) }
 {
-    match combinator {
-        Combinator::Descendant => above_matches(forest, first, left, key),
-        Combinator::Child => there_matches(forest, first, left, forest.parent(key)),
-        Combinator::Next => there_matches(forest, first, left, element_before(forest, key)),
-        Combinator::Later => earlier_matches(forest, first, left, key),
+    forest.nodes_stand_once();
+    let Some(mut end) = chain_end(forest, first, links, key) else {
+        return None;
+    };
+    while let Some((last, left)) = end.links.split_last() {
+        if !matches!(last.combinator, Combinator::Later) {
+            return Some(end);
+        }
+        let Some(next) = chain_before(forest, first, left, end.key) else {
+            return None;
+        };
+        end = next;
     }
+    Some(end)
 }
 
-/// Whether there is a node and it matches.
-#[cycle(joined)]
-fn there_matches(forest: &Forest, first: &[Part], left: &[Link], at: Option<Key>) -> bool
-    requires { ForSome at (λ k. k < length forest.now.names) }
-    ensures { result ≡ list_any (spec_complex_matches forest.now.trees (complex_from first.now left.now)) (option_to_list (option_map (name_at forest.now.names) at)) }
-{
-    match at {
-        Some(key) => joined_matches(forest, first, left, key),
-        None => false,
-    }
-}
-
-/// Whether some ancestor of a node matches.
-#[cycle(joined)]
-fn above_matches(forest: &Forest, first: &[Part], left: &[Link], key: Key) -> bool
+/// Where the segment ends from the nearest ancestor of a node at which it holds.
+fn segment_above<'a>(
+    forest: &Forest,
+    first: &[Part],
+    links: &'a [Link],
+    key: Key,
+) -> Option<Place<'a>>
     requires { key < length forest.now.names }
-    ensures { result ≡ list_any (spec_complex_matches forest.now.trees (complex_from first.now left.now)) (ancestors forest.now.trees (name_at forest.now.names key)) }
+    ensures ends { MatchOption result (list_any (spec_complex_matches forest.now.trees (complex_from first.now links.entry.now)) (ancestors forest.now.trees (name_at forest.now.names key)) ≡ false) (λ end. SegmentIsAbove forest.now.trees (complex_from first.now links.entry.now) (name_at forest.now.names key) (complex_from first.now end.links.now) (name_at forest.now.names end.key)) }
+    ensures node { IfSome result (λ end. end.key < length forest.now.names) }
+    ensures shorter { IfSome result (λ end. length end.links.now ≤ length links.entry.now) }
 {
     forest.nodes_stand_once();
     let mut at = forest.parent(key);
     while let Some(above) = at {
-        if joined_matches(forest, first, left, above) {
-            return true;
+        if let Some(end) = segment_end(forest, first, links, above) {
+            return Some(end);
         }
         at = forest.parent(above);
     }
-    false
-}
-
-/// Whether some element before a node among its siblings matches.
-#[cycle(joined)]
-fn earlier_matches(forest: &Forest, first: &[Part], left: &[Link], key: Key) -> bool
-    requires { key < length forest.now.names }
-    ensures { result ≡ list_any (spec_complex_matches forest.now.trees (complex_from first.now left.now)) (elements_before forest.now.trees (name_at forest.now.names key)) }
-{
-    forest.nodes_stand_once();
-    let mut at = forest.prev(key);
-    while let Some(before) = at {
-        if is_element(forest, before) && joined_matches(forest, first, left, before) {
-            return true;
-        }
-        at = forest.prev(before);
-    }
-    false
+    None
 }
 
 /// Whether a node matches a complex selector.
@@ -101,10 +71,15 @@ pub(crate) fn complex_matches(forest: &Forest, complex: &Complex, key: Key) -> b
     requires { key < length forest.now.names }
     ensures { result ≡ spec_complex_matches forest.now.trees (complex_view complex.now) (name_at forest.now.names key) }
 {
-    joined_matches(
-        forest,
-        complex.first.as_slice(),
-        complex.links.as_slice(),
-        key,
-    )
+    let first = complex.first.as_slice();
+    let Some(mut end) = segment_end(forest, first, complex.links.as_slice(), key) else {
+        return false;
+    };
+    while let Some((_, left)) = end.links.split_last() {
+        let Some(next) = segment_above(forest, first, left, end.key) else {
+            return false;
+        };
+        end = next;
+    }
+    true
 }

@@ -1,6 +1,8 @@
 ghost use Rattle.std.specs.Prelude.{◌≡◌, ◌<◌, length, None, IfOk};
 
+mod long;
 mod many;
+mod random;
 mod texts;
 
 use crate::Selector;

@@ -1,0 +1,16 @@
+-- What is left answers for the whole.
+use Rattle.std.proofs.Common.{◌<◌, ◌≤◌, length}
+use Rattle.dom_tree.specs.Forest.{name_at}
+use Rattle.dom_selectors.specs.Views.{complex_from}
+use Rattle.dom_selectors.proofs.Chains.{Leads}
+use Rattle.dom_selectors.proofs.chain.chain_end.Given as goal
+
+abbrev pub invariant-loop-last : goal.invariant-loop-last
+invariant-loop-last l = record {
+  node : l.at < length l.forest.names;
+  shorter : length l.rest ≤ length l.fn.links;
+  leads : Leads l.forest.trees (complex_from l.first l.fn.links) (name_at l.forest.names l.fn.key) (complex_from l.first l.rest) (name_at l.forest.names l.at);
+}
+
+abbrev pub decreases-loop-last : goal.decreases-loop-last
+decreases-loop-last l = length l.rest

@@ -1,0 +1,46 @@
+-- One ancestor after another is tried.
+use Rattle.std.proofs.Common.{ap, sym, ◌∙◌}
+use Rattle.std.specs.List.{list_any}
+use Rattle.std.specs.Option.{option_map}
+use Rattle.dom_model.specs.Selectors.{complex_matches}
+use Rattle.dom_tree.specs.Forest.{name_at}
+use Rattle.dom_traversal.proofs.Counts.{Once-forest, Has-forest}
+use Rattle.dom_selectors.specs.Views.{complex_from}
+use Rattle.dom_selectors.proofs.JoinedLaws.{from_above, above_step, above_less, above_miss}
+use Rattle.dom_selectors.proofs.Searches.{segment-above}
+use Rattle.dom_selectors.proofs.joined.segment_above.Goals as goal
+
+pub loop-at-init : goal.loop-at-init
+loop-at-init c =
+    let f = c.args.forest.now in
+    record {
+      node = c.parent-at.ensures.node;
+      left = ap (list_any (complex_matches f.trees (complex_from c.args.first.now c.args.links.now))) (sym (above_step f c.nodes_stand_once.ensures.once c.nodes_stand_once.ensures.only c.args.key c.parent-at.result c.requires c.parent-at.ensures.value));
+    }
+
+pub loop-at-smaller : goal.loop-at-smaller
+loop-at-smaller c =
+    let f = c.args.forest.now in
+    let node = c.loop-at.invariant.node c.in-Some.above c.in-Some.is in
+    above_less f c.in-Some.above c.loop-at.at c.parent-at-in-Some.result c.in-Some.is (above_step f c.nodes_stand_once.ensures.once c.nodes_stand_once.ensures.only c.in-Some.above c.parent-at-in-Some.result node c.parent-at-in-Some.ensures.value)
+
+pub loop-at-preserved : goal.loop-at-preserved
+loop-at-preserved c =
+    let f = c.args.forest.now in
+    let node = c.loop-at.invariant.node c.in-Some.above c.in-Some.is in
+    let step = above_step f c.nodes_stand_once.ensures.once c.nodes_stand_once.ensures.only c.in-Some.above c.parent-at-in-Some.result node c.parent-at-in-Some.ensures.value in
+    record {
+      node = c.parent-at-in-Some.ensures.node;
+      left = above_miss f (complex_matches f.trees (complex_from c.args.first.now c.args.links.now)) c.in-Some.above c.loop-at.at c.parent-at-in-Some.result c.in-Some.is c.in_default-segment_end.ensures.ends step ∙ c.loop-at.invariant.left;
+    }
+
+pub returns-in-Some-segment_end-clause-ends : goal.returns-in-Some-segment_end-clause-ends
+returns-in-Some-segment_end-clause-ends c =
+    let f = c.args.forest.now in
+    let whole = complex_from c.args.first.now c.args.links.now in
+    let end = c.in-Some-segment_end.end in
+    segment-above f.trees whole (complex_from c.args.first.now end.links.now) (name_at f.names c.args.key) (name_at f.names c.in-Some.above) (name_at f.names end.key)
+    (Once-forest f c.nodes_stand_once.ensures.once c.nodes_stand_once.ensures.only)
+    (Has-forest f c.nodes_stand_once.ensures.once c.in-Some.above (c.loop-at.invariant.node c.in-Some.above c.in-Some.is))
+    (sym (ap (λ o. list_any (complex_matches f.trees whole) (from_above f.trees (option_map (name_at f.names) o))) c.in-Some.is) ∙ c.loop-at.invariant.left)
+    c.in-Some-segment_end.ensures.ends
