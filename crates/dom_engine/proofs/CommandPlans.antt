@@ -130,6 +130,10 @@ only_refusal f q r (inr e) h = absurd cc
 pub accepted_not : (r : Refusal) → done tt ≡ Err (Refused r) → ⊥
 accepted_not r h = absurd cc
 
+-- nor was what gave a value
+pub given_not : {X : Type 0} (x : X) (r : Refusal) → ended x ≡ Err (Refused r) → ⊥
+given_not x r h = absurd cc
+
 -- nor would have been
 pub none_stopped : {X : Type 0} (x : X) (v : Option Refusal) → ((r : Refusal) → v ≡ Some r → (ended x ≡ Err (Refused r)) ⊎ (ended x ≡ Err Memory)) → v ≡ None
 none_stopped x None h = refl

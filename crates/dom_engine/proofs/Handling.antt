@@ -10,7 +10,7 @@ use Rattle.dom_base.specs.declared.Owner.{Owner}
 use Rattle.dom_base.specs.declared.Kind.{Kind}
 use Rattle.dom_model.specs.Names.{Word, DomString, owner_eq}
 use Rattle.dom_model.specs.Changes.{Plan}
-use Rattle.dom_model.specs.Effects.{changes, answers}
+use Rattle.dom_model.specs.Effects.{effect, changes, answers}
 use Rattle.dom_model.specs.Output.{Output, says, replied, Value}
 use Rattle.dom_model.specs.Part.{Part, empty_part}
 use Rattle.dom_model.specs.Validity.{first_refusal}
@@ -19,19 +19,16 @@ use Rattle.dom_model.specs.Turns.{opening_turn}
 use Rattle.dom_model.specs.World.{World, part_of, find_part, put_part, with_part, is_there}
 use Rattle.dom_model.specs.Command.{Command}
 use Rattle.dom_model.specs.CommandRefusals.{own_refusal, limit_on}
-use Rattle.dom_model.specs.CommandNames.{named}
-use Rattle.dom_model.specs.Tree.{node_in}
-use Rattle.dom_reader.specs.Views.{spelled_view}
 use Rattle.dom_model.specs.DocumentMachine.{effect_in, refusal, accepted, is_busy}
 use Rattle.dom_model.proofs.OwnerLaws.{owner_eq-same, owner_eq-true}
 use Rattle.dom_text.specs.Text.{output_text}
-use Rattle.dom_mutation.specs.Doc.{DocState, made}
+use Rattle.dom_mutation.specs.Doc.{DocState, made, Makes}
 use Rattle.dom_engine.specs.declared.admission.Named.{Named}
 use Rattle.dom_engine.specs.Making.{making}
 use Rattle.dom_engine.specs.Handled.{IsDone, IsHandled, let_pass}
-use Rattle.dom_engine.specs.Refusals.{accepts, node_named, has_foreign, are_there, are_fitting, early_refusal}
+use Rattle.dom_engine.specs.Refusals.{is_there_as, is_fit, has_foreign, are_there, are_fitting, early_refusal}
 use Rattle.dom_engine.specs.Turned.{with_turn, turned, opened_turn}
-use Rattle.dom_engine.proofs.Refusing.{IsNaming, refusal-of_names}
+use Rattle.dom_engine.proofs.Refusing.{IsNaming, and_true, refusal-of_names}
 use Rattle.dom_engine.proofs.Turned.{after_turned}
 
 -- ---- the tests that all commands share
@@ -42,8 +39,8 @@ passed None h = refl
 passed (Some r) h = absurd cc
 
 -- the one node that a line names is of the kind that is asked for
-pub fitting : (w : World) (o : Owner) (n : Named) → let_pass (early_refusal w o (n ∷ [])) ≡ Ok tt → accepts n (node_in (part_of w o).trees (named (part_of w o) (spelled_view (node_named n)))).kind ≡ true
-fitting w o n e = cases (is_busy w o) (has_foreign (n ∷ [])) (is_there w o) (are_there (part_of w o) (n ∷ [])) (accepts n (node_in (part_of w o).trees (named (part_of w o) (spelled_view (node_named n)))).kind) (passed (early_refusal w o (n ∷ [])) e)
+pub fitting : (w : World) (o : Owner) (n : Named) → let_pass (early_refusal w o (n ∷ [])) ≡ Ok tt → is_fit (part_of w o) n ≡ true
+fitting w o n e = cases (is_busy w o) (has_foreign (n ∷ [])) (is_there w o) (are_there (part_of w o) (n ∷ [])) (is_fit (part_of w o) n) (passed (early_refusal w o (n ∷ [])) e)
   where
     cases : (busy foreign there present fits : Bool) → first_refusal ((busy, Busy) ∷ (foreign, Foreign) ∷ (not there, Unknown) ∷ (not present, Unknown) ∷ (not (fits && true), WrongKind) ∷ []) ≡ None → fits ≡ true
     cases true foreign there present fits h = absurd cc
@@ -52,6 +49,21 @@ fitting w o n e = cases (is_busy w o) (has_foreign (n ∷ [])) (is_there w o) (a
     cases false false true false fits h = absurd cc
     cases false false true true true h = refl
     cases false false true true false h = absurd cc
+
+-- what a line names that passes is there
+pub all_there : (w : World) (o : Owner) (ns : List Named) → let_pass (early_refusal w o ns) ≡ Ok tt → are_there (part_of w o) ns ≡ true
+all_there w o ns e = cases (is_busy w o) (has_foreign ns) (is_there w o) (are_there (part_of w o) ns) (passed (early_refusal w o ns) e)
+  where
+    cases : (busy foreign there present : Bool) → first_refusal ((busy, Busy) ∷ (foreign, Foreign) ∷ (not there, Unknown) ∷ (not present, Unknown) ∷ (not (are_fitting (part_of w o) ns), WrongKind) ∷ []) ≡ None → present ≡ true
+    cases true foreign there present h = absurd cc
+    cases false true there present h = absurd cc
+    cases false false false present h = absurd cc
+    cases false false true true h = refl
+    cases false false true false h = absurd cc
+
+-- the one thing that it names
+pub one_there : (w : World) (o : Owner) (n : Named) → let_pass (early_refusal w o (n ∷ [])) ≡ Ok tt → is_there_as (part_of w o) n ≡ true
+one_there w o n e = sym (and_true (is_there_as (part_of w o) n)) ∙ all_there w o (n ∷ []) e
 
 -- a line that doesn't pass is refused, and nothing is changed
 pub refused : (w : World) (o : Owner) (c : Command) (names : List Named) (text : List ℕ) (f : Fault) → IsNaming c names → let_pass (early_refusal w o names) ≡ Err f →
@@ -124,6 +136,18 @@ changed t w new o plan v reply e is =
     rw (opened t w o) (ap (λ (u : World). run u (says o (replied reply) ∷ [])) (opened t new o ∙ ap (with_turn (opened_turn t o)) e ∙ sym (after_turned (opened_turn t o) o w (plan (part_of w o))))
     ∙ ap (λ (a : Value). run (made o plan (with_turn (opened_turn t o) w)) (says o (replied a) ∷ [])) is)
 
+-- what an accepted command of one part does
+abbrev pub effecting : World → Owner → Command → Run World
+effecting w o c = let u = opening_turn w o in effect_in u o (effect (part_of u o) c)
+
+-- the turn may be opened after a command that changes its owner's tables alone
+pub tables_changed : (t : Option Owner) (w new : World) (o : Owner) (c : Command) (v : Value) → Makes o c v w new →
+    (opening_turn (with_turn t new) o, says o (replied v) ∷ []) ≡ effecting (with_turn t w) o c
+tables_changed t w new o c v is =
+    let run : World → Run World = λ u. (u, says o (replied v) ∷ []) in
+    ap run (opened t new o ∙ ap (with_turn (opened_turn t o)) is.1)
+    ∙ sym (ap (λ (u : World). effect_in u o (effect (part_of u o) c)) (opened t w o) ∙ ap (effect_in (with_turn (opened_turn t o) w) o) is.0)
+
 -- In a state, a line that passes: its command names these nodes.
 module _ (t : Option Owner) (d s : DocState) (seen : turned t d ≡ s) (o : Owner) (c : Command) (names : List Named) (is : IsNaming c names)
     (pass : let_pass (early_refusal s.world o names) ≡ Ok tt) where
@@ -142,6 +166,24 @@ module _ (t : Option Owner) (d s : DocState) (seen : turned t d ≡ s) (o : Owne
       in_state new before after r
       (finished (own_refusal (part_of d.world o) c) (opening_turn (with_turn t mid) o, says o (replied reply) ∷ []) (accepted (with_turn t d.world) o c) (with_turn t d.world) (with_turn t mid) new before after r none
       (changed t d.world mid o plan v reply e value ∙ sym runs) ending)
+
+  -- the command changes its owner's tables alone
+  pub tabled : (mid new : World) (v reply : Value) (before after : List ℕ) (r : Result (Unit {0}) Fault) →
+      accepted (with_turn t d.world) o c ≡ effecting (with_turn t d.world) o c → own_refusal (part_of d.world o) c ≡ None → Makes o c v d.world mid →
+      reply ≡ v → IsDone None (opening_turn (with_turn t mid) o, says o (replied reply) ∷ []) (with_turn t mid) new before after r → IsHandled o c s.world new before after r
+  tabled mid new v reply before after r runs none makes value ending =
+      let run : Value → Run World = λ a. (opening_turn (with_turn t mid) o, says o (replied a) ∷ []) in
+      in_state new before after r
+      (finished (own_refusal (part_of d.world o) c) (run reply) (accepted (with_turn t d.world) o c) (with_turn t d.world) (with_turn t mid) new before after r none
+      (ap run value ∙ tables_changed t d.world mid o c v makes ∙ sym runs) ending)
+
+  -- the command answers what its owner's tables say, and changes nothing
+  pub told : (new : World) (v reply : Value) (before after : List ℕ) (r : Result (Unit {0}) Fault) →
+      accepted (with_turn t d.world) o c ≡ effecting (with_turn t d.world) o c → own_refusal (part_of d.world o) c ≡ None → Makes o c v d.world d.world →
+      reply ≡ v → IsDone None (opening_turn s.world o, says o (replied reply) ∷ []) s.world new before after r → IsHandled o c s.world new before after r
+  told new v reply before after r runs none makes value ending =
+      let Ends : DocState → Type 0 = λ u. IsDone None (opening_turn u.world o, says o (replied reply) ∷ []) u.world new before after r in
+      tabled d.world new v reply before after r runs none makes value (subst Ends (sym seen) ending)
 
   -- the command is refused by tests of its own, which changed nothing, or memory was refused
   pub faults : (mid : World) (text : List ℕ) (f : Fault) → ((r : Refusal) → f ≡ Refused r → (own_refusal (part_of d.world o) c ≡ Some r) × (mid ≡ d.world)) →
@@ -222,3 +264,17 @@ reads w new o c names v reply before after r is runs pass none value ending =
     handled w new o c names before after r is pass
     (finished (own_refusal (part_of w o) c) (opening_turn w o, says o (replied reply) ∷ []) (accepted w o c) w w new before after r none
     (answered w o v reply (admitted w o names pass) value ∙ sym runs) ending)
+
+-- a command that only answers, and reads more than its owner's part
+pub asks : (w new : World) (o : Owner) (c : Command) (names : List Named) (v : World → Value) (reply : Value) (before after : List ℕ) (r : Result (Unit {0}) Fault) →
+    IsNaming c names → accepted w o c ≡ (opening_turn w o, says o (replied (v (opening_turn w o))) ∷ []) → let_pass (early_refusal w o names) ≡ Ok tt → own_refusal (part_of w o) c ≡ None →
+    reply ≡ v (opening_turn w o) → IsDone None (opening_turn w o, says o (replied reply) ∷ []) w new before after r → IsHandled o c w new before after r
+asks w new o c names v reply before after r is runs pass none value ending =
+    let run : Value → Run World = λ a. (opening_turn w o, says o (replied a) ∷ []) in
+    handled w new o c names before after r is pass
+    (finished (own_refusal (part_of w o) c) (run reply) (accepted w o c) w w new before after r none (ap run value ∙ sym runs) ending)
+
+-- a command that only answers, and is refused by tests of its own, or memory was refused
+pub unanswered : (w : World) (o : Owner) (c : Command) (names : List Named) (text : List ℕ) (f : Fault) → IsNaming c names → let_pass (early_refusal w o names) ≡ Ok tt →
+    ((r : Refusal) → f ≡ Refused r → own_refusal (part_of w o) c ≡ Some r) → IsHandled o c w w text text (Err f)
+unanswered w o c names text f is pass own = handled w w o c names text text (Err f) is pass (faulted (own_refusal (part_of w o) c) (accepted w o c) w w text f (λ r e. (own r e, refl)))

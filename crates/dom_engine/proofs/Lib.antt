@@ -4,6 +4,9 @@ pub mod Refusing
 pub mod Handling
 pub mod Namings
 pub mod CommandPlans
+pub mod Cursors
+pub mod Selecting
+pub mod Connecting
 pub mod Spots
 pub mod SpotReads
 pub mod Standing

@@ -1,5 +1,5 @@
 -- The refusal of a command is that of its names, or else its own.
-use Rattle.std.proofs.Common.{◌≡◌, ℕ, Bool, true, false, ◌&&◌, List, [], ◌∷◌, Option, not, refl}
+use Rattle.std.proofs.Common.{◌≡◌, ℕ, Bool, true, false, ◌&&◌, List, [], ◌∷◌, Option, not, refl, sym}
 use Rattle.std.specs.Option.{option_or}
 use Rattle.dom_base.specs.declared.Owner.{Owner}
 use Rattle.dom_base.specs.declared.Owner.TheVariants.{Page, Component}
@@ -15,12 +15,11 @@ use Rattle.dom_model.specs.DocumentMachine.{is_busy, refusal}
 use Rattle.dom_engine.specs.declared.admission.Named.{Named}
 use Rattle.dom_engine.specs.Refusals.{has_foreign, are_there, are_fitting, early_refusal}
 
--- a command of all owners that names these nodes, and no range, iterator, walker or observer
+-- a command of all owners that names these nodes, iterators and walkers, and nothing else
 pub record IsNaming (c : Command) (names : List Named) : Type 0 where
   pub offered : (o : Owner) → is_command_of o c ≡ true
   pub foreign : names_foreign c ≡ has_foreign names
-  pub exist : (p : Part) → nodes_exist p c ≡ are_there p names
-  pub thing : (p : Part) → thing_exists p c ≡ true
+  pub exist : (p : Part) → (nodes_exist p c && thing_exists p c) ≡ are_there p names
   pub fit : (p : Part) → nodes_fit p c ≡ are_fitting p names
 
 -- what holds of the page and of each component holds of all owners
@@ -40,12 +39,18 @@ joined false false false true misfit own = refl
 joined false false false false true own = refl
 joined false false false false false own = refl
 
-and_true : (b : Bool) → (b && true) ≡ b
+-- what is to hold beside what always does
+pub and_true : (b : Bool) → (b && true) ≡ b
 and_true true = refl
 and_true false = refl
 
--- for a command that names these nodes
+-- a test between two others that goes last
+pub and_last : (a b : Bool) → ((a && true) && b) ≡ (a && (b && true))
+and_last true b = sym (and_true b)
+and_last false b = refl
+
+-- for a command that names these
 pub refusal-of_names : (w : World) (o : Owner) (c : Command) (names : List Named) → IsNaming c names → refusal w o c ≡ option_or (early_refusal w o names) (own_refusal (part_of w o) c)
 refusal-of_names w o c names is =
-    rw (is.offered o, is.foreign, is.exist (part_of w o), is.thing (part_of w o), and_true (are_there (part_of w o) names), is.fit (part_of w o))
+    rw (is.offered o, is.foreign, is.exist (part_of w o), is.fit (part_of w o))
     (joined (is_busy w o) (has_foreign names) (not (is_there w o)) (not (are_there (part_of w o) names)) (not (are_fitting (part_of w o) names)) (own_refusal (part_of w o) c))

@@ -5,13 +5,13 @@ ghost use Rattle.dom_model.specs.World.{part_of};
 ghost use Rattle.dom_model.specs.Validity.{first_refusal};
 ghost use Rattle.dom_reader.specs.Views.{spelled_view};
 ghost use Rattle.dom_engine.specs.Handled.{let_pass};
-ghost use Rattle.dom_engine.specs.Refusals.{early_refusal, has_foreign, node_named, accepts, are_there, are_fitting};
+ghost use Rattle.dom_engine.specs.Refusals.{early_refusal, has_foreign, node_named, accepts, is_there_as, is_fit, are_there, are_fitting, is_others};
 
 use crate::state::State;
 use dom_base::{Fault, Kind, Owner, Refusal};
 use dom_reader::Spelled;
 
-/// A node as a line names it, with what is asked of its kind.
+/// What a line names: a node with what is asked of its kind, or an iterator or a walker by its number.
 #[derive(Clone, Copy)]
 pub(crate) enum Named {
     Any(Spelled),
@@ -22,11 +22,15 @@ pub(crate) enum Named {
     Data(Spelled),
     /// An element, a Text or a Comment.
     Child(Spelled),
+    /// Any node but a Text or a Comment.
+    Parent(Spelled),
+    Iterator(u32),
+    Walker(u32),
 }
 
 impl Named {
-    /// The node that is named.
-    fn node(self) -> Spelled
+    /// The node that is named, if it is a node.
+    fn node(self) -> Option<Spelled>
         ensures { result ≡ node_named self }
     {
         match self {
@@ -35,7 +39,9 @@ impl Named {
             | Named::Text(node)
             | Named::Document(node)
             | Named::Data(node)
-            | Named::Child(node) => node,
+            | Named::Child(node)
+            | Named::Parent(node) => Some(node),
+            Named::Iterator(_) | Named::Walker(_) => None,
         }
     }
 
@@ -44,18 +50,19 @@ impl Named {
         ensures { result ≡ accepts self kind }
     {
         match self {
-            Named::Any(_) => true,
+            Named::Any(_) | Named::Iterator(_) | Named::Walker(_) => true,
             Named::Element(_) => matches!(kind, Kind::Element),
             Named::Text(_) => matches!(kind, Kind::Text),
             Named::Document(_) => matches!(kind, Kind::Document),
             Named::Data(_) => matches!(kind, Kind::Text | Kind::Comment),
             Named::Child(_) => matches!(kind, Kind::Element | Kind::Text | Kind::Comment),
+            Named::Parent(_) => !matches!(kind, Kind::Text | Kind::Comment),
         }
     }
 }
 
 impl State {
-    /// Lets a line of an owner pass that names these nodes, or says why it is refused before the command's own tests.
+    /// Lets a line of an owner pass that names these, or says why it is refused before the command's own tests.
     pub(crate) fn admit(&self, owner: Owner, named: &[Named]) -> Result<(), Fault>
         ensures { result ≡ let_pass (early_refusal self.now.world owner named.now) }
     {
@@ -65,8 +72,8 @@ impl State {
         }
     }
 
-    /// Tests in their order whether an owner may speak now, and whether the nodes that its line names are its own, are
-    /// there, and are of the kinds that are asked for.
+    /// Tests in their order whether an owner may speak now, and whether what its line names is its own, is there, and is of
+    /// the kinds that are asked for.
     fn early_refusal(&self, owner: Owner, named: &[Named]) -> Option<Refusal>
         ensures { result ≡ early_refusal self.now.world owner named.now }
     {
@@ -79,18 +86,45 @@ impl State {
         ])
     }
 
-    /// Whether the nodes are there.
+    /// Whether all that is named is there.
     fn are_there(&self, owner: Owner, named: &[Named]) -> bool
         ensures { result ≡ are_there (part_of self.now.world owner) named.now }
     {
-        named.iter().all(|n| self.has(owner, n.node()))
+        named.iter().all(|n| self.is_there_as(owner, *n))
+    }
+
+    /// Whether an owner's node, iterator or walker is there.
+    fn is_there_as(&self, owner: Owner, named: Named) -> bool
+        ensures { result ≡ is_there_as (part_of self.now.world owner) named }
+    {
+        match named {
+            Named::Iterator(number) => self.doc.has_iter(owner, number),
+            Named::Walker(number) => self.doc.has_walker(owner, number),
+            Named::Any(node)
+            | Named::Element(node)
+            | Named::Text(node)
+            | Named::Document(node)
+            | Named::Data(node)
+            | Named::Child(node)
+            | Named::Parent(node) => self.has(owner, node),
+        }
     }
 
     /// Whether the nodes are of the kinds that are asked for.
     fn are_fitting(&self, owner: Owner, named: &[Named]) -> bool
         ensures { result ≡ are_fitting (part_of self.now.world owner) named.now }
     {
-        named.iter().all(|n| n.accepts(self.kind(owner, n.node())))
+        named.iter().all(|n| self.is_fit(owner, *n))
+    }
+
+    /// Whether a node is of the kind that is asked for; an iterator or a walker always is.
+    fn is_fit(&self, owner: Owner, named: Named) -> bool
+        ensures { result ≡ is_fit (part_of self.now.world owner) named }
+    {
+        match named.node() {
+            Some(node) => named.accepts(self.kind(owner, node)),
+            None => true,
+        }
     }
 }
 
@@ -110,7 +144,17 @@ fn first_refusal(tests: &[(bool, Refusal)]) -> Option<Refusal>
 fn has_foreign(named: &[Named]) -> bool
     ensures { result ≡ has_foreign named.now }
 {
-    named.iter().any(|n| is_foreign(n.node()))
+    named.iter().any(|n| is_others(*n))
+}
+
+/// Whether a node is named that is spelled as another owner's.
+fn is_others(named: Named) -> bool
+    ensures { result ≡ is_others named }
+{
+    match named.node() {
+        Some(node) => is_foreign(node),
+        None => false,
+    }
 }
 
 /// Whether a node is spelled as another owner's.

@@ -6,7 +6,7 @@ ghost use Rattle.dom_isolation.specs.Offering.{offered_line};
 ghost use Rattle.dom_model.specs.Command.{command as model_command};
 ghost use Rattle.dom_reader.specs.Views.{command_view, line_view, refused_view};
 ghost use Rattle.dom_engine.specs.Handled.{IsHandled};
-ghost use Rattle.dom_engine.specs.Session.{is_offered};
+ghost use Rattle.dom_engine.specs.Session.{is_change, is_question, is_offered};
 
 use crate::state::State;
 use dom_base::{Fault, Owner, Refusal};
@@ -101,14 +101,35 @@ impl State {
             Command::Split(node, offset) => self.split(owner, node, offset, out),
             Command::SetText(node, text) => self.set_text(owner, node, text, out),
             Command::Normalize(node) => self.normalize(owner, node, out),
+            Command::Micro(label) => self.micro(owner, label, out),
+            Command::EndTurn => self.end_turn(owner, out),
+            other => self.ask(owner, other, out),
+        }
+    }
+
+    /// A command that is offered and changes no tree, by its handler.
+    fn ask(&mut self, owner: Owner, command: Command, out: &mut Vec<u8>) -> Result<(), Fault>
+        requires { is_question (command_view command) ≡ true }
+        ensures { IsHandled owner (command_view command) self.old.world self.new.world out.old.items out.new.items result }
+    {
+        match command {
             Command::Tree(node) => self.tree(owner, node, out),
             Command::Attribute(element, name) => self.attribute(owner, element, name, out),
             Command::Parent(node) => self.parent(owner, node, out),
             Command::DocumentOf(node) => self.document_of(owner, node, out),
             Command::Children(node) => self.children(owner, node, out),
             Command::Contains(above, node) => self.contains(owner, above, node, out),
-            Command::Micro(label) => self.micro(owner, label, out),
-            Command::EndTurn => self.end_turn(owner, out),
+            Command::Connected(node) => self.connected(owner, node, out),
+            Command::IteratorNew(root, filter) => self.new_iterator(owner, root, filter, out),
+            Command::IteratorNext(number) => self.next_of_iterator(owner, number, out),
+            Command::IteratorPrevious(number) => self.previous_of_iterator(owner, number, out),
+            Command::IteratorAt(number) => self.place_of_iterator(owner, number, out),
+            Command::WalkerNew(root, filter) => self.new_walker(owner, root, filter, out),
+            Command::Walk(number, step) => self.walk(owner, number, step, out),
+            Command::WalkerAt(number) => self.place_of_walker(owner, number, out),
+            Command::WalkerSet(number, node) => self.set_walker(owner, number, node, out),
+            Command::Query(node, text) => self.query(owner, node, text, out),
+            Command::Matches(element, text) => self.matches(owner, element, text, out),
             _ => unreachable!(),
         }
     }
@@ -117,6 +138,13 @@ impl State {
 /// Whether the engine offers a command so far.
 fn is_offered(command: &Command) -> bool
     ensures { result ≡ is_offered (command_view command.now) }
+{
+    is_change(command) || is_question(command)
+}
+
+/// Whether a command is one of those that make, move and change nodes, a microtask, or the end of a turn.
+fn is_change(command: &Command) -> bool
+    ensures { result ≡ is_change (command_view command.now) }
 {
     matches!(
         command,
@@ -137,13 +165,33 @@ fn is_offered(command: &Command) -> bool
             | Command::Split(_, _)
             | Command::SetText(_, _)
             | Command::Normalize(_)
-            | Command::Tree(_)
+            | Command::Micro(_)
+            | Command::EndTurn
+    )
+}
+
+/// Whether a command is one of those offered that change no tree.
+fn is_question(command: &Command) -> bool
+    ensures { result ≡ is_question (command_view command.now) }
+{
+    matches!(
+        command,
+        Command::Tree(_)
             | Command::Attribute(_, _)
             | Command::Parent(_)
             | Command::DocumentOf(_)
             | Command::Children(_)
             | Command::Contains(_, _)
-            | Command::Micro(_)
-            | Command::EndTurn
+            | Command::Connected(_)
+            | Command::IteratorNew(_, _)
+            | Command::IteratorNext(_)
+            | Command::IteratorPrevious(_)
+            | Command::IteratorAt(_)
+            | Command::WalkerNew(_, _)
+            | Command::Walk(_, _)
+            | Command::WalkerAt(_)
+            | Command::WalkerSet(_, _)
+            | Command::Query(_, _)
+            | Command::Matches(_, _)
     )
 }

@@ -7,10 +7,12 @@ ghost use Rattle.dom_printer.specs.Replies.{value_view};
 ghost use Rattle.dom_engine.specs.Handled.{IsDone};
 
 mod attributes;
+mod cursors;
 mod data;
 mod making;
 mod moving;
 mod reads;
+mod selecting;
 mod tasks;
 
 use crate::state::State;

@@ -1,5 +1,6 @@
 //! Lines and their answers on a session.
 mod attributes;
+mod cursors;
 mod data;
 mod large;
 mod lines;
@@ -7,6 +8,7 @@ mod making;
 mod moving;
 mod reads;
 mod refusals;
+mod selecting;
 mod tasks;
 
 use super::*;

@@ -6,6 +6,7 @@ pub mod Quiet
 pub mod Held
 pub mod Steps
 pub mod Shown
+pub mod Connected
 pub mod Cursors
 pub mod Passing
 pub mod Tasks

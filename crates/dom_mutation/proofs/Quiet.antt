@@ -23,7 +23,7 @@ use Rattle.dom_mutation.proofs.Worlds.{Single, IsChangeOf, part_at, changed}
 -- ---- without hosts
 
 -- no owner has attached a shadow root
-abbrev HasNoHosts : World → Type 0
+abbrev pub HasNoHosts : World → Type 0
 HasNoHosts w = (o : Owner) → (part_of w o).attached ≡ []
 
 and_then_none : {X Y : Type 0} (f : X → Option Y) → ((x : X) → f x ≡ None) → (o : Option X) → option_and_then f o ≡ None
@@ -49,7 +49,7 @@ module _ (w : World) (h : HasNoHosts w) where
   slot_of_none : (x : NodeName) → slot_of w x ≡ None
   slot_of_none x = ap (option_and_then (λ c. slot_in (shadow_tree w c) (node_at w x))) (and_then_none (component_at w) component_at_none (parent_at w x))
 
-  host_above_none : (x : NodeName) → host_above w x ≡ None
+  pub host_above_none : (x : NodeName) → host_above w x ≡ None
   host_above_none x = ap (option_and_then _) (and_then_none (λ (maker, k). slice_get (part_of w maker).attached k) (λ p. ap (λ (xs : List NodeName). slice_get xs p.1) (h p.0)) (made_by x.owner))
 
   assigned_none : (s : NodeName) → assigned w s ≡ []
@@ -96,7 +96,7 @@ pub record IsQuiet (c : Contents) : Type 0 where
   pub no_hosts : (o : Owner) → (c.tables o).attached ≡ []
   pub no_observers : (o : Owner) → (c.tables o).registrations ≡ []
 
-hosts_none : (c : Contents) → IsQuiet c → HasNoHosts (world_of c)
+pub hosts_none : (c : Contents) → IsQuiet c → HasNoHosts (world_of c)
 hosts_none c quiet o = each c.owners
   where
     each : (os : List Owner) → (unwrap_or (find_part (map (part_in c) os) o) (empty_part o)).attached ≡ []

@@ -116,6 +116,7 @@ fn insertions_move_nodes(rt: HostRuntime) -> Result<(), AllocError> {
     assert!(rt; insert(&rt, &mut doc, 2, 4, None).is_ok());
     check_children(&rt, &doc, 1, &[2, 5, 3]);
     check_children(&rt, &doc, 2, &[4]);
+    assert!(rt; doc.is_connected(key_of(&rt, &doc, 4)) && !doc.is_connected(key_of(&rt, &doc, 6)));
     let root = key_of(&rt, &doc, 0);
     assert!(rt; doc.forest().document(key_of(&rt, &doc, 4)) == Some(root));
     Ok(())

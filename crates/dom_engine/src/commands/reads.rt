@@ -2,7 +2,7 @@
 ghost use Rattle.std.specs.Prelude.{◌≡◌, ◌<◌, ◌++◌, ◌∷◌, [], true, length, OnOk, IfOk};
 ghost use Rattle.std.specs.Option.{option_map, ForSome};
 ghost use Rattle.dom_model.specs.Tree.{has_node, subtree, parent_of, children_of, is_inclusive_ancestor};
-ghost use Rattle.dom_model.specs.Command.{tree, parent, document_of, children, contains};
+ghost use Rattle.dom_model.specs.Command.{tree, parent, document_of, children, contains, connected};
 ghost use Rattle.dom_model.specs.CommandNames.{named};
 ghost use Rattle.dom_model.specs.Effects.{node_or_null};
 ghost use Rattle.dom_model.specs.Output.{says, replied, a_tree};
@@ -96,6 +96,20 @@ impl State {
         self.accept(owner, &Value::Truth(truth), out)
     }
 
+    /// `connected N`: whether a document is the shadow-including root of a node.
+    pub(crate) fn connected(
+        &mut self,
+        owner: Owner,
+        node: Spelled,
+        out: &mut Vec<u8>,
+    ) -> Result<(), Fault>
+        ensures { IsHandled owner (connected (spelled_view node)) self.old.world self.new.world out.old.items out.new.items result }
+    {
+        self.admit(owner, &[Named::Any(node)])?;
+        let connected = self.doc.is_connected(self.key(owner, node));
+        self.accept(owner, &Value::Truth(connected), out)
+    }
+
     /// Puts the reply with the text of the tree of a node that is there.
     fn put_tree(&self, owner: Owner, node: Spelled, out: &mut Vec<u8>) -> Result<(), AllocError>
         requires { has_node (part_of self.now.world owner).trees (named (part_of self.now.world owner) (spelled_view node)) ≡ true }
@@ -108,7 +122,7 @@ impl State {
     }
 
     /// A node or `null`, for a reply.
-    fn node_or_null(&self, node: Option<Key>) -> Value<'static>
+    pub(super) fn node_or_null(&self, node: Option<Key>) -> Value<'static>
         requires { ForSome node (λ k. k < length self.now.names) }
         ensures { value_view result ≡ node_or_null (option_map (name_at self.now.names) node) }
     {

@@ -48,8 +48,12 @@ fn a_chain_is_built_from_the_bottom_up(rt: HostRuntime) -> Result<(), Fail> {
         "p contains n100000 n1 => p ok true
 p contains n1 n100000 => p ok false
 p normalize n100000
+p connected n1 => p ok false
 p append n0 n100000
 p contains n0 n1 => p ok true
+p connected n1 => p ok true
+p query n0 \"a:last-child:not(a)\" => p ok []
+p matches n1 \"a a > a:first-child\" => p ok true
 p append n1 n50000 => p ! hierarchy
 p adopt n0 n50000
 p contains n0 n1 => p ok false

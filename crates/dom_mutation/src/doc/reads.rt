@@ -2,10 +2,10 @@
 ghost use Rattle.std.specs.Prelude.{◌≡◌, ℕ, ◌<◌, ◌≤◌, true, false, length, count_by, is_some};
 ghost use Rattle.std.specs.Option.{option_map, ForSome};
 ghost use Rattle.dom_model.specs.Names.{first_of, last_of, name_eq};
-ghost use Rattle.dom_model.specs.Tree.{nodes, node_in, attribute_value, kind_of, parent_of, children_of, next_sibling, previous_sibling, length_of, is_inclusive_ancestor};
+ghost use Rattle.dom_model.specs.Tree.{nodes, node_in, attribute_value, kind_of, parent_of, children_of, next_sibling, previous_sibling, length_of, is_inclusive_ancestor, is_document};
 ghost use Rattle.dom_base.specs.declared.NodeName.{NodeName as Name};
 ghost use Rattle.dom_base.specs.declared.Owner.{Owner as OwnerOf};
-ghost use Rattle.dom_model.specs.World.{part_of, is_there};
+ghost use Rattle.dom_model.specs.World.{part_of, is_there, is_connected};
 ghost use Rattle.dom_model.specs.CommandRefusals.{past_limit};
 ghost use Rattle.dom_mutation.specs.Doc.{name_in, owner_in, trees_in, StepsAlone};
 
@@ -66,6 +66,16 @@ impl Doc {
         self.forest.length(node)
     }
 
+    /// Whether a node's shadow-including root is a document (DOM Standard, concept: connected). There are no hosts yet, so
+    /// this is its root.
+    pub fn is_connected(&self, node: Key) -> bool
+        requires { node < length self.now.names }
+        ensures { result ≡ is_connected self.now.world (name_in self.now node) }
+    {
+        let root = self.forest.root(node);
+        is_document(self.forest.kind(root))
+    }
+
     /// Whether a node has an attribute.
     pub(super) fn has_attr(&self, node: Key, name: &str) -> bool
         requires { node < length self.now.names }
@@ -123,4 +133,11 @@ impl Doc {
     {
         self.forest.prev(node)
     }
+}
+
+/// Whether a kind is that of documents.
+fn is_document(kind: Kind) -> bool
+    ensures { result ≡ is_document kind }
+{
+    matches!(kind, Kind::Document)
 }
