@@ -11,7 +11,7 @@ use Rattle.dom_base.specs.declared.Refusal.TheVariants.{Selector}
 use Rattle.dom_base.specs.declared.Owner.{Owner}
 use Rattle.dom_base.specs.declared.NodeName.{NodeName}
 use Rattle.dom_model.specs.Names.{name_eq, text_eq, is_empty, last_of, items_before, items_after}
-use Rattle.dom_model.specs.Tree.{Trees, Node, kind_of, is_element, attribute_value, parent_of, children_of, siblings, ancestors, inclusive_ancestors, descendants, inclusive_descendants}
+use Rattle.dom_model.specs.Tree.{Trees, Node, kind_of, is_element, attribute_value, parent_of, children_of, siblings, inclusive_ancestors, descendants, inclusive_descendants}
 use Rattle.dom_model.specs.Selectors.{Simple, of_type, of_any_type, of_id, of_class, with_attribute, with_value, first_child, last_child, CompoundPart, simple, is_not, Combinator, descendant, child, next, later, Complex, alone, joined, equals, has_word, attribute_passes, elements_before, elements_behind, simple_matches, part_matches, compound_matches, combined_with, complex_matches, selector_matches, query_all}
 use Rattle.dom_model.specs.SelectorText.{parse_selectors}
 use Rattle.dom_model.specs.Effects.{selectors_of}

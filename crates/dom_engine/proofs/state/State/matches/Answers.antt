@@ -1,11 +1,10 @@
-use Rattle.std.proofs.Common.{◌≡◌, [], ◌∷◌, Some, refl, sym, ap, subst, ◌∙◌}
+use Rattle.std.proofs.Common.{[], ◌∷◌, refl, sym, ap, ◌∙◌}
 use Rattle.std.proofs.lemmas.Result.{err_from_is_err_and}
 use Rattle.dom_model.specs.Command.{Command}
 use Rattle.dom_model.specs.CommandNames.{named}
 use Rattle.dom_model.specs.Effects.{selectors_of}
 use Rattle.dom_model.specs.Output.{a_truth}
 use Rattle.dom_model.specs.Selectors.{selector_matches}
-use Rattle.dom_model.specs.SelectorText.{parse_selectors}
 use Rattle.dom_model.specs.World.{part_of}
 use Rattle.dom_reader.specs.Views.{spelled_view}
 use Rattle.dom_selectors.specs.Views.{selector_view}
