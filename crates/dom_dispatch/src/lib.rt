@@ -4,6 +4,8 @@
 
 mod laws;
 mod listeners;
+#[cfg(test)]
+mod tests;
 
 pub use laws::{keys_stand_for_names, one_list_serves_all};
 pub use listeners::{ListenerInit, Listeners};

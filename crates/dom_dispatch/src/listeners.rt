@@ -23,7 +23,7 @@ pub struct ListenerInit {
 
 /// A listener, and the node at which it is.
 #[derive(Drop)]
-struct Entry {
+pub(crate) struct Entry {
     node: Key,
     words: ListenerInit,
 }
@@ -43,7 +43,7 @@ impl Entry {
 /// The listeners of all nodes, in the order of adding (DOM Standard, concept: event listener list).
 #[derive(Drop)]
 pub struct Listeners {
-    entries: Vec<Entry>,
+    pub(crate) entries: Vec<Entry>,
 }
 
 impl Model for Listeners {
@@ -81,7 +81,7 @@ impl Listeners {
     }
 
     /// Whether a node has a listener with the type, the label and the capture of these words.
-    fn has(&self, node: Key, words: &ListenerInit) -> bool
+    pub(crate) fn has(&self, node: Key, words: &ListenerInit) -> bool
         ensures { result ≡ list_any (is_listener nat_eq node (string_bytes words.now.event) (string_bytes words.now.label) words.now.capture) self.now }
     {
         self.entries.iter().any(|entry| {

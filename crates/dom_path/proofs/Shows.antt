@@ -194,8 +194,11 @@ module _ (f : NamedTrees) (hosts : List ShadowHost) (distinct : AreDistinct f.na
   -- the nodes of the items are nodes of the forest
   pub nodes-within : (items : List Item) → AllByRecursion (IsItemOf f hosts target related) items → AllByRecursion (HasNodes f.names) items
   nodes-within [] h = tt
-  nodes-within (i ∷ items) h = (subst (HasNodes f.names) (sym h.0.2) (record {
+  nodes-within (i ∷ items) h = (
+    subst (HasNodes f.names) (sym h.0.2) (record {
       node = h.0.1.node;
       event_target = seen-node f hosts distinct target h.0.0.root place;
       related = related-node f hosts distinct related h.0.0.root other;
-    }), nodes-within items h.1)
+    }),
+    nodes-within items h.1,
+  )
