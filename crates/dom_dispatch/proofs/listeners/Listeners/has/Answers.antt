@@ -1,4 +1,4 @@
-use Rattle.std.proofs.Common.{◌≡◌, ℕ, Bool, nat_eq, map, sym, ap, ◌∙◌, rules, tests}
+use Rattle.std.proofs.Common.{ℕ, Bool, nat_eq, ap, ◌∙◌, rules, tests}
 use Rattle.std.specs.Prelude.{string_bytes}
 use Rattle.std.specs.List.{list_any}
 use Rattle.std.proofs.lemmas.Iterator.{YieldsList-from_slice}

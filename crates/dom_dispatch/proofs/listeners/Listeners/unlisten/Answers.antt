@@ -1,4 +1,4 @@
-use Rattle.std.proofs.Common.{◌≡◌, ℕ, Bool, not, nat_eq, map, filter, sym, ap, ◌∙◌, rules, tests}
+use Rattle.std.proofs.Common.{ℕ, Bool, not, nat_eq, map, filter, ap, ◌∙◌, rules, tests}
 use Rattle.std.proofs.lemmas.Fn.{filter_same}
 use Rattle.dom_model.specs.Listeners.{Listener, is_listener}
 use Rattle.dom_dispatch.specs.Entries.{listener_of}
