@@ -1,5 +1,5 @@
 -- A dispatch with one list of all owners' listeners is the dispatch in the world.
-use Rattle.std.proofs.Common.{◌≡◌, ◌≢◌, Bool, true, false, not, ◌&&◌, List, [], ◌∷◌, filter, fold, map, Option, refl, sym, ap, subst, ◌∙◌, true≢false}
+use Rattle.std.proofs.Common.{◌≡◌, ◌≢◌, Bool, true, false, not, ◌&&◌, List, [], ◌∷◌, filter, fold, map, refl, sym, ap, subst, ◌∙◌, true≢false}
 use Rattle.std.specs.Prelude.{nat_eq}
 use Rattle.std.specs.Bool.{beq}
 use Rattle.dom_base.specs.declared.Owner.{Owner}
@@ -14,7 +14,7 @@ use Rattle.dom_model.specs.World.{World, part_of, with_part}
 use Rattle.dom_model.proofs.OwnerLaws.{owner_eq-true, owner_eq-same, ne-owner_eq}
 use Rattle.dom_model.proofs.PartLaws.{part_of-with_part, part_of-with_part-other, owner-part_of}
 use Rattle.dom_isolation.proofs.Tests.{by_cases}
-use Rattle.dom_dispatch.specs.Kept.{is_of_owner, HasListeners, DispatchedAmong, DispatchedAlong, dispatch_along, dispatch_among}
+use Rattle.dom_dispatch.specs.Kept.{is_of_owner, DispatchedAmong, DispatchedAlong, dispatch_along, dispatch_among}
 use Rattle.dom_dispatch.specs.Named.{listener_named, dispatching_named}
 use Rattle.dom_dispatch.proofs.Naming.{dispatched-named}
 use Rattle.dom_dispatch.proofs.Narrowing.{narrowed, visited-narrow, visited-apart}

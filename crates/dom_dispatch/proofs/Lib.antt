@@ -1,3 +1,4 @@
 pub mod Naming
 pub mod Narrowing
 pub mod Among
+pub mod Entered

@@ -10,7 +10,6 @@ use Rattle.dom_base.specs.declared.Action.TheVariants.{Log, Stop, StopNow, Cance
 use Rattle.dom_base.specs.declared.NodeName.{NodeName}
 use Rattle.dom_model.specs.Names.{Word, text_eq, name_eq}
 use Rattle.dom_model.specs.Command.{EventWords, ListenerWords}
-use Rattle.dom_model.specs.Output.{EventLine}
 use Rattle.dom_model.specs.Listeners.{Listener, Visit, Dispatching, after_action, may_cancel, line_of, is_listener, unlistened, listened, kept_after, called, hears, visited, begun}
 use Rattle.dom_model.specs.Paths.{View}
 use Rattle.dom_model.specs.Dispatch.{is_at_target, visit_of, visits_of}
@@ -19,7 +18,7 @@ use Rattle.dom_isolation.proofs.Lists.{all-reverse}
 use Rattle.dom_slots.proofs.Hosted.{key-test}
 use Rattle.dom_tree.specs.Forest.{name_at}
 use Rattle.dom_path.specs.Items.{view_named}
-use Rattle.dom_dispatch.specs.Named.{TellApart, listener_named, visit_named, line_named, dispatching_named, IsListenerAt, IsViewOf, ListenedByNames, UnlistenedByNames, DispatchedByNames}
+use Rattle.dom_dispatch.specs.Named.{TellApart, listener_named, visit_named, line_named, dispatching_named, IsListenerAt, IsViewOf}
 
 -- two lists mapped are both mapped
 map-join : {X Y : Type 0} (f : X → Y) (xs ys : List X) → map f (xs ++ ys) ≡ map f xs ++ map f ys

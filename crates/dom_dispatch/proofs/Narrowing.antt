@@ -1,5 +1,5 @@
 -- A visit among some of the listeners only, where all that hear it are among these.
-use Rattle.std.proofs.Common.{◌≡◌, Bool, true, false, not, ◌&&◌, List, [], ◌∷◌, ◌++◌, filter, fold, refl, sym, ap, ◌∙◌, true≢false}
+use Rattle.std.proofs.Common.{◌≡◌, Bool, true, false, not, List, [], ◌∷◌, ◌++◌, filter, fold, refl, sym, ap, ◌∙◌}
 use Rattle.std.specs.Prelude.{if◌then◌else◌}
 use Rattle.std.specs.List.{AllByRecursion}
 use Rattle.std.proofs.lemmas.Bool.{cond-true, cond-false}
@@ -17,15 +17,15 @@ module _ {X : Type 0} where
       let rest = filter-swap p q xs in
       by_cases (p x)
       (λ e. by_cases (q x)
-        (λ g. ap (filter p) (cond-true (q x) (x ∷ filter q xs) (filter q xs) g) ∙ cond-true (p x) (x ∷ filter p (filter q xs)) (filter p (filter q xs)) e ∙ ap (λ ys. x ∷ ys) rest
-        ∙ sym (ap (filter q) (cond-true (p x) (x ∷ filter p xs) (filter p xs) e) ∙ cond-true (q x) (x ∷ filter q (filter p xs)) (filter q (filter p xs)) g))
-        (λ g. ap (filter p) (cond-false (q x) (x ∷ filter q xs) (filter q xs) g) ∙ rest
-        ∙ sym (ap (filter q) (cond-true (p x) (x ∷ filter p xs) (filter p xs) e) ∙ cond-false (q x) (x ∷ filter q (filter p xs)) (filter q (filter p xs)) g)))
+      (λ g. ap (filter p) (cond-true (q x) (x ∷ filter q xs) (filter q xs) g) ∙ cond-true (p x) (x ∷ filter p (filter q xs)) (filter p (filter q xs)) e ∙ ap (λ ys. x ∷ ys) rest
+      ∙ sym (ap (filter q) (cond-true (p x) (x ∷ filter p xs) (filter p xs) e) ∙ cond-true (q x) (x ∷ filter q (filter p xs)) (filter q (filter p xs)) g))
+      (λ g. ap (filter p) (cond-false (q x) (x ∷ filter q xs) (filter q xs) g) ∙ rest
+      ∙ sym (ap (filter q) (cond-true (p x) (x ∷ filter p xs) (filter p xs) e) ∙ cond-false (q x) (x ∷ filter q (filter p xs)) (filter q (filter p xs)) g)))
       (λ e. by_cases (q x)
-        (λ g. ap (filter p) (cond-true (q x) (x ∷ filter q xs) (filter q xs) g) ∙ cond-false (p x) (x ∷ filter p (filter q xs)) (filter p (filter q xs)) e ∙ rest
-        ∙ sym (ap (filter q) (cond-false (p x) (x ∷ filter p xs) (filter p xs) e)))
-        (λ g. ap (filter p) (cond-false (q x) (x ∷ filter q xs) (filter q xs) g) ∙ rest
-        ∙ sym (ap (filter q) (cond-false (p x) (x ∷ filter p xs) (filter p xs) e))))
+      (λ g. ap (filter p) (cond-true (q x) (x ∷ filter q xs) (filter q xs) g) ∙ cond-false (p x) (x ∷ filter p (filter q xs)) (filter p (filter q xs)) e ∙ rest
+      ∙ sym (ap (filter q) (cond-false (p x) (x ∷ filter p xs) (filter p xs) e)))
+      (λ g. ap (filter p) (cond-false (q x) (x ∷ filter q xs) (filter q xs) g) ∙ rest
+      ∙ sym (ap (filter q) (cond-false (p x) (x ∷ filter p xs) (filter p xs) e))))
 
   -- a test that all pass which pass another one
   filter-wider : (p q : X → Bool) → ((x : X) → p x ≡ true → q x ≡ true) → (xs : List X) → filter p (filter q xs) ≡ filter p xs
@@ -36,8 +36,8 @@ module _ {X : Type 0} where
       (λ e. ap (filter p) (cond-true (q x) (x ∷ filter q xs) (filter q xs) (wider x e)) ∙ cond-true (p x) (x ∷ filter p (filter q xs)) (filter p (filter q xs)) e ∙ ap (λ ys. x ∷ ys) rest
       ∙ sym (cond-true (p x) (x ∷ filter p xs) (filter p xs) e))
       (λ e. by_cases (q x)
-        (λ g. ap (filter p) (cond-true (q x) (x ∷ filter q xs) (filter q xs) g) ∙ cond-false (p x) (x ∷ filter p (filter q xs)) (filter p (filter q xs)) e ∙ rest ∙ sym (cond-false (p x) (x ∷ filter p xs) (filter p xs) e))
-        (λ g. ap (filter p) (cond-false (q x) (x ∷ filter q xs) (filter q xs) g) ∙ rest ∙ sym (cond-false (p x) (x ∷ filter p xs) (filter p xs) e)))
+      (λ g. ap (filter p) (cond-true (q x) (x ∷ filter q xs) (filter q xs) g) ∙ cond-false (p x) (x ∷ filter p (filter q xs)) (filter p (filter q xs)) e ∙ rest ∙ sym (cond-false (p x) (x ∷ filter p xs) (filter p xs) e))
+      (λ g. ap (filter p) (cond-false (q x) (x ∷ filter q xs) (filter q xs) g) ∙ rest ∙ sym (cond-false (p x) (x ∷ filter p xs) (filter p xs) e)))
 
 module _ {N : Type 0} (same : N → N → Bool) (e : EventWords) where
   -- a dispatch on its way, with some of its listeners

@@ -1,5 +1,5 @@
 -- The items of a path and what the event shows at each are those of every world that has these trees and hosts.
-use Rattle.std.proofs.Common.{◌≡◌, ℕ, Bool, true, false, not, ◌&&◌, List, [], ◌∷◌, map, filter, take_while, Option, Some, None, option_map, refl, sym, ap, subst, ◌∙◌}
+use Rattle.std.proofs.Common.{◌≡◌, ℕ, ◌<◌, length, Bool, true, false, not, ◌&&◌, List, [], ◌∷◌, map, filter, take_while, Option, Some, None, option_map, refl, sym, ap, subst, ◌∙◌}
 use Rattle.std.specs.Prelude.{nat_eq, is_some, if◌then◌else◌}
 use Rattle.std.specs.List.{AllByRecursion}
 use Rattle.std.specs.Option.{ForSome, option_and_then, option_map_or}
@@ -21,7 +21,7 @@ use Rattle.dom_slots.proofs.Hosted.{AreDistinct, key-test}
 use Rattle.dom_path.specs.declared.item.Item.{Item}
 use Rattle.dom_path.specs.declared.stand.Stand.{Stand}
 use Rattle.dom_path.specs.Built.{IsItemOf, IsWay, GoesOn, next_name}
-use Rattle.dom_path.specs.Items.{IsWorldOf, HasNodes, item_named, view_named, path_item, items_along, path_items}
+use Rattle.dom_path.specs.Items.{IsWorldOf, HasNodes, ShowsNodes, item_named, view_named, path_item, items_along, path_items}
 use Rattle.dom_path.specs.Stands.{IsStand, seen_from, key_if, is_hidden_item, shown_nodes, view_in}
 use Rattle.dom_path.specs.Ways.{unless_ended, ends_at, is_empty_at}
 use Rattle.dom_path.proofs.Places.{tree-test, host-place, seen-named, related-named, seen-node, related-node}
@@ -194,8 +194,34 @@ module _ (f : NamedTrees) (hosts : List ShadowHost) (distinct : AreDistinct f.na
   -- the nodes of the items are nodes of the forest
   pub nodes-within : (items : List Item) → AllByRecursion (IsItemOf f hosts target related) items → AllByRecursion (HasNodes f.names) items
   nodes-within [] h = tt
-  nodes-within (i ∷ items) h = (subst (HasNodes f.names) (sym h.0.2) (record {
+  nodes-within (i ∷ items) h = (
+    subst (HasNodes f.names) (sym h.0.2) (record {
       node = h.0.1.node;
       event_target = seen-node f hosts distinct target h.0.0.root place;
       related = related-node f hosts distinct related h.0.0.root other;
-    }), nodes-within items h.1)
+    }),
+    nodes-within items h.1,
+  )
+
+  -- and so are those of what is shown
+  path-within : (items : List Item) → AllByRecursion (IsItemOf f hosts target related) items → (root : ℕ) → AllByRecursion (λ k. k < length f.names) (shown_nodes items root)
+  path-within [] h root = tt
+  path-within (i ∷ items) h root = by (not (is_hidden_item root i)) (nodes-within (i ∷ items) h).0.node (path-within items h.1 root)
+    where
+      by : (b : Bool) → i.node < length f.names → AllByRecursion (λ k. k < length f.names) (shown_nodes items root)
+          → AllByRecursion (λ k. k < length f.names) (map (λ (i : Item). i.node) (if b then i ∷ filter (λ i. not (is_hidden_item root i)) items else filter (λ i. not (is_hidden_item root i)) items))
+      by true node rest = (node, rest)
+      by false node rest = rest
+
+  -- at some items
+  shown-along : (all : List Item) → AllByRecursion (IsItemOf f hosts target related) all → (some : List Item) → AllByRecursion (HasNodes f.names) some → AllByRecursion (ShowsNodes f.names) (map (view_in all) some)
+  shown-along all g [] h = tt
+  shown-along all g (i ∷ some) h = (record { node = h.0.node; target = h.0.event_target; related = h.0.related; path = path-within all g i.root }, shown-along all g some h.1)
+
+  -- and at all
+  pub shown-within : (items : List Item) → AllByRecursion (IsItemOf f hosts target related) items → AllByRecursion (ShowsNodes f.names) (map (view_in items) items)
+  shown-within items h = shown-along items h items (nodes-within items h)
+
+-- where there are no items nothing is shown
+pub none-within : (names : List NodeName) (all items : List Item) → items ≡ [] → AllByRecursion (ShowsNodes names) (map (view_in all) items)
+none-within names all items e = subst (λ is. AllByRecursion (ShowsNodes names) (map (view_in all) is)) (sym e) tt

@@ -1,5 +1,6 @@
 -- What a contract sees of a `Path`, and what its items and views are by names.
 use Rattle.std.specs.Prelude.{ℕ, ◌<◌, Bool, false, List, [], ◌∷◌, length, map, Option, Some, None, option_map, if◌then◌else◌}
+use Rattle.std.specs.List.{AllByRecursion}
 use Rattle.std.specs.Option.{option_map_or, ForSome}
 use Rattle.dom_base.specs.declared.NodeName.{NodeName}
 use Rattle.dom_model.specs.Names.{name_eq}
@@ -52,6 +53,13 @@ pub record HasNodes (names : List NodeName) (i : Item) : Type 0 where
   pub node : i.node < length names
   pub event_target : i.event_target < length names
   pub related : ForSome i.related (λ k. k < length names)
+
+-- the nodes of what an event shows are nodes of these names
+pub record ShowsNodes (names : List NodeName) (v : View ℕ) : Type 0 where
+  pub node : v.node < length names
+  pub target : v.target < length names
+  pub related : ForSome v.related (λ k. k < length names)
+  pub path : AllByRecursion (λ k. k < length names) v.path
 
 -- the item of a node of an event path, behind the node before
 abbrev pub path_item : World → NodeName → Option NodeName → Option NodeName → NodeName → PathItem

@@ -6,7 +6,7 @@ ghost use Rattle.dom_model.specs.Paths.{View, views};
 ghost use Rattle.dom_model.specs.World.{World};
 ghost use Rattle.dom_tree.specs.Forest.{name_at};
 ghost use Rattle.dom_slots.specs.Kept.{AreSlotsOf};
-ghost use Rattle.dom_path.specs.Items.{IsWorldOf, HasNodes, item_named, view_named, path_items};
+ghost use Rattle.dom_path.specs.Items.{IsWorldOf, HasNodes, ShowsNodes, item_named, view_named, path_items};
 
 use crate::event::Event;
 use crate::item::Item;
@@ -52,6 +52,7 @@ impl Path {
         ensures items { IfOk result (λ p. (w : World) → IsWorldOf forest.now slots.now.hosts w → map (item_named forest.now.names) p.items ≡ path_items w (name_at forest.now.names target) (option_map (name_at forest.now.names) related) composed) }
         ensures views { IfOk result (λ p. (w : World) → IsWorldOf forest.now slots.now.hosts w → map (view_named forest.now.names) p.views ≡ views w (name_at forest.now.names target) (option_map (name_at forest.now.names) related) composed) }
         ensures nodes { IfOk result (λ p. AllByRecursion (HasNodes forest.now.names) p.items) }
+        ensures shown_nodes { IfOk result (λ p. AllByRecursion (ShowsNodes forest.now.names) p.views) }
     {
         forest.nodes_stand_once();
         let event = Event::new(forest, slots, target, related, composed);

@@ -1,9 +1,9 @@
 //! Where the nodes of a path stand.
-ghost use Rattle.std.specs.Prelude.{◌≡◌, ◌<◌, false, length, None, Some, option_map};
+ghost use Rattle.std.specs.Prelude.{◌≡◌, ◌<◌, List, false, length, None, Some, option_map};
 ghost use Rattle.std.specs.Option.{ForSome};
 ghost use Rattle.dom_model.specs.Tree.{is_shadow, node_in, parent_of};
 ghost use Rattle.dom_tree.specs.Forest.{name_at};
-ghost use Rattle.dom_slots.specs.Hosts.{HostsAreNodes};
+ghost use Rattle.dom_slots.specs.Hosts.{ShadowHost, HostsAreNodes};
 ghost use Rattle.dom_slots.specs.Kept.{AreSlotsOf};
 ghost use Rattle.dom_slots.specs.Shadows.{shadows, is_assigned_at};
 ghost use Rattle.dom_path.specs.Stands.{IsStand, seen_from};
@@ -46,16 +46,14 @@ impl Stand {
     }
 
     /// The place of the node's parent, in the same tree.
-    fn at_parent(&self, forest: &Forest, slots: &Slots, parent: Key) -> Stand
-        requires stands { IsStand forest.now slots.now.hosts self.now }
+    fn at_parent(&self, forest: &Forest, parent: Key) -> Stand
         requires parent_is_node { parent < length forest.now.names }
         requires parent { Some (name_at forest.now.names parent) ≡ parent_of forest.now.trees (name_at forest.now.names self.now.node) }
-        ensures stands { IsStand forest.now slots.now.hosts result }
+        ensures stands { (hosts : List ShadowHost) → IsStand forest.now hosts self.now → IsStand forest.now hosts result }
         ensures node { result.node ≡ parent }
         ensures entered { result.is_entered ≡ false }
     {
         forest.nodes_stand_once();
-        let _ = slots;
         Stand {
             node: parent,
             root: self.root,
@@ -94,7 +92,7 @@ impl Stand {
             return Some(Stand::of(forest, slots, slot, true));
         }
         let parent = forest.parent(self.node)?;
-        Some(self.at_parent(forest, slots, parent))
+        Some(self.at_parent(forest, parent))
     }
 
     /// What is seen in the node's place from the tree with this root: the node in its own tree, and from outside of a closed

@@ -76,7 +76,12 @@ fn add(alloc: Global, forest: &mut Forest, owner: Owner, words: &[&str]) -> Resu
 }
 
 // A forest with these nodes of the page, and two components' shadow roots and nodes.
-pub(super) fn nodes(alloc: Global, page: &[&str], first: &[&str], second: &[&str]) -> Result<Forest, Fail> {
+pub(super) fn nodes(
+    alloc: Global,
+    page: &[&str],
+    first: &[&str],
+    second: &[&str],
+) -> Result<Forest, Fail> {
     let mut forest = Forest::new(alloc);
     add(alloc, &mut forest, Owner::Page, page)?;
     add(alloc, &mut forest, Owner::Component(1), &["shadow"])?;

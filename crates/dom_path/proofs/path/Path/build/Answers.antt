@@ -7,7 +7,7 @@ use Rattle.dom_path.specs.declared.stand.Stand.{Stand}
 use Rattle.dom_path.specs.Items.{path_items, items_along, item_named}
 use Rattle.dom_path.specs.Ways.{is_empty_at}
 use Rattle.dom_path.proofs.Places.{related-key, silent-named}
-use Rattle.dom_path.proofs.Shows.{nodes-are, none-are, nothing-shown, views-are, items-are, nodes-within}
+use Rattle.dom_path.proofs.Shows.{nodes-are, none-are, nothing-shown, views-are, items-are, nodes-within, shown-within, none-within}
 use Rattle.dom_path.proofs.path.Path.build.Goals as goal
 
 pub returns-then-is_silent-clause-items : goal.returns-then-is_silent-clause-items
@@ -75,3 +75,12 @@ returns-clause-nodes c =
     let e = c.new-event.result in
     let at = c.new-event.ensures in
     nodes-within c.args.forest.now c.args.slots.now.hosts c.nodes_stand_once.ensures.distinct e.target e.related at.places.at_target at.places.at_related c.in_ok-items.items.items c.in_ok-items.ensures.each
+
+pub returns-then-is_silent-clause-shown_nodes : goal.returns-then-is_silent-clause-shown_nodes
+returns-then-is_silent-clause-shown_nodes c = none-within c.args.forest.now.names _ c.new.result.items c.new.ensures.items
+
+pub returns-clause-shown_nodes : goal.returns-clause-shown_nodes
+returns-clause-shown_nodes c =
+    let e = c.new-event.result in
+    let at = c.new-event.ensures in
+    shown-within c.args.forest.now c.args.slots.now.hosts c.nodes_stand_once.ensures.distinct e.target e.related at.places.at_target at.places.at_related c.in_ok-items.items.items c.in_ok-items.ensures.each

@@ -5,10 +5,9 @@ use Rattle.dom_path.proofs.Places.{root-parent}
 use Rattle.dom_path.proofs.stand.Stand.at_parent.Goals as goal
 
 pub returns-clause-stands : goal.returns-clause-stands
-returns-clause-stands c =
+returns-clause-stands c = λ hosts at.
     let f = c.args.forest.now in
     let e = c.nodes_stand_once.ensures in
-    let at = c.requires.stands in
     let x = c.args.self.now.node in
     record {
       node = c.requires.parent_is_node;

@@ -1,0 +1,19 @@
+-- Tests of the entries of a table, and of the listeners that these are.
+use Rattle.std.proofs.Common.{◌≡◌, Bool, ◌||◌, List, [], ◌∷◌, filter, map, refl, ap, ◌∙◌, sym}
+use Rattle.std.specs.List.{list_any}
+use Rattle.std.proofs.lemmas.Bool.{cond-true, cond-false}
+use Rattle.dom_isolation.proofs.Tests.{by_cases}
+
+module _ {X Y : Type 0} (p : Y → Bool) (f : X → Y) where
+  -- whether one of them passes
+  pub any-mapped : (xs : List X) → list_any (λ x. p (f x)) xs ≡ list_any p (map f xs)
+  any-mapped [] = refl
+  any-mapped (x ∷ xs) = ap (λ b. p (f x) || b) (any-mapped xs)
+
+  -- those that pass
+  pub kept-mapped : (xs : List X) → map f (filter (λ x. p (f x)) xs) ≡ filter p (map f xs)
+  kept-mapped [] = refl
+  kept-mapped (x ∷ xs) =
+      by_cases (p (f x))
+      (λ e. ap (map f) (cond-true (p (f x)) (x ∷ filter (λ x. p (f x)) xs) (filter (λ x. p (f x)) xs) e) ∙ ap (λ ys. f x ∷ ys) (kept-mapped xs) ∙ sym (cond-true (p (f x)) (f x ∷ filter p (map f xs)) (filter p (map f xs)) e))
+      (λ e. ap (map f) (cond-false (p (f x)) (x ∷ filter (λ x. p (f x)) xs) (filter (λ x. p (f x)) xs) e) ∙ kept-mapped xs ∙ sym (cond-false (p (f x)) (f x ∷ filter p (map f xs)) (filter p (map f xs)) e))

@@ -1,0 +1,18 @@
+-- What a contract sees of `Listeners`.
+use Rattle.std.specs.Prelude.{ℕ, List, map, string_bytes}
+use Rattle.dom_model.specs.Command.{ListenerWords}
+use Rattle.dom_model.specs.Listeners.{Listener}
+use Rattle.dom_dispatch.specs.declared.listeners.Entry.{Entry}
+use Rattle.dom_dispatch.specs.declared.listeners.ListenerInit.{ListenerInit}
+
+-- the words with which a listener was added
+abbrev pub words_of : ListenerInit → ListenerWords
+words_of i = record { event = string_bytes i.event; label = string_bytes i.label; action = i.action; capture = i.capture; once = i.once; passive = i.passive }
+
+-- a listener
+abbrev pub listener_of : Entry → Listener ℕ
+listener_of e = record { node = e.node; words = words_of e.words }
+
+-- the listeners, in the order of adding
+abbrev pub listeners_in : List Entry → List (Listener ℕ)
+listeners_in es = map listener_of es

@@ -1,0 +1,112 @@
+//! The listeners of all nodes.
+ghost use Rattle.std.specs.Prelude.{◌≡◌, nat_eq, [], string_bytes, OnOk, OnErr};
+ghost use Rattle.dom_model.specs.Listeners.{is_listener, listened, unlistened};
+ghost use Rattle.dom_model.specs.Names.{text_eq};
+ghost use Rattle.std.specs.List.{list_any};
+ghost use Rattle.dom_dispatch.specs.Entries.{words_of, listener_of};
+
+use dom_base::Action;
+use node_arena::Key;
+use std::alloc::{AllocError, Global};
+use std::marker::Model;
+
+/// The words with which a listener is added (DOM Standard, addEventListener(); own rule for the label and the action).
+#[derive(Drop)]
+pub struct ListenerInit {
+    pub event: String,
+    pub label: String,
+    pub action: Action,
+    pub capture: bool,
+    pub once: bool,
+    pub passive: bool,
+}
+
+/// A listener, and the node at which it is.
+#[derive(Drop)]
+pub(crate) struct Entry {
+    node: Key,
+    words: ListenerInit,
+}
+
+impl Entry {
+    /// Whether this is the listener of a node with this type, label and capture (own rule).
+    fn is(&self, node: Key, event: &str, label: &str, capture: bool) -> bool
+        ensures { result ≡ is_listener nat_eq node event.now label.now capture (listener_of self.now) }
+    {
+        self.node == node
+            && is_text(self.words.event.as_str(), event)
+            && is_text(self.words.label.as_str(), label)
+            && self.words.capture == capture
+    }
+}
+
+/// The listeners of all nodes, in the order of adding (DOM Standard, concept: event listener list).
+#[derive(Drop)]
+pub struct Listeners {
+    pub(crate) entries: Vec<Entry>,
+}
+
+impl Model for Listeners {
+    ghost use Rattle.std.specs.Prelude.{ℕ, List};
+    ghost use Rattle.dom_model.specs.Listeners.{Listener};
+
+    ghost Value = { List (Listener ℕ) };
+
+    ghost use Rattle.dom_dispatch.specs.Entries.{listeners_in};
+
+    ghost view = { λ l. listeners_in l.entries.items };
+}
+
+impl Listeners {
+    /// No listeners. Takes no memory yet; later calls take theirs from `alloc`.
+    pub fn new(alloc: Global) -> Self
+        ensures { result ≡ [] }
+    {
+        Listeners {
+            entries: Vec::new(alloc),
+        }
+    }
+
+    /// Adds a listener to a node, behind the others, unless it has one with the same type, label and capture (DOM Standard,
+    /// concept: add an event listener). Where memory is refused, all is as it was.
+    pub fn listen(&mut self, node: Key, words: ListenerInit) -> Result<(), AllocError>
+        ensures ok { OnOk result (self.new ≡ listened nat_eq node (words_of words) self.old) }
+        ensures err { OnErr result (self.new ≡ self.old) }
+    {
+        if self.has(node, &words) {
+            return Ok(());
+        }
+        self.entries.push(Entry { node, words })?;
+        Ok(())
+    }
+
+    /// Whether a node has a listener with the type, the label and the capture of these words.
+    pub(crate) fn has(&self, node: Key, words: &ListenerInit) -> bool
+        ensures { result ≡ list_any (is_listener nat_eq node (string_bytes words.now.event) (string_bytes words.now.label) words.now.capture) self.now }
+    {
+        self.entries.iter().any(|entry| {
+            entry.is(
+                node,
+                words.event.as_str(),
+                words.label.as_str(),
+                words.capture,
+            )
+        })
+    }
+
+    /// Takes the listener of a node with this type, label and capture away, if there is one (DOM Standard, concept: remove
+    /// an event listener).
+    pub fn unlisten(&mut self, node: Key, event: &str, label: &str, capture: bool)
+        ensures { self.new ≡ unlistened nat_eq node event.now label.now capture self.old }
+    {
+        self.entries
+            .retain(|entry| !entry.is(node, event, label, capture));
+    }
+}
+
+/// Whether two texts are the same.
+fn is_text(text: &str, other: &str) -> bool
+    ensures { result ≡ text_eq text.now other.now }
+{
+    text == other
+}
