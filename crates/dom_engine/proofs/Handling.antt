@@ -128,7 +128,7 @@ changed t w new o plan v reply e is =
 module _ (t : Option Owner) (d s : DocState) (seen : turned t d ≡ s) (o : Owner) (c : Command) (names : List Named) (is : IsNaming c names)
     (pass : let_pass (early_refusal s.world o names) ≡ Ok tt) where
   -- what is done in the world of its documents is done in its world
-  in_state : (new : World) (before after : List ℕ) (r : Result (Unit {0}) Fault) →
+  pub in_state : (new : World) (before after : List ℕ) (r : Result (Unit {0}) Fault) →
       IsDone (own_refusal (part_of d.world o) c) (accepted (with_turn t d.world) o c) (with_turn t d.world) new before after r → IsHandled o c s.world new before after r
   in_state new before after r h =
       let Done : DocState → Type 0 = λ u. IsDone (own_refusal (part_of u.world o) c) (accepted u.world o c) u.world new before after r in

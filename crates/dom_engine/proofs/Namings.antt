@@ -75,3 +75,6 @@ naming-children x = record { offered = by_owner _ refl (λ k. refl); foreign = r
 
 pub naming-contains : (x y : Spelled) → IsNaming (Command.contains (spelled_view x) (spelled_view y)) (Any x ∷ Any y ∷ [])
 naming-contains x y = record { offered = by_owner _ refl (λ k. refl); foreign = refl; exist = λ p. refl; thing = λ p. refl; fit = λ p. refl }
+
+pub naming-micro : (label : Word) → IsNaming (Command.micro label) []
+naming-micro label = record { offered = by_owner _ refl (λ k. refl); foreign = refl; exist = λ p. refl; thing = λ p. refl; fit = λ p. refl }

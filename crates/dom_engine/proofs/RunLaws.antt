@@ -36,7 +36,7 @@ text_of_lines-append [] ys = refl
 text_of_lines-append (x ∷ xs) ys =
     ap (λ (t : List ℕ). (x ++ line_feed ∷ []) ++ t) (text_of_lines-append xs ys) ∙ sym (append_assoc (x ++ line_feed ∷ []) (text_of_lines xs) (text_of_lines ys))
 
-output_text-append : (xs ys : List Output) → output_text (xs ++ ys) ≡ output_text xs ++ output_text ys
+pub output_text-append : (xs ys : List Output) → output_text (xs ++ ys) ≡ output_text xs ++ output_text ys
 output_text-append xs ys = ap text_of_lines (map-append output_line xs ys) ∙ text_of_lines-append (map output_line xs) (map output_line ys)
 
 -- ---- answers

@@ -11,7 +11,7 @@ pub record SessionState : Type 0 where
   pub has_failed : Bool
 
 -- the commands that the engine offers so far: those that make and move nodes, those on attributes and data, those that
--- ask where nodes stand, and the end of a turn
+-- ask where nodes stand, microtasks, and the end of a turn
 abbrev pub is_offered : Command → Bool
 is_offered (Command.new_element a) = true
 is_offered (Command.new_text s) = true
@@ -36,6 +36,7 @@ is_offered (Command.parent x) = true
 is_offered (Command.document_of x) = true
 is_offered (Command.children x) = true
 is_offered (Command.contains x y) = true
+is_offered (Command.micro label) = true
 is_offered Command.end_turn = true
 is_offered _ = false
 

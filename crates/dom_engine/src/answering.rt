@@ -37,7 +37,7 @@ impl State {
         ensures world { OnOk result (self.new.world ≡ (step self.old.world (refused_view owner)).0) }
     {
         if let Some(owner) = owner {
-            self.close_other_turn(owner);
+            self.close_other_turn(owner, out)?;
         }
         put_refusal(out, owner, Refusal::Syntax)
     }
@@ -55,7 +55,7 @@ impl State {
         if !is_offered(&command) {
             return self.no_command(Some(owner), out);
         }
-        self.close_other_turn(owner);
+        self.close_other_turn(owner, out)?;
         self.run(owner, command, out)
     }
 
@@ -107,6 +107,7 @@ impl State {
             Command::DocumentOf(node) => self.document_of(owner, node, out),
             Command::Children(node) => self.children(owner, node, out),
             Command::Contains(above, node) => self.contains(owner, above, node, out),
+            Command::Micro(label) => self.micro(owner, label, out),
             Command::EndTurn => self.end_turn(owner, out),
             _ => unreachable!(),
         }
@@ -142,6 +143,7 @@ fn is_offered(command: &Command) -> bool
             | Command::DocumentOf(_)
             | Command::Children(_)
             | Command::Contains(_, _)
+            | Command::Micro(_)
             | Command::EndTurn
     )
 }

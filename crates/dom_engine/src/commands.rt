@@ -11,10 +11,12 @@ mod data;
 mod making;
 mod moving;
 mod reads;
+mod tasks;
 
 use crate::state::State;
 use dom_base::{Fault, Owner};
 use dom_printer::{Value, put_reply};
+pub(crate) use tasks::run_tasks;
 
 impl State {
     /// Ends an accepted command: its owner's turn is open, and the reply is put.

@@ -69,8 +69,19 @@ impl Session {
         if self.has_failed {
             return Err(AllocError);
         }
-        self.state.close_any_turn();
-        Ok(Vec::new(self.alloc))
+        let ending = self.end();
+        self.has_failed = ending.is_err();
+        ending
+    }
+
+    /// Ends an open turn, and gives its lines.
+    fn end(&mut self) -> Result<Vec<u8>, AllocError>
+        ensures text { IfOk result (λ text. text.items ≡ output_text (finish self.old.world).1) }
+        ensures world { OnOk result (self.new.world ≡ (finish self.old.world).0) }
+    {
+        let mut out = Vec::new(self.alloc);
+        self.state.close_any_turn(&mut out)?;
+        Ok(out)
     }
 
     /// What a line does, and the lines that answer it.

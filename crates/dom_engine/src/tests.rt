@@ -7,6 +7,7 @@ mod making;
 mod moving;
 mod reads;
 mod refusals;
+mod tasks;
 
 use super::*;
 use std::alloc::Global;

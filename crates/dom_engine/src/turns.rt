@@ -1,22 +1,26 @@
 //! The ends of turns.
-ghost use Rattle.std.specs.Prelude.{◌≡◌, []};
+ghost use Rattle.std.specs.Prelude.{◌≡◌, ◌++◌, OnOk};
 ghost use Rattle.dom_model.specs.Names.{owner_eq};
 ghost use Rattle.dom_model.specs.Command.{end_turn};
 ghost use Rattle.dom_model.specs.Turns.{has_other_turn, ending_turn, ending_other_turn, ending_any_turn};
+ghost use Rattle.dom_text.specs.Text.{output_text};
 ghost use Rattle.dom_engine.specs.Handled.{IsHandled};
 
+use crate::commands::run_tasks;
 use crate::state::State;
 use dom_base::{Fault, Owner};
 use dom_printer::{Value, put_reply};
+use std::alloc::AllocError;
 
 impl State {
-    /// Ends the open turn, if there is one. There is nothing to run: no microtask and no notification is queued yet.
-    pub(crate) fn close_turn(&mut self)
-        ensures world { self.new.world ≡ (ending_turn self.old.world).0 }
-        ensures silent { (ending_turn self.old.world).1 ≡ [] }
+    /// Ends the open turn, if there is one: the microtasks run, and their lines are put.
+    pub(crate) fn close_turn(&mut self, out: &mut Vec<u8>) -> Result<(), AllocError>
+        ensures text { OnOk result (out.new.items ≡ out.old.items ++ output_text (ending_turn self.old.world).1) }
+        ensures world { OnOk result (self.new.world ≡ (ending_turn self.old.world).0) }
     {
-        self.doc.nothing_is_queued();
+        run_tasks(&mut self.doc, out)?;
         self.turn = None;
+        Ok(())
     }
 
     /// Whether the open turn is another component's.
@@ -30,23 +34,29 @@ impl State {
     }
 
     /// Ends another component's turn, if it is open, before a line of an owner.
-    pub(crate) fn close_other_turn(&mut self, owner: Owner)
-        ensures world { self.new.world ≡ (ending_other_turn self.old.world owner).0 }
-        ensures silent { (ending_other_turn self.old.world owner).1 ≡ [] }
+    pub(crate) fn close_other_turn(
+        &mut self,
+        owner: Owner,
+        out: &mut Vec<u8>,
+    ) -> Result<(), AllocError>
+        ensures text { OnOk result (out.new.items ≡ out.old.items ++ output_text (ending_other_turn self.old.world owner).1) }
+        ensures world { OnOk result (self.new.world ≡ (ending_other_turn self.old.world owner).0) }
     {
         if self.has_other_turn(owner) {
-            self.close_turn();
+            return self.close_turn(out);
         }
+        Ok(())
     }
 
     /// Ends any open turn, at the end of input.
-    pub(crate) fn close_any_turn(&mut self)
-        ensures world { self.new.world ≡ (ending_any_turn self.old.world).0 }
-        ensures silent { (ending_any_turn self.old.world).1 ≡ [] }
+    pub(crate) fn close_any_turn(&mut self, out: &mut Vec<u8>) -> Result<(), AllocError>
+        ensures text { OnOk result (out.new.items ≡ out.old.items ++ output_text (ending_any_turn self.old.world).1) }
+        ensures world { OnOk result (self.new.world ≡ (ending_any_turn self.old.world).0) }
     {
         if self.turn.is_some() {
-            self.close_turn();
+            return self.close_turn(out);
         }
+        Ok(())
     }
 
     /// `.`: the end of a turn.
@@ -54,7 +64,7 @@ impl State {
         ensures { IsHandled owner end_turn self.old.world self.new.world out.old.items out.new.items result }
     {
         self.admit(owner, &[])?;
-        self.close_turn();
+        self.close_turn(out)?;
         put_reply(out, owner, &Value::Nothing)?;
         Ok(())
     }

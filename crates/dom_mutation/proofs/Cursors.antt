@@ -123,7 +123,7 @@ module _ (names : List NodeName) (ts : Trees) (tables : AllTables) (held : IsHel
     -- what holds of the others
     pub held_set : AreTablesOf (named_trees names ts) o u → IsHeld names ts (with_table tables o u)
     held_set h =
-        held_with names ts tables held o there names ts (with_table tables o u) (length-set tables.each (place_of o) u) held.owned (λ p other. refl) held.present held.limited
+        held_with names ts tables held o there names ts (with_table tables o u) (length-set tables.each (place_of o) u) refl held.owned (λ p other. refl) held.present held.limited
         (λ p v e. elim (cases_Bool (owner_eq p o)) [
           | inl same ↦ own_case p v (owner_eq-true p o same) e
           | inr other ↦ held.own p v (sym (table_set_other tables.each o t u at p (owner_eq-false p o other)) ∙ e)

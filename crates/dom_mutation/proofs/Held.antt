@@ -20,7 +20,7 @@ use Rattle.dom_model.specs.Names.{owner_eq, node_of}
 use Rattle.dom_model.specs.Tree.{Trees, none, Node}
 use Rattle.dom_model.specs.TreeChanges.{with_node, with_name}
 use Rattle.dom_model.specs.Steps.{make}
-use Rattle.dom_model.specs.World.{part_of, is_there}
+use Rattle.dom_model.specs.World.{part_of, is_there, Task}
 use Rattle.dom_model.specs.WorldSteps.{world_step}
 use Rattle.dom_model.specs.Part.{Part, next_name as part_next}
 use Rattle.dom_model.specs.CommandRefusals.{past_limit}
@@ -29,12 +29,13 @@ use Rattle.dom_tree.specs.Forest.{NamedTrees, name_at, next_name, count_of}
 use Rattle.dom_tree.specs.Owners.{AreOwned, trees_of_owner, IsOwnChange}
 use Rattle.dom_tree.proofs.OwnChanges.{added}
 use Rattle.dom_mutation.specs.Contents.{part_with}
-use Rattle.dom_mutation.specs.OwnTables.{KeyedTables, tables_view, place_of, owner_at, owners_up_to, table_of, AreTablesOf, AllTables, no_keyed_tables, first_tables}
+use Rattle.dom_mutation.specs.OwnTables.{KeyedTables, tables_view, place_of, owner_at, owners_up_to, table_of, AreTablesOf, AllTables, no_keyed_tables, first_tables, IsLabel, with_queue}
 use Rattle.dom_mutation.specs.Doc.{DocState, named_trees, own_tables, contents, world_from, state_from, IsHeld}
 use Rattle.dom_mutation.proofs.Worlds.{In, there_in, in_there, there_same, part_at, part_off}
 use Rattle.dom_mutation.proofs.Places.{place_within, owners_in, single_owners, table_place, table_owner}
 use Rattle.dom_mutation.proofs.Quiet.{IsQuiet, world_stepped}
 use Rattle.dom_mutation.proofs.Standing.{KeepsAbove}
+use Rattle.std.specs.List.{AllByRecursion}
 use Rattle.dom_mutation.proofs.Keeping.{tables_kept, tables_more, view_same}
 
 -- so far the page alone is there
@@ -58,7 +59,7 @@ there_table names ts tables o t e =
 
 -- other trees and tables, where only one owner's trees change
 module _ (names : List NodeName) (ts : Trees) (tables : AllTables) (held : IsHeld names ts tables) (o : Owner) (there : is_there (world_from names ts tables) o ≡ true)
-    (more : List NodeName) (us : Trees) (others : AllTables) (same : length others.each ≡ length tables.each) where
+    (more : List NodeName) (us : Trees) (others : AllTables) (same : length others.each ≡ length tables.each) (same_tasks : others.tasks ≡ tables.tasks) where
   who : (p : Owner) → is_there (world_from more us others) p ≡ is_there (world_from names ts tables) p
   who p = there_same (contents more us others) (contents names ts tables) (ap owners_up_to same) p
 
@@ -73,13 +74,26 @@ module _ (names : List NodeName) (ts : Trees) (tables : AllTables) (held : IsHel
     limited = limited;
     alone = same ∙ held.alone;
     own = own;
+    labels = subst (AllByRecursion IsLabel) (sym same_tasks) held.labels;
   }
 
 pub held_changed : (names : List NodeName) (ts : Trees) (tables : AllTables) → IsHeld names ts tables → (o : Owner) → is_there (world_from names ts tables) o ≡ true
     → (f : Trees → Trees) → IsOwnChange o f ts → KeepsAbove ts (f ts) → IsHeld names (f ts) tables
 held_changed names ts tables held o there f change keeps =
-    held_with names ts tables held o there names (f ts) tables refl change.owned change.others held.present held.limited
+    held_with names ts tables held o there names (f ts) tables refl refl change.owned change.others held.present held.limited
     (λ p t e. tables_kept names ts (f ts) keeps p t (held.own p t e))
+
+-- other tasks
+pub held_tasks : (names : List NodeName) (ts : Trees) (tables : AllTables) → IsHeld names ts tables → (tasks : List Task) → AllByRecursion IsLabel tasks → IsHeld names ts (with_queue tables tasks)
+held_tasks names ts tables held tasks labels = record {
+  owned = held.owned;
+  present = held.present;
+  absent = held.absent;
+  limited = held.limited;
+  alone = held.alone;
+  own = held.own;
+  labels = labels;
+}
 
 -- ---- limits
 
@@ -120,7 +134,7 @@ module _ (names : List NodeName) (ts : Trees) (tables : AllTables) (held : IsHel
 
   pub held_more : count_of o names ≢ 1000000 → IsHeld (names ++ next_name o names ∷ []) (with_node n ts) tables
   held_more room =
-      held_with names ts tables held o there grown (with_node n ts) tables refl own_change.owned own_change.others (present_more names ts tables (next_name o names) there held.present)
+      held_with names ts tables held o there grown (with_node n ts) tables refl refl own_change.owned own_change.others (present_more names ts tables (next_name o names) there held.present)
       (λ p. limited_more names o p (count_of o names) (held.limited o) (held.limited p) room)
       (λ p t e. tables_more names (next_name o names) ts n is new p t (held.own p t e))
 
@@ -223,6 +237,7 @@ empty_held = record {
   limited = λ o. omega arith;
   alone = refl;
   own = λ o t e. subst (AreTablesOf (named_trees [] none) o) (same_own o t e) record { iterators = λ k i is. absurd (none-some i is); walkers = λ k w is. absurd (none-some w is); few_iterators = omega arith; few_walkers = omega arith };
+  labels = tt;
 }
   where
     same_own : (o : Owner) (t : KeyedTables) → table_of (no_keyed_tables ∷ []) o ≡ Some t → no_keyed_tables ≡ t

@@ -8,6 +8,7 @@ pub mod Steps
 pub mod Shown
 pub mod Cursors
 pub mod Passing
+pub mod Tasks
 pub mod Made
 pub mod Paths
 pub mod Moves

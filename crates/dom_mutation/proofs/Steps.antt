@@ -95,7 +95,7 @@ module _ (f : NamedTrees) {tables : AllTables} (held : IsHeld f.names f.trees ta
   -- what holds after it
   pub left_held : IsHeld f.names (taken_out (name_at f.names node) f.trees) (with_table tables o u)
   left_held =
-      held_with f.names f.trees tables held o there f.names (taken_out (name_at f.names node) f.trees) (with_table tables o u) (length-set tables.each (place_of o) u) change.owned change.others held.present held.limited
+      held_with f.names f.trees tables held o there f.names (taken_out (name_at f.names node) f.trees) (with_table tables o u) (length-set tables.each (place_of o) u) refl change.owned change.others held.present held.limited
       (λ p v e. elim (cases_Bool (owner_eq p o)) [
         | inl same ↦ own_case p v (owner_eq-true p o same) e
         | inr other ↦ tables_apart f held.owned stay node at_node p (λ same. owner_eq-false p o other (sym same ∙ own)) v (held.own p v (sym (table_set_other tables.each o t u at p (owner_eq-false p o other)) ∙ e))

@@ -12,7 +12,7 @@ use Rattle.dom_model.specs.Names.{DomString, name_eq, is_empty}
 use Rattle.dom_model.specs.Tree.{Trees, none, kind_of, is_document, has_data, children_of, parent_of, inclusive_ancestors, is_inclusive_ancestor}
 use Rattle.dom_model.specs.Part.{Part, next_name}
 use Rattle.dom_model.specs.Steps.{Step, queue_record, after}
-use Rattle.dom_model.specs.World.{World, part_of, with_part, is_there}
+use Rattle.dom_model.specs.World.{World, Task, part_of, with_part, is_there}
 use Rattle.dom_model.specs.Command.{Command}
 use Rattle.dom_model.specs.Effects.{Effect, effect}
 use Rattle.dom_model.specs.WorldSteps.{world_step, world_after}
@@ -25,7 +25,7 @@ use Rattle.dom_mutation.specs.declared.doc.Doc.TheInside.{Inside}
 use Rattle.dom_mutation.specs.declared.doc.removing.Telling.{Telling}
 use Rattle.dom_mutation.specs.declared.doc.removing.Telling.TheVariants.{Observed, Suppressed}
 use Rattle.dom_mutation.specs.Contents.{Contents, world_of}
-use Rattle.dom_mutation.specs.OwnTables.{KeyedTables, AllTables, no_keyed_tables, tables_view, owners_up_to, table_of, AreTablesOf}
+use Rattle.dom_mutation.specs.OwnTables.{KeyedTables, AllTables, no_keyed_tables, tables_view, owners_up_to, table_of, AreTablesOf, IsLabel}
 use Rattle.dom_tree.specs.Forest.{NamedTrees, name_at, count_of}
 use Rattle.dom_tree.specs.Owners.{trees_of_owner, AreOwned}
 
@@ -40,7 +40,7 @@ named_trees names ts = record { names = names; trees = ts }
 
 -- the tables that the code holds
 abbrev pub all_tables : Inside → AllTables
-all_tables d = record { each = d.tables.items }
+all_tables d = record { each = d.tables.items; tasks = d.queue }
 
 -- an owner's tables; one that is not there has none
 abbrev pub own_tables : AllTables → Owner → KeyedTables
@@ -54,7 +54,7 @@ contents names ts tables = record {
   trees = ts;
   tables = λ o. tables_view names (own_tables tables o);
   signalled = [];
-  tasks = [];
+  tasks = tables.tasks;
 }
 
 -- its world
@@ -65,7 +65,8 @@ abbrev pub state_from : List NodeName → Trees → AllTables → DocState
 state_from names ts tables = record { names = names; world = world_from names ts tables }
 
 -- what holds of a `Doc`: each tree has one owner, each node's owner is there and no other one has trees, no owner has more
--- nodes than it may make, so far the page alone is there, and each owner's tables are of its own nodes
+-- nodes than it may make, so far the page alone is there, each owner's tables are of its own nodes, and no notification is
+-- queued
 pub record IsHeld (names : List NodeName) (ts : Trees) (tables : AllTables) : Type 0 where
   pub owned : AreOwned ts
   pub present : (k : ℕ) → k < length names → is_there (world_from names ts tables) (name_at names k).owner ≡ true
@@ -73,6 +74,11 @@ pub record IsHeld (names : List NodeName) (ts : Trees) (tables : AllTables) : Ty
   pub limited : (o : Owner) → count_of o names ≤ 1000000
   pub alone : length tables.each ≡ 1
   pub own : (o : Owner) → ForSome (table_of tables.each o) (AreTablesOf (named_trees names ts) o)
+  pub labels : AllByRecursion IsLabel tables.tasks
+
+-- the state with other tasks
+abbrev pub with_tasks : List Task → DocState → DocState
+with_tasks tasks d = record { names = d.names; world = record { parts = d.world.parts; signalled = d.world.signalled; tasks = tasks; turn = d.world.turn } }
 
 -- the world after an owner's plan
 abbrev pub made : Owner → Plan → World → World

@@ -4,6 +4,7 @@ use Rattle.dom_base.specs.declared.Owner.{Owner}
 use Rattle.dom_base.specs.declared.Owner.TheVariants.{Page, Component}
 use Rattle.dom_base.specs.declared.NodeName.{NodeName}
 use Rattle.dom_model.specs.Traversal.{adjusted_iterator}
+use Rattle.dom_model.specs.World.{Task, micro_task, notify_task}
 use Rattle.dom_tree.specs.Forest.{NamedTrees, name_at}
 use Rattle.dom_traversal.specs.Iterators.{KeyedIterator, iterator_view, IsIteratorOf, HasLeft}
 use Rattle.dom_traversal.specs.Walkers.{KeyedWalker, walker_view, IsWalkerOf}
@@ -50,9 +51,10 @@ table_of ts (Component (suc k)) = slice_get ts (suc k)
 
 -- ---- all tables
 
--- what a `Doc` holds beside its trees: each owner's tables, at its place (own rule)
+-- what a `Doc` holds beside its trees: each owner's tables, at its place, and the tasks (own rule)
 pub record AllTables : Type 0 where
   pub each : List KeyedTables
+  pub tasks : List Task
 
 -- those with the tables at a place written
 abbrev pub with_table_at : AllTables → ℕ → KeyedTables → AllTables
@@ -62,9 +64,18 @@ with_table_at tables place u = record tables { each = slice_set tables.each plac
 abbrev pub with_table : AllTables → Owner → KeyedTables → AllTables
 with_table tables o u = with_table_at tables (place_of o) u
 
+-- those with other tasks
+abbrev pub with_queue : AllTables → List Task → AllTables
+with_queue tables tasks = record tables { tasks = tasks }
+
 -- where the page alone is there, and has none
 abbrev pub first_tables : AllTables
-first_tables = record { each = no_keyed_tables ∷ [] }
+first_tables = record { each = no_keyed_tables ∷ []; tasks = [] }
+
+-- a task that prints a label
+abbrev pub IsLabel : Task → Type 0
+IsLabel (micro_task o label) = Unit {0}
+IsLabel (notify_task o) = ⊥
 
 -- ---- what holds of an owner's tables
 

@@ -28,23 +28,26 @@ mod removing;
 mod replacing;
 mod splitting;
 mod steps;
+mod tasks;
 mod texts;
 
 use crate::tables::OwnTables;
 pub use attributes::is_name;
 use dom_base::{Fault, Kind, Owner};
+use dom_microtasks::Queue;
 use dom_tree::{Forest, NodeData};
 use indexmap::IndexMap;
 use node_arena::Key;
 use std::alloc::{AllocError, Global};
 use std::marker::Model;
 
-/// The nodes of all owners, how they stand, and each owner's tables: the page's first, and then those of the components by
-/// their numbers.
+/// The nodes of all owners, how they stand, each owner's tables, the page's first, and then those of the components by
+/// their numbers, and the microtasks.
 #[derive(Drop)]
 pub struct Doc {
     forest: Forest,
     tables: Vec<OwnTables>,
+    queue: Queue,
     alloc: Global,
 }
 
@@ -80,10 +83,12 @@ impl Doc {
             Ok(()) => (),
             Err(_) => return Err(AllocError),
         }
+        let queue = Queue::new(alloc);
         match forest.add(Owner::Page, document) {
             Ok(_) => Ok(Doc {
                 forest,
                 tables,
+                queue,
                 alloc,
             }),
             Err(_) => Err(AllocError),
@@ -105,13 +110,6 @@ impl Doc {
         ensures { result ≡ is_there self.now.world owner }
     {
         table_of(&self.tables, owner).is_some()
-    }
-
-    /// Holds of every `Doc` so far: no microtask and no notification is queued.
-    pub fn nothing_is_queued(&self)
-        ensures { self.now.world.tasks ≡ [] }
-    {
-        let _ = &self.forest;
     }
 
     /// Makes a node with an owner's next number, in a tree of its own.

@@ -5,6 +5,7 @@ ghost use Rattle.dom_model.specs.World.{is_there};
 ghost use Rattle.dom_mutation.specs.Doc.{owner_in};
 
 mod cursors;
+mod tasks;
 
 use crate::Doc;
 use dom_base::{Fault, Kind, NodeName, Owner, Refusal};
