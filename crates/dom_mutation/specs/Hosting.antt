@@ -1,4 +1,5 @@
--- How a list of hosts and what is held belong together; and signals and node documents in what is held.
+-- How a list of hosts and what is held belong together; signals, node documents and attaching in what is held; and the
+-- steps and plans that stay in their owner's part.
 use Rattle.std.specs.Prelude.{◌≡◌, ◌≢◌, ℕ, suc, false, List, [], ◌∷◌, ◌++◌, map, fold, find, filter_map, Option, None, option_map}
 use Rattle.std.specs.List.{AllByRecursion}
 use Rattle.dom_base.specs.declared.Kind.TheVariants.{Shadow}
@@ -28,7 +29,7 @@ pub record IsMadeAs (names : List NodeName) (k : ℕ) (h : ShadowHost) : Type 0 
   pub root : name_at names h.root ≡ shadow_root_of h.owner
   pub host : (name_at names h.host).owner ≡ Page
 
--- those of attach number k and of the later ones, in order
+-- those of attach number k and of the later ones, in order (own rule)
 abbrev pub AreMadeFrom : List NodeName → ℕ → List ShadowHost → Type 0
 AreMadeFrom names k [] = Unit {0}
 AreMadeFrom names k (h ∷ hosts) = IsMadeAs names k h × AreMadeFrom names (suc k) hosts
@@ -37,16 +38,17 @@ AreMadeFrom names k (h ∷ hosts) = IsMadeAs names k h × AreMadeFrom names (suc
 abbrev pub host_names : List NodeName → List ShadowHost → List NodeName
 host_names names hosts = map (λ h. name_at names h.host) hosts
 
--- the components to which the shadow roots belong
+-- the components to which the shadow roots belong (own rule)
 abbrev pub host_owners : List ShadowHost → List Owner
 host_owners hosts = map (λ h. h.owner) hosts
 
--- the component whose shadow root was attached to a node
+-- the component whose shadow root was attached to a node (DOM Standard, concept: shadow host)
 abbrev pub component_named : List NodeName → List ShadowHost → NodeName → Option Owner
 component_named names hosts x = option_map (λ h. h.owner) (find (λ h. name_eq x (name_at names h.host)) hosts)
 
 -- What is held has just these hosts: the owners are the page and one component for each host, in the order of attaching;
--- the page's table has their names, and no component has hosts. Each tree is one owner's, and whoever is not there has none.
+-- the page's table has their names, and no component has hosts. Each tree is one owner's, and whoever is not there has
+-- none (own rule).
 pub record AreHostsOf (c : Contents) (hosts : List ShadowHost) : Type 0 where
   pub owners : c.owners ≡ Page ∷ host_owners hosts
   pub made : AreMadeFrom c.names 0 hosts
@@ -61,12 +63,12 @@ pub record IsShadowRoot (ts : Trees) (x : NodeName) : Type 0 where
   pub kind : kind_of ts x ≡ Shadow
   pub top : parent_of ts x ≡ None
 
--- so do those of all hosts
+-- so do those of all hosts (own rule)
 abbrev pub AreShadowRoots : Trees → List ShadowHost → Type 0
 AreShadowRoots ts [] = Unit {0}
 AreShadowRoots ts (h ∷ hosts) = IsShadowRoot ts (shadow_root_of h.owner) × AreShadowRoots ts hosts
 
--- the trees that are held, with these hosts
+-- the trees that are held, with these hosts (own rule)
 abbrev pub shadows_in : Contents → List ShadowHost → ShadowTrees
 shadows_in c hosts = shadow_trees c.names c.trees hosts
 
@@ -77,7 +79,7 @@ shadows_in c hosts = shadow_trees c.names c.trees hosts
 abbrev pub signal_in : Contents → NodeName → Contents
 signal_in c s = record c { signalled = append_once name_eq c.signalled s; tasks = queued_notify s.owner c.tasks }
 
--- slots are signalled, one after another
+-- slots are signalled, one after another (own rule)
 abbrev pub signals_in : Contents → List NodeName → Contents
 signals_in c ss = fold signal_in c ss
 
@@ -98,12 +100,12 @@ documents_in d c hosts x = fold (document_in d) (document_in d c x) (roots_below
 
 -- ---- an owner's steps in its own part
 
--- a step sets the node documents of the owner's own nodes alone
+-- a step sets the node documents of the owner's own nodes alone (own rule)
 abbrev pub SetsOwnDocuments : Owner → Step → Type 0
 SetsOwnDocuments o (set_document x d) = x.owner ≡ o
 SetsOwnDocuments o s = Unit {0}
 
--- an owner without hosts, all of whose nodes are its own
+-- an owner without hosts, all of whose nodes are its own (own rule)
 pub record OwnsNoHosts (w : World) (o : Owner) : Type 0 where
   pub attached : (part_of w o).attached ≡ []
   pub own : AreOf o (part_of w o).trees
@@ -122,11 +124,11 @@ pub record IsAttached (a b : Contents) (c : Owner) (x : NodeName) (d : Option No
   pub signalled : b.signalled ≡ a.signalled
   pub tasks : b.tasks ≡ a.tasks
 
--- a part that is this owner's, with its own nodes alone
+-- a part that is this owner's, with its own nodes alone (own rule)
 pub record IsOwnPart (o : Owner) (p : Part) : Type 0 where
   pub owner : p.owner ≡ o
   pub own : AreOf o p.trees
 
--- a plan sets the node documents of the owner's own nodes alone, in each part of its own
+-- a plan sets the node documents of the owner's own nodes alone, in each part of its own (own rule)
 abbrev pub PlansOwn : Owner → Plan → Type 0
 PlansOwn o f = (p : Part) → IsOwnPart o p → AllByRecursion (SetsOwnDocuments o) (f p)

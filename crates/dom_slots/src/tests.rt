@@ -1,8 +1,9 @@
+mod later;
 mod lines;
 mod steps;
 
 use dom_base::Owner;
-use lines::Line::{Append, Free, Insert, Look, Remove, Set, Unset};
+use lines::Line::{Add, Append, Attach, Free, Insert, Look, Remove, Set, Unset, Write};
 use lines::name;
 use std::test::Fail;
 use steps::{add, attach, belong, hosted, nodes, run};
@@ -114,4 +115,23 @@ fn one_removal_signals_five_slots(rt: HostRuntime) -> Result<(), Fail> {
     ];
     let component = ["slot", "p", "slot", "slot", "slot", "slot"];
     run(&rt, rt.alloc(), &["b", "i"], &component, &lines)
+}
+
+// A second shadow root and a slot in each shadow tree come after the first host. Other data and another node document change
+// nothing of what is assigned.
+#[test]
+fn nodes_may_come_after_hosts(rt: HostRuntime) -> Result<(), Fail> {
+    let lines = [
+        Add("m0", "slot"),
+        Attach("n0", "k0"),
+        Add("k0", "slot"),
+        Append("n1", "n2", ""),
+        Append("m0", "m1", "m1"),
+        Append("n0", "n1", ""),
+        Append("k0", "k1", "k1"),
+        Write("n2", "n0"),
+        Look("m1", "n2"),
+        Look("k1", "n1"),
+    ];
+    run(&rt, rt.alloc(), &["text"], &[], &lines)
 }

@@ -20,6 +20,12 @@ pub(super) enum Line<'a> {
     Look(&'a str, &'a str),
     // A node without a slot.
     Free(&'a str),
+    // An owner, by the name of one of its nodes, and the element that is added to its nodes, alone in its tree.
+    Add(&'a str, &'a str),
+    // A node, and the name of the shadow root that is added and attached to it.
+    Attach(&'a str, &'a str),
+    // A Text that gets other data, and the document that becomes its node document.
+    Write(&'a str, &'a str),
 }
 
 // The name that is written like this.

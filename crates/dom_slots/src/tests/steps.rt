@@ -2,6 +2,7 @@
 ghost use Rattle.std.specs.Prelude.{◌≡◌, ◌<◌, length, None, IfOk, OnOk};
 ghost use Rattle.dom_slots.specs.Kept.{AreSlotsOf};
 
+use super::later::{add_later, attach_later, write};
 use super::lines::{Line, name, names};
 use crate::find::slots_below;
 use crate::{Slots, Step, steps_end};
@@ -13,8 +14,9 @@ use std::alloc::{AllocError, Global};
 use std::process::Abort;
 use std::test::Fail;
 
-fn node(alloc: Global, kind: Kind, element: &str) -> Result<NodeData, AllocError>
-    ensures { IfOk result (λ node. node.document ≡ None) }
+pub(super) fn node(alloc: Global, kind: Kind, element: &str) -> Result<NodeData, AllocError>
+    ensures document { IfOk result (λ node. node.document ≡ None) }
+    ensures kind { IfOk result (λ node. node.kind ≡ kind) }
 {
     Ok(NodeData {
         kind,
@@ -64,7 +66,7 @@ fn are(rt: &impl Abort, forest: &Forest, keys: &[Key], names: &[NodeName]) -> bo
     true
 }
 
-fn units(alloc: Global, text: &str) -> Result<DomStr, AllocError> {
+pub(super) fn units(alloc: Global, text: &str) -> Result<DomStr, AllocError> {
     let mut units = Vec::new(alloc);
     for byte in text.as_bytes() {
         units.push(u16::from(*byte))?;
@@ -344,6 +346,13 @@ fn perform(
         Line::Free(node) => {
             assert!(rt; is_free(rt, forest, slots, name(node)));
             Ok(())
+        }
+        Line::Add(node, word) => add_later(alloc, forest, slots, name(node).owner, word),
+        Line::Attach(host, root) => {
+            attach_later(rt, alloc, forest, slots, name(host), name(root).owner)
+        }
+        Line::Write(text, document) => {
+            write(rt, alloc, forest, slots, name(text), name(document))
         }
     }
 }
