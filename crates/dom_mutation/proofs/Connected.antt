@@ -9,7 +9,7 @@ use Rattle.dom_model.specs.Tree.{Trees, Node, kind_of, is_document, root_of}
 use Rattle.dom_model.specs.World.{World, part_of, host_above, hosts_from, ancestors_at, kind_at, root_at, is_connected}
 use Rattle.dom_tree.specs.Forest.{NamedTrees}
 use Rattle.dom_tree.proofs.Owned.{read_own, stays_own}
-use Rattle.dom_mutation.specs.OwnTables.{KeyedTables}
+use Rattle.dom_mutation.specs.OwnTables.{AllTables}
 use Rattle.dom_mutation.specs.Doc.{IsHeld, contents, world_from}
 use Rattle.dom_mutation.proofs.Quiet.{hosts_none, host_above_none}
 use Rattle.dom_mutation.proofs.Held.{held_quiet}
@@ -28,7 +28,7 @@ module _ (w : World) (x : NodeName) (alone : host_above w x ≡ None) where
       (ap (flat_map (ancestors_at w)) (chain_alone (owner_depth x.owner)) ∙ append-nil (ancestors_at w x))
 
 -- what the trees of a `Doc` say of it
-pub connected-held : (f : NamedTrees) {tables : List KeyedTables} → IsHeld f.names f.trees tables → (x : NodeName) →
+pub connected-held : (f : NamedTrees) {tables : AllTables} → IsHeld f.names f.trees tables → (x : NodeName) →
     is_connected (world_from f.names f.trees tables) x ≡ is_document (kind_of f.trees (root_of f.trees x))
 connected-held f {tables} held x =
     let w = world_from f.names f.trees tables in
