@@ -94,7 +94,32 @@ def reads(count):
         yield "p parent n2"
 
 
-KINDS = (wide, front, down, up, moves, attributes, data, splits, reads)
+def iterators(count):
+    """An iterator goes over all elements of a wide tree."""
+    yield from wide(count // 2)
+    yield "p iter-new n1 element"
+    for _ in range(count):
+        yield "p iter-next i0"
+
+
+def removals(count):
+    """Elements are removed while ten iterators stand among them."""
+    yield from wide(count)
+    for _ in range(10):
+        yield "p iter-new n1 element"
+    for turn in range(count):
+        yield f"p iter-next i{turn % 10}"
+        yield f"p remove n{turn + 2}"
+
+
+def queries(count):
+    """A hundred elements are asked for by a selector."""
+    yield from wide(100)
+    for _ in range(count // 100):
+        yield 'p query n1 "ul > li:not([lang|=en]), li.a li"'
+
+
+KINDS = (wide, front, down, up, moves, attributes, data, splits, reads, iterators, removals, queries)
 
 
 def seconds_of(words):
