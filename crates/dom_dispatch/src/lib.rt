@@ -2,10 +2,15 @@
 //! by which a dispatch along a path by keys is the dispatch in a world.
 #![tactic(auto)]
 
+mod dispatch;
+mod event;
 mod laws;
 mod listeners;
+mod progress;
 #[cfg(test)]
 mod tests;
+mod visit;
 
+pub use event::{EventInit, LogLine, Outcome};
 pub use laws::{keys_stand_for_names, one_list_serves_all};
 pub use listeners::{ListenerInit, Listeners};
