@@ -2,3 +2,4 @@ pub mod Naming
 pub mod Narrowing
 pub mod Among
 pub mod Entered
+pub mod Visiting

@@ -1,5 +1,7 @@
 -- What a contract sees of `Listeners`.
-use Rattle.std.specs.Prelude.{ℕ, List, map, string_bytes}
+use Rattle.std.specs.Prelude.{ℕ, nat_eq, Bool, ◌&&◌, List, map, string_bytes}
+use Rattle.std.specs.Bool.{beq}
+use Rattle.dom_model.specs.Names.{Word, text_eq}
 use Rattle.dom_model.specs.Command.{ListenerWords}
 use Rattle.dom_model.specs.Listeners.{Listener}
 use Rattle.dom_dispatch.specs.declared.listeners.Entry.{Entry}
@@ -16,3 +18,7 @@ listener_of e = record { node = e.node; words = words_of e.words }
 -- the listeners, in the order of adding
 abbrev pub listeners_in : List Entry → List (Listener ℕ)
 listeners_in es = map listener_of es
+
+-- whether a listener is at a node and fits in type and capture (DOM Standard, concept: inner invoke)
+abbrev pub hears_at : ℕ → Word → Bool → Listener ℕ → Bool
+hears_at x event capturing l = nat_eq l.node x && (text_eq l.words.event event && beq l.words.capture capturing)

@@ -1,11 +1,16 @@
-//! Listeners and the dispatch of events (DOM Standard, 2.7 EventTarget and 2.9 Dispatching events): the table of listeners, and laws
-//! by which a dispatch along a path by keys is the dispatch in a world.
+//! Listeners and the dispatch of events (DOM Standard, 2.7 EventTarget and 2.9 Dispatching events): the table of listeners,
+//! dispatches along event paths, and laws by which a dispatch by keys is the dispatch in a world.
 #![tactic(auto)]
 
+mod dispatch;
+mod event;
 mod laws;
 mod listeners;
+mod progress;
 #[cfg(test)]
 mod tests;
+mod visit;
 
+pub use event::{EventInit, LogLine, Outcome};
 pub use laws::{keys_stand_for_names, one_list_serves_all};
 pub use listeners::{ListenerInit, Listeners};

@@ -1,9 +1,9 @@
 //! The listeners of all nodes.
-ghost use Rattle.std.specs.Prelude.{◌≡◌, nat_eq, [], string_bytes, OnOk, OnErr};
+ghost use Rattle.std.specs.Prelude.{◌≡◌, nat_eq, [], string_bytes, IfOk, OnOk, OnErr};
 ghost use Rattle.dom_model.specs.Listeners.{is_listener, listened, unlistened};
 ghost use Rattle.dom_model.specs.Names.{text_eq};
 ghost use Rattle.std.specs.List.{list_any};
-ghost use Rattle.dom_dispatch.specs.Entries.{words_of, listener_of};
+ghost use Rattle.dom_dispatch.specs.Entries.{words_of, listener_of, hears_at};
 
 use dom_base::Action;
 use node_arena::Key;
@@ -24,8 +24,8 @@ pub struct ListenerInit {
 /// A listener, and the node at which it is.
 #[derive(Drop)]
 pub(crate) struct Entry {
-    node: Key,
-    words: ListenerInit,
+    pub(crate) node: Key,
+    pub(crate) words: ListenerInit,
 }
 
 impl Entry {
@@ -38,12 +38,41 @@ impl Entry {
             && is_text(self.words.label.as_str(), label)
             && self.words.capture == capture
     }
+
+    /// Whether this is a listener of a node that hears events of this type, while they are capturing or while they are not (DOM
+    /// Standard, concept: inner invoke).
+    pub(crate) fn hears(&self, node: Key, event: &str, capturing: bool) -> bool
+        ensures { result ≡ hears_at node event.now capturing (listener_of self.now) }
+    {
+        self.node == node
+            && is_text(self.words.event.as_str(), event)
+            && self.words.capture == capturing
+    }
+
+    /// A copy.
+    pub(crate) fn copied(&self, alloc: Global) -> Result<Entry, AllocError>
+        ensures { IfOk result (λ e. listener_of e ≡ listener_of self.now) }
+    {
+        let words = &self.words;
+        Ok(Entry {
+            node: self.node,
+            words: ListenerInit {
+                event: String::from_str(alloc, words.event.as_str())?,
+                label: String::from_str(alloc, words.label.as_str())?,
+                action: words.action,
+                capture: words.capture,
+                once: words.once,
+                passive: words.passive,
+            },
+        })
+    }
 }
 
 /// The listeners of all nodes, in the order of adding (DOM Standard, concept: event listener list).
 #[derive(Drop)]
 pub struct Listeners {
     pub(crate) entries: Vec<Entry>,
+    pub(crate) alloc: Global,
 }
 
 impl Model for Listeners {
@@ -64,6 +93,7 @@ impl Listeners {
     {
         Listeners {
             entries: Vec::new(alloc),
+            alloc,
         }
     }
 

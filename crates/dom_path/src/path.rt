@@ -6,6 +6,7 @@ ghost use Rattle.dom_model.specs.Paths.{View, views};
 ghost use Rattle.dom_model.specs.World.{World};
 ghost use Rattle.dom_tree.specs.Forest.{name_at};
 ghost use Rattle.dom_slots.specs.Kept.{AreSlotsOf};
+ghost use Rattle.dom_path.specs.Stands.{view_in};
 ghost use Rattle.dom_path.specs.Items.{IsWorldOf, HasNodes, ShowsNodes, item_named, view_named, path_items};
 
 use crate::event::Event;
@@ -66,9 +67,10 @@ impl Path {
         Ok(Path { items, alloc })
     }
 
-    /// The items of the path, the target's first.
+    /// The items of the path, the target's first. What the event shows at each of them is as they say.
     pub fn items(&self) -> &[Item]
-        ensures { result.now ≡ self.now.items }
+        ensures items { result.now ≡ self.now.items }
+        ensures views { self.now.views ≡ map (view_in self.now.items) self.now.items }
     {
         self.items.as_slice()
     }

@@ -1,0 +1,95 @@
+-- The steps of loops over listeners and over the visits of a path, and the dispatch in a world.
+use Rattle.std.proofs.Common.{◌≡◌, ℕ, ◌+◌, ◌<◌, Bool, true, false, cond, List, [], ◌∷◌, ◌++◌, length, get_or, take, drop, filter, fold, map, reverse, Option, Some, option_map, zero, suc, refl, sym, ap, ◌∙◌, arith, drop-cons}
+use Rattle.std.specs.Prelude.{slice_get}
+use Rattle.std.specs.List.{AllByRecursion}
+use Rattle.std.proofs.lemmas.List.{map-append, reverse-append}
+use Rattle.std.proofs.lemmas.List.Elements.{filter_more}
+use Rattle.std.proofs.lemmas.List.Sums.{fold-append}
+use Rattle.std.proofs.lemmas.Option.{slice_get-map, slice_get-get_or, slice_get_within, get_or_from_slice_get}
+use Rattle.dom_base.specs.declared.NodeName.{NodeName}
+use Rattle.dom_model.specs.Command.{EventWords}
+use Rattle.dom_model.specs.Dispatch.{event_output}
+use Rattle.dom_model.specs.Listeners.{Listener}
+use Rattle.dom_model.specs.Output.{EventLine}
+use Rattle.dom_model.specs.Paths.{View}
+use Rattle.dom_model.specs.World.{part_of}
+use Rattle.dom_tree.specs.Forest.{NamedTrees, name_at}
+use Rattle.dom_slots.specs.Hosts.{ShadowHost}
+use Rattle.dom_path.specs.declared.item.Item.{Item}
+use Rattle.dom_path.specs.Items.{ShowsNodes}
+use Rattle.dom_path.specs.Stands.{view_in}
+use Rattle.dom_dispatch.specs.declared.event.Outcome.{Outcome}
+use Rattle.dom_dispatch.specs.Dispatches.{IsDispatched, IsDispatchedIn}
+use Rattle.dom_dispatch.specs.Kept.{is_of_owner}
+use Rattle.dom_dispatch.specs.Named.{TellApart, listener_named, line_named, IsListenerAt, IsViewOf}
+use Rattle.dom_dispatch.proofs.Among.{dispatched-along}
+
+-- one or none, mapped
+map-cond : {X Y : Type 0} (f : X → Y) (b : Bool) (x : X) → map f (cond b (x ∷ []) []) ≡ cond b (f x ∷ []) []
+map-cond f true x = refl
+map-cond f false x = refl
+
+-- one more is kept, or not
+pub kept-more : {X Y : Type 0} (f : X → Y) (p : X → Bool) (xs : List X) (i : ℕ) (x : X) → i < length xs → x ≡ get_or xs i x
+    → map f (filter p (take i xs)) ++ cond (p x) (f x ∷ []) [] ≡ map f (filter p (take (i + 1) xs))
+kept-more f p xs i x h g =
+    let here = filter p (take i xs) in
+    sym (ap (map f) (filter_more p xs i x h ∙ ap (λ y. here ++ cond (p y) (y ∷ []) []) (sym g)) ∙ map-append f here (cond (p x) (x ∷ []) []) ∙ ap (λ ys. map f here ++ ys) (map-cond f (p x) x))
+
+module _ {D V W : Type 0} (step : D → W → D) (g : V → W) where
+  -- one step, or none
+  fold-cond : (b : Bool) (d : D) (x : W) → fold step d (cond b (x ∷ []) []) ≡ cond b (step d x) d
+  fold-cond true d x = refl
+  fold-cond false d x = refl
+
+  -- the next visit from the front, or none
+  pub bubbled-more : (p : V → Bool) (vs : List V) (i : ℕ) (v : V) → slice_get vs i ≡ Some v → (from before after : D) → before ≡ fold step from (map g (filter p (take i vs)))
+      → after ≡ cond (p v) (step before (g v)) before → after ≡ fold step from (map g (filter p (take (i + 1) vs)))
+  bubbled-more p vs i v at from before after b a =
+      let done = map g (filter p (take i vs)) in
+      a ∙ sym (fold-cond (p v) before (g v)) ∙ ap (λ d. fold step d (cond (p v) (g v ∷ []) [])) b
+      ∙ sym (fold-append step from done (cond (p v) (g v ∷ []) []))
+      ∙ ap (fold step from) (kept-more g p vs i v (slice_get_within vs i v at) (sym (get_or_from_slice_get vs i v v at)))
+
+  -- the next visit from the end
+  pub captured-more : (vs : List V) (k n : ℕ) (v : V) → n ≡ suc k → slice_get vs k ≡ Some v → (from before after : D) → before ≡ fold step from (map g (reverse (drop n vs)))
+      → after ≡ step before (g v) → after ≡ fold step from (map g (reverse (drop k vs)))
+  captured-more vs k n v next at from before after b a =
+      let rest = reverse (drop (suc k) vs) in
+      let all : drop k vs ≡ v ∷ drop (suc k) vs = drop-cons vs k v (slice_get_within vs k v at) ∙ ap (λ x. x ∷ drop (suc k) vs) (get_or_from_slice_get vs k v v at) in
+      a ∙ ap (λ d. step d (g v)) (b ∙ ap (λ m. fold step from (map g (reverse (drop m vs)))) next)
+      ∙ sym (fold-append step from (map g rest) (g v ∷ []))
+      ∙ ap (fold step from) (sym (ap (map g) (ap reverse all ∙ reverse-append (v ∷ []) (drop (suc k) vs)) ∙ map-append g rest (v ∷ [])))
+
+-- an item that is there
+there : {X : Type 0} (xs : List X) (i : ℕ) → i < length xs → (x : X) × (slice_get xs i ≡ Some x)
+there [] i h = absurd (omega arith)
+there (x ∷ xs) zero h = (x, refl)
+there (x ∷ xs) (suc i) h = there xs i (omega arith)
+
+module _ (items : List Item) (vs : List (View ℕ)) (shown : vs ≡ map (view_in items) items) where
+  -- what is shown at an item
+  pub view-is : (i : ℕ) (x : Item) → i < length items → x ≡ get_or items i x → slice_get vs i ≡ Some (view_in items x)
+  view-is i x h g =
+      ap (λ xs. slice_get xs i) shown ∙ slice_get-map (view_in items) items i ∙ ap (option_map (view_in items)) (slice_get-get_or items i x h ∙ ap Some (sym g))
+
+  -- something is
+  pub view-there : (i : ℕ) → i < length items → (v : View ℕ) × (slice_get vs i ≡ Some v)
+  view-there i h =
+      let x = there items i h in
+      (view_in items x.0, ap (λ xs. slice_get xs i) shown ∙ slice_get-map (view_in items) items i ∙ ap (option_map (view_in items)) x.1)
+
+-- what is shown are nodes
+views-of : (names : List NodeName) (vs : List (View ℕ)) → AllByRecursion (ShowsNodes names) vs → AllByRecursion (IsViewOf names) vs
+views-of names [] h = tt
+views-of names (v ∷ vs) h = (record { node = h.0.node; target = h.0.target }, views-of names vs h.1)
+
+-- a dispatch by keys is the dispatch in each world
+pub dispatched-in : (f : NamedTrees) (hosts : List ShadowHost) → TellApart f.names → (before after : List (Listener ℕ)) (target : ℕ) (related : Option ℕ) (e : EventWords) (outcome : Outcome)
+    → IsDispatched f hosts before after target related e outcome → AllByRecursion (IsListenerAt f.names) before → IsDispatchedIn f hosts before after target related e outcome
+dispatched-in f hosts apart before after target related e outcome d at w is has =
+    let far = dispatched-along f.names apart before at d.shown (views-of f.names d.shown d.nodes) w has (name_at f.names target) (option_map (name_at f.names) related) e (d.path w is) in (
+      λ o. far.0 o ∙ ap (λ (ls : List (Listener ℕ)). record (part_of w o) { listeners = filter (is_of_owner o) (map (listener_named f.names) ls) }) (sym d.listeners),
+      far.1 ∙ ap (λ (ls : List (EventLine ℕ)). map event_output (map (line_named f.names) ls)) (sym d.lines),
+      far.2 ∙ sym d.answer,
+    )

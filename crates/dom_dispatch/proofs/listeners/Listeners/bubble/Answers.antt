@@ -1,0 +1,44 @@
+use Rattle.std.proofs.Common.{◌≡◌, ℕ, ◌||◌, Bool, true, false, cond, nat_eq, length, get_or, Some, ap, subst, sym, ◌∙◌, arith, rules, tests}
+use Rattle.std.specs.Prelude.{slice_get}
+use Rattle.std.specs.List.{AllByRecursion}
+use Rattle.std.proofs.lemmas.Bool.{cond-true, cond-false}
+use Rattle.dom_model.specs.Dispatch.{visit_of, is_at_target}
+use Rattle.dom_model.specs.Listeners.{visited}
+use Rattle.dom_model.specs.Paths.{View}
+use Rattle.dom_path.specs.Stands.{view_in}
+use Rattle.dom_dispatch.specs.Dispatches.{event_words, dispatching_in, IsOwnLine}
+use Rattle.dom_dispatch.proofs.Visiting.{bubbled-more, view-is}
+use Rattle.dom_dispatch.proofs.listeners.Listeners.bubble.Goals as goal
+use Rattle.dom_dispatch.proofs.listeners.Listeners.bubble.Goals.{then-event+in_ok-visit, then-event-via-then-event, then-event-via-else-event+then-eq, else-event+else-eq}
+
+pub loop-at-preserved : goal.loop-at-preserved
+loop-at-preserved c =
+    let path = c.args.path.now in
+    let i = c.loop-at.at in
+    let item = c.index-items-at.result in
+    let step = visited nat_eq (event_words c.args.event.now) in
+    let is : item ≡ get_or path.items i item = subst (λ xs. item ≡ get_or xs i item) c.items.ensures.items c.index-items-at.is in
+    let same : length c.items-at-end.result.now ≡ length path.items = ap length c.items-at-end.ensures.items in
+    let v = view_in path.items item in
+    let at : slice_get path.views i ≡ Some v = view-is path.items path.views c.items.ensures.views i item (omega (arith, same)) is in
+    let test : View ℕ → Bool = λ v. c.args.event.now.bubbles || is_at_target nat_eq v in
+    let before = dispatching_in c.loop-at.self c.loop-at.so_far in
+    let after : dispatching_in c.if-event.self c.if-event.so_far ≡ cond (test v) (step before (visit_of nat_eq false v)) before =
+    elim c.if-event.branch [
+      | then-event+in_ok-visit w ↦
+          let passes : test v ≡ true = elim w.then-event.branch [
+            | then-event-via-then-event w' ↦ search (rules, tests)
+            | then-event-via-else-event+then-eq w' ↦ search (rules, tests)
+          ] in
+          (λ j. dispatching_in (w.self-is j) (w.so_far-is j)) ∙ w.in_ok-visit.ensures.visit v at ∙ sym (cond-true (test v) (step before (visit_of nat_eq false v)) before passes)
+      | else-event+else-eq w ↦
+          let fails : test v ≡ false = search (rules, tests) in
+          (λ j. dispatching_in (w.self-is j) (w.so_far-is j)) ∙ sym (cond-false (test v) (step before (visit_of nat_eq false v)) before fails)
+    ] in
+    record {
+      visits = bubbled-more step (visit_of nat_eq false) test path.views i v at (dispatching_in c.args.self.now c.args.so_far.now) before (dispatching_in c.if-event.self c.if-event.so_far) c.loop-at.invariant.visits after;
+      owners = elim c.if-event.branch [
+        | then-event+in_ok-visit w ↦ subst (λ p. AllByRecursion (IsOwnLine c.args.forest.now.names) p.lines.items) (sym w.so_far-is) w.in_ok-visit.ensures.owners
+        | else-event+else-eq w ↦ subst (λ p. AllByRecursion (IsOwnLine c.args.forest.now.names) p.lines.items) (sym w.so_far-is) c.loop-at.invariant.owners
+      ];
+    }

@@ -1,0 +1,20 @@
+use Rattle.std.proofs.Common.{◌≡◌, ◌<◌, ◌-◌, suc, true, nat_eq, length, arith}
+use Rattle.dom_model.specs.Dispatch.{visit_of}
+use Rattle.dom_model.specs.Listeners.{visited}
+use Rattle.dom_dispatch.specs.Dispatches.{event_words, dispatching_in}
+use Rattle.dom_dispatch.proofs.Visiting.{captured-more, view-there}
+use Rattle.dom_dispatch.proofs.listeners.Listeners.capture.Goals as goal
+
+pub loop-at-preserved : goal.loop-at-preserved
+loop-at-preserved c =
+    let path = c.args.path.now in
+    let within : c.loop-at.at - 1 < length path.items = omega (arith, c.loop-at.invariant.within) in
+    let next : c.loop-at.at ≡ suc (c.loop-at.at - 1) = omega arith in
+    let v = view-there path.items path.views c.items-at.ensures.views (c.loop-at.at - 1) within in
+    record {
+      within = omega (arith, c.loop-at.invariant.within);
+      visits = captured-more (visited nat_eq (event_words c.args.event.now)) (visit_of nat_eq true) path.views (c.loop-at.at - 1) c.loop-at.at v.0 next v.1
+          (dispatching_in c.args.self.now c.args.so_far.now) (dispatching_in c.loop-at.self c.loop-at.so_far) (dispatching_in c.visit.new.self c.visit.new.so_far)
+          c.loop-at.invariant.visits (c.in_ok-visit.ensures.visit v.0 v.1);
+      owners = c.in_ok-visit.ensures.owners;
+    }

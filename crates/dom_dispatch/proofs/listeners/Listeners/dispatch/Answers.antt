@@ -1,0 +1,37 @@
+use Rattle.std.proofs.Common.{◌≡◌, ℕ, ◌||◌, true, false, not, nat_eq, map, filter, fold, reverse, ap, subst, sym, ◌∙◌}
+use Rattle.std.specs.List.{AllByRecursion}
+use Rattle.std.proofs.lemmas.List.Sums.{fold-append}
+use Rattle.dom_model.specs.Dispatch.{visit_of, is_at_target}
+use Rattle.dom_model.specs.Listeners.{Dispatching, visited, begun}
+use Rattle.dom_dispatch.specs.Dispatches.{event_words, dispatching_in, IsOwnLine}
+use Rattle.dom_dispatch.specs.Kept.{dispatch_along}
+use Rattle.dom_dispatch.proofs.Visiting.{dispatched-in}
+use Rattle.dom_dispatch.proofs.listeners.Listeners.dispatch.Goals as goal
+
+pub capture-requires-clause-owners : goal.capture-requires-clause-owners
+capture-requires-clause-owners c = subst (AllByRecursion (IsOwnLine c.args.forest.now.names)) (sym c.new-so_far.ensures.lines) tt
+
+pub returns-clause-keys : goal.returns-clause-keys
+returns-clause-keys c =
+    let e = event_words c.args.event in
+    let before = c.args.self.now in
+    let views = c.in_ok-path.path.views in
+    let step = visited nat_eq e in
+    let down = map (visit_of nat_eq true) (reverse views) in
+    let up = map (visit_of nat_eq false) (filter (λ v. e.bubbles || is_at_target nat_eq v) views) in
+    let whole : dispatching_in c.bubble.new.self c.bubble.new.so_far ≡ dispatch_along before e views =
+    c.in_ok-bubble.ensures.visits
+    ∙ ap (λ d. fold step d up) (c.in_ok-capture.ensures.visits ∙ ap (λ d. fold step d down) (c.new-so_far.ensures.begins before))
+    ∙ sym (fold-append step (begun before) down up) in
+    record {
+      shown = views;
+      nodes = c.in_ok-path.ensures.shown_nodes;
+      path = c.in_ok-path.ensures.views;
+      listeners = ap (λ (d : Dispatching ℕ). d.listeners) whole;
+      lines = ap (λ (d : Dispatching ℕ). d.lines) whole;
+      answer = ap (λ (d : Dispatching ℕ). not d.cancelled) whole;
+    }
+
+pub returns-clause-names : goal.returns-clause-names
+returns-clause-names c =
+    dispatched-in c.args.forest.now c.args.slots.now.hosts c.nodes_stand_once.ensures.distinct c.args.self.now c.bubble.new.self c.args.target c.args.event.related (event_words c.args.event) _ (returns-clause-keys c)

@@ -1,0 +1,74 @@
+-- What a contract sees of a dispatch: the event, the visits, the lines, and how far it is.
+use Rattle.std.specs.Prelude.{◌≡◌, ℕ, not, List, filter, map, Option, option_map, string_bytes}
+use Rattle.std.specs.List.{AllByRecursion}
+use Rattle.dom_base.specs.declared.Owner.{Owner}
+use Rattle.dom_base.specs.declared.NodeName.{NodeName}
+use Rattle.dom_model.specs.Command.{EventWords}
+use Rattle.dom_model.specs.Dispatch.{dispatch_in, event_output}
+use Rattle.dom_model.specs.Listeners.{Listener, Visit as Visited, Dispatching}
+use Rattle.dom_model.specs.Output.{EventLine}
+use Rattle.dom_model.specs.Paths.{View, views}
+use Rattle.dom_model.specs.World.{World, part_of}
+use Rattle.dom_tree.specs.Forest.{NamedTrees, name_at}
+use Rattle.dom_slots.specs.Hosts.{ShadowHost}
+use Rattle.dom_path.specs.Items.{IsWorldOf, ShowsNodes, view_named}
+use Rattle.dom_dispatch.specs.declared.event.EventInit.{EventInit}
+use Rattle.dom_dispatch.specs.declared.event.LogLine.{LogLine}
+use Rattle.dom_dispatch.specs.declared.event.Outcome.{Outcome}
+use Rattle.dom_dispatch.specs.declared.progress.Progress.{Progress}
+use Rattle.dom_dispatch.specs.declared.visit.Visit.{Visit}
+use Rattle.dom_dispatch.specs.Kept.{is_of_owner, HasListeners, dispatch_along}
+use Rattle.dom_dispatch.specs.Named.{listener_named, line_named}
+
+-- the words of an event, without its related node
+abbrev pub event_words : EventInit → EventWords
+event_words e = record { event = string_bytes e.name; bubbles = e.bubbles; cancelable = e.cancelable; composed = e.composed }
+
+-- a visit
+abbrev pub visit_in : Visit → Visited ℕ
+visit_in v = record { current = v.current; phase = v.phase; capturing = v.capturing; target = v.target; related = v.related; path = v.path.items }
+
+-- the line of a call
+abbrev pub line_in : LogLine → EventLine ℕ
+line_in l = record {
+  label = string_bytes l.label;
+  event = string_bytes l.name;
+  phase = l.phase;
+  target = l.target;
+  current = l.current;
+  related = l.related;
+  path = l.path.items;
+}
+
+-- how far a dispatch is, with these listeners
+abbrev pub dispatching_in : List (Listener ℕ) → Progress → Dispatching ℕ
+dispatching_in ls p = record { listeners = ls; stopped = p.stopped; stopped_now = p.stopped_now; cancelled = p.cancelled; lines = map line_in p.lines.items }
+
+-- a line is its node's owner's
+abbrev pub IsOwnLine : List NodeName → LogLine → Type 0
+IsOwnLine names l = l.owner ≡ (name_at names l.current).owner
+
+-- where the visit is of its node's owner, lines that are their nodes' owners' are followed by such lines
+abbrev pub KeepsOwners : Visit → Progress → Progress → Type 0
+KeepsOwners v before after =
+    (names : List NodeName) → v.owner ≡ (name_at names v.current).owner → AllByRecursion (IsOwnLine names) before.lines.items → AllByRecursion (IsOwnLine names) after.lines.items
+
+module _ (f : NamedTrees) (hosts : List ShadowHost) (before after : List (Listener ℕ)) (target : ℕ) (related : Option ℕ) (e : EventWords) (outcome : Outcome) where
+  -- An event was dispatched along its path: what it shows there are nodes, and in every world that has these trees and hosts it is
+  -- what the event shows (DOM Standard, concept: dispatch).
+  pub record IsDispatched : Type 0 where
+    pub shown : List (View ℕ)
+    pub nodes : AllByRecursion (ShowsNodes f.names) shown
+    pub path : (w : World) → IsWorldOf f hosts w → map (view_named f.names) shown ≡ views w (name_at f.names target) (option_map (name_at f.names) related) e.composed
+    pub listeners : after ≡ (dispatch_along before e shown).listeners
+    pub lines : map line_in outcome.lines.items ≡ (dispatch_along before e shown).lines
+    pub answer : outcome.answer ≡ not (dispatch_along before e shown).cancelled
+
+  -- In every such world that has these listeners the dispatch leaves each owner the same ones, and has the same lines and the same
+  -- answer (DOM Standard, concept: dispatch).
+  abbrev pub IsDispatchedIn : Type 0
+  IsDispatchedIn =
+      (w : World) → IsWorldOf f hosts w → HasListeners w (map (listener_named f.names) before) →
+      let end = dispatch_in w (name_at f.names target) (option_map (name_at f.names) related) e in
+      ((o : Owner) → part_of end.run.0 o ≡ record (part_of w o) { listeners = filter (is_of_owner o) (map (listener_named f.names) after) })
+      × (end.run.1 ≡ map event_output (map (line_named f.names) (map line_in outcome.lines.items))) × (end.answer ≡ outcome.answer)

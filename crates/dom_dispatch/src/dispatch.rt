@@ -1,0 +1,188 @@
+//! Dispatching events.
+ghost use Rattle.std.specs.Prelude.{◌≡◌, ℕ, ◌<◌, ◌||◌, nat_eq, true, false, length, filter, fold, map, reverse, slice_get, None, Some, IfOk, OnOk};
+ghost use Rattle.std.specs.List.{AllByRecursion};
+ghost use Rattle.std.specs.Option.{ForSome};
+ghost use Rattle.dom_model.specs.Dispatch.{visit_of, is_at_target};
+ghost use Rattle.dom_model.specs.Listeners.{called, visited};
+ghost use Rattle.dom_model.specs.Paths.{View};
+ghost use Rattle.dom_slots.specs.Kept.{AreSlotsOf};
+ghost use Rattle.dom_path.specs.Items.{HasNodes};
+ghost use Rattle.dom_dispatch.specs.Entries.{listener_of, listeners_in, hears_at};
+ghost use Rattle.dom_dispatch.specs.Dispatches.{event_words, visit_in, dispatching_in, IsOwnLine, KeepsOwners, IsDispatched, IsDispatchedIn};
+ghost use Rattle.dom_dispatch.specs.Named.{IsListenerAt};
+
+use crate::event::{EventInit, Outcome};
+use crate::listeners::{Entry, Listeners};
+use crate::progress::Progress;
+use crate::visit::Visit;
+use dom_path::Path;
+use dom_slots::Slots;
+use dom_tree::Forest;
+use node_arena::Key;
+use std::alloc::AllocError;
+use std::collections::VecDeque;
+
+impl Listeners {
+    /// Dispatches an event at a target, and answers the lines of the calls of listeners, and whether it was not cancelled (DOM
+    /// Standard, concept: dispatch). After a refusal of memory some listeners that are for once may have gone.
+    pub fn dispatch(
+        &mut self,
+        forest: &Forest,
+        slots: &Slots,
+        target: Key,
+        event: EventInit,
+    ) -> Result<Outcome, AllocError>
+        requires target_is_node { target < length forest.now.names }
+        requires related_is_node { ForSome event.related (λ k. k < length forest.now.names) }
+        requires free { slots.now.begun ≡ None }
+        requires slots { AreSlotsOf forest.now slots.now }
+        ensures keys { IfOk result (λ outcome. IsDispatched forest.now slots.now.hosts self.old self.new target event.related (event_words event) outcome) }
+        ensures names { IfOk result (λ outcome. AllByRecursion (IsListenerAt forest.now.names) self.old → IsDispatchedIn forest.now slots.now.hosts self.old self.new target event.related (event_words event) outcome) }
+        ensures owners { IfOk result (λ outcome. AllByRecursion (IsOwnLine forest.now.names) outcome.lines.items) }
+    {
+        forest.nodes_stand_once();
+        let alloc = self.alloc;
+        let path = Path::build(alloc, forest, slots, target, event.related, event.composed)?;
+        let mut so_far = Progress::new(alloc);
+        self.capture(forest, &event, &path, &mut so_far)?;
+        self.bubble(forest, &event, &path, &mut so_far)?;
+        Ok(Outcome {
+            answer: !so_far.cancelled,
+            lines: so_far.lines,
+        })
+    }
+
+    /// The visits of a path from its last item to its first (DOM Standard, concept: dispatch).
+    fn capture(
+        &mut self,
+        forest: &Forest,
+        event: &EventInit,
+        path: &Path,
+        so_far: &mut Progress,
+    ) -> Result<(), AllocError>
+        requires nodes { AllByRecursion (HasNodes forest.now.names) path.now.items }
+        requires owners { AllByRecursion (IsOwnLine forest.now.names) so_far.old.lines.items }
+        ensures visits { OnOk result (dispatching_in self.new so_far.new ≡ fold (visited nat_eq (event_words event.now)) (dispatching_in self.old so_far.old) (map (visit_of nat_eq true) (reverse path.now.views))) }
+        ensures owners { OnOk result (AllByRecursion (IsOwnLine forest.now.names) so_far.new.lines.items) }
+    {
+        let mut at = path.items().len();
+        while at > 0 {
+            at -= 1;
+            self.visit(forest, event, path, at, true, so_far)?;
+        }
+        Ok(())
+    }
+
+    /// The visits of a path from its first item to its last: where the event doesn't bubble, only of those that are the event's
+    /// target as seen from themselves (DOM Standard, concept: dispatch).
+    fn bubble(
+        &mut self,
+        forest: &Forest,
+        event: &EventInit,
+        path: &Path,
+        so_far: &mut Progress,
+    ) -> Result<(), AllocError>
+        requires nodes { AllByRecursion (HasNodes forest.now.names) path.now.items }
+        requires owners { AllByRecursion (IsOwnLine forest.now.names) so_far.old.lines.items }
+        ensures visits { OnOk result (dispatching_in self.new so_far.new ≡ fold (visited nat_eq (event_words event.now)) (dispatching_in self.old so_far.old) (map (visit_of nat_eq false) (filter (λ v. event.now.bubbles || is_at_target nat_eq v) path.now.views))) }
+        ensures owners { OnOk result (AllByRecursion (IsOwnLine forest.now.names) so_far.new.lines.items) }
+    {
+        for at in 0..path.items().len() {
+            let item = path.items()[at];
+            if event.bubbles || item.node == item.event_target {
+                self.visit(forest, event, path, at, false, so_far)?;
+            }
+        }
+        Ok(())
+    }
+
+    /// The visit at an item of a path, unless the event is stopped: the listeners that hear it are those that are there as it
+    /// begins (DOM Standard, concept: invoke).
+    fn visit(
+        &mut self,
+        forest: &Forest,
+        event: &EventInit,
+        path: &Path,
+        at: usize,
+        capturing: bool,
+        so_far: &mut Progress,
+    ) -> Result<(), AllocError>
+        requires within { at < length path.now.items }
+        requires nodes { AllByRecursion (HasNodes forest.now.names) path.now.items }
+        requires owners { AllByRecursion (IsOwnLine forest.now.names) so_far.old.lines.items }
+        ensures visit { OnOk result ((view : View ℕ) → slice_get path.now.views at ≡ Some view → dispatching_in self.new so_far.new ≡ visited nat_eq (event_words event.now) (dispatching_in self.old so_far.old) (visit_of nat_eq capturing view)) }
+        ensures owners { OnOk result (AllByRecursion (IsOwnLine forest.now.names) so_far.new.lines.items) }
+    {
+        if so_far.stopped {
+            return Ok(());
+        }
+        let node = path.items()[at].node;
+        let heard = self.heard(node, event.name.as_str(), capturing)?;
+        if heard.is_empty() {
+            return Ok(());
+        }
+        let visit = Visit::of(forest, path, at, capturing)?;
+        self.call_all(event, &visit, heard, so_far)
+    }
+
+    /// Copies of the listeners of a node that hear events of this type, while they are capturing or while they are not.
+    fn heard(&self, node: Key, event: &str, capturing: bool) -> Result<VecDeque<Entry>, AllocError>
+        ensures { IfOk result (λ heard. listeners_in heard.items ≡ filter (hears_at node event.now capturing) self.now) }
+    {
+        let mut heard = VecDeque::new(self.alloc);
+        for entry in &self.entries {
+            if entry.hears(node, event, capturing) {
+                heard.push_back(entry.copied(self.alloc)?)?;
+            }
+        }
+        Ok(heard)
+    }
+
+    /// The calls of listeners, one after another.
+    fn call_all(
+        &mut self,
+        event: &EventInit,
+        visit: &Visit,
+        mut heard: VecDeque<Entry>,
+        so_far: &mut Progress,
+    ) -> Result<(), AllocError>
+        ensures calls { OnOk result (dispatching_in self.new so_far.new ≡ fold (called nat_eq (event_words event.now) (visit_in visit.now)) (dispatching_in self.old so_far.old) (listeners_in heard.items)) }
+        ensures owners { OnOk result (KeepsOwners visit.now so_far.old so_far.new) }
+    {
+        while let Some(listener) = heard.pop_front() {
+            self.call(event, visit, listener, so_far)?;
+        }
+        Ok(())
+    }
+
+    /// The call of a listener, unless the others are stopped: one that is for once goes, then its line comes, and then it acts
+    /// (DOM Standard, concept: inner invoke).
+    fn call(
+        &mut self,
+        event: &EventInit,
+        visit: &Visit,
+        listener: Entry,
+        so_far: &mut Progress,
+    ) -> Result<(), AllocError>
+        ensures call { OnOk result (dispatching_in self.new so_far.new ≡ called nat_eq (event_words event.now) (visit_in visit.now) (dispatching_in self.old so_far.old) (listener_of listener)) }
+        ensures owners { OnOk result (KeepsOwners visit.now so_far.old so_far.new) }
+    {
+        if so_far.stopped_now {
+            return Ok(());
+        }
+        let Entry { node, words } = listener;
+        if words.once {
+            self.unlisten(
+                node,
+                words.event.as_str(),
+                words.label.as_str(),
+                words.capture,
+            );
+        }
+        let action = words.action;
+        let cancels = event.cancelable && !words.passive;
+        so_far.lines.push(visit.line(self.alloc, words)?)?;
+        so_far.act(action, cancels);
+        Ok(())
+    }
+}

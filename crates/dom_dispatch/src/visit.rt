@@ -1,0 +1,82 @@
+//! Visits of an event.
+ghost use Rattle.std.specs.Prelude.{◌≡◌, ℕ, ◌<◌, nat_eq, length, slice_get, Some, IfOk};
+ghost use Rattle.std.specs.List.{AllByRecursion};
+ghost use Rattle.dom_model.specs.Dispatch.{visit_of};
+ghost use Rattle.dom_model.specs.Listeners.{line_of};
+ghost use Rattle.dom_model.specs.Paths.{View};
+ghost use Rattle.dom_tree.specs.Forest.{name_at};
+ghost use Rattle.dom_path.specs.Items.{HasNodes};
+ghost use Rattle.dom_dispatch.specs.Entries.{words_of};
+ghost use Rattle.dom_dispatch.specs.Dispatches.{visit_in, line_in};
+
+use crate::event::LogLine;
+use crate::listeners::ListenerInit;
+use dom_base::Owner;
+use dom_path::Path;
+use dom_tree::Forest;
+use node_arena::Key;
+use std::alloc::{AllocError, Global};
+
+/// A visit of an event at a node, with what listeners see of the event there (DOM Standard, concept: invoke).
+#[derive(Drop)]
+pub(crate) struct Visit {
+    pub(crate) owner: Owner,
+    pub(crate) current: Key,
+    pub(crate) phase: u8,
+    pub(crate) capturing: bool,
+    pub(crate) target: Key,
+    pub(crate) related: Option<Key>,
+    pub(crate) path: Vec<Key>,
+}
+
+impl Visit {
+    /// The visit at an item of a path, while capturing or while bubbling.
+    pub(crate) fn of(
+        forest: &Forest,
+        path: &Path,
+        at: usize,
+        capturing: bool,
+    ) -> Result<Visit, AllocError>
+        requires within { at < length path.now.items }
+        requires nodes { AllByRecursion (HasNodes forest.now.names) path.now.items }
+        ensures visit { IfOk result (λ v. (view : View ℕ) → slice_get path.now.views at ≡ Some view → visit_in v ≡ visit_of nat_eq capturing view) }
+        ensures owner { IfOk result (λ v. v.owner ≡ (name_at forest.now.names v.current).owner) }
+    {
+        let nodes = path.composed_path(at)?;
+        let item = path.items()[at];
+        let phase = if item.node == item.event_target {
+            2
+        } else if capturing {
+            1
+        } else {
+            3
+        };
+        Ok(Visit {
+            owner: forest.name(item.node).owner,
+            current: item.node,
+            phase,
+            capturing,
+            target: item.event_target,
+            related: item.related,
+            path: nodes,
+        })
+    }
+
+    /// The line of the call of a listener, whose words it takes.
+    pub(crate) fn line(&self, alloc: Global, words: ListenerInit) -> Result<LogLine, AllocError>
+        ensures line { IfOk result (λ l. line_in l ≡ line_of (visit_in self.now) (words_of words)) }
+        ensures owner { IfOk result (λ l. l.owner ≡ self.now.owner) }
+    {
+        let ListenerInit { event, label, .. } = words;
+        Ok(LogLine {
+            owner: self.owner,
+            label,
+            name: event,
+            phase: self.phase,
+            target: self.target,
+            current: self.current,
+            related: self.related,
+            path: Vec::from_slice(alloc, self.path.as_slice())?,
+        })
+    }
+}
