@@ -11,7 +11,7 @@ use Rattle.dom_isolation.proofs.Tests.{by_cases}
 
 module _ {X : Type 0} where
   -- two tests in either order
-  filter-swap : (p q : X → Bool) (xs : List X) → filter p (filter q xs) ≡ filter q (filter p xs)
+  pub filter-swap : (p q : X → Bool) (xs : List X) → filter p (filter q xs) ≡ filter q (filter p xs)
   filter-swap p q [] = refl
   filter-swap p q (x ∷ xs) =
       let rest = filter-swap p q xs in
@@ -28,7 +28,7 @@ module _ {X : Type 0} where
       ∙ sym (ap (filter q) (cond-false (p x) (x ∷ filter p xs) (filter p xs) e))))
 
   -- a test that all pass which pass another one
-  filter-wider : (p q : X → Bool) → ((x : X) → p x ≡ true → q x ≡ true) → (xs : List X) → filter p (filter q xs) ≡ filter p xs
+  pub filter-wider : (p q : X → Bool) → ((x : X) → p x ≡ true → q x ≡ true) → (xs : List X) → filter p (filter q xs) ≡ filter p xs
   filter-wider p q wider [] = refl
   filter-wider p q wider (x ∷ xs) =
       let rest = filter-wider p q wider xs in

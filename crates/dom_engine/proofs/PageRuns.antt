@@ -7,7 +7,8 @@ use Rattle.dom_text.specs.Text.{output_line, output_text}
 use Rattle.dom_text.proofs.LineLaws.{lines_of-cut}
 use Rattle.dom_isolation.proofs.PlainTexts.{picked_lines-agree}
 use Rattle.dom_isolation.proofs.PlainLines.{offering-reads_plain_words}
-use Rattle.dom_engine.specs.Session.{is_offered, read_line}
+use Rattle.dom_commands.specs.Offered.{is_offered}
+use Rattle.dom_engine.specs.Session.{read_line}
 use Rattle.dom_engine.specs.Run.{answers_to_end}
 use Rattle.dom_engine.specs.PageLaws.{PageTextIsThePageMachines, SamePageText}
 use Rattle.dom_engine.proofs.RunLaws.{text-ended}

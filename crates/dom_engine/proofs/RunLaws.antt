@@ -16,7 +16,9 @@ use Rattle.dom_text.proofs.LineLaws.{cut_of-pieces}
 use Rattle.dom_text.proofs.DecodeLaws.{decode-kept}
 use Rattle.dom_reader.proofs.StreamLaws.{cut_of-front, rest-one_line}
 use Rattle.dom_isolation.specs.Offering.{offered_line}
-use Rattle.dom_engine.specs.Session.{is_offered, read_line}
+use Rattle.dom_commands.specs.Offered.{is_offered}
+use Rattle.dom_commands.proofs.TextLaws.{text_of_lines-append, output_text-append}
+use Rattle.dom_engine.specs.Session.{read_line}
 use Rattle.dom_engine.specs.Run.{world_after, answers, answers_to_end, ending, viewed, shown, WritesSome}
 
 -- ---- runs
@@ -29,15 +31,6 @@ run_each-append {S = S} f s (x ∷ xs) ys =
     let first = run_each f r.0 xs in
     let second = run_each f first.0 ys in
     ap (λ (m : Run S). (m.0, r.1 ++ m.1)) (run_each-append f r.0 xs ys) ∙ ap (λ (out : List Output). (second.0, out)) (sym (append_assoc r.1 first.1 second.1))
-
--- text of lines, one after another
-text_of_lines-append : (xs ys : List (List ℕ)) → text_of_lines (xs ++ ys) ≡ text_of_lines xs ++ text_of_lines ys
-text_of_lines-append [] ys = refl
-text_of_lines-append (x ∷ xs) ys =
-    ap (λ (t : List ℕ). (x ++ line_feed ∷ []) ++ t) (text_of_lines-append xs ys) ∙ sym (append_assoc (x ++ line_feed ∷ []) (text_of_lines xs) (text_of_lines ys))
-
-pub output_text-append : (xs ys : List Output) → output_text (xs ++ ys) ≡ output_text xs ++ output_text ys
-output_text-append xs ys = ap text_of_lines (map-append output_line xs ys) ∙ text_of_lines-append (map output_line xs) (map output_line ys)
 
 -- ---- answers
 

@@ -1,9 +1,4 @@
 pub mod Session
-pub mod Turned
-pub mod Refusals
-pub mod Making
-pub mod Handled
-pub mod TreeText
 pub mod Streams
 pub mod Run
 pub mod Piece

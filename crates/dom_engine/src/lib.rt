@@ -2,9 +2,6 @@
 //! source.
 #![tactic(auto)]
 
-mod admission;
-mod answering;
-mod commands;
 mod fault;
 pub mod laws;
 mod piece;
@@ -12,12 +9,9 @@ mod piece;
 mod run_tests;
 mod runner;
 mod session;
-mod state;
 mod streams;
 #[cfg(test)]
 mod tests;
-mod tree_text;
-mod turns;
 mod view;
 mod writing;
 

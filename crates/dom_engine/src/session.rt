@@ -2,9 +2,10 @@
 ghost use Rattle.std.specs.Prelude.{◌≡◌, true, false, IfOk, OnOk, OnErr};
 ghost use Rattle.dom_model.specs.DocumentMachine.{first_world, step, finish};
 ghost use Rattle.dom_text.specs.Text.{output_text};
+ghost use Rattle.dom_commands.specs.Machine.{IsSound};
 ghost use Rattle.dom_engine.specs.Session.{read_line};
 
-use crate::state::State;
+use dom_commands::Machine;
 use dom_reader::parse_line;
 use std::alloc::{AllocError, Global};
 use std::marker::Model;
@@ -14,7 +15,7 @@ use std::marker::Model;
 /// After want of memory in one call every call answers `AllocError`.
 #[derive(Drop)]
 pub struct Session {
-    state: State,
+    machine: Machine,
     has_failed: bool,
     alloc: Global,
 }
@@ -28,7 +29,12 @@ impl Model for Session {
 
     ghost coded = { Prim.hlevel (codes, trees_code) };
 
-    ghost view = { λ s. record { world = s.state.world; has_failed = s.has_failed } };
+    ghost view = { λ s. record { world = s.machine.world; has_failed = s.has_failed } };
+
+    ghost use Rattle.std.specs.Prelude.{◌≡◌, false};
+    ghost use Rattle.dom_commands.specs.Machine.{IsSound};
+
+    ghost invariant = { λ s. s.has_failed ≡ false → IsSound s.machine };
 }
 
 impl Session {
@@ -36,9 +42,9 @@ impl Session {
     pub fn new(alloc: Global) -> Result<Session, AllocError>
         ensures { IfOk result (λ session. session ≡ record { world = first_world; has_failed = false }) }
     {
-        let state = State::new(alloc)?;
+        let machine = Machine::new(alloc)?;
         Ok(Session {
-            state,
+            machine,
             has_failed: false,
             alloc,
         })
@@ -54,7 +60,7 @@ impl Session {
         if self.has_failed {
             return Err(AllocError);
         }
-        let answer = self.answer(line);
+        let answer = answer(&mut self.machine, self.alloc, line);
         self.has_failed = answer.is_err();
         answer
     }
@@ -69,27 +75,31 @@ impl Session {
         if self.has_failed {
             return Err(AllocError);
         }
-        let ending = self.end();
+        let ending = end(&mut self.machine, self.alloc);
         self.has_failed = ending.is_err();
         ending
     }
+}
 
-    /// Ends an open turn, and gives its lines.
-    fn end(&mut self) -> Result<Vec<u8>, AllocError>
-        ensures text { IfOk result (λ text. text.items ≡ output_text (finish self.old.world).1) }
-        ensures world { OnOk result (self.new.world ≡ (finish self.old.world).0) }
-    {
-        let mut out = Vec::new(self.alloc);
-        self.state.close_any_turn(&mut out)?;
-        Ok(out)
-    }
+/// Ends an open turn, and gives its lines.
+fn end(machine: &mut Machine, alloc: Global) -> Result<Vec<u8>, AllocError>
+    requires { IsSound machine.old }
+    ensures text { IfOk result (λ text. text.items ≡ output_text (finish machine.old.world).1) }
+    ensures world { OnOk result (machine.new.world ≡ (finish machine.old.world).0) }
+    ensures sound { OnOk result (IsSound machine.new) }
+{
+    let mut out = Vec::new(alloc);
+    machine.close_any_turn(&mut out)?;
+    Ok(out)
+}
 
-    /// What a line does, and the lines that answer it.
-    fn answer(&mut self, line: &[u8]) -> Result<Vec<u8>, AllocError>
-        ensures text { IfOk result (λ text. text.items ≡ output_text (step self.old.world (read_line line.now)).1) }
-        ensures world { OnOk result (self.new.world ≡ (step self.old.world (read_line line.now)).0) }
-    {
-        let read = parse_line(self.alloc, line)?;
-        self.state.answer(read)
-    }
+/// What a line does, and the lines that answer it.
+fn answer(machine: &mut Machine, alloc: Global, line: &[u8]) -> Result<Vec<u8>, AllocError>
+    requires { IsSound machine.old }
+    ensures text { IfOk result (λ text. text.items ≡ output_text (step machine.old.world (read_line line.now)).1) }
+    ensures world { OnOk result (machine.new.world ≡ (step machine.old.world (read_line line.now)).0) }
+    ensures sound { OnOk result (IsSound machine.new) }
+{
+    let read = parse_line(alloc, line)?;
+    machine.answer(read)
 }

@@ -2,6 +2,7 @@
 mod attributes;
 mod cursors;
 mod data;
+mod events;
 mod large;
 mod lines;
 mod making;

@@ -64,6 +64,7 @@ pub mod PlanBounds
 pub mod TextBounds
 pub mod Childs
 pub mod TableLines
+pub mod TaskWorlds
 pub mod RangeRoots
 pub mod BoundLines
 pub mod RangeInsertions

@@ -314,7 +314,7 @@ stays-firings [] w a h = h
 stays-firings (s ∷ ss) w a h = stays-firings ss (firing_slotchange w s).0 a (stays-dispatch w s None slotchange a h)
 
 -- through a task
-stays-running : (w : World) (t : Task) (a : Owner) → IsThere w a → IsThere (running_task w t).0 a
+pub stays-running : (w : World) (t : Task) (a : Owner) → IsThere w a → IsThere (running_task w t).0 a
 stays-running w (micro_task o label) a h = h
 stays-running w (notify_task o) a h =
     let base = without_signals w o in

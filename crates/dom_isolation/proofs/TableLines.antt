@@ -91,7 +91,7 @@ frame-visits e (v ∷ vs) w d f =
     frame-visits e vs (with_part w (record p { listeners = heard.listeners })) heard (frame-with_part w (record p { listeners = heard.listeners }) o (owner-part_of w o) t (f.records o) (λ y h. h) f)
 
 -- a dispatch
-frame-dispatch : (w : World) (x : NodeName) (related : Option NodeName) (e : EventWords) → Frame w → Frame (dispatch_in w x related e).run.0
+pub frame-dispatch : (w : World) (x : NodeName) (related : Option NodeName) (e : EventWords) → Frame w → Frame (dispatch_in w x related e).run.0
 frame-dispatch w x related e f = frame-visits e (visits_of name_eq e.bubbles (views w x related e.composed)) w (begun []) f
 
 -- Notifications, and the endings of turns.
@@ -115,14 +115,17 @@ frame-firings : (ss : List NodeName) (w : World) → Frame w → Frame (run_each
 frame-firings [] w f = f
 frame-firings (s ∷ ss) w f = frame-firings ss (firing_slotchange w s).0 (frame-dispatch w s None slotchange f)
 
+-- a notification, before its events
+pub frame-told : (w : World) (o : Owner) → Frame w → Frame (with_part (without_signals w o) (notified (part_of w o)))
+frame-told w o f =
+    let calm = without_signals w o in
+    let base : Frame calm = record { tables = f.tables; records = f.records; first = f.first; signalled = all-filter (IsNodeAt w) (λ s. not (is_owned_by o s)) w.signalled f.signalled } in
+    frame-with_part calm (notified (part_of w o)) o (owner-part_of w o) (tables-notified (part_of w o) (f.tables o)) (records-emptied (IsRecordIn (part_of w o).trees) (part_of w o).pending (part_of w o).record_queues (f.records o)) (λ y h. h) base
+
 -- a task
 frame-running : (w : World) (t : Task) → Frame w → Frame (running_task w t).0
 frame-running w (micro_task o label) f = f
-frame-running w (notify_task o) f =
-    let calm = without_signals w o in
-    let base : Frame calm = record { tables = f.tables; records = f.records; first = f.first; signalled = all-filter (IsNodeAt w) (λ s. not (is_owned_by o s)) w.signalled f.signalled } in
-    let told = with_part calm (notified (part_of w o)) in
-    frame-firings (filter (is_owned_by o) w.signalled) told (frame-with_part calm (notified (part_of w o)) o (owner-part_of w o) (tables-notified (part_of w o) (f.tables o)) (records-emptied (IsRecordIn (part_of w o).trees) (part_of w o).pending (part_of w o).record_queues (f.records o)) (λ y h. h) base)
+frame-running w (notify_task o) f = frame-firings (filter (is_owned_by o) w.signalled) (with_part (without_signals w o) (notified (part_of w o))) (frame-told w o f)
 
 -- all tasks
 frame-running_all : (ts : List Task) (w : World) → Frame w → Frame (run_each running_task w ts).0
@@ -240,11 +243,11 @@ frame-line w (no_command o) r f = frame-ending_other w o f
 frame-line {only_log = b} w (command o c) r f = frame-command (ending_other_turn w o).0 o c (ending-keeps_reached b w o r) (frame-ending_other w o f)
 
 -- The laws.
-frame-of : {only_log : Bool} (w : World) → IsReached only_log w → IsWhole w → Frame w
+pub frame-of : {only_log : Bool} (w : World) → IsReached only_log w → IsWhole w → Frame w
 frame-of w r h = record { tables = h.tables; records = h.records; first = subst (λ a. IsNodeIn (part_of w Page).trees (node_of a 0)) (owner-part_of w Page) (h.first Page r.world.page); signalled = h.signalled }
 
 -- and back
-whole-of : {only_log : Bool} (w : World) → IsReached only_log w → Frame w → IsWhole w
+pub whole-of : {only_log : Bool} (w : World) → IsReached only_log w → Frame w → IsWhole w
 whole-of w r f = record { tables = f.tables; records = f.records; first = first-there w r f.first; signalled = f.signalled }
 
 -- whatever the listeners do

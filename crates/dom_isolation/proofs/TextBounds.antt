@@ -153,7 +153,7 @@ replaced-elsewhere p x offset count new y t e =
     ∙ cond-false (name_eq (node_in p.trees y).name x) (with_data_replaced offset count new (node_in p.trees y)) (node_in p.trees y) (ap (λ z. name_eq z x) (name-node_in p.trees y) ∙ name_eq-sym y x ∙ e)
 
 -- Joins: of all lengths of some nodes.
-abbrev total : Trees → List NodeName → ℕ
+abbrev pub total : Trees → List NodeName → ℕ
 total ts [] = 0
 total ts (y ∷ ys) = length_of ts y + total ts ys
 
@@ -201,9 +201,12 @@ pub children-among : (ts : Trees) (y x : NodeName) → times_among (children_of 
 children-among ts y x =
     let a = roots-among (trees_below (subtree ts y)) x in let b = times-below (subtree ts y) x in let c = times-subtree ts y x in omega arith
 
--- Texts that are joined
-room-joining : (x parent : NodeName) (p : Part) → IsPart p → There p x → has_data (kind_of p.trees x) ≡ true → parent_of p.trees x ≡ Some parent → HasRoom nowhere p → HasRoom nowhere (after p (joining x parent (texts_after p.trees x) p))
-room-joining x parent p i t k e h =
+-- The Texts after a Text that gets their data: it is long enough for them, and they stay as long as they are.
+pub joining-fits : (x parent : NodeName) (p : Part) → IsPart p → There p x → has_data (kind_of p.trees x) ≡ true → parent_of p.trees x ≡ Some parent →
+    let nexts = texts_after p.trees x in
+    let q = after p (replacing_data x (length_of p.trees x) 0 (flat_map (λ y. (node_in p.trees y).text) nexts) p) in
+    (length_of p.trees x + total p.trees nexts ≤ length_of q.trees x) × AllByRecursion (λ y. length_of q.trees y ≡ length_of p.trees y) nexts
+joining-fits x parent p i t k e =
     let ts = p.trees in
     let nexts = texts_after ts x in
     let size = length_of ts x in
@@ -223,22 +226,33 @@ room-joining x parent p i t k e h =
     let is_now = length-data q.trees x (ap (λ (n : Node). has_data n.kind) now ∙ k) in
     let text = ap (λ (n : Node). length n.text) now in
     let sum = length-replaced size few all old in
-    let whole = total-texts ts nexts texts in
-    let same : AllByRecursion (λ y. length_of q.trees y ≡ length_of ts y) nexts =
-    all-then (λ y. (has_data (kind_of ts y) ≡ true) × (name_eq x y ≡ false)) (λ y. length_of q.trees y ≡ length_of ts y)
-    (λ y h. let n = replaced-elsewhere p1 x size few all y (Rattle.dom_isolation.proofs.Bounds.data-there ts y h.0) h.1 in
-    length-data q.trees y (ap (λ (n : Node). has_data n.kind) n ∙ h.0) ∙ ap (λ (n : Node). length n.text) n ∙ sym (length-data ts y h.0)) nexts (all-both (λ y. has_data (kind_of ts y) ≡ true) (λ y. name_eq x y ≡ false) nexts texts others) in
-    room-plan None (replacing_data x size 0 all and_then steps_of (joins ts x parent size nexts)) (in_turn (removing observed) nexts) p
-    (leads-then None p (replacing_data x size 0 all p) (joins ts x parent size nexts) (leads-replacing_data x size 0 all p i)
-    (leads-joins ts x parent size nexts q (leads-replacing_data x size 0 all p i).changed.part (still (leads-replacing_data x size 0 all p i).changed x t) (texts-beside x parent size all p i e)))
-    (room-then nowhere p (replacing_data x size 0 all p) (joins ts x parent size nexts) (room-joins ts x parent size nexts q (omega arith) same (room-replacing_data x size 0 all p i k h)))
-    (λ r c g. room-removals nowhere observed nexts r c.part g)
+    let whole = total-texts ts nexts texts in (
+      omega arith,
+      all-then (λ y. (has_data (kind_of ts y) ≡ true) × (name_eq x y ≡ false)) (λ y. length_of q.trees y ≡ length_of ts y)
+          (λ y h. let n = replaced-elsewhere p1 x size few all y (Rattle.dom_isolation.proofs.Bounds.data-there ts y h.0) h.1 in
+          length-data q.trees y (ap (λ (n : Node). has_data n.kind) n ∙ h.0) ∙ ap (λ (n : Node). length n.text) n ∙ sym (length-data ts y h.0)) nexts (all-both (λ y. has_data (kind_of ts y) ≡ true) (λ y. name_eq x y ≡ false) nexts texts others),
+    )
   where
     taken : (test : NodeName → Bool) (xs : List NodeName) → AllByRecursion (λ y. test y ≡ true) (take_while test xs)
     taken test [] = tt
     taken test (y ∷ xs) =
         by_cases (test y) (λ e. subst (AllByRecursion (λ z. test z ≡ true)) (sym (Rattle.dom_isolation.proofs.Lists.take_while-yes test y xs e)) (e, taken test xs))
         (λ e. subst (AllByRecursion (λ z. test z ≡ true)) (sym (Rattle.dom_isolation.proofs.Lists.take_while-no test y xs e)) tt)
+
+-- Texts that are joined
+room-joining : (x parent : NodeName) (p : Part) → IsPart p → There p x → has_data (kind_of p.trees x) ≡ true → parent_of p.trees x ≡ Some parent → HasRoom nowhere p → HasRoom nowhere (after p (joining x parent (texts_after p.trees x) p))
+room-joining x parent p i t k e h =
+    let ts = p.trees in
+    let nexts = texts_after ts x in
+    let size = length_of ts x in
+    let all = flat_map (λ y. (node_in ts y).text) nexts in
+    let q = after p (replacing_data x size 0 all p) in
+    let fits = joining-fits x parent p i t k e in
+    room-plan None (replacing_data x size 0 all and_then steps_of (joins ts x parent size nexts)) (in_turn (removing observed) nexts) p
+    (leads-then None p (replacing_data x size 0 all p) (joins ts x parent size nexts) (leads-replacing_data x size 0 all p i)
+    (leads-joins ts x parent size nexts q (leads-replacing_data x size 0 all p i).changed.part (still (leads-replacing_data x size 0 all p i).changed x t) (texts-beside x parent size all p i e)))
+    (room-then nowhere p (replacing_data x size 0 all p) (joins ts x parent size nexts) (room-joins ts x parent size nexts q fits.0 fits.1 (room-replacing_data x size 0 all p i k h)))
+    (λ r c g. room-removals nowhere observed nexts r c.part g)
 
 -- A plan for each item, each of which keeps room and what the others need.
 pub room-turns : {A : Type 0} (P : Part → A → Type 0) (f : A → Plan) →
@@ -251,11 +265,11 @@ room-turns P f l h k (x ∷ xs) p i g r =
     room-then nowhere p (f x p) (in_turn f xs q) (room-turns P f l h k xs q first.changed.part (all-then (P p) (P q) (λ y. k p q y first.changed) xs g.1) (h p x i g.0 r))
 
 -- a Text that is there
-abbrev TextIn : Part → NodeName → Type 0
+abbrev pub TextIn : Part → NodeName → Type 0
 TextIn p x = There p x × (is_text (kind_of p.trees x) ≡ true)
 
 -- a Text that is normalized
-room-normalizing_text : (p : Part) (x : NodeName) → IsPart p → TextIn p x → HasRoom nowhere p → HasRoom nowhere (after p (normalizing_text x p))
+pub room-normalizing_text : (p : Part) (x : NodeName) → IsPart p → TextIn p x → HasRoom nowhere p → HasRoom nowhere (after p (normalizing_text x p))
 room-normalizing_text p x i t h =
     either_way (λ steps. HasRoom nowhere (after p steps)) (length_of p.trees x == 0) (removing observed x p) (option_map_or (λ parent. if is_empty (texts_after p.trees x) then [] else joining x parent (texts_after p.trees x) p) (parent_of p.trees x) [])
     (room-removing nowhere observed x p i h) (from (parent_of p.trees x) refl)

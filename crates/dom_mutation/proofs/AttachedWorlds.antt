@@ -61,7 +61,7 @@ unhosted_key names distinct (h ∷ hosts) nodes k at off =
 -- ---- counts
 
 -- who has no name has none to count
-count_none : (o : Owner) (names : List NodeName) → ((k : ℕ) → k < length names → (name_at names k).owner ≢ o) → count_of o names ≡ 0
+pub count_none : (o : Owner) (names : List NodeName) → ((k : ℕ) → k < length names → (name_at names k).owner ≢ o) → count_of o names ≡ 0
 count_none o [] other = refl
 count_none o (x ∷ names) other =
     sum_by-cons (λ (y : NodeName). cond (owner_eq y.owner o) 1 0) x names
@@ -89,13 +89,13 @@ module _ (a : Contents) (hosts : List ShadowHost) (held : AreHostsOf a hosts) wh
     new_change : IsOwnChange next_component (with_node (new_root (shadow_root_of next_component) Shadow d)) a.trees
     new_change = added a.trees held.owned next_component root refl
 
-    counted_other : (q : Owner) → q ≢ next_component → count_of q b.names ≡ count_of q a.names
+    pub counted_other : (q : Owner) → q ≢ next_component → count_of q b.names ≡ count_of q a.names
     counted_other q other =
         let count : count_of q b.names ≡ count_of q a.names + 0 =
         ap (count_of q) one.names ∙ (count_more q a.names (shadow_root_of next_component) ∙ ap (λ t. count_of q a.names + cond t 1 0) (ne-owner_eq next_component q (λ e. other (sym e)))) in
         omega (arith, count)
 
-    counted_new : count_of next_component b.names ≡ 1
+    pub counted_new : count_of next_component b.names ≡ 1
     counted_new =
         let count : count_of next_component b.names ≡ count_of next_component a.names + 1 =
         ap (count_of next_component) one.names ∙ (count_more next_component a.names (shadow_root_of next_component) ∙ ap (λ t. count_of next_component a.names + cond t 1 0) (owner_eq-same next_component)) in

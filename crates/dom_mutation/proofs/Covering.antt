@@ -118,7 +118,7 @@ names_mapped f keeps (tree n c r) = rw (keeps n) (ap (λ xs. n.name ∷ xs) (bot
     both : (ms ns : List Node) → names_of ms ≡ names_of ns → names_of (nodes (map_nodes f r)) ≡ names_of (nodes r) → names_of (ms ++ nodes (map_nodes f r)) ≡ names_of (ns ++ nodes r)
     both ms ns e h = map-append (λ m. m.name) ms (nodes (map_nodes f r)) ∙ rw (e, h) (sym (map-append (λ m. m.name) ns (nodes r)))
 
-subtree_mapped : (f : Node → Node) → ((n : Node) → (f n).name ≡ n.name) → (ts : Trees) (x : NodeName) → subtree (map_nodes f ts) x ≡ map_nodes f (subtree ts x)
+pub subtree_mapped : (f : Node → Node) → ((n : Node) → (f n).name ≡ n.name) → (ts : Trees) (x : NodeName) → subtree (map_nodes f ts) x ≡ map_nodes f (subtree ts x)
 subtree_mapped f keeps none x = refl
 subtree_mapped f keeps (tree n c r) x = elim (cases_Bool (name_eq n.name x)) [
   | inl h ↦ cond-true (name_eq (f n).name x) (tree (f n) (map_nodes f c) none) mapped (ap (λ y. name_eq y x) (keeps n) ∙ h) ∙ sym (ap (map_nodes f) (cond-true (name_eq n.name x) (tree n c none) (or_else (subtree c x) (subtree r x)) h))

@@ -23,8 +23,8 @@ use Rattle.dom_tree.proofs.Owned.{stays_own}
 use Rattle.dom_traversal.specs.Iterators.{KeyedIterator, iterator_view, iterator_at}
 use Rattle.dom_traversal.specs.Walkers.{KeyedWalker, walker_view, walker_at}
 use Rattle.dom_mutation.specs.Contents.{part_with, part_in}
-use Rattle.dom_mutation.specs.OwnTables.{KeyedTables, tables_view, place_of, owners_up_to, table_of, AreTablesOf, AllTables, no_keyed_tables, with_table}
-use Rattle.dom_mutation.specs.Doc.{named_trees, own_tables, contents, world_from, IsHeld, Makes}
+use Rattle.dom_mutation.specs.OwnTables.{KeyedTables, place_of, owners_up_to, table_of, AreTablesOf, AllTables, no_keyed_tables, with_table}
+use Rattle.dom_mutation.specs.Doc.{named_trees, own_tables, shown_tables, contents, world_from, IsHeld, Makes}
 use Rattle.dom_mutation.proofs.Worlds.{part_at, part_off, changed}
 use Rattle.dom_mutation.proofs.Places.{single_owners, table_set, table_set_other}
 use Rattle.dom_mutation.proofs.Own.{next_own, previous_own, move_own}
@@ -100,7 +100,7 @@ module _ (names : List NodeName) (ts : Trees) (tables : AllTables) (held : IsHel
 
   -- the owner's part with other tables
   abbrev pub with_own : KeyedTables → Part
-  with_own v = part_with o (trees_of_owner o ts) (count_of o names) (tables_view names v)
+  with_own v = part_with o (trees_of_owner o ts) (count_of o names) (shown_tables names tables.slots.hosts o v (tables.observers o))
 
   pub part_was : part_of (world_from names ts tables) o ≡ with_own t
   part_was = part_at (contents names ts tables) o there ∙ ap (λ m. with_own (unwrap_or m no_keyed_tables)) at
@@ -127,7 +127,7 @@ module _ (names : List NodeName) (ts : Trees) (tables : AllTables) (held : IsHel
         (λ p v e. elim (cases_Bool (owner_eq p o)) [
           | inl same ↦ own_case p v (owner_eq-true p o same) e
           | inr other ↦ held.own p v (sym (table_set_other tables.each o t u at p (owner_eq-false p o other)) ∙ e)
-        ])
+        ]) held.made record { free = held.signals.free; slots = held.signals.slots; nodes = held.signals.nodes } held.speaks held.unobserved held.due
       where
         own_case : (p : Owner) (v : KeyedTables) → p ≡ o → table_of (slice_set tables.each (place_of o) u) p ≡ Some v → AreTablesOf (named_trees names ts) p v
         own_case p v same e =
@@ -149,7 +149,7 @@ module _ (names : List NodeName) (ts : Trees) (tables : AllTables) (held : IsHel
         signalled = refl;
         tasks = refl;
         own = sym (part_at (contents names ts (with_table tables o u)) o there_set);
-        others = λ q other. ap (λ m. part_with q (trees_of_owner q ts) (count_of q names) (tables_view names (unwrap_or m no_keyed_tables))) (table_set_other tables.each o t u at q other);
+        others = λ q other. ap (λ m. part_with q (trees_of_owner q ts) (count_of q names) (shown_tables names tables.slots.hosts q (unwrap_or m no_keyed_tables) (tables.observers q))) (table_set_other tables.each o t u at q other);
       },
     )
 

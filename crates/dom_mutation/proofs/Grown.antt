@@ -20,10 +20,12 @@ use Rattle.dom_model.proofs.PartLaws.{owner-part_of}
 use Rattle.dom_tree.specs.Forest.{name_at}
 use Rattle.dom_tree.proofs.Names.{name_eq-true}
 use Rattle.dom_tree.proofs.Once.{times_in, times_in-none, times_in-tree, one-true}
-use Rattle.dom_mutation.specs.Doc.{DocState, made, planned, StepsAlone, name_in, owner_in, trees_in, cutting_tail}
+use Rattle.dom_mutation.specs.Doc.{DocState, made, planned, name_in, owner_in, trees_in, cutting_tail}
 use Rattle.dom_mutation.proofs.Paths.{lacks_to, IsOnce, path_after, path_lacks}
 use Rattle.dom_mutation.proofs.Moves.{path_put_root, path_root}
-use Rattle.dom_mutation.proofs.Made.{made_then}
+use Rattle.dom_mutation.specs.Hosting.{IsAlone}
+use Rattle.dom_mutation.proofs.Made.{made_then, alone_after}
+use Rattle.dom_mutation.proofs.OwnPlans.{plans_then, plans_tail}
 use Rattle.dom_mutation.proofs.Placed.{Counted, once_in}
 
 -- ---- a tree of one node among others
@@ -64,7 +66,7 @@ module _ (n : Node) (ts : Trees) where
 module _ (d e : DocState) (node new : ℕ) (doc : Option NodeName) (text : DomString)
     (names : e.names ≡ d.names ++ next_name (part_of d.world (owner_in d node)) ∷ [])
     (world : e.world ≡ made (owner_in d node) (doing (make (new_text_node (next_name (part_of d.world (owner_in d node))) doc text))) d.world)
-    (key : new ≡ length d.names) (node_is : node < length d.names) (alone : StepsAlone (owner_in d node)) where
+    (key : new ≡ length d.names) (node_is : node < length d.names) (alone : IsAlone d.world (owner_in d node)) where
   abbrev o : Owner
   o = owner_in d node
 
@@ -89,7 +91,11 @@ module _ (d e : DocState) (node new : ℕ) (doc : Option NodeName) (text : DomSt
 
   -- the trees, and how many nodes there are
   pub grown_trees : (part_of e.world o).trees ≡ with_node n ts
-  grown_trees = ap (λ (w : World). (part_of w o).trees) world ∙ ap (λ (p : Part). p.trees) (alone d.world (make n ∷ []))
+  grown_trees = ap (λ (w : World). (part_of w o).trees) world ∙ ap (λ (p : Part). p.trees) (alone.steps (make n ∷ []) (tt, tt))
+
+  -- its steps do there still what they do in a part alone
+  pub alone_new : IsAlone e.world o
+  alone_new = subst (λ w. IsAlone w o) (sym world) (alone_after o (make n ∷ []) d.world alone (tt, tt))
 
   own_trees : trees_in e node ≡ with_node n ts
   own_trees = ap (λ (z : NodeName). (part_of e.world z.owner).trees) same_name ∙ grown_trees
@@ -131,6 +137,7 @@ module _ (d e : DocState) (node new : ℕ) (doc : Option NodeName) (text : DomSt
         → f ≡ planned (owner_in e node) (cutting_tail (name_in e node) offset count (name_in e new)) e
         → f.world ≡ made o (splitting x offset) d.world
     split_whole f offset count counts documented tailed is =
+        let tail_own = λ (up : Option NodeName). plans_tail o x offset y up (owner-part_of d.world o) in
         let old = node_in ts x in
         let behind = λ (up : Option NodeName). made o (placing_tail x offset y up) in
         let rest = λ (k : ℕ). made o (replacing_data x offset k []) in
@@ -138,10 +145,11 @@ module _ (d e : DocState) (node new : ℕ) (doc : Option NodeName) (text : DomSt
         ap (λ (s : DocState). s.world) is
         ∙ ap (λ (z : NodeName). made z.owner (cutting_tail z offset count (name_in e new)) e.world) same_name
         ∙ ap (λ (z : NodeName). made o (cutting_tail x offset count z) e.world) new_name
-        ∙ made_then o alone (placing_tail x offset y (parent_of (part_of e.world o).trees x)) (replacing_data x offset count []) e.world
+        ∙ made_then o (placing_tail x offset y (parent_of (part_of e.world o).trees x)) (replacing_data x offset count []) e.world alone_new (tail_own (parent_of (part_of e.world o).trees x))
         ∙ ap (λ up. rest count (behind up e.world)) same_parent
         ∙ ap (λ (w : World). rest count (behind (parent_of ts x) w)) world
-        ∙ ap (rest count) (sym (made_then o alone (doing (make n)) (placing_tail x offset y (parent_of ts x)) d.world))
-        ∙ sym (made_then o alone (doing (make n) and_then placing_tail x offset y (parent_of ts x)) (replacing_data x offset count []) d.world)
+        ∙ ap (rest count) (sym (made_then o (doing (make n)) (placing_tail x offset y (parent_of ts x)) d.world alone (λ p own. (tt, tt))))
+        ∙ sym (made_then o (doing (make n) and_then placing_tail x offset y (parent_of ts x)) (replacing_data x offset count []) d.world alone
+        (plans_then o (doing (make n)) (placing_tail x offset y (parent_of ts x)) (λ p own. (tt, tt)) (tail_own (parent_of ts x))))
         ∙ ap (λ k. whole (parent_of ts x) doc text k) counts ∙ ap (λ a. whole (parent_of ts x) a text (length old.text - offset)) documented
         ∙ ap (λ units. whole (parent_of ts x) old.document units (length old.text - offset)) tailed

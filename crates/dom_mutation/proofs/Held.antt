@@ -1,6 +1,7 @@
 -- What holds of a `Doc` stays so when one owner's trees change, and then its world has that owner's part changed.
-use Rattle.std.proofs.Common.{◌≡◌, ℕ, ◌+◌, ◌<◌, ◌≤◌, ◌⊎◌, inl, inr, true, false, cond, List, [], ◌∷◌, ◌++◌, length, Option, Some, None, Result, Ok, Err, unwrap_or, zero, refl, sym, ap, subst, ◌∙◌, ◌≢◌, arith, zero-add, add-one, suc}
+use Rattle.std.proofs.Common.{◌≡◌, ℕ, ◌+◌, ◌<◌, ◌≤◌, ◌⊎◌, inl, inr, true, false, cond, All, map, List, [], ◌∷◌, ◌++◌, length, Option, Some, None, Result, Ok, Err, unwrap_or, zero, refl, sym, ap, subst, ◌∙◌, ◌≢◌, arith, zero-add, add-one, suc}
 use Rattle.std.specs.Prelude.{OnOk, OnErr, ◌↔◌}
+use Rattle.std.specs.List.{AllByRecursion}
 use Rattle.std.specs.Option.{ForSome}
 use Rattle.std.proofs.lemmas.Bool.{cases_Bool, false_from_ne_true}
 use Rattle.std.proofs.lemmas.List.{length_push}
@@ -20,7 +21,7 @@ use Rattle.dom_model.specs.Names.{owner_eq, node_of}
 use Rattle.dom_model.specs.Tree.{Trees, none, Node}
 use Rattle.dom_model.specs.TreeChanges.{with_node, with_name}
 use Rattle.dom_model.specs.Steps.{make}
-use Rattle.dom_model.specs.World.{part_of, is_there, Task}
+use Rattle.dom_model.specs.World.{World, part_of, is_there, Task, micro_task, notify_task}
 use Rattle.dom_model.specs.WorldSteps.{world_step}
 use Rattle.dom_model.specs.Part.{Part, next_name as part_next}
 use Rattle.dom_model.specs.CommandRefusals.{past_limit}
@@ -28,25 +29,44 @@ use Rattle.dom_model.proofs.OwnerLaws.{owner_eq-same, owner_eq-true, ne-owner_eq
 use Rattle.dom_tree.specs.Forest.{NamedTrees, name_at, next_name, count_of}
 use Rattle.dom_tree.specs.Owners.{AreOwned, trees_of_owner, IsOwnChange}
 use Rattle.dom_tree.proofs.OwnChanges.{added}
-use Rattle.dom_mutation.specs.Contents.{part_with}
-use Rattle.dom_mutation.specs.OwnTables.{KeyedTables, tables_view, place_of, owner_at, owners_up_to, table_of, AreTablesOf, AllTables, no_keyed_tables, first_tables, IsLabel, with_queue}
-use Rattle.dom_mutation.specs.Doc.{DocState, named_trees, own_tables, contents, world_from, state_from, IsHeld}
-use Rattle.dom_mutation.proofs.Worlds.{In, there_in, in_there, there_same, part_at, part_off}
-use Rattle.dom_mutation.proofs.Places.{place_within, owners_in, single_owners, table_place, table_owner}
-use Rattle.dom_mutation.proofs.Quiet.{IsQuiet, world_stepped}
+use Rattle.dom_observers.specs.Tables.{TablesOf, no_tables as no_observers}
+use Rattle.dom_observers.specs.Naming.{IsKey, SpeaksOf}
+use Rattle.dom_observers.proofs.Speaking.{speaks_none}
+use Rattle.dom_mutation.specs.Contents.{Tables, part_with}
+use Rattle.dom_mutation.specs.OwnTables.{KeyedTables, tables_view, place_of, owner_at, owners_up_to, table_of, AreTablesOf, AllTables, no_keyed_tables, no_slots, first_tables, signals_of, with_queue, with_observers}
+use Rattle.dom_mutation.specs.Signalled.{AreSignals}
+use Rattle.dom_mutation.specs.Hosting.{AreMadeFrom, AreHostsOf}
+use Rattle.dom_slots.specs.Hosts.{ShadowHost}
+use Rattle.dom_slots.specs.Kept.{AreSlotsOf, StandsOnce, HasOneMore}
+use Rattle.dom_slots.proofs.Added.{slots-more}
+use Rattle.dom_mutation.proofs.HostedKeys.{owners_made}
+use Rattle.dom_mutation.proofs.HostedSteps.{names_pushed, made_renamed, names_renamed, plain_step}
+use Rattle.std.proofs.lemmas.List.Elements.{All-head, All-tail, All-nil}
+use Rattle.dom_mutation.specs.Doc.{DocState, named_trees, own_tables, attached_of, shown_tables, contents, world_from, state_from, IsHeld, IsDue}
+use Rattle.dom_mutation.proofs.Worlds.{there_in, in_there, there_same, part_at, part_off}
+use Rattle.dom_mutation.proofs.Places.{place_within, owners_in, table_place, table_owner}
 use Rattle.dom_mutation.proofs.Standing.{KeepsAbove}
-use Rattle.std.specs.List.{AllByRecursion}
-use Rattle.dom_mutation.proofs.Keeping.{tables_kept, tables_more, view_same}
+use Rattle.dom_mutation.proofs.Keeping.{tables_kept, tables_more, view_same, speaks_grown}
 
--- so far the page alone is there
-pub there_page : (names : List NodeName) (ts : Trees) (tables : AllTables) → IsHeld names ts tables → (o : Owner) → is_there (world_from names ts tables) o ≡ true → o ≡ Page
-there_page names ts tables held o h =
-    let page : In o (Page ∷ []) = subst (λ n. In o (owners_up_to n)) held.alone (there_in (contents names ts tables) o h) in
-    elim page [ inl e ↦ sym e | inr never ↦ absurd never ]
+-- empty tables are each owner's
+pub no_cursors : (f : NamedTrees) (o : Owner) → AreTablesOf f o no_keyed_tables
+no_cursors f o = record { iterators = λ k i is. absurd (none-some i is); walkers = λ k w is. absurd (none-some w is); few_iterators = omega arith; few_walkers = omega arith }
 
--- without hosts and registrations
-pub held_quiet : (names : List NodeName) (ts : Trees) (tables : AllTables) → IsQuiet (contents names ts tables)
-held_quiet names ts tables = record { no_hosts = λ o. refl; no_observers = λ o. refl }
+-- it has just its hosts
+pub are_hosts : (names : List NodeName) (ts : Trees) (tables : AllTables) → IsHeld names ts tables → AreHostsOf (contents names ts tables) tables.slots.hosts
+are_hosts names ts tables held = record {
+  owners = ap owners_up_to held.counted ∙ owners_made names tables.slots.hosts held.made;
+  made = held.made;
+  nodes = held.signals.slots.hosts;
+  attached = refl;
+  unhosted = λ o other. by o other;
+  owned = held.owned;
+  absent = held.absent;
+}
+  where
+    by : (o : Owner) → o ≢ Page → attached_of names tables.slots.hosts o ≡ []
+    by Page other = absurd (other refl)
+    by (Component k) other = refl
 
 -- an owner that is there has tables
 pub table_there : (names : List NodeName) (ts : Trees) (tables : AllTables) (o : Owner) → is_there (world_from names ts tables) o ≡ true → (place_of o < length tables.each) × (owner_at (place_of o) ≡ o)
@@ -57,42 +77,84 @@ pub there_table : (names : List NodeName) (ts : Trees) (tables : AllTables) (o :
 there_table names ts tables o t e =
     in_there (contents names ts tables) o (owners_in (length tables.each) o (slice_get_within tables.each (place_of o) t (table_place tables.each o t e)) (table_owner tables.each o t e))
 
+-- tasks are due as long as their owners are there
+pub due_kept : (w v : World) → ((o : Owner) → is_there w o ≡ true → is_there v o ≡ true) → (tasks : List Task) → AllByRecursion (IsDue w) tasks → AllByRecursion (IsDue v) tasks
+due_kept w v there [] all = tt
+due_kept w v there (t ∷ tasks) all = (by t all.0, due_kept w v there tasks all.1)
+  where
+    by : (t : Task) → IsDue w t → IsDue v t
+    by (micro_task o label) h = tt
+    by (notify_task o) h = there o h
+
 -- other trees and tables, where only one owner's trees change
 module _ (names : List NodeName) (ts : Trees) (tables : AllTables) (held : IsHeld names ts tables) (o : Owner) (there : is_there (world_from names ts tables) o ≡ true)
-    (more : List NodeName) (us : Trees) (others : AllTables) (same : length others.each ≡ length tables.each) (same_tasks : others.tasks ≡ tables.tasks) where
+    (more : List NodeName) (us : Trees) (others : AllTables) (same : length others.each ≡ length tables.each) (hosts : others.slots.hosts ≡ tables.slots.hosts) where
   who : (p : Owner) → is_there (world_from more us others) p ≡ is_there (world_from names ts tables) p
   who p = there_same (contents more us others) (contents names ts tables) (ap owners_up_to same) p
 
   pub held_with : AreOwned us → ((p : Owner) → p ≢ o → trees_of_owner p us ≡ trees_of_owner p ts)
       → ((k : ℕ) → k < length more → is_there (world_from names ts tables) (name_at more k).owner ≡ true) → ((p : Owner) → count_of p more ≤ 1000000)
-      → ((p : Owner) → ForSome (table_of others.each p) (AreTablesOf (named_trees more us) p)) → IsHeld more us others
-  held_with owned apart present limited own = record {
+      → ((p : Owner) → ForSome (table_of others.each p) (AreTablesOf (named_trees more us) p)) → AreMadeFrom more 0 tables.slots.hosts → AreSignals more us (signals_of others)
+      → ((p : Owner) → SpeaksOf (IsKey more) (others.observers p)) → ((p : Owner) → is_there (world_from names ts tables) p ≡ false → others.observers p ≡ no_observers)
+      → AllByRecursion (IsDue (world_from names ts tables)) others.tasks → IsHeld more us others
+  held_with owned apart present limited own made signals speaks unobserved due = record {
     owned = owned;
     present = λ k k<. who (name_at more k).owner ∙ present k k<;
     absent = λ p off. apart p (λ same_owner. let on : is_there (world_from names ts tables) p ≡ true = subst (λ (q : Owner). is_there (world_from names ts tables) q ≡ true) (sym same_owner) there in let gone = sym (who p) ∙ off in cc)
         ∙ held.absent p (sym (who p) ∙ off);
     limited = limited;
-    alone = same ∙ held.alone;
     own = own;
-    labels = subst (AllByRecursion IsLabel) (sym same_tasks) held.labels;
+    counted = same ∙ (held.counted ∙ ap (λ (hs : List ShadowHost). suc (length hs)) (sym hosts));
+    few = subst (λ (hs : List ShadowHost). length hs ≤ 1000) (sym hosts) held.few;
+    made = subst (AreMadeFrom more 0) (sym hosts) made;
+    signals = signals;
+    speaks = speaks;
+    unobserved = λ p off. unobserved p (sym (who p) ∙ off);
+    due = due_kept (world_from names ts tables) (world_from more us others) (λ p on. who p ∙ on) others.tasks due;
   }
 
 pub held_changed : (names : List NodeName) (ts : Trees) (tables : AllTables) → IsHeld names ts tables → (o : Owner) → is_there (world_from names ts tables) o ≡ true
-    → (f : Trees → Trees) → IsOwnChange o f ts → KeepsAbove ts (f ts) → IsHeld names (f ts) tables
-held_changed names ts tables held o there f change keeps =
+    → (f : Trees → Trees) → IsOwnChange o f ts → KeepsAbove ts (f ts) → AreSlotsOf (named_trees names (f ts)) tables.slots → IsHeld names (f ts) tables
+held_changed names ts tables held o there f change keeps slots =
     held_with names ts tables held o there names (f ts) tables refl refl change.owned change.others held.present held.limited
-    (λ p t e. tables_kept names ts (f ts) keeps p t (held.own p t e))
+    (λ p t e. tables_kept names ts (f ts) keeps p t (held.own p t e)) held.made record { free = held.signals.free; slots = slots; nodes = held.signals.nodes } held.speaks held.unobserved held.due
+
+-- other observers
+pub held_observers : (names : List NodeName) (ts : Trees) (tables : AllTables) → IsHeld names ts tables → (observers : Owner → TablesOf ℕ) → ((p : Owner) → SpeaksOf (IsKey names) (observers p))
+    → ((p : Owner) → is_there (world_from names ts tables) p ≡ false → observers p ≡ no_observers) → IsHeld names ts (with_observers tables observers)
+held_observers names ts tables held observers speaks unobserved = record {
+  owned = held.owned;
+  present = λ k k<. who (name_at names k).owner ∙ held.present k k<;
+  absent = λ o off. held.absent o (sym (who o) ∙ off);
+  limited = held.limited;
+  own = held.own;
+  counted = held.counted;
+  few = held.few;
+  made = held.made;
+  signals = record { free = held.signals.free; slots = held.signals.slots; nodes = held.signals.nodes };
+  speaks = speaks;
+  unobserved = λ o off. unobserved o (sym (who o) ∙ off);
+  due = due_kept (world_from names ts tables) (world_from names ts (with_observers tables observers)) (λ o on. who o ∙ on) tables.tasks held.due;
+}
+  where
+    who : (o : Owner) → is_there (world_from names ts (with_observers tables observers)) o ≡ is_there (world_from names ts tables) o
+    who o = there_same (contents names ts (with_observers tables observers)) (contents names ts tables) refl o
 
 -- other tasks
-pub held_tasks : (names : List NodeName) (ts : Trees) (tables : AllTables) → IsHeld names ts tables → (tasks : List Task) → AllByRecursion IsLabel tasks → IsHeld names ts (with_queue tables tasks)
-held_tasks names ts tables held tasks labels = record {
+pub held_tasks : (names : List NodeName) (ts : Trees) (tables : AllTables) → IsHeld names ts tables → (tasks : List Task) → AllByRecursion (IsDue (world_from names ts tables)) tasks → IsHeld names ts (with_queue tables tasks)
+held_tasks names ts tables held tasks due = record {
   owned = held.owned;
   present = held.present;
   absent = held.absent;
   limited = held.limited;
-  alone = held.alone;
   own = held.own;
-  labels = labels;
+  counted = held.counted;
+  few = held.few;
+  made = held.made;
+  signals = record { free = held.signals.free; slots = held.signals.slots; nodes = held.signals.nodes };
+  speaks = held.speaks;
+  unobserved = held.unobserved;
+  due = due_kept (world_from names ts tables) (world_from names ts (with_queue tables tasks)) (λ o on. on) tasks due;
 }
 
 -- ---- limits
@@ -132,37 +194,58 @@ module _ (names : List NodeName) (ts : Trees) (tables : AllTables) (held : IsHel
   own_change : IsOwnChange o (with_node n) ts
   own_change = added ts held.owned o n (ap (λ (x : NodeName). x.owner) is)
 
-  pub held_more : count_of o names ≢ 1000000 → IsHeld (names ++ next_name o names ∷ []) (with_node n ts) tables
-  held_more room =
+  pub held_more : count_of o names ≢ 1000000 → AreSlotsOf (named_trees (names ++ next_name o names ∷ []) (with_node n ts)) tables.slots → IsHeld (names ++ next_name o names ∷ []) (with_node n ts) tables
+  held_more room slots =
       held_with names ts tables held o there grown (with_node n ts) tables refl refl own_change.owned own_change.others (present_more names ts tables (next_name o names) there held.present)
       (λ p. limited_more names o p (count_of o names) (held.limited o) (held.limited p) room)
       (λ p t e. tables_more names (next_name o names) ts n is new p t (held.own p t e))
+      (made_renamed names grown (names_pushed names (next_name o names)) tables.slots.hosts 0 held.signals.slots.hosts held.made)
+      record { free = held.signals.free; slots = slots; nodes = λ k d h. longer _ (held.signals.nodes k d h) }
+      (λ p. speaks_grown names (next_name o names) (tables.observers p) (held.speaks p)) held.unobserved held.due
+    where
+      longer : (i : ℕ) → i < length names → i < length grown
+      longer i within = let more = length_push names (next_name o names) in omega arith
 
   -- each owner's tables are the same in names
-  view_grown : (q : Owner) → tables_view grown (own_tables tables q) ≡ tables_view names (own_tables tables q)
-  view_grown q = by (table_of tables.each q) refl
+  view_grown : (q : Owner) → shown_tables grown tables.slots.hosts q (own_tables tables q) (tables.observers q) ≡ shown_tables names tables.slots.hosts q (own_tables tables q) (tables.observers q)
+  view_grown q =
+      ap (λ (t : Tables). with_attached t (attached_of grown tables.slots.hosts q)) (by (table_of tables.each q) refl) ∙ ap (with_attached (tables_view names (own_tables tables q) (tables.observers q))) (hosts_grown q)
     where
-      by : (m : Option KeyedTables) → table_of tables.each q ≡ m → tables_view grown (unwrap_or m no_keyed_tables) ≡ tables_view names (unwrap_or m no_keyed_tables)
-      by None e = refl
-      by (Some t) e = view_same names (next_name o names) ts q t (held.own q t e)
+      with_attached : Tables → List NodeName → Tables
+      with_attached t xs = record t { attached = xs }
+
+      hosts_grown : (p : Owner) → attached_of grown tables.slots.hosts p ≡ attached_of names tables.slots.hosts p
+      hosts_grown Page = sym (names_renamed names grown (names_pushed names (next_name o names)) tables.slots.hosts held.signals.slots.hosts)
+      hosts_grown (Component k) = refl
+
+      by : (m : Option KeyedTables) → table_of tables.each q ≡ m → tables_view grown (unwrap_or m no_keyed_tables) (tables.observers q) ≡ tables_view names (unwrap_or m no_keyed_tables) (tables.observers q)
+      by None e = view_same names (next_name o names) ts q no_keyed_tables (tables.observers q) (no_cursors (named_trees names ts) q) (held.speaks q)
+      by (Some t) e = view_same names (next_name o names) ts q t (tables.observers q) (held.own q t e) (held.speaks q)
 
   -- the world with one node more
   world_more : world_from (names ++ next_name o names ∷ []) (with_node n ts) tables ≡ world_step o (world_from names ts tables) (make n)
   world_more =
-      world_stepped (contents names ts tables) (contents grown (with_node n ts) tables) o (make n) (held_quiet names ts tables) (held_quiet grown (with_node n ts) tables) (single_owners (length tables.each)) there record {
+      plain_step (contents names ts tables) tables.slots.hosts (are_hosts names ts tables held) o there (contents grown (with_node n ts) tables) (make n) tt record {
         owners = refl;
-        signalled = refl;
+        signalled = names_stay tables.signalled held.signals.nodes;
         tasks = refl;
-        own = ap (λ us. part_with o us (count_of o grown) (tables_view grown (own_tables tables o))) own_change.own
-            ∙ ap (λ k. part_with o (with_node n (trees_of_owner o ts)) k (tables_view grown (own_tables tables o))) more_own
+        own = ap (λ us. part_with o us (count_of o grown) (shown_tables grown tables.slots.hosts o (own_tables tables o) (tables.observers o))) own_change.own
+            ∙ ap (λ k. part_with o (with_node n (trees_of_owner o ts)) k (shown_tables grown tables.slots.hosts o (own_tables tables o) (tables.observers o))) more_own
             ∙ ap (λ t. part_with o (with_node n (trees_of_owner o ts)) (suc (count_of o names)) t) (view_grown o)
-            ∙ ap (λ (x : NodeName). part_with o (with_node (with_name x n) (trees_of_owner o ts)) (suc (count_of o names)) (tables_view names (own_tables tables o))) is;
+            ∙ ap (λ (x : NodeName). part_with o (with_node (with_name x n) (trees_of_owner o ts)) (suc (count_of o names)) (shown_tables names tables.slots.hosts o (own_tables tables o) (tables.observers o))) is;
         others = λ q other.
-            ap (λ us. part_with q us (count_of q grown) (tables_view grown (own_tables tables q))) (own_change.others q other)
-            ∙ ap (λ k. part_with q (trees_of_owner q ts) k (tables_view grown (own_tables tables q))) (more_other q other)
+            ap (λ us. part_with q us (count_of q grown) (shown_tables grown tables.slots.hosts q (own_tables tables q) (tables.observers q))) (own_change.others q other)
+            ∙ ap (λ k. part_with q (trees_of_owner q ts) k (shown_tables grown tables.slots.hosts q (own_tables tables q) (tables.observers q))) (more_other q other)
             ∙ ap (λ t. part_with q (trees_of_owner q ts) (count_of q names) t) (view_grown q);
       }
     where
+      names_stay : (ks : List ℕ) → All (λ k. k < length names) ks → map (name_at grown) ks ≡ map (name_at names) ks
+      names_stay [] all = refl
+      names_stay (k ∷ ks) all =
+          let here = (names_pushed names (next_name o names)).same k (All-head (λ j. j < length names) k ks all) in
+          let rest = names_stay ks (All-tail (λ j. j < length names) k ks all) in
+          λ i. here i ∷ rest i
+
       more_own : count_of o (names ++ next_name o names ∷ []) ≡ suc (count_of o names)
       more_own = count_more o names (next_name o names) ∙ ap (λ b. count_of o names + cond b 1 0) (owner_eq-same o) ∙ add-one (count_of o names)
 
@@ -187,7 +270,7 @@ abbrev pub TellApart : List NodeName → Type 0
 TellApart names = (j k : ℕ) → j < length names → k < length names → name_at names j ≡ name_at names k → j ≡ k
 
 module _ (f g : NamedTrees) {tables : AllTables} (held : IsHeld f.names f.trees tables) (o : Owner) (there : is_there (world_from f.names f.trees tables) o ≡ true)
-    (n : List NodeName → NodeName → Node) (own_name : (ns : List NodeName) (x : NodeName) → (n ns x).name ≡ x) (apart : TellApart g.names) where
+    (n : List NodeName → NodeName → Node) (own_name : (ns : List NodeName) (x : NodeName) → (n ns x).name ≡ x) (apart : TellApart g.names) (stands : StandsOnce g) where
   -- the new name is none of the others
   new_name : g.names ≡ f.names ++ next_name o f.names ∷ [] → (k : ℕ) → k < length f.names → name_at f.names k ≢ next_name o f.names
   new_name names k less same =
@@ -196,6 +279,9 @@ module _ (f g : NamedTrees) {tables : AllTables} (held : IsHeld f.names f.trees 
       let one = all k (length f.names) (omega arith) (omega arith)
       (get_or-append f.names (next_name o f.names ∷ []) (node_of Page 0) k less ∙ same ∙ sym (get_or-append_seam f.names (next_name o f.names) [] (node_of Page 0))) in
       omega arith
+
+  one_more : g.names ≡ f.names ++ next_name o f.names ∷ [] → g.trees ≡ with_node (n f.names (next_name o f.names)) f.trees → HasOneMore f g (n f.names (next_name o f.names))
+  one_more names trees = record { names = names ∙ ap (λ (y : NodeName). f.names ++ y ∷ []) (sym (own_name f.names (next_name o f.names))); trees = trees; distinct = apart; stands = stands }
 
   added_at : {T : Type 0} (r : Result T Fault) → OnOk r (g.names ≡ f.names ++ next_name o f.names ∷ []) → OnOk r (g.trees ≡ with_node (n f.names (next_name o f.names)) f.trees)
       → ((r ≡ Err (Refused Limit)) ↔ (count_of o f.names ≡ 1000000)) → OnErr r (g ≡ f)
@@ -207,7 +293,8 @@ module _ (f g : NamedTrees) {tables : AllTables} (held : IsHeld f.names f.trees 
       let both : g ≡ trees_named (f.names ++ next_name o f.names ∷ []) (with_node (n f.names (next_name o f.names)) f.trees) =
       ap (λ ns. trees_named ns g.trees) names ∙ ap (trees_named (f.names ++ next_name o f.names ∷ [])) trees in (
         subst (λ (p : NamedTrees). IsHeld p.names p.trees tables) (sym both)
-            (held_more f.names f.trees tables held o there (n f.names (next_name o f.names)) (own_name f.names (next_name o f.names)) new room),
+            (held_more f.names f.trees tables held o there (n f.names (next_name o f.names)) (own_name f.names (next_name o f.names)) new room
+            (subst (λ (p : NamedTrees). AreSlotsOf p tables.slots) both (slots-more f g (n f.names (next_name o f.names)) (one_more names trees) tables.slots held.signals.slots))),
         (
           names ∙ ap (λ (y : NodeName). f.names ++ y ∷ []) (sym next),
           ap (λ (p : NamedTrees). world_from p.names p.trees tables) both
@@ -218,26 +305,40 @@ module _ (f g : NamedTrees) {tables : AllTables} (held : IsHeld f.names f.trees 
   added_at (Err e) names trees limit same = (subst (λ (p : NamedTrees). IsHeld p.names p.trees tables) (sym same) held, (tt, tt))
 
 pub added_held : (f g : NamedTrees) {tables : AllTables} (d : DocState) → state_from f.names f.trees tables ≡ d → IsHeld f.names f.trees tables → (o : Owner) → is_there d.world o ≡ true
-    → (n : List NodeName → NodeName → Node) → ((ns : List NodeName) (x : NodeName) → (n ns x).name ≡ x) → TellApart g.names → {T : Type 0} (r : Result T Fault)
+    → (n : List NodeName → NodeName → Node) → ((ns : List NodeName) (x : NodeName) → (n ns x).name ≡ x) → TellApart g.names → StandsOnce g → {T : Type 0} (r : Result T Fault)
     → OnOk r (g.names ≡ f.names ++ next_name o f.names ∷ []) → OnOk r (g.trees ≡ with_node (n f.names (next_name o f.names)) f.trees)
     → ((r ≡ Err (Refused Limit)) ↔ (count_of o f.names ≡ 1000000)) → OnErr r (g ≡ f)
     → IsHeld g.names g.trees tables × Added g tables o n r d
-added_held f g {tables} d is_d held o there n own_name apart r names trees limit same =
+added_held f g {tables} d is_d held o there n own_name apart stands r names trees limit same =
     subst (λ (e : DocState). is_there e.world o ≡ true → IsHeld g.names g.trees tables × Added g tables o n r e) is_d
-    (λ h. added_at f g held o h n own_name apart r names trees limit same) there
+    (λ h. added_at f g held o h n own_name apart stands r names trees limit same) there
+
+-- where none is made nothing changes
+pub not_added : (f g : NamedTrees) (tables : AllTables) {d : DocState} → state_from f.names f.trees tables ≡ d → {T E : Type 0} (r : Result T E) → OnErr r (g ≡ f) → OnErr r (state_from g.names g.trees tables ≡ d)
+not_added f g tables is_d (Ok x) same = tt
+not_added f g tables is_d (Err e) same = ap (λ (p : NamedTrees). state_from p.names p.trees tables) same ∙ is_d
 
 -- ---- the first node
 
+-- without hosts there is nothing in a table of slots
+no_slots_of : (f : NamedTrees) → AreSlotsOf f no_slots
+no_slots_of f = record { hosts = tt; table = record { nodes = λ k. All-nil (λ j. j < length f.names); lists = λ k within. refl; beyond = λ k far. refl } }
+
 -- without nodes, where the page alone is there
-empty_held : IsHeld [] none first_tables
+pub empty_held : IsHeld [] none first_tables
 empty_held = record {
   owned = record { owners = tt; order = tt };
   present = λ k k<. absurd (omega arith);
   absent = λ o off. refl;
   limited = λ o. omega arith;
-  alone = refl;
-  own = λ o t e. subst (AreTablesOf (named_trees [] none) o) (same_own o t e) record { iterators = λ k i is. absurd (none-some i is); walkers = λ k w is. absurd (none-some w is); few_iterators = omega arith; few_walkers = omega arith };
-  labels = tt;
+  counted = refl;
+  few = omega arith;
+  made = tt;
+  signals = record { free = refl; slots = no_slots_of (named_trees [] none); nodes = All-nil (λ k. k < 0) };
+  own = λ o t e. subst (AreTablesOf (named_trees [] none) o) (same_own o t e) (no_cursors (named_trees [] none) o);
+  speaks = λ o. speaks_none (IsKey []);
+  unobserved = λ o off. refl;
+  due = tt;
 }
   where
     same_own : (o : Owner) (t : KeyedTables) → table_of (no_keyed_tables ∷ []) o ≡ Some t → no_keyed_tables ≡ t
@@ -245,13 +346,17 @@ empty_held = record {
     same_own (Component zero) t e = absurd (none-some t e)
     same_own (Component (suc k)) t e = absurd (none-some t e)
 
+-- so is what was given up
+pub given_up : (g : NamedTrees) (tables : AllTables) → g ≡ record { names = []; trees = none } → tables ≡ first_tables → IsHeld g.names g.trees tables
+given_up g tables empty first = subst (λ (p : NamedTrees). IsHeld p.names p.trees tables) (sym empty) (subst (IsHeld [] none) (sym first) empty_held)
+
 -- with the first one
 pub first_held : (g : NamedTrees) (tables : AllTables) (n : Node) → n.name ≡ node_of Page 0 → tables ≡ first_tables → g.names ≡ node_of Page 0 ∷ [] → g.trees ≡ with_node n none → IsHeld g.names g.trees tables
 first_held g tables n is one names trees =
     subst (IsHeld g.names g.trees) (sym one)
     (subst (λ ns. IsHeld ns g.trees first_tables) (sym names)
     (subst (λ ts. IsHeld (node_of Page 0 ∷ []) ts first_tables) (sym trees)
-    (held_more [] none first_tables empty_held Page refl n is (λ k less. absurd (omega arith)) (λ e. omega arith))))
+    (held_more [] none first_tables empty_held Page refl n is (λ k less. absurd (omega arith)) (λ e. omega arith) (no_slots_of (named_trees (node_of Page 0 ∷ []) (with_node n none))))))
 
 -- when there is no room for one node more
 limit_at : (names : List NodeName) (ts : Trees) (tables : AllTables) → IsHeld names ts tables → (o : Owner) → is_there (world_from names ts tables) o ≡ true

@@ -16,11 +16,13 @@ use Rattle.dom_model.specs.WorldSteps.{world_after}
 use Rattle.dom_model.specs.Changes.{Plan, Observing, ◌and_then◌, in_turn, steps_of, telling, emptying, making_room, placing, sibling_before, inserting}
 use Rattle.dom_model.proofs.OwnerLaws.{name_eq-same}
 use Rattle.dom_tree.proofs.Once.{times_in, times_in-tree, one-true}
-use Rattle.dom_mutation.specs.Doc.{DocState, planned, placed_all, StepsAlone, name_in, owner_in, trees_in, MayMove, IsChild, NoneAbove}
+use Rattle.dom_mutation.specs.Doc.{DocState, planned, placed_all, name_in, owner_in, trees_in, MayMove, IsChild, NoneAbove}
+use Rattle.dom_mutation.specs.Hosting.{PlansOwn, IsAlone}
 use Rattle.dom_mutation.proofs.Paths.{Lacks, lacks_from, lacks_to}
 use Rattle.dom_mutation.proofs.Moves.{below_lacks}
 use Rattle.dom_mutation.proofs.Near.{Each, each_all, parent_path}
 use Rattle.dom_mutation.proofs.Made.{planned_then}
+use Rattle.dom_mutation.proofs.OwnPlans.{plans_then, plans_turn, plans_each_own, plans_room, plans_placing, plans_emptying, children_own}
 use Rattle.dom_mutation.proofs.Placed.{Counted, once_in, before_lacks}
 use Rattle.dom_mutation.proofs.Turns.{Stays}
 
@@ -30,13 +32,17 @@ module _ (o : Owner) (how : Observing) (node parent : NodeName) (before : Option
   placing_plan moved emptied prev =
       emptied and_then making_room parent before (length moved) and_then in_turn (placing parent before) moved and_then steps_of (telling how (child_list parent moved [] prev before))
 
-  module _ (alone : StepsAlone o) where
-    placed_plan : (moved : List NodeName) (emptied : Plan) (prev : Option NodeName) (d : DocState) → placed_all how moved parent before prev o (planned o emptied d) ≡ planned o (placing_plan moved emptied prev) d
-    placed_plan moved emptied prev d =
-        let told : Plan = steps_of (telling how (child_list parent moved [] prev before)) in
-        ap (λ e. planned o told (planned o (in_turn (placing parent before) moved) e)) (planned_then o alone emptied (making_room parent before (length moved)) d)
-        ∙ ap (planned o told) (planned_then o alone (emptied and_then making_room parent before (length moved)) (in_turn (placing parent before) moved) d)
-        ∙ planned_then o alone (emptied and_then making_room parent before (length moved) and_then in_turn (placing parent before) moved) told d
+  placed_plan : (moved : List NodeName) (emptied : Plan) (prev : Option NodeName) (d : DocState) → IsAlone d.world o → PlansOwn o emptied → AllByRecursion (λ (x : NodeName). x.owner ≡ o) moved
+      → placed_all how moved parent before prev o (planned o emptied d) ≡ planned o (placing_plan moved emptied prev) d
+  placed_plan moved emptied prev d alone empties own =
+      let told : Plan = steps_of (telling how (child_list parent moved [] prev before)) in
+      let room = making_room parent before (length moved) in
+      let turn = in_turn (placing parent before) moved in
+      let roomed = plans_then o emptied room empties (plans_room o parent before (length moved)) in
+      let turned = plans_turn o (placing parent before) moved (plans_each_own o (placing parent before) (plans_placing o parent before) moved own) in
+      ap (λ e. planned o told (planned o turn e)) (planned_then o emptied room d alone empties)
+      ∙ ap (planned o told) (planned_then o (emptied and_then room) turn d alone roomed)
+      ∙ planned_then o (emptied and_then room and_then turn) told d alone (plans_then o (emptied and_then room) turn roomed turned)
 
   -- the steps of an insertion, by whether the node is a fragment
   abbrev steps_if : Part → Bool → List NodeName → List Step
@@ -49,21 +55,21 @@ module _ (o : Owner) (how : Observing) (node parent : NodeName) (before : Option
   abbrev with_steps : DocState → List Step → DocState
   with_steps d steps = record d { world = world_after o d.world steps }
 
-  module _ (alone : StepsAlone o) (d : DocState) where
+  module _ (d : DocState) (alone : IsAlone d.world o) (own : node.owner ≡ o) where
     abbrev ts : Trees
     ts = (part_of d.world o).trees
 
     -- one node
     pub inserted_one : is_fragment (kind_of ts node) ≡ false → placed_all how (node ∷ []) parent before (sibling_before ts parent before) o d ≡ planned o (inserting how node parent before) d
     inserted_one e =
-        placed_plan alone (node ∷ []) (steps_of []) (sibling_before ts parent before) d ∙ ap (with_steps d) (sym (steps_as (part_of d.world o) false e))
+        placed_plan (node ∷ []) (steps_of []) (sibling_before ts parent before) d alone (λ p h. tt) (own, tt) ∙ ap (with_steps d) (sym (steps_as (part_of d.world o) false e))
 
     -- a fragment's children
     pub inserted_children : is_fragment (kind_of ts node) ≡ true → is_empty (children_of ts node) ≡ false
         → placed_all how (children_of ts node) parent before (sibling_before ts parent before) o (planned o (emptying node (children_of ts node)) d) ≡ planned o (inserting how node parent before) d
     inserted_children e some =
         let moved = children_of ts node in
-        placed_plan alone moved (emptying node moved) (sibling_before ts parent before) d
+        placed_plan moved (emptying node moved) (sibling_before ts parent before) d alone (plans_emptying o node moved) (children_own o ts node alone.own)
         ∙ ap (with_steps d) (sym (steps_as (part_of d.world o) true e ∙ cond-false (is_empty moved) [] (placing_plan moved (emptying node moved) (sibling_before ts parent before) (part_of d.world o)) some))
 
 -- ---- a fragment's children may move where it may
@@ -143,18 +149,18 @@ module _ (d : DocState) (counted : Counted d) (parent fragment : ℕ) (before : 
 -- ---- what the calls say of it
 
 -- of one node
-pub inserted_single : (d f : DocState) (alone : (k : ℕ) → k < length d.names → StepsAlone (owner_in d k)) (how : Observing) (parent node : ℕ) (before : Option ℕ) (prev : Option NodeName) → parent < length d.names
+pub inserted_single : (d f : DocState) (alone : (k : ℕ) → k < length d.names → IsAlone d.world (owner_in d k)) (how : Observing) (parent node : ℕ) (before : Option ℕ) (prev : Option NodeName) → parent < length d.names
     → MayMove d parent before node → is_fragment (kind_of (trees_in d node) (name_in d node)) ≡ false
     → prev ≡ sibling_before (trees_in d parent) (name_in d parent) (option_map (name_in d) before)
     → f ≡ placed_all how (name_in d node ∷ []) (name_in d parent) (option_map (name_in d) before) prev (owner_in d parent) d
     → f ≡ planned (owner_in d parent) (inserting how (name_in d node) (name_in d parent) (option_map (name_in d) before)) d
 inserted_single d f alone how parent node before prev parent_is may kind was is =
     is ∙ ap (λ q. placed_all how (name_in d node ∷ []) (name_in d parent) (option_map (name_in d) before) q (owner_in d parent) d) was
-    ∙ inserted_one (owner_in d parent) how (name_in d node) (name_in d parent) (option_map (name_in d) before) (alone parent parent_is) d
+    ∙ inserted_one (owner_in d parent) how (name_in d node) (name_in d parent) (option_map (name_in d) before) d (alone parent parent_is) may.owner
     (ap (λ o. is_fragment (kind_of (part_of d.world o).trees (name_in d node))) (sym may.owner) ∙ kind)
 
 -- of a fragment
-pub inserted_fragment : (d e f : DocState) (alone : (k : ℕ) → k < length d.names → StepsAlone (owner_in d k)) (how : Observing) (parent fragment : ℕ) (before : Option ℕ) (prev : Option ℕ) (ks : List ℕ) → parent < length d.names
+pub inserted_fragment : (d e f : DocState) (alone : (k : ℕ) → k < length d.names → IsAlone d.world (owner_in d k)) (how : Observing) (parent fragment : ℕ) (before : Option ℕ) (prev : Option ℕ) (ks : List ℕ) → parent < length d.names
     → MayMove d parent before fragment → is_fragment (kind_of (trees_in d fragment) (name_in d fragment)) ≡ true
     → option_map (name_in d) prev ≡ sibling_before (trees_in d parent) (name_in d parent) (option_map (name_in d) before)
     → map (name_in d) ks ≡ children_of (trees_in d fragment) (name_in d fragment) → is_empty ks ≡ false
@@ -171,7 +177,7 @@ inserted_fragment d e f alone how parent fragment before prev ks parent_is may k
     (emptied ∙ ap (λ p. planned p (emptying (name_in d fragment) (map (name_in d) ks)) d) may.owner)
     ∙ ap (λ q. placed_all how (map (name_in d) ks) here ref q o (planned o (emptying (name_in d fragment) (map (name_in d) ks)) d)) was
     ∙ ap (λ xs. placed_all how xs here ref (sibling_before (trees_in d parent) here ref) o (planned o (emptying (name_in d fragment) xs) d)) children
-    ∙ inserted_children o how (name_in d fragment) here ref (alone parent parent_is) d (ap (λ t. is_fragment (kind_of t (name_in d fragment))) (sym own) ∙ kind) (ap is_empty (sym children) ∙ mapped ks some)
+    ∙ inserted_children o how (name_in d fragment) here ref d (alone parent parent_is) may.owner (ap (λ t. is_fragment (kind_of t (name_in d fragment))) (sym own) ∙ kind) (ap is_empty (sym children) ∙ mapped ks some)
   where
     mapped : (ks : List ℕ) → is_empty ks ≡ false → is_empty (map (name_in d) ks) ≡ false
     mapped [] h = cc

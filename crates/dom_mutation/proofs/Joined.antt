@@ -1,6 +1,6 @@
 -- Normalization: the Texts directly after a Text, their data, and the Texts below a node.
 use Rattle.std.proofs.Common.{◌≡◌, ℕ, suc, ◌+◌, ◌<◌, ◌≤◌, inl, inr, Bool, true, false, List, [], ◌∷◌, ◌++◌, drop, drop-cons, add-one, get_or, length, map, Option, Some, None, option_map, refl, sym, ap, subst, ◌∙◌, arith}
-use Rattle.std.specs.Prelude.{◌==◌, Result, Ok, Err, OnOk, filter, flat_map, take_while, if◌then◌else◌}
+use Rattle.std.specs.Prelude.{◌==◌, filter, flat_map, take_while, if◌then◌else◌}
 use Rattle.std.specs.List.{AllByRecursion}
 use Rattle.std.specs.Option.{ForSome, option_map_or}
 use Rattle.std.proofs.lemmas.Bool.{cases_Bool, cond-true, cond-false, or_left}
@@ -19,12 +19,14 @@ use Rattle.dom_model.specs.TextChanges.{replacing_data, joins, texts_after, join
 use Rattle.dom_model.proofs.OwnerLaws.{name_eq-same}
 use Rattle.dom_tree.specs.Forest.{name_at}
 use Rattle.dom_tree.proofs.Once.{times_in}
-use Rattle.dom_mutation.specs.Doc.{DocState, planned, StepsAlone, name_in, owner_in, trees_in, IsOwnNode}
+use Rattle.dom_mutation.specs.Doc.{DocState, planned, name_in, owner_in, trees_in, IsOwnNode}
+use Rattle.dom_mutation.specs.Hosting.{IsAlone}
 use Rattle.dom_mutation.proofs.Paths.{Lacks, swapped, IsOnce, path_none, path_gone, path_head}
 use Rattle.dom_mutation.proofs.Moves.{none_or_some}
 use Rattle.dom_mutation.proofs.Near.{NoTwice, children_once, next_child, once_subtree}
 use Rattle.dom_mutation.proofs.Once.{names_once}
-use Rattle.dom_mutation.proofs.Made.{planned_then, planned_turn}
+use Rattle.dom_mutation.proofs.Made.{planned_then, planned_turn, alone_made}
+use Rattle.dom_mutation.proofs.OwnPlans.{plans_then, plans_data, plans_joins, plans_normalizing_text}
 use Rattle.dom_mutation.proofs.Placed.{Counted, once_in}
 use Rattle.dom_mutation.proofs.Covering.{walked, StandsIn, left, Walks, walks, first_inside}
 use Rattle.dom_mutation.proofs.Listing.{all_push}
@@ -152,17 +154,12 @@ pub record Collects (d : DocState) (top : ℕ) (all : List ℕ) (units : DomStri
 
 -- ---- joining
 
--- where a call succeeds, what follows holds too
-pub then_ok : {T E P Q : Type 0} (r : Result T E) → OnOk r P → (P → Q) → OnOk r Q
-then_ok (Ok x) p f = f p
-then_ok (Err e) p f = tt
-
 -- nodes stay nodes where the names are the same
 pub own_nodes : (d e : DocState) (top : ℕ) (ks : List ℕ) → e.names ≡ d.names → AllByRecursion (IsOwnNode d top) ks → AllByRecursion (IsOwnNode e top) ks
 own_nodes d e top ks names h = subst (λ (ns : List NodeName). AllByRecursion (λ k. (k < length ns) × ((name_at ns k).owner ≡ (name_at ns top).owner)) ks) (sym names) h
 
 -- the steps of a joining are its plan
-pub joined_whole : (d e f g : DocState) (node parent size : ℕ) (units : DomString) (ks : List ℕ) → StepsAlone (owner_in d node)
+pub joined_whole : (d e f g : DocState) (node parent size : ℕ) (units : DomString) (ks : List ℕ) → IsAlone d.world (owner_in d node)
     → size ≡ length_of (trees_in d node) (name_in d node) → units ≡ flat_map (λ y. (node_in (trees_in d node) y).text) (map (name_in d) ks)
     → e ≡ planned (owner_in d node) (replacing_data (name_in d node) size 0 units) d
     → ((ts : Trees) → f ≡ planned (owner_in e node) (steps_of (joins ts (name_in e node) (name_in e parent) size (map (name_in e) ks))) e)
@@ -178,8 +175,9 @@ joined_whole d e f g node parent size units ks alone sized collected replaced ca
     let leave : DocState → DocState = λ s. planned (owner_in s node) (in_turn (removing observed) (map (name_in s) ks)) s in
     let all : ℕ → DomString → DocState = λ n u. planned o (replacing_data x n 0 u and_then steps_of (joins ts x q n ys) and_then in_turn (removing observed) ys) d in
     left_ ∙ ap leave (carried ts) ∙ ap (λ s. leave (carry s)) replaced
-    ∙ ap (planned o (in_turn (removing observed) ys)) (planned_then o alone (replacing_data x size 0 units) (steps_of (joins ts x q size ys)) d)
-    ∙ planned_then o alone (replacing_data x size 0 units and_then steps_of (joins ts x q size ys)) (in_turn (removing observed) ys) d
+    ∙ ap (planned o (in_turn (removing observed) ys)) (planned_then o (replacing_data x size 0 units) (steps_of (joins ts x q size ys)) d alone (plans_data o x size 0 units))
+    ∙ planned_then o (replacing_data x size 0 units and_then steps_of (joins ts x q size ys)) (in_turn (removing observed) ys) d alone
+    (plans_then o (replacing_data x size 0 units) (steps_of (joins ts x q size ys)) (plans_data o x size 0 units) (λ p own. plans_joins o ts x q size ys))
     ∙ ap (λ n. all n units) sized ∙ ap (all (length_of ts x)) collected
 
 -- ---- one Text
@@ -225,12 +223,16 @@ module _ (d : DocState) (node : ℕ) where
 -- how far the loop has come that normalizes them, with these left
 pub record Normalizes (top : ℕ) (all : List ℕ) (d : DocState) (rest : List ℕ) (e : DocState) : Type 0 where
   pub names : e.names ≡ d.names
+  pub alone : IsAlone e.world (owner_in d top)
   pub state : planned (owner_in d top) (in_turn normalizing_text (map (name_in d) rest)) e ≡ planned (owner_in d top) (in_turn normalizing_text (map (name_in d) all)) d
 
+pub normalizes_first : (top : ℕ) (all : List ℕ) (d : DocState) → IsAlone d.world (owner_in d top) → Normalizes top all d all d
+normalizes_first top all d alone = record { names = refl; alone = alone; state = refl }
+
 -- a step of it
-pub normalizes_on : (top : ℕ) (all : List ℕ) (d : DocState) (i k : ℕ) (e f : DocState) → StepsAlone (owner_in d top) → i < length all → k ≡ get_or all i k → AllByRecursion (IsOwnNode d top) all
+pub normalizes_on : (top : ℕ) (all : List ℕ) (d : DocState) (i k : ℕ) (e f : DocState) → i < length all → k ≡ get_or all i k → AllByRecursion (IsOwnNode d top) all
     → Normalizes top all d (drop i all) e → f ≡ planned (owner_in e k) (normalizing_text (name_in e k)) e → Normalizes top all d (drop (i + 1) all) f
-normalizes_on top all d i k e f alone i< is nodes turn made =
+normalizes_on top all d i k e f i< is nodes turn made =
     let now : drop i all ≡ k ∷ drop (suc i) all = drop-cons all i k i< ∙ ap (λ j. j ∷ drop (suc i) all) (sym is) in
     let here = (subst (AllByRecursion (IsOwnNode d top)) now (all_drop (IsOwnNode d top) i all nodes)).0 in
     let state = subst (λ ks. planned (owner_in d top) (in_turn normalizing_text (map (name_in d) ks)) e ≡ planned (owner_in d top) (in_turn normalizing_text (map (name_in d) all)) d) now turn.state in
@@ -239,8 +241,9 @@ normalizes_on top all d i k e f alone i< is nodes turn made =
     subst (λ j. Normalizes top all d (drop j all) f) (sym (add-one i))
     (record {
       names = ap (λ (s : DocState). s.names) at ∙ turn.names;
+      alone = subst (λ (s : DocState). IsAlone s.world (owner_in d top)) (sym at) (alone_made (owner_in d top) (normalizing_text (name_in d k)) e.world turn.alone (plans_normalizing_text (owner_in d top) (name_in d k)));
       state = ap (planned (owner_in d top) (in_turn normalizing_text (map (name_in d) (drop (suc i) all)))) at
-          ∙ planned_turn (owner_in d top) alone normalizing_text (name_in d k) (map (name_in d) (drop (suc i) all)) e ∙ state;
+          ∙ planned_turn (owner_in d top) normalizing_text (name_in d k) (map (name_in d) (drop (suc i) all)) e turn.alone (plans_normalizing_text (owner_in d top) (name_in d k)) ∙ state;
     })
 
 -- ---- the Texts below a node

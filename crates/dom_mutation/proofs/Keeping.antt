@@ -17,8 +17,10 @@ use Rattle.dom_tree.specs.Owners.{AreOwned, trees_of_owner}
 use Rattle.dom_tree.proofs.Owned.{stays_own}
 use Rattle.dom_traversal.specs.Iterators.{KeyedIterator, iterator_view, IsIteratorOf, HasLeft, with_taken_out}
 use Rattle.dom_traversal.specs.Walkers.{KeyedWalker, walker_view}
-use Rattle.dom_mutation.specs.OwnTables.{KeyedTables, tables_view, EachItem, IsOwnIterator, IsOwnWalker, AreTablesOf, IsLeft, AreLeft}
-use Rattle.dom_mutation.specs.Contents.{Tables, no_tables}
+use Rattle.dom_observers.specs.Tables.{TablesOf}
+use Rattle.dom_observers.specs.Naming.{named_tables, IsKey, SpeaksOf}
+use Rattle.dom_observers.proofs.Speaking.{same_tables, speaks_more}
+use Rattle.dom_mutation.specs.OwnTables.{KeyedTables, tables_with, tables_view, EachItem, IsOwnIterator, IsOwnWalker, AreTablesOf, IsLeft, AreLeft}
 use Rattle.dom_mutation.specs.Doc.{named_trees}
 use Rattle.dom_mutation.proofs.Standing.{KeepsAbove, above_added}
 use Rattle.dom_mutation.proofs.Own.{adjusted_own}
@@ -77,13 +79,15 @@ module _ (names : List NodeName) (x : NodeName) where
       made y z = record { root = y; current = z; filter = w.filter }
 
   -- the tables in names are the same
-  pub view_same : (ts : Trees) (o : Owner) (t : KeyedTables) → AreTablesOf (named_trees names ts) o t → tables_view (names ++ x ∷ []) t ≡ tables_view names t
-  view_same ts o t h =
-      ap (λ is. made is (map (walker_view (names ++ x ∷ [])) t.walkers)) (iterators_same (IsOwnIterator (named_trees names ts) o) (iterator_same ts o) t.iterators h.iterators)
-      ∙ ap (made (map (iterator_view names) t.iterators)) (walkers_same (IsOwnWalker (named_trees names ts) o) (walker_same ts o) t.walkers h.walkers)
-    where
-      made : List Iterator → List Walker → Tables
-      made is ws = record no_tables { iterators = is; walkers = ws }
+  pub view_same : (ts : Trees) (o : Owner) (t : KeyedTables) (r : TablesOf ℕ) → AreTablesOf (named_trees names ts) o t → SpeaksOf (IsKey names) r → tables_view (names ++ x ∷ []) t r ≡ tables_view names t r
+  view_same ts o t r h speaks =
+      ap (λ is. tables_with is (map (walker_view (names ++ x ∷ [])) t.walkers) (named_tables (name_at (names ++ x ∷ [])) r)) (iterators_same (IsOwnIterator (named_trees names ts) o) (iterator_same ts o) t.iterators h.iterators)
+      ∙ ap (λ ws. tables_with (map (iterator_view names) t.iterators) ws (named_tables (name_at (names ++ x ∷ [])) r)) (walkers_same (IsOwnWalker (named_trees names ts) o) (walker_same ts o) t.walkers h.walkers)
+      ∙ ap (tables_with (map (iterator_view names) t.iterators) (map (walker_view names) t.walkers)) (same_tables (IsKey names) (name_at (names ++ x ∷ [])) (name_at names) name_before r speaks)
+
+  -- registrations and records still name nodes
+  pub speaks_grown : (r : TablesOf ℕ) → SpeaksOf (IsKey names) r → SpeaksOf (IsKey (names ++ x ∷ [])) r
+  speaks_grown r = speaks_more (IsKey names) (IsKey (names ++ x ∷ [])) (λ k less. let longer = length_push names x in omega arith) r
 
   -- and what holds of them stays so, where the name is a new one
   pub tables_more : (ts : Trees) (n : Node) → n.name ≡ x → ((k : ℕ) → k < length names → name_at names k ≢ x) → (o : Owner) (t : KeyedTables)
@@ -126,7 +130,7 @@ abbrev pub Stays : NamedTrees → Type 0
 Stays f = (i : KeyedIterator) (node : ℕ) → node < length f.names → IsIteratorOf f i → HasLeft f i node → IsIteratorOf (with_taken_out f node) i
 
 -- nothing of one owner stands above a node of another one
-apart_above : (ts : Trees) → AreOwned ts → (x y : NodeName) → x.owner ≢ y.owner → is_inclusive_ancestor ts x y ≡ false
+pub apart_above : (ts : Trees) → AreOwned ts → (x y : NodeName) → x.owner ≢ y.owner → is_inclusive_ancestor ts x y ≡ false
 apart_above ts owned x y other = elim (cases_Bool (is_inclusive_ancestor ts x y)) [ inl e ↦ absurd (other ((stays_own ts owned y.owner y refl).path x e)) | inr e ↦ e ]
 
 module _ (f : NamedTrees) (owned : AreOwned f.trees) (stay : Stays f) (node : ℕ) (at_node : node < length f.names) where

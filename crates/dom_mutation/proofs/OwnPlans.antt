@@ -1,5 +1,4 @@
--- The plans of changes set the node documents of their owner's nodes alone. So a component's plans do in its own part what
--- they do in a part alone, where it has no hosts, one plan after another.
+-- The plans of changes set the node documents of their owner's nodes alone.
 use Rattle.std.proofs.Common.{◌≡◌, ℕ, Bool, true, false, not, List, [], ◌∷◌, ◌++◌, Option, Some, None, map, filter, drop, length, flat_map, ◌+◌, ◌-◌, ◌∙◌}
 use Rattle.std.specs.Prelude.{if◌then◌else◌, ◌&&◌, ◌==◌}
 use Rattle.std.specs.List.{AllByRecursion}
@@ -13,21 +12,17 @@ use Rattle.dom_model.specs.Part.{Part, next_name}
 use Rattle.dom_model.specs.Steps.{Step, make, make_room, place, set_document, set_attribute, queue_record, split_at, part_step, after}
 use Rattle.dom_model.specs.Changes.{Plan, ◌and_then◌, in_turn, doing, steps_of, only_if, Observing, observed, suppressed, telling, removing, removing_from, document_below, has_document, changing_document, adopting, placed_nodes, emptying, making_room, placing, sibling_before, inserting_nodes, inserting, reference_for, pre_inserting, replacing, setting_attribute, unsetting_attribute}
 use Rattle.dom_model.specs.TextChanges.{replacing_data, replacing_all_data, new_text_node, placing_tail, splitting, joins, joining, texts_after, normalizing_text, normalizing, replacing_children, setting_text}
-use Rattle.dom_model.specs.World.{World, part_of}
-use Rattle.dom_model.specs.WorldSteps.{world_step, world_after}
-use Rattle.dom_model.proofs.PartLaws.{owner-part_of}
 use Rattle.dom_model.proofs.StepLaws.{owner-part_step}
 use Rattle.dom_tree.specs.Owners.{AreOf}
-use Rattle.dom_mutation.specs.Doc.{made}
-use Rattle.dom_mutation.specs.Hosting.{SetsOwnDocuments, OwnsNoHosts, IsOwnPart, PlansOwn}
-use Rattle.dom_mutation.proofs.OwnSteps.{own_step, own_subtree, steps_alone, free_after, made_then_alone}
+use Rattle.dom_mutation.specs.Hosting.{SetsOwnDocuments, IsOwnPart, PlansOwn}
+use Rattle.dom_mutation.proofs.OwnSteps.{own_step, own_subtree}
 
 module _ (o : Owner) where
   -- the steps
   abbrev AllOwn : List Step → Type 0
   AllOwn steps = AllByRecursion (SetsOwnDocuments o) steps
 
-  all_own_both : (steps more : List Step) → AllOwn steps → AllOwn more → AllOwn (steps ++ more)
+  pub all_own_both : (steps more : List Step) → AllOwn steps → AllOwn more → AllOwn (steps ++ more)
   all_own_both [] more a b = b
   all_own_both (s ∷ steps) more a b = (a.0, all_own_both steps more a.1 b)
 
@@ -79,15 +74,15 @@ module _ (o : Owner) where
   pub plans_placing : (parent : NodeName) (before : Option NodeName) (x : NodeName) → x.owner ≡ o → PlansOwn o (placing parent before x)
   plans_placing parent before x is p own = plans_then (adopting (document_below p.trees parent) x) (doing (place x parent before)) (plans_adopting (document_below p.trees parent) x is) (λ q own. (tt, tt)) p own
 
-  plans_room : (parent : NodeName) (before : Option NodeName) (count : ℕ) → PlansOwn o (making_room parent before count)
+  pub plans_room : (parent : NodeName) (before : Option NodeName) (count : ℕ) → PlansOwn o (making_room parent before count)
   plans_room parent before count p own = plans_map (λ child. make_room parent (index_of p.trees child) count ∷ []) (λ child. (tt, tt)) before
 
-  plans_emptying : (node : NodeName) (children : List NodeName) → PlansOwn o (emptying node children)
+  pub plans_emptying : (node : NodeName) (children : List NodeName) → PlansOwn o (emptying node children)
   plans_emptying node children =
       plans_then (in_turn (removing suppressed) children) (doing (queue_record (child_list node [] children None None))) (plans_each (removing suppressed) (plans_removing suppressed) children) (λ q own. (tt, tt))
 
   -- the children of an owner's node are the owner's
-  children_own : (ts : Trees) (x : NodeName) → AreOf o ts → AllByRecursion (λ (y : NodeName). y.owner ≡ o) (children_of ts x)
+  pub children_own : (ts : Trees) (x : NodeName) → AreOf o ts → AllByRecursion (λ (y : NodeName). y.owner ≡ o) (children_of ts x)
   children_own ts x own = below (subtree ts x) (own_subtree o ts x own)
     where
       top : (us : Trees) → AreOf o us → AllByRecursion (λ (y : NodeName). y.owner ≡ o) (names_of (roots us))
@@ -105,7 +100,7 @@ module _ (o : Owner) where
       by true = children_own ts node own
       by false = (is, tt)
 
-  plans_each_own : (f : NodeName → Plan) → ((x : NodeName) → x.owner ≡ o → PlansOwn o (f x)) → (xs : List NodeName) → AllByRecursion (λ (y : NodeName). y.owner ≡ o) xs → AllByRecursion (λ x. PlansOwn o (f x)) xs
+  pub plans_each_own : (f : NodeName → Plan) → ((x : NodeName) → x.owner ≡ o → PlansOwn o (f x)) → (xs : List NodeName) → AllByRecursion (λ (y : NodeName). y.owner ≡ o) xs → AllByRecursion (λ x. PlansOwn o (f x)) xs
   plans_each_own f each [] own = tt
   plans_each_own f each (x ∷ xs) own = (each x own.0, plans_each_own f each xs own.1)
 
@@ -164,7 +159,7 @@ module _ (o : Owner) where
       plans_then (doing (make tail) and_then place_it) (replacing_data x offset (length old.text - offset) []) (plans_then (doing (make tail)) place_it (λ q own. (tt, tt)) (plans_tail x offset new (parent_of p.trees x) own.owner))
       (plans_data x offset (length old.text - offset) []) p own
 
-  plans_joins : (ts : Trees) (x parent : NodeName) (size : ℕ) (ys : List NodeName) → AllOwn (joins ts x parent size ys)
+  pub plans_joins : (ts : Trees) (x parent : NodeName) (size : ℕ) (ys : List NodeName) → AllOwn (joins ts x parent size ys)
   plans_joins ts x parent size [] = tt
   plans_joins ts x parent size (y ∷ ys) = (tt, plans_joins ts x parent (size + length_of ts y) ys)
 
@@ -176,7 +171,7 @@ module _ (o : Owner) where
       let joined = steps_of (joins p.trees x parent size nexts) in
       plans_then (data_in and_then joined) (in_turn (removing observed) nexts) (plans_then data_in joined (plans_data x size 0 all) (λ q own. plans_joins p.trees x parent size nexts)) (plans_each (removing observed) (plans_removing observed) nexts) p own
 
-  plans_normalizing_text : (x : NodeName) → PlansOwn o (normalizing_text x)
+  pub plans_normalizing_text : (x : NodeName) → PlansOwn o (normalizing_text x)
   plans_normalizing_text x p own =
       let nexts = texts_after p.trees x in
       let join : NodeName → List Step = λ parent. if is_empty nexts then [] else joining x parent nexts p in
@@ -210,25 +205,3 @@ module _ (o : Owner) where
   plans_text x new p own =
       plans_if (has_data (kind_of p.trees x)) (replacing_all_data x new p) (if is_document (kind_of p.trees x) then [] else replacing_children x new p) (tt, (tt, tt))
       (plans_if (is_document (kind_of p.trees x)) [] (replacing_children x new p) tt (plans_children x new p own))
-
--- ---- plans in a world
-
--- an owner without hosts has its own part
-own_part : (w : World) (o : Owner) → OwnsNoHosts w o → IsOwnPart o (part_of w o)
-own_part w o free = record { owner = owner-part_of w o; own = free.own }
-
--- its plans do in its part what they do in a part alone
-pub plan_alone : (o : Owner) (f : Plan) (w : World) → OwnsNoHosts w o → PlansOwn o f → part_of (made o f w) o ≡ after (part_of w o) (f (part_of w o))
-plan_alone o f w free own = steps_alone o (f (part_of w o)) w free (own (part_of w o) (own_part w o free))
-
--- and it has no hosts after them
-pub plan_free : (o : Owner) (f : Plan) (w : World) → OwnsNoHosts w o → PlansOwn o f → OwnsNoHosts (made o f w) o
-plan_free o f w free own = each (f (part_of w o)) w free (own (part_of w o) (own_part w o free))
-  where
-    each : (steps : List Step) (v : World) → OwnsNoHosts v o → AllByRecursion (SetsOwnDocuments o) steps → OwnsNoHosts (world_after o v steps) o
-    each [] v free h = free
-    each (s ∷ steps) v free h = each steps (world_step o v s) (free_after v o free s h.0) h.1
-
--- so one plan and then another are both, one after the other
-pub made_then_own : (o : Owner) (f g : Plan) (w : World) → OwnsNoHosts w o → PlansOwn o f → made o (f and_then g) w ≡ made o g (made o f w)
-made_then_own o f g w free own = made_then_alone o f g w (plan_alone o f w free own)

@@ -26,7 +26,6 @@ use Rattle.dom_mutation.specs.Contents.{Contents, world_of}
 use Rattle.dom_mutation.specs.Doc.{made}
 use Rattle.dom_mutation.specs.Hosting.{AreHostsOf, SetsOwnDocuments, OwnsNoHosts}
 use Rattle.dom_mutation.proofs.EveryNode.{EachNode, each_subtree, each_placed, each_taken, each_put_root, each_mapped}
-use Rattle.dom_mutation.proofs.Made.{after_more}
 use Rattle.dom_mutation.proofs.HostedSteps.{attached_step}
 use Rattle.dom_mutation.proofs.HostedWorlds.{attached_other, trees_hosted}
 
@@ -127,6 +126,11 @@ module _ (w : World) (o : Owner) (free : OwnsNoHosts w o) where
         attached = ap (λ (p : Part). p.attached) is ∙ (attached_step (part_of w o) s ∙ free.attached);
         own = subst (λ (p : Part). AreOf o p.trees) (sym is) (own_step o (part_of w o) s (owner-part_of w o) free.own);
       }
+
+-- steps after others
+pub after_more : (o : Owner) (w : World) (steps more : List Step) → world_after o w (steps ++ more) ≡ world_after o (world_after o w steps) more
+after_more o w [] more = refl
+after_more o w (s ∷ steps) more = after_more o (world_step o w s) steps more
 
 -- many steps
 pub steps_alone : (o : Owner) (steps : List Step) (w : World) → OwnsNoHosts w o → AllByRecursion (SetsOwnDocuments o) steps → part_of (world_after o w steps) o ≡ after (part_of w o) steps

@@ -1,5 +1,5 @@
 -- The trees after adoptions and placings, and what they keep.
-use Rattle.std.proofs.Common.{◌≡◌, ℕ, ◌<◌, ◌≤◌, ◌⊎◌, inl, inr, Bool, true, false, not, List, [], ◌∷◌, ◌++◌, drop, length, Option, Some, None, option_map, refl, sym, ap, subst, ◌∙◌}
+use Rattle.std.proofs.Common.{◌≡◌, ℕ, ◌<◌, ◌≤◌, ◌⊎◌, inl, inr, Bool, true, false, not, List, [], ◌∷◌, drop, length, Option, Some, None, option_map, refl, sym, ap, subst, ◌∙◌}
 use Rattle.std.specs.Prelude.{if◌then◌else◌, count_by}
 use Rattle.std.specs.Option.{option_map_or, ForSome}
 use Rattle.dom_base.specs.declared.NodeName.{NodeName}
@@ -8,20 +8,18 @@ use Rattle.dom_model.specs.Names.{name_eq, first_of, is_in}
 use Rattle.dom_model.specs.Tree.{Trees, nodes, next_sibling, parent_of, inclusive_ancestors, is_inclusive_ancestor}
 use Rattle.dom_model.specs.TreeChanges.{taken_out, placed, change_subtree, with_document}
 use Rattle.dom_model.specs.Part.{Part}
-use Rattle.dom_model.specs.Steps.{Step, place, take_out, set_document, after, part_step, leave}
+use Rattle.dom_model.specs.Steps.{place, take_out, set_document, after, part_step, leave}
 use Rattle.dom_model.specs.World.{part_of}
 use Rattle.dom_model.specs.Changes.{Observing, observed, suppressed, removing, removing_from, changing_document, adopting, has_document, only_if}
 use Rattle.dom_tree.specs.Forest.{name_at}
-use Rattle.dom_mutation.specs.Doc.{DocState, planned, stepped, StepsAlone, name_in, owner_in, trees_in, MayMove, IsChild, KeepsPaths}
+use Rattle.dom_mutation.specs.Doc.{DocState, planned, stepped, name_in, owner_in, trees_in, MayMove, IsChild, KeepsPaths}
+use Rattle.dom_mutation.specs.Hosting.{IsAlone}
 use Rattle.dom_mutation.proofs.Paths.{Lacks, lacks_from, IsOnce}
 use Rattle.dom_mutation.proofs.Once.{once_counted}
 use Rattle.dom_mutation.proofs.Moves.{path_taken, path_placed, parent_taken}
 use Rattle.dom_mutation.proofs.Near.{path_mapped, parent_path, next_child}
-use Rattle.dom_mutation.proofs.Made.{trees_after}
-
-after_append : (p : Part) (steps more : List Step) → after p (steps ++ more) ≡ after (after p steps) more
-after_append p [] more = refl
-after_append p (s ∷ steps) more = after_append (part_step p s) steps more
+use Rattle.dom_mutation.proofs.Made.{after_append, trees_after, alone_made}
+use Rattle.dom_mutation.proofs.OwnPlans.{plans_removing, plans_adopting}
 
 -- a removal
 abbrev Removed : NodeName → Trees → Trees → Type 0
@@ -83,24 +81,24 @@ module _ (d x : NodeName) (p : Part) where
       ap (λ t. parent_of t x) adopted_is ∙ ap (λ path. first_of (drop 1 path)) (documented_path d x moved x) ∙ removed_parent x p.trees moved.trees (removed_trees observed x p)
 
 -- ---- the same of states
-module _ (o : Owner) (alone : StepsAlone o) (d : DocState) where
-  pub parent_adopted : (doc x : NodeName) → parent_of (part_of (planned o (adopting doc x) d).world o).trees x ≡ None
-  parent_adopted doc x = ap (λ t. parent_of t x) (trees_after o alone (adopting doc x) d) ∙ adopted_parent doc x (part_of d.world o)
+module _ (o : Owner) (d : DocState) (alone : IsAlone d.world o) where
+  pub parent_adopted : (doc x : NodeName) → x.owner ≡ o → parent_of (part_of (planned o (adopting doc x) d).world o).trees x ≡ None
+  parent_adopted doc x own = ap (λ t. parent_of t x) (trees_after o (adopting doc x) d alone (plans_adopting o doc x own)) ∙ adopted_parent doc x (part_of d.world o)
 
-  pub path_adopted : IsOnce (part_of d.world o).trees → (doc x y : NodeName) → Lacks x (inclusive_ancestors (part_of d.world o).trees y)
+  pub path_adopted : IsOnce (part_of d.world o).trees → (doc x y : NodeName) → x.owner ≡ o → Lacks x (inclusive_ancestors (part_of d.world o).trees y)
       → inclusive_ancestors (part_of (planned o (adopting doc x) d).world o).trees y ≡ inclusive_ancestors (part_of d.world o).trees y
-  path_adopted once doc x y lacks = ap (λ t. inclusive_ancestors t y) (trees_after o alone (adopting doc x) d) ∙ adopted_path doc x (part_of d.world o) once y lacks
+  path_adopted once doc x y own lacks = ap (λ t. inclusive_ancestors t y) (trees_after o (adopting doc x) d alone (plans_adopting o doc x own)) ∙ adopted_path doc x (part_of d.world o) once y lacks
 
   pub path_removed : IsOnce (part_of d.world o).trees → (how : Observing) (x y : NodeName) → Lacks x (inclusive_ancestors (part_of d.world o).trees y)
       → inclusive_ancestors (part_of (planned o (removing how x) d).world o).trees y ≡ inclusive_ancestors (part_of d.world o).trees y
   path_removed once how x y lacks =
-      ap (λ t. inclusive_ancestors t y) (trees_after o alone (removing how x) d)
+      ap (λ t. inclusive_ancestors t y) (trees_after o (removing how x) d alone (plans_removing o how x))
       ∙ removed_path x (part_of d.world o).trees (after (part_of d.world o) (removing how x (part_of d.world o))).trees once (removed_trees how x (part_of d.world o)) y lacks
 
   pub path_stepped : IsOnce (part_of d.world o).trees → (x parent : NodeName) (before : Option NodeName) (y : NodeName) → Lacks x (inclusive_ancestors (part_of d.world o).trees y)
       → inclusive_ancestors (part_of (stepped o (place x parent before) d).world o).trees y ≡ inclusive_ancestors (part_of d.world o).trees y
   path_stepped once x parent before y lacks =
-      ap (λ (p : Part). inclusive_ancestors p.trees y) (alone d.world (place x parent before ∷ [])) ∙ path_placed (part_of d.world o).trees once x parent before y lacks
+      ap (λ (p : Part). inclusive_ancestors p.trees y) (alone.steps (place x parent before ∷ []) (tt, tt)) ∙ path_placed (part_of d.world o).trees once x parent before y lacks
 
 -- ---- what is asked of a placing
 
@@ -120,17 +118,17 @@ before_lacks d counted parent node before may child b is =
 
 -- in the state e after the adoption
 module _ (d e : DocState) (counted : Counted d) (parent node : ℕ) (before : Option ℕ) (may : MayMove d parent before node) (child : ForSome before (IsChild d parent))
-    (alone : (k : ℕ) → k < length d.names → StepsAlone (owner_in d k)) (parent_is : parent < length d.names) (doc : NodeName) (is : e ≡ planned (owner_in d node) (adopting doc (name_in d node)) d) where
+    (alone : (k : ℕ) → k < length d.names → IsAlone d.world (owner_in d k)) (parent_is : parent < length d.names) (doc : NodeName) (is : e ≡ planned (owner_in d node) (adopting doc (name_in d node)) d) where
   is_own : e ≡ planned (owner_in d parent) (adopting doc (name_in d node)) d
   is_own = is ∙ ap (λ o. planned o (adopting doc (name_in d node)) d) may.owner
 
   pub asked_unlinked : parent_of (trees_in e node) (name_in e node) ≡ None
-  asked_unlinked = subst (λ (s : DocState). parent_of (trees_in s node) (name_in s node) ≡ None) (sym is) (parent_adopted (owner_in d node) (alone node may.node) d doc (name_in d node))
+  asked_unlinked = subst (λ (s : DocState). parent_of (trees_in s node) (name_in s node) ≡ None) (sym is) (parent_adopted (owner_in d node) d (alone node may.node) doc (name_in d node) refl)
 
   kept : (y : NodeName) → Lacks (name_in d node) (inclusive_ancestors (trees_in d parent) y) → inclusive_ancestors (trees_in e parent) y ≡ inclusive_ancestors (trees_in d parent) y
   kept y lacks =
       subst (λ (s : DocState). inclusive_ancestors (trees_in s parent) y ≡ inclusive_ancestors (trees_in d parent) y) (sym is_own)
-      (path_adopted (owner_in d parent) (alone parent parent_is) d (once_in d counted (owner_in d parent)) doc (name_in d node) y lacks)
+      (path_adopted (owner_in d parent) d (alone parent parent_is) (once_in d counted (owner_in d parent)) doc (name_in d node) y may.owner lacks)
 
   same_names : e.names ≡ d.names
   same_names = ap (λ (s : DocState). s.names) is
@@ -150,6 +148,11 @@ module _ (d e : DocState) (counted : Counted d) (parent node : ℕ) (before : Op
       ∙ subst (λ (ns : List NodeName). parent_of (trees_in e parent) (name_at ns b) ≡ Some (name_at ns parent)) (sym same_names)
       (ap (λ path. first_of (drop 1 path)) (kept (name_in d b) (before_lacks d counted parent node before may child b at)) ∙ (child b at).child)
 
+  alone_now : IsAlone e.world (owner_in e parent)
+  alone_now =
+      subst (λ (s : DocState). IsAlone s.world (owner_in s parent)) (sym is_own)
+      (alone_made (owner_in d parent) (adopting doc (name_in d node)) d.world (alone parent parent_is) (plans_adopting (owner_in d parent) doc (name_in d node) may.owner))
+
   -- and after the placing
   pub kept_placed : Counted e → (f : DocState) → f ≡ stepped (owner_in e parent) (place (name_in e node) (name_in e parent) (option_map (name_in e) before)) e → KeepsPaths parent (name_in d node) d f
   kept_placed counted_e f placed y off =
@@ -157,14 +160,14 @@ module _ (d e : DocState) (counted : Counted d) (parent node : ℕ) (before : Op
       let moved : Lacks (name_in e node) (inclusive_ancestors (trees_in e parent) y) =
       subst (λ (ns : List NodeName). Lacks (name_at ns node) (inclusive_ancestors (trees_in e parent) y)) (sym same_names) (subst (Lacks (name_in d node)) (sym (kept y lacks)) lacks) in
       subst (λ (s : DocState). inclusive_ancestors (trees_in s parent) y ≡ inclusive_ancestors (trees_in d parent) y) (sym placed)
-      (path_stepped (owner_in e parent) (subst (λ (ns : List NodeName). StepsAlone (name_at ns parent).owner) (sym same_names) (alone parent parent_is)) e (once_in e counted_e (owner_in e parent))
+      (path_stepped (owner_in e parent) e alone_now (once_in e counted_e (owner_in e parent))
       (name_in e node) (name_in e parent) (option_map (name_in e) before) y moved ∙ kept y lacks)
 
 -- ---- a removal keeps the paths of others
-pub removal_keeps : (d f : DocState) → Counted d → (k : ℕ) → StepsAlone (owner_in d k) → (how : Observing) → f ≡ planned (owner_in d k) (removing how (name_in d k)) d → KeepsPaths k (name_in d k) d f
+pub removal_keeps : (d f : DocState) → Counted d → (k : ℕ) → IsAlone d.world (owner_in d k) → (how : Observing) → f ≡ planned (owner_in d k) (removing how (name_in d k)) d → KeepsPaths k (name_in d k) d f
 removal_keeps d f counted k alone how is y off =
     subst (λ (s : DocState). inclusive_ancestors (trees_in s k) y ≡ inclusive_ancestors (trees_in d k) y) (sym is)
-    (path_removed (owner_in d k) alone d (once_in d counted (owner_in d k)) how (name_in d k) y (lacks_from (name_in d k) (inclusive_ancestors (trees_in d k) y) off))
+    (path_removed (owner_in d k) d alone (once_in d counted (owner_in d k)) how (name_in d k) y (lacks_from (name_in d k) (inclusive_ancestors (trees_in d k) y) off))
 
 -- the next sibling of a child is another child
 pub next_is_child : (d : DocState) → Counted d → (parent child node : ℕ) (next : Option ℕ) → IsChild d parent child → child ≡ node

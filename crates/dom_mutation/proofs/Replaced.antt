@@ -11,10 +11,12 @@ use Rattle.dom_model.specs.World.{part_of}
 use Rattle.dom_model.specs.Changes.{◌and_then◌, doing, suppressed, removing, inserting, placed_nodes, reference_for, replacing}
 use Rattle.dom_tree.specs.Forest.{name_at}
 use Rattle.dom_tree.proofs.Names.{name_eq-true}
-use Rattle.dom_mutation.specs.Doc.{DocState, planned, stepped, StepsAlone, name_in, owner_in, trees_in, IsChild}
+use Rattle.dom_mutation.specs.Doc.{DocState, planned, stepped, name_in, owner_in, trees_in, IsChild}
+use Rattle.dom_mutation.specs.Hosting.{IsAlone}
 use Rattle.dom_mutation.proofs.Paths.{Lacks, lacks_both, lacks_to, swapped, IsOnce, once_parts, path_here, path_after, path_below, path_lacks}
 use Rattle.dom_mutation.proofs.Near.{NoTwice, parent_path, children_once, next_child, next_walked, first_lacks}
 use Rattle.dom_mutation.proofs.Made.{planned_then}
+use Rattle.dom_mutation.proofs.OwnPlans.{plans_then, plans_removing, plans_inserting}
 use Rattle.dom_mutation.proofs.Placed.{Counted, once_in, removal_keeps}
 use Rattle.dom_mutation.proofs.Turns.{Stays}
 
@@ -96,7 +98,7 @@ next_is_near d counted parent child next child_is found near own b is =
     (Rattle.dom_mutation.proofs.Placed.next_is_child d counted parent child child next child_is refl found near own b is).0
 
 -- the state e after the child is taken out
-module _ (d e : DocState) (counted : Counted d) (alone : (k : ℕ) → k < length d.names → StepsAlone (owner_in d k)) (parent node child : ℕ) (next reference : Option ℕ) (child_is : IsChild d parent child)
+module _ (d e : DocState) (counted : Counted d) (alone : (k : ℕ) → k < length d.names → IsAlone d.world (owner_in d k)) (parent node child : ℕ) (next reference : Option ℕ) (child_is : IsChild d parent child)
     (found : option_map (name_in d) next ≡ next_sibling (trees_in d child) (name_in d child))
     (referred : option_map (name_in d) reference ≡ reference_for (trees_in d parent) (name_in d node) (option_map (name_in d) next))
     (removed : e ≡ planned (owner_in d child) (removing suppressed (name_in d child)) d) where
@@ -132,7 +134,7 @@ module _ (d e : DocState) (counted : Counted d) (alone : (k : ℕ) → k < lengt
 -- ---- the whole
 
 -- the steps of a replacement are its plan
-pub replaced_whole : (d e f g : DocState) → (parent node child : ℕ) (added : List ℕ) (prev next reference : Option ℕ) → StepsAlone (owner_in d parent) → owner_in d node ≡ owner_in d parent → owner_in d child ≡ owner_in d parent
+pub replaced_whole : (d e f g : DocState) → (parent node child : ℕ) (added : List ℕ) (prev next reference : Option ℕ) → IsAlone d.world (owner_in d parent) → owner_in d node ≡ owner_in d parent → owner_in d child ≡ owner_in d parent
     → map (name_in d) added ≡ placed_nodes (trees_in d node) (name_in d node)
     → option_map (name_in d) prev ≡ previous_sibling (trees_in d child) (name_in d child)
     → option_map (name_in d) next ≡ next_sibling (trees_in d child) (name_in d child)
@@ -153,8 +155,9 @@ replaced_whole d e f g parent node child added prev next reference alone node_ow
     let record_of : List NodeName → Option NodeName → Option NodeName → Rattle.dom_model.specs.Changes.Plan = λ xs a b. doing (queue_record (child_list p xs (c ∷ []) a b)) in
     let all : List NodeName → Option NodeName → Option NodeName → DocState = λ xs a b. planned o (removing suppressed c and_then inserting suppressed x p b and_then record_of xs a b) d in
     told ∙ ap tell inserted ∙ ap (λ s. tell (put s)) (removed ∙ ap (λ w. planned w (removing suppressed c) d) child_owner)
-    ∙ ap (planned o (record_of (map (name_in d) added) (option_map (name_in d) prev) ref)) (planned_then o alone (removing suppressed c) (inserting suppressed x p ref) d)
-    ∙ planned_then o alone (removing suppressed c and_then inserting suppressed x p ref) (record_of (map (name_in d) added) (option_map (name_in d) prev) ref) d
+    ∙ ap (planned o (record_of (map (name_in d) added) (option_map (name_in d) prev) ref)) (planned_then o (removing suppressed c) (inserting suppressed x p ref) d alone (plans_removing o suppressed c))
+    ∙ planned_then o (removing suppressed c and_then inserting suppressed x p ref) (record_of (map (name_in d) added) (option_map (name_in d) prev) ref) d alone
+    (plans_then o (removing suppressed c) (inserting suppressed x p ref) (plans_removing o suppressed c) (plans_inserting o suppressed x p ref node_owner))
     ∙ ap (λ xs. all xs (option_map (name_in d) prev) ref) (placed ∙ ap (λ w. placed_nodes (part_of d.world w).trees x) node_owner)
     ∙ ap (λ a. all (placed_nodes ts x) a ref) (was ∙ ap (λ w. previous_sibling (part_of d.world w).trees c) child_owner)
     ∙ ap (λ b. all (placed_nodes ts x) (previous_sibling ts c) b) (referred ∙ ap (reference_for ts x) (behind ∙ ap (λ w. next_sibling (part_of d.world w).trees c) child_owner))

@@ -1,32 +1,29 @@
 -- What the forest says of a node is what its owner's part in the world says of it.
-use Rattle.std.proofs.Common.{◌≡◌, ℕ, ◌<◌, inl, inr, true, List, length, Result, Ok, Err, Option, Some, None, option_map, get_or, refl, sym, ap, subst, ◌∙◌}
-use Rattle.std.specs.Prelude.{OnOk, OnErr, is_some}
+use Rattle.std.proofs.Common.{◌≡◌, ℕ, ◌<◌, inl, inr, true, List, [], length, Option, Some, None, option_map, get_or, refl, sym, ap, subst, ◌∙◌}
 use Rattle.std.specs.Option.{ForSome}
 use Rattle.std.proofs.lemmas.Bool.{cases_Bool}
 use Rattle.std.proofs.lemmas.Option.{slice_get-get_or}
 use Rattle.dom_base.specs.declared.NodeName.{NodeName}
 use Rattle.dom_base.specs.declared.Owner.{Owner}
-use Rattle.dom_model.specs.Tree.{Trees, parent_of}
-use Rattle.dom_model.specs.TreeChanges.{taken_out}
+use Rattle.dom_model.specs.Tree.{Trees}
 use Rattle.dom_model.specs.World.{World, part_of, is_there}
 use Rattle.dom_model.specs.Part.{Part}
 use Rattle.dom_model.specs.Output.{Change}
-use Rattle.dom_model.specs.Steps.{Step, take_out, queue_record}
+use Rattle.dom_model.specs.Steps.{Step, queue_record}
 use Rattle.dom_model.specs.WorldSteps.{world_step}
 use Rattle.dom_tree.specs.Forest.{NamedTrees, name_at}
 use Rattle.dom_tree.specs.Owners.{trees_of_owner, IsReadOwn, IsOwnChange}
 use Rattle.dom_tree.proofs.Owned.{read_own}
-use Rattle.dom_mutation.specs.OwnTables.{KeyedTables, place_of, table_of, AreLeft, AllTables, with_table_at}
-use Rattle.dom_mutation.specs.Doc.{DocState, contents, state_from, world_from, IsHeld, name_in, owner_in, trees_in, stepped}
+use Rattle.dom_mutation.specs.OwnTables.{KeyedTables, place_of, table_of, AllTables}
+use Rattle.dom_mutation.specs.Doc.{DocState, named_trees, contents, state_from, world_from, IsHeld, name_in, owner_in, trees_in, stepped}
 use Rattle.dom_mutation.proofs.Worlds.{part_at, part_off}
-use Rattle.dom_mutation.proofs.Places.{single_owners, table_placed}
+use Rattle.dom_mutation.proofs.Places.{table_placed}
 use Rattle.dom_mutation.proofs.Standing.{KeepsAbove}
-use Rattle.dom_mutation.proofs.Held.{held_changed, held_quiet, table_there}
-use Rattle.dom_mutation.proofs.Keeping.{Stays}
-use Rattle.dom_mutation.proofs.Steps.{left_held, left_world}
-use Rattle.dom_mutation.proofs.Quiet.{record_step}
+use Rattle.dom_slots.specs.Kept.{AreSlotsOf}
+use Rattle.dom_mutation.proofs.Held.{held_changed, table_there}
+use Rattle.dom_mutation.proofs.Steps.{record_world}
 
-abbrev state_with : List NodeName → World → DocState
+abbrev pub state_with : List NodeName → World → DocState
 state_with ns w = record { names = ns; world = w }
 
 -- the trees of a part
@@ -70,10 +67,10 @@ module _ (f : NamedTrees) {tables : AllTables} (held : IsHeld f.names f.trees ta
 
   -- a change of a node's owner's trees: what holds after it, and that it is a step
   module _ (k : ℕ) (h : Trees → Trees) (g : NamedTrees) (names : g.names ≡ f.names) (trees : g.trees ≡ h f.trees) where
-    pub step_held : k < length d.names → IsOwnChange (name_at f.names k).owner h f.trees → KeepsAbove f.trees (h f.trees) → IsHeld g.names g.trees tables
-    step_held k< change keeps =
+    pub step_held : k < length d.names → IsOwnChange (name_at f.names k).owner h f.trees → KeepsAbove f.trees (h f.trees) → AreSlotsOf (named_trees f.names (h f.trees)) tables.slots → IsHeld g.names g.trees tables
+    step_held k< change keeps slots =
         subst (λ (ns : List NodeName). IsHeld ns g.trees tables) (sym names)
-        (subst (λ (us : Trees). IsHeld f.names us tables) (sym trees) (held_changed f.names f.trees tables held (name_at f.names k).owner (owner_there k k<) h change keeps))
+        (subst (λ (us : Trees). IsHeld f.names us tables) (sym trees) (held_changed f.names f.trees tables held (name_at f.names k).owner (owner_there k k<) h change keeps slots))
 
     pub step_done : (s : List NodeName → Step) → world_from f.names (h f.trees) tables ≡ world_step (name_at f.names k).owner (world_from f.names f.trees tables) (s f.names)
         → state_from g.names g.trees tables ≡ stepped (owner_in d k) (s d.names) d
@@ -81,22 +78,11 @@ module _ (f : NamedTrees) {tables : AllTables} (held : IsHeld f.names f.trees ta
         subst (λ (e : DocState). state_from g.names g.trees tables ≡ stepped (owner_in e k) (s e.names) e) is_d
         (ap (λ ns. state_from ns g.trees tables) names ∙ ap (λ us. state_from f.names us tables) trees ∙ ap (λ w. state_with f.names w) e)
 
-  -- the same of a call that may fail and then changes nothing
-  module _ (k : ℕ) (h : Trees → Trees) (g : NamedTrees) (names : g.names ≡ f.names) {T E : Type 0} where
-    pub step_held_if : (r : Result T E) → OnOk r (g.trees ≡ h f.trees) → OnErr r (g ≡ f) → k < length d.names → IsOwnChange (name_at f.names k).owner h f.trees → KeepsAbove f.trees (h f.trees) → IsHeld g.names g.trees tables
-    step_held_if (Ok x) trees same k< change keeps = step_held k h g names trees k< change keeps
-    step_held_if (Err x) trees same k< change keeps = subst (λ (p : NamedTrees). IsHeld p.names p.trees tables) (sym same) held
-
-    pub step_done_if : (s : List NodeName → Step) → world_from f.names (h f.trees) tables ≡ world_step (name_at f.names k).owner (world_from f.names f.trees tables) (s f.names)
-        → (r : Result T E) → OnOk r (g.trees ≡ h f.trees) → OnOk r (state_from g.names g.trees tables ≡ stepped (owner_in d k) (s d.names) d)
-    step_done_if s e (Ok x) trees = step_done k h g names trees s e
-    step_done_if s e (Err x) trees = tt
-
-  -- a record that no observer takes
-  pub untold : (k : ℕ) → k < length d.names → (c : Change NodeName) → d ≡ stepped (owner_in d k) (queue_record c) d
-  untold k k< c =
+  -- the record of a change of an owner without registrations
+  pub untold : (k : ℕ) → k < length d.names → (tables.observers (name_at f.names k).owner).registrations ≡ [] → (c : Change NodeName) → d ≡ stepped (owner_in d k) (queue_record c) d
+  untold k k< none c =
       subst (λ (e : DocState). e ≡ stepped (owner_in e k) (queue_record c) e) is_d
-      (ap (λ w. state_with f.names w) (record_step (contents f.names f.trees tables) (name_at f.names k).owner (held_quiet f.names f.trees tables) (single_owners (length tables.each)) (owner_there k k<) c))
+      (ap (λ w. state_with f.names w) (record_world f.names f.trees tables held (name_at f.names k).owner (owner_there k k<) none c))
 
   -- ---- tables
 
@@ -112,22 +98,3 @@ module _ (f : NamedTrees) {tables : AllTables} (held : IsHeld f.names f.trees ta
   -- those of a node's owner
   pub table_read : (k : ℕ) → k < length d.names → (at : ℕ) (t : KeyedTables) → at ≡ place_of (name_at f.names k).owner → t ≡ get_or tables.each at t → table_of tables.each (name_at f.names k).owner ≡ Some t
   table_read k k< at t place read = table_at (name_at f.names k).owner (owner_there k k<) at t place read
-
-  -- a removal
-  module _ (k : ℕ) (k< : k < length d.names) (stay : Stays f) (t u : KeyedTables) (at : table_of tables.each (name_at f.names k).owner ≡ Some t) (left : AreLeft f k t.iterators u.iterators) (walkers : u.walkers ≡ t.walkers)
-      (place : ℕ) (is_place : place ≡ place_of (name_at f.names k).owner) (g : NamedTrees) (names : g.names ≡ f.names) (trees : g.trees ≡ taken_out (name_at f.names k) f.trees) where
-    node_there : k < length f.names
-    node_there = known (λ e. k < length e.names) k<
-
-    pub held_left : IsHeld g.names g.trees (with_table_at tables place u)
-    held_left =
-        subst (λ (ns : List NodeName). IsHeld ns g.trees (with_table_at tables place u)) (sym names)
-        (subst (λ (us : Trees). IsHeld f.names us (with_table_at tables place u)) (sym trees)
-        (subst (λ n. IsHeld f.names (taken_out (name_at f.names k) f.trees) (with_table_at tables n u)) (sym is_place) (left_held f held stay k node_there (name_at f.names k).owner refl t u at left walkers)))
-
-    pub step_left : is_some (parent_of (trees_in (state_from f.names f.trees tables) k) (name_at f.names k)) ≡ true → state_from g.names g.trees (with_table_at tables place u) ≡ stepped (owner_in d k) (take_out (name_in d k)) d
-    step_left has =
-        subst (λ (e : DocState). state_from g.names g.trees (with_table_at tables place u) ≡ stepped (owner_in e k) (take_out (name_in e k)) e) is_d
-        (ap (λ ns. state_from ns g.trees (with_table_at tables place u)) names ∙ ap (λ us. state_from f.names us (with_table_at tables place u)) trees
-        ∙ ap (λ n. state_from f.names (taken_out (name_at f.names k) f.trees) (with_table_at tables n u)) is_place
-        ∙ ap (λ w. state_with f.names w) (left_world f held stay k node_there (name_at f.names k).owner refl t u at left walkers has))

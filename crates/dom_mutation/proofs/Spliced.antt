@@ -1,18 +1,12 @@
 -- Data of one node changed, as a change of the nodes of its name.
 use Rattle.std.proofs.Common.{◌≡◌, ℕ, ◌+◌, ◌≤◌, inl, inr, Bool, true, false, cond, List, [], ◌∷◌, ◌++◌, Option, Some, refl, sym, ap, subst, ◌∙◌, arith, true≢false}
-use Rattle.std.specs.Prelude.{count_by, find, unwrap_or, Result, Ok, Err, OnOk, IsOk}
+use Rattle.std.specs.Prelude.{count_by, find, unwrap_or}
 use Rattle.std.specs.List.{AllByRecursion}
 use Rattle.std.proofs.lemmas.Bool.{cases_Bool, cond-true, cond-false}
 use Rattle.std.proofs.lemmas.List.Sums.{sum_by-cons}
 use Rattle.dom_base.specs.declared.NodeName.{NodeName}
-use Rattle.dom_base.specs.declared.Owner.{Owner}
 use Rattle.dom_model.specs.Names.{DomString, name_eq}
 use Rattle.dom_model.specs.Tree.{Trees, none, tree, Node, nodes, no_node, node_in}
-use Rattle.dom_model.specs.Output.{Change}
-use Rattle.dom_model.specs.Part.{Part}
-use Rattle.dom_model.specs.Steps.{queue_record}
-use Rattle.dom_model.specs.World.{part_of}
-use Rattle.dom_mutation.specs.Doc.{DocState, stepped, StepsAlone}
 use Rattle.dom_model.specs.TreeChanges.{map_nodes, change_node, replaced, with_text, with_data_replaced}
 
 -- the nodes of a name have these data
@@ -70,12 +64,3 @@ pub data_changed : (x : NodeName) (offset count : ℕ) (new : DomString) (ts : T
 data_changed x offset count new ts few =
     mapped_same (λ n. cond (name_eq n.name x) (with_text (replaced offset count new (node_in ts x).text) n) n) (λ n. cond (name_eq n.name x) (with_data_replaced offset count new n) n) ts
     (each_same x offset count new (node_in ts x).text (nodes ts) (have_text x (no_node x) (nodes ts) few))
-
--- telling observers changes no data
-pub text_told : (o : Owner) → StepsAlone o → (d : DocState) (c : Change NodeName) (x : NodeName) → (node_in (part_of (stepped o (queue_record c) d).world o).trees x).text ≡ (node_in (part_of d.world o).trees x).text
-text_told o alone d c x = ap (λ (p : Part). (node_in p.trees x).text) (alone d.world (queue_record c ∷ []))
-
--- what holds where a call succeeds
-pub when_ok : {T E P : Type 0} (r : Result T E) → OnOk r P → IsOk r → P
-when_ok (Ok x) p h = p
-when_ok (Err e) p h = absurd (true≢false (sym h))

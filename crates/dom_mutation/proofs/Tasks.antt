@@ -1,29 +1,46 @@
 -- Other tasks: what holds of a `Doc` then, and its state.
-use Rattle.std.proofs.Common.{◌≡◌, List, [], ◌∷◌, ◌++◌, drop, Option, Some, Result, Ok, Err, option_map, sym, ap, subst, ◌∙◌}
-use Rattle.std.specs.Prelude.{OnOk, OnErr}
-use Rattle.std.specs.List.{AllByRecursion}
+use Rattle.std.proofs.Common.{◌≡◌, Bool, true, false, List, [], ◌∷◌, ◌++◌, drop, fold, Option, Some, Result, Ok, Err, option_map, sym, ap, subst, ◌∙◌}
+use Rattle.std.specs.Prelude.{OnOk, OnErr, if◌then◌else◌}
+use Rattle.std.specs.List.{AllByRecursion, list_any}
 use Rattle.std.specs.Option.{ForSome}
 use Rattle.std.proofs.lemmas.Option.{none-some, same_Some}
 use Rattle.dom_model.specs.Names.{first_of}
-use Rattle.dom_model.specs.World.{Task}
+use Rattle.dom_base.specs.declared.NodeName.{NodeName}
+use Rattle.dom_base.specs.declared.Owner.{Owner}
+use Rattle.dom_model.specs.World.{World, Task, notify_task, is_there, is_notify_of, queued_notify}
 use Rattle.dom_tree.specs.Forest.{NamedTrees}
-use Rattle.dom_mutation.specs.OwnTables.{AllTables, IsLabel, with_queue}
-use Rattle.dom_mutation.specs.Doc.{DocState, IsHeld, state_from, with_tasks}
+use Rattle.dom_mutation.specs.OwnTables.{AllTables, with_queue}
+use Rattle.dom_mutation.specs.Doc.{DocState, IsHeld, IsDue, world_from, state_from, with_tasks}
 use Rattle.dom_mutation.proofs.Held.{held_tasks}
 
--- ---- labels
+-- ---- tasks that are due
 
-labels_push : (ts : List Task) (t : Task) → AllByRecursion IsLabel ts → IsLabel t → AllByRecursion IsLabel (ts ++ t ∷ [])
-labels_push [] t all h = (h, tt)
-labels_push (u ∷ ts) t all h = (all.0, labels_push ts t all.1 h)
+module _ (w : World) where
+  due_push : (ts : List Task) (t : Task) → AllByRecursion (IsDue w) ts → IsDue w t → AllByRecursion (IsDue w) (ts ++ t ∷ [])
+  due_push [] t all h = (h, tt)
+  due_push (u ∷ ts) t all h = (all.0, due_push ts t all.1 h)
 
-labels_rest : (ts : List Task) → AllByRecursion IsLabel ts → AllByRecursion IsLabel (drop 1 ts)
-labels_rest [] all = tt
-labels_rest (u ∷ ts) all = all.1
+  due_rest : (ts : List Task) → AllByRecursion (IsDue w) ts → AllByRecursion (IsDue w) (drop 1 ts)
+  due_rest [] all = tt
+  due_rest (u ∷ ts) all = all.1
 
-label_first : (ts : List Task) (t : Task) → AllByRecursion IsLabel ts → first_of ts ≡ Some t → IsLabel t
-label_first [] t all e = absurd (none-some t e)
-label_first (u ∷ ts) t all e = subst IsLabel (same_Some u t e) all.0
+  due_first : (ts : List Task) (t : Task) → AllByRecursion (IsDue w) ts → first_of ts ≡ Some t → IsDue w t
+  due_first [] t all e = absurd (none-some t e)
+  due_first (u ∷ ts) t all e = subst (IsDue w) (same_Some u t e) all.0
+
+  -- a notification more
+  pub due_notified : (o : Owner) → is_there w o ≡ true → (ts : List Task) → AllByRecursion (IsDue w) ts → AllByRecursion (IsDue w) (queued_notify o ts)
+  due_notified o there ts all = by (list_any (is_notify_of o) ts)
+    where
+      by : (b : Bool) → AllByRecursion (IsDue w) (if b then ts else ts ++ notify_task o ∷ [])
+      by true = all
+      by false = due_push ts (notify_task o) all there
+
+  -- those of the owners of signalled slots
+  pub due_signalled : (slots : List NodeName) → AllByRecursion (λ (s : NodeName). is_there w s.owner ≡ true) slots → (ts : List Task) → AllByRecursion (IsDue w) ts
+      → AllByRecursion (IsDue w) (fold (λ (us : List Task) (s : NodeName). queued_notify s.owner us) ts slots)
+  due_signalled [] there ts all = all
+  due_signalled (s ∷ slots) there ts all = due_signalled slots there.1 (queued_notify s.owner ts) (due_notified s.owner there.0 ts all)
 
 module _ (f : NamedTrees) {tables : AllTables} (held : IsHeld f.names f.trees tables) {d : DocState} (is_d : state_from f.names f.trees tables ≡ d) where
   -- the tasks
@@ -46,14 +63,14 @@ module _ (f : NamedTrees) {tables : AllTables} (held : IsHeld f.names f.trees ta
     pushed_none (Ok x) is = tt
     pushed_none (Err e) is = ap (λ ts. state_from f.names f.trees (with_queue tables ts)) is ∙ is_d
 
-    pub held_pushed : (t : Task) → IsLabel t → (r : Result T E) → OnOk r (tasks ≡ tables.tasks ++ t ∷ []) → OnErr r (tasks ≡ tables.tasks) → IsHeld f.names f.trees (with_queue tables tasks)
-    held_pushed t label (Ok x) is same = held_tasks f.names f.trees tables held tasks (subst (AllByRecursion IsLabel) (sym is) (labels_push tables.tasks t held.labels label))
-    held_pushed t label (Err e) is same = held_tasks f.names f.trees tables held tasks (subst (AllByRecursion IsLabel) (sym same) held.labels)
+    pub held_pushed : (t : Task) → IsDue (world_from f.names f.trees tables) t → (r : Result T E) → OnOk r (tasks ≡ tables.tasks ++ t ∷ []) → OnErr r (tasks ≡ tables.tasks) → IsHeld f.names f.trees (with_queue tables tasks)
+    held_pushed t due (Ok x) is same = held_tasks f.names f.trees tables held tasks (subst (AllByRecursion (IsDue (world_from f.names f.trees tables))) (sym is) (due_push (world_from f.names f.trees tables) tables.tasks t held.due due))
+    held_pushed t due (Err e) is same = held_tasks f.names f.trees tables held tasks (subst (AllByRecursion (IsDue (world_from f.names f.trees tables))) (sym same) held.due)
 
   -- the first one goes
   pub held_popped : (tasks : List Task) → tasks ≡ drop 1 tables.tasks → IsHeld f.names f.trees (with_queue tables tasks)
-  held_popped tasks is = held_tasks f.names f.trees tables held tasks (subst (AllByRecursion IsLabel) (sym is) (labels_rest tables.tasks held.labels))
+  held_popped tasks is = held_tasks f.names f.trees tables held tasks (subst (AllByRecursion (IsDue (world_from f.names f.trees tables))) (sym is) (due_rest (world_from f.names f.trees tables) tables.tasks held.due))
 
-  -- it is a label
-  pub popped_label : {T : Type 0} (task_of : T → Task) (r : Option T) → option_map task_of r ≡ first_of tables.tasks → ForSome r (λ t. IsLabel (task_of t))
-  popped_label task_of r is t e = label_first tables.tasks (task_of t) held.labels (sym is ∙ ap (option_map task_of) e)
+  -- its owner is there
+  pub popped_due : {T : Type 0} (task_of : T → Task) (r : Option T) → option_map task_of r ≡ first_of tables.tasks → ForSome r (λ t. IsDue d.world (task_of t))
+  popped_due task_of r is t e = subst (λ (s : DocState). IsDue s.world (task_of t)) is_d (due_first (world_from f.names f.trees tables) tables.tasks (task_of t) held.due (sym is ∙ ap (option_map task_of) e))

@@ -7,10 +7,12 @@ use Rattle.dom_model.specs.Names.{name_eq, first_of, is_in}
 use Rattle.dom_model.specs.Tree.{parent_of, inclusive_ancestors, is_inclusive_ancestor}
 use Rattle.dom_model.specs.Changes.{Plan, Observing, in_turn, placing, removing}
 use Rattle.dom_tree.specs.Forest.{name_at}
-use Rattle.dom_mutation.specs.Doc.{DocState, planned, StepsAlone, name_in, owner_in, trees_in, MayMove, IsChild, KeepsPaths, NoneAbove}
+use Rattle.dom_mutation.specs.Doc.{DocState, planned, name_in, owner_in, trees_in, MayMove, IsChild, KeepsPaths, NoneAbove}
+use Rattle.dom_mutation.specs.Hosting.{IsAlone}
 use Rattle.dom_mutation.proofs.Paths.{lacks_to}
 use Rattle.dom_mutation.proofs.Placed.{Counted, before_lacks, removal_keeps}
-use Rattle.dom_mutation.proofs.Made.{planned_turn}
+use Rattle.dom_mutation.proofs.Made.{planned_turn, alone_made}
+use Rattle.dom_mutation.proofs.OwnPlans.{plans_removing, plans_placing}
 
 -- ---- placing
 
@@ -53,18 +55,20 @@ stays_same parent before d e names trees = record {
 -- how far a loop has come that places nodes: the state d when it began, and e now, with these nodes left
 pub record Places (parent : ℕ) (before : Option ℕ) (all : List ℕ) (d : DocState) (rest : List ℕ) (e : DocState) : Type 0 where
   pub stays : Stays parent before d e
+  pub alone : IsAlone e.world (owner_in d parent)
   pub state : let turn = λ (ks : List ℕ). in_turn (placing (name_in d parent) (option_map (name_in d) before)) (map (name_in d) ks) in
       planned (owner_in d parent) (turn rest) e ≡ planned (owner_in d parent) (turn all) d
 
-pub places_first : (parent : ℕ) (before : Option ℕ) (all : List ℕ) (d : DocState) → Places parent before all d all d
-places_first parent before all d = record { stays = stays_same parent before d d refl refl; state = refl }
+pub places_first : (parent : ℕ) (before : Option ℕ) (all : List ℕ) (d : DocState) → IsAlone d.world (owner_in d parent) → Places parent before all d all d
+places_first parent before all d alone = record { stays = stays_same parent before d d refl refl; alone = alone; state = refl }
 
 -- a step of it
-pub places_next : (parent : ℕ) (before : Option ℕ) (all : List ℕ) (d : DocState) (k : ℕ) (rest : List ℕ) (e f : DocState) → StepsAlone (owner_in d parent)
+pub places_next : (parent : ℕ) (before : Option ℕ) (all : List ℕ) (d : DocState) (k : ℕ) (rest : List ℕ) (e f : DocState)
     → Places parent before all d (k ∷ rest) e → MayMove d parent before k → ForSome before (λ b. is_inclusive_ancestor (trees_in d parent) (name_in d k) (name_in d b) ≡ false)
     → f ≡ planned (owner_in e parent) (placing (name_in e parent) (option_map (name_in e) before) (name_in e k)) e → KeepsPaths parent (name_in e k) e f
     → Places parent before all d rest f
-places_next parent before all d k rest e f alone places may off is keeps =
+places_next parent before all d k rest e f places may off is keeps =
+    let o = owner_in d parent in
     let turn : NodeName → Plan = placing (name_in d parent) (option_map (name_in d) before) in
     let at : f ≡ planned (owner_in d parent) (turn (name_in d k)) e =
     subst (λ (ns : List NodeName). f ≡ planned (name_at ns parent).owner (placing (name_at ns parent) (option_map (name_at ns) before) (name_at ns k)) e) places.stays.names is in
@@ -75,7 +79,8 @@ places_next parent before all d k rest e f alone places may off is keeps =
         parent_path = kept (name_in d parent) (ap (is_in name_eq (name_in d k)) places.stays.parent_path ∙ may.not_above) ∙ places.stays.parent_path;
         before_path = λ b h. kept (name_in d b) (ap (is_in name_eq (name_in d k)) (places.stays.before_path b h) ∙ off b h) ∙ places.stays.before_path b h;
       };
-      state = ap (planned (owner_in d parent) (in_turn turn (map (name_in d) rest))) at ∙ planned_turn (owner_in d parent) alone turn (name_in d k) (map (name_in d) rest) e ∙ places.state;
+      alone = subst (λ (s : DocState). IsAlone s.world o) (sym at) (alone_made o (turn (name_in d k)) e.world places.alone (plans_placing o (name_in d parent) (option_map (name_in d) before) (name_in d k) may.owner));
+      state = ap (planned o (in_turn turn (map (name_in d) rest))) at ∙ planned_turn o turn (name_in d k) (map (name_in d) rest) e places.alone (plans_placing o (name_in d parent) (option_map (name_in d) before) (name_in d k) may.owner) ∙ places.state;
     }
 
 -- ---- taking out
@@ -83,15 +88,16 @@ places_next parent before all d k rest e f alone places may off is keeps =
 -- how far a loop has come that takes nodes out
 pub record Empties (how : Observing) (top : ℕ) (all : List ℕ) (d : DocState) (rest : List ℕ) (e : DocState) : Type 0 where
   pub names : e.names ≡ d.names
+  pub alone : IsAlone e.world (owner_in d top)
   pub state : planned (owner_in d top) (in_turn (removing how) (map (name_in d) rest)) e ≡ planned (owner_in d top) (in_turn (removing how) (map (name_in d) all)) d
   pub paths : (y : NodeName) → NoneAbove d top y all → (inclusive_ancestors (trees_in e top) y ≡ inclusive_ancestors (trees_in d top) y) × NoneAbove d top y rest
 
-pub empties_first : (how : Observing) (top : ℕ) (all : List ℕ) (d : DocState) → Empties how top all d all d
-empties_first how top all d = record { names = refl; state = refl; paths = λ y h. (refl, h) }
+pub empties_first : (how : Observing) (top : ℕ) (all : List ℕ) (d : DocState) → IsAlone d.world (owner_in d top) → Empties how top all d all d
+empties_first how top all d alone = record { names = refl; alone = alone; state = refl; paths = λ y h. (refl, h) }
 
-pub empties_next : (how : Observing) (top : ℕ) (all : List ℕ) (d : DocState) (k : ℕ) (rest : List ℕ) (e f : DocState) → StepsAlone (owner_in d top) → owner_in d k ≡ owner_in d top
+pub empties_next : (how : Observing) (top : ℕ) (all : List ℕ) (d : DocState) (k : ℕ) (rest : List ℕ) (e f : DocState) → owner_in d k ≡ owner_in d top
     → Empties how top all d (k ∷ rest) e → f ≡ planned (owner_in e k) (removing how (name_in e k)) e → KeepsPaths k (name_in e k) e f → Empties how top all d rest f
-empties_next how top all d k rest e f alone owner empties is keeps =
+empties_next how top all d k rest e f owner empties is keeps =
     let own : owner_in e k ≡ owner_in d top = ap (λ (ns : List NodeName). (name_at ns k).owner) empties.names ∙ owner in
     let at : f ≡ planned (owner_in d top) (removing how (name_in d k)) e =
     is ∙ ap (λ o. planned o (removing how (name_in e k)) e) own ∙ ap (λ (ns : List NodeName). planned (owner_in d top) (removing how (name_at ns k)) e) empties.names in
@@ -100,7 +106,8 @@ empties_next how top all d k rest e f alone owner empties is keeps =
     let trees_f = ap (λ o. (Rattle.dom_model.specs.World.part_of f.world o).trees) (ap (λ (ns : List NodeName). (name_at ns k).owner) (names ∙ empties.names) ∙ owner ∙ ap (λ (ns : List NodeName). (name_at ns top).owner) (sym (names ∙ empties.names))) in
     record {
       names = names ∙ empties.names;
-      state = ap (planned (owner_in d top) (in_turn (removing how) (map (name_in d) rest))) at ∙ planned_turn (owner_in d top) alone (removing how) (name_in d k) (map (name_in d) rest) e ∙ empties.state;
+      alone = subst (λ (s : DocState). IsAlone s.world (owner_in d top)) (sym at) (alone_made (owner_in d top) (removing how (name_in d k)) e.world empties.alone (plans_removing (owner_in d top) how (name_in d k)));
+      state = ap (planned (owner_in d top) (in_turn (removing how) (map (name_in d) rest))) at ∙ planned_turn (owner_in d top) (removing how) (name_in d k) (map (name_in d) rest) e empties.alone (plans_removing (owner_in d top) how (name_in d k)) ∙ empties.state;
       paths = λ y h.
           let was = empties.paths y h in
           let off = ap (λ (ns : List NodeName). is_in name_eq (name_at ns k) (inclusive_ancestors (trees_in e k) y)) empties.names
@@ -116,15 +123,15 @@ all_drop P (suc i) [] h = tt
 all_drop P (suc i) (x ∷ xs) h = all_drop P i xs h.1
 
 -- a step of a loop that places nodes
-pub places_on : (parent : ℕ) (before : Option ℕ) (all : List ℕ) (d : DocState) (i k : ℕ) (e f : DocState) → Counted d → StepsAlone (owner_in d parent)
+pub places_on : (parent : ℕ) (before : Option ℕ) (all : List ℕ) (d : DocState) (i k : ℕ) (e f : DocState) → Counted d
     → i < length all → k ≡ get_or all i k → AllByRecursion (MayMove d parent before) all → ForSome before (IsChild d parent) → Places parent before all d (drop i all) e
     → f ≡ planned (owner_in e parent) (placing (name_in e parent) (option_map (name_in e) before) (name_in e k)) e → KeepsPaths parent (name_in e k) e f
     → Places parent before all d (drop (i + 1) all) f
-places_on parent before all d i k e f counted alone i< is may child places made keeps =
+places_on parent before all d i k e f counted i< is may child places made keeps =
     let now : drop i all ≡ k ∷ drop (suc i) all = drop-cons all i k i< ∙ ap (λ j. j ∷ drop (suc i) all) (sym is) in
     let here = (subst (AllByRecursion (MayMove d parent before)) now (all_drop (MayMove d parent before) i all may)).0 in
     subst (λ j. Places parent before all d (drop j all) f) (sym (add-one i))
-    (places_next parent before all d k (drop (suc i) all) e f alone (subst (λ ks. Places parent before all d ks e) now places) here
+    (places_next parent before all d k (drop (suc i) all) e f (subst (λ ks. Places parent before all d ks e) now places) here
     (λ b at. lacks_to (name_in d k) (inclusive_ancestors (trees_in d parent) (name_in d b)) (before_lacks d counted parent k before here child b at)) made keeps)
 
 -- what it asks
@@ -135,19 +142,12 @@ places_may parent before all d i k e i< is may places =
     may_now parent before d e places.stays k (subst (AllByRecursion (MayMove d parent before)) now (all_drop (MayMove d parent before) i all may)).0
 
 -- a step of a loop that takes nodes out
-pub empties_on : (how : Observing) (top : ℕ) (all : List ℕ) (d : DocState) (i k : ℕ) (e f : DocState) → StepsAlone (owner_in d top) → Counted e → StepsAlone (owner_in e k)
+pub empties_on : (how : Observing) (top : ℕ) (all : List ℕ) (d : DocState) (i k : ℕ) (e f : DocState) → Counted e
     → i < length all → k ≡ get_or all i k → AllByRecursion (λ j. (j < length d.names) × (owner_in d j ≡ owner_in d top)) all → Empties how top all d (drop i all) e
     → f ≡ planned (owner_in e k) (removing how (name_in e k)) e → Empties how top all d (drop (i + 1) all) f
-empties_on how top all d i k e f alone counted alone_now i< is nodes empties made =
+empties_on how top all d i k e f counted i< is nodes empties made =
     let now : drop i all ≡ k ∷ drop (suc i) all = drop-cons all i k i< ∙ ap (λ j. j ∷ drop (suc i) all) (sym is) in
     let here = (subst (AllByRecursion (λ j. (j < length d.names) × (owner_in d j ≡ owner_in d top))) now (all_drop (λ j. (j < length d.names) × (owner_in d j ≡ owner_in d top)) i all nodes)).0 in
     subst (λ j. Empties how top all d (drop j all) f) (sym (add-one i))
-    (empties_next how top all d k (drop (suc i) all) e f alone here.1 (subst (λ ks. Empties how top all d ks e) now empties) made (removal_keeps e f counted k alone_now how made))
-
--- what it asks
-pub empties_node : (how : Observing) (top : ℕ) (all : List ℕ) (d : DocState) (i k : ℕ) (e : DocState) → i < length all → k ≡ get_or all i k
-    → AllByRecursion (λ j. (j < length d.names) × (owner_in d j ≡ owner_in d top)) all → Empties how top all d (drop i all) e → k < length e.names
-empties_node how top all d i k e i< is nodes empties =
-    let now : drop i all ≡ k ∷ drop (suc i) all = drop-cons all i k i< ∙ ap (λ j. j ∷ drop (suc i) all) (sym is) in
-    let here = (subst (AllByRecursion (λ j. (j < length d.names) × (owner_in d j ≡ owner_in d top))) now (all_drop (λ j. (j < length d.names) × (owner_in d j ≡ owner_in d top)) i all nodes)).0 in
-    subst (λ (ns : List NodeName). k < length ns) (sym empties.names) here.0
+    (empties_next how top all d k (drop (suc i) all) e f here.1 (subst (λ ks. Empties how top all d ks e) now empties) made
+    (removal_keeps e f counted k (subst (IsAlone e.world) (sym (ap (λ (ns : List NodeName). (name_at ns k).owner) empties.names ∙ here.1)) empties.alone) how made))

@@ -1,31 +1,41 @@
 -- What a contract sees of a `Doc`: the names of its nodes by their keys, and what it holds of the world.
-use Rattle.std.specs.Prelude.{◌≡◌, ℕ, ◌<◌, ◌≤◌, true, false, ◌||◌, List, [], ◌∷◌, length, Option, Some, None, unwrap_or, if◌then◌else◌}
+use Rattle.std.specs.Prelude.{◌≡◌, ℕ, suc, ◌+◌, ◌<◌, ◌≤◌, nat_lt, true, false, not, ◌||◌, List, [], ◌∷◌, map, length, Vec, Option, Some, None, unwrap_or, if◌then◌else◌}
 use Rattle.std.specs.List.{AllByRecursion}
 use Rattle.std.specs.Option.{ForSome}
 use Rattle.dom_base.specs.declared.Owner.{Owner}
+use Rattle.dom_base.specs.declared.Owner.TheVariants.{Page, Component}
 use Rattle.dom_base.specs.declared.NodeName.{NodeName}
 use Rattle.dom_base.specs.declared.Kind.{Kind}
 use Rattle.dom_base.specs.declared.Kind.TheVariants.{Document, Shadow}
 use Rattle.dom_base.specs.declared.Refusal.{Refusal}
 use Rattle.dom_base.specs.declared.Refusal.TheVariants.{Hierarchy, NotSupported, IndexSize, Limit}
-use Rattle.dom_model.specs.Names.{DomString, name_eq, is_empty}
-use Rattle.dom_model.specs.Tree.{Trees, none, kind_of, is_document, has_data, children_of, parent_of, inclusive_ancestors, is_inclusive_ancestor}
-use Rattle.dom_model.specs.Part.{Part, next_name}
-use Rattle.dom_model.specs.Steps.{Step, queue_record, after}
-use Rattle.dom_model.specs.World.{World, Task, part_of, with_part, is_there}
+use Rattle.dom_base.specs.declared.TheConstants.{MAX_COMPONENTS}
+use Rattle.dom_model.specs.Names.{DomString, name_eq, is_empty, is_in}
+use Rattle.dom_model.specs.Tree.{Trees, none, node_in, kind_of, is_document, has_data, children_of, parent_of, inclusive_ancestors, is_inclusive_ancestor}
+use Rattle.dom_model.specs.Part.{Part, next_name, queue_of}
+use Rattle.dom_model.specs.Steps.{Step, queue_record}
+use Rattle.dom_model.specs.World.{World, Task, micro_task, notify_task, part_of, with_part, is_there}
 use Rattle.dom_model.specs.Command.{Command}
 use Rattle.dom_model.specs.Effects.{Effect, effect}
 use Rattle.dom_model.specs.WorldSteps.{world_step, world_after}
 use Rattle.dom_model.specs.Changes.{Plan, Observing, observed, suppressed, ◌and_then◌, in_turn, doing, steps_of, telling, making_room, placing, removing, inserting}
 use Rattle.dom_model.specs.TextChanges.{placing_tail, replacing_data}
 use Rattle.dom_model.specs.Validity.{first_refusal}
-use Rattle.dom_model.specs.CommandRefusals.{past_end, past_limit}
-use Rattle.dom_model.specs.Output.{Value, child_list}
+use Rattle.dom_model.specs.CommandRefusals.{past_end, past_limit, may_be_host}
+use Rattle.dom_model.specs.Output.{Value, Said, Change, child_list}
 use Rattle.dom_mutation.specs.declared.doc.Doc.TheInside.{Inside}
 use Rattle.dom_mutation.specs.declared.doc.removing.Telling.{Telling}
 use Rattle.dom_mutation.specs.declared.doc.removing.Telling.TheVariants.{Observed, Suppressed}
-use Rattle.dom_mutation.specs.Contents.{Contents, world_of}
-use Rattle.dom_mutation.specs.OwnTables.{KeyedTables, AllTables, no_keyed_tables, tables_view, owners_up_to, table_of, AreTablesOf, IsLabel}
+use Rattle.dom_mutation.specs.Contents.{Contents, Tables, world_of}
+use Rattle.dom_slots.specs.Hosts.{ShadowHost}
+use Rattle.dom_mutation.specs.Signalled.{AreSignals}
+use Rattle.dom_mutation.specs.Hosting.{host_names, AreMadeFrom}
+use Rattle.dom_mutation.specs.OwnTables.{KeyedTables, AllTables, no_keyed_tables, tables_view, owners_up_to, table_of, AreTablesOf, tables_of, signals_of}
+use Rattle.dom_observers.specs.Tables.{TablesOf, no_tables as no_observers}
+use Rattle.dom_observers.specs.Owners.{tables_of as observers_of}
+use Rattle.dom_observers.specs.Naming.{IsKey, SpeaksOf, IsChangeAt, named_change}
+use Rattle.dom_observers.specs.Views.{change_of}
+use Rattle.dom_observers.specs.declared.change.Change.{Change as KeyedChange}
 use Rattle.dom_tree.specs.Forest.{NamedTrees, name_at, count_of}
 use Rattle.dom_tree.specs.Owners.{trees_of_owner, AreOwned}
 
@@ -40,11 +50,20 @@ named_trees names ts = record { names = names; trees = ts }
 
 -- the tables that the code holds
 abbrev pub all_tables : Inside → AllTables
-all_tables d = record { each = d.tables.items; tasks = d.queue }
+all_tables d = tables_of d.tables.items (observers_of d.observers) d.queue d.slots d.signalled.items
 
 -- an owner's tables; one that is not there has none
 abbrev pub own_tables : AllTables → Owner → KeyedTables
 own_tables tables o = unwrap_or (table_of tables.each o) no_keyed_tables
+
+-- the hosts that an owner has: all are the page's (DOM Standard, concept: shadow host)
+abbrev pub attached_of : List NodeName → List ShadowHost → Owner → List NodeName
+attached_of names hosts Page = host_names names hosts
+attached_of names hosts (Component k) = []
+
+-- an owner's tables in names, with its hosts
+abbrev pub shown_tables : List NodeName → List ShadowHost → Owner → KeyedTables → TablesOf ℕ → Tables
+shown_tables names hosts o t r = record (tables_view names t r) { attached = attached_of names hosts o }
 
 -- what is held
 abbrev pub contents : List NodeName → Trees → AllTables → Contents
@@ -52,8 +71,8 @@ contents names ts tables = record {
   owners = owners_up_to (length tables.each);
   names = names;
   trees = ts;
-  tables = λ o. tables_view names (own_tables tables o);
-  signalled = [];
+  tables = λ o. shown_tables names tables.slots.hosts o (own_tables tables o) (tables.observers o);
+  signalled = map (name_at names) tables.signalled;
   tasks = tables.tasks;
 }
 
@@ -64,17 +83,29 @@ world_from names ts tables = world_of (contents names ts tables)
 abbrev pub state_from : List NodeName → Trees → AllTables → DocState
 state_from names ts tables = record { names = names; world = world_from names ts tables }
 
+-- a task of an owner that is there, where it is a notification (own rule)
+abbrev pub IsDue : World → Task → Type 0
+IsDue w (micro_task o label) = Unit {0}
+IsDue w (notify_task o) = is_there w o ≡ true
+
 -- what holds of a `Doc`: each tree has one owner, each node's owner is there and no other one has trees, no owner has more
--- nodes than it may make, so far the page alone is there, each owner's tables are of its own nodes, and no notification is
--- queued
+-- nodes than it may make, each owner's tables are of its own nodes; the owners are the page and one component for each host,
+-- of which there are no more than there may be; the slots are those of the trees, no step is begun, and signalled slots are
+-- nodes; registrations and records name nodes alone, who is not there has no observers, and the notifications that are
+-- queued are of owners that are there
 pub record IsHeld (names : List NodeName) (ts : Trees) (tables : AllTables) : Type 0 where
   pub owned : AreOwned ts
   pub present : (k : ℕ) → k < length names → is_there (world_from names ts tables) (name_at names k).owner ≡ true
   pub absent : (o : Owner) → is_there (world_from names ts tables) o ≡ false → trees_of_owner o ts ≡ none
   pub limited : (o : Owner) → count_of o names ≤ 1000000
-  pub alone : length tables.each ≡ 1
   pub own : (o : Owner) → ForSome (table_of tables.each o) (AreTablesOf (named_trees names ts) o)
-  pub labels : AllByRecursion IsLabel tables.tasks
+  pub counted : length tables.each ≡ suc (length tables.slots.hosts)
+  pub few : length tables.slots.hosts ≤ 1000
+  pub made : AreMadeFrom names 0 tables.slots.hosts
+  pub signals : AreSignals names ts (signals_of tables)
+  pub speaks : (o : Owner) → SpeaksOf (IsKey names) (tables.observers o)
+  pub unobserved : (o : Owner) → is_there (world_from names ts tables) o ≡ false → tables.observers o ≡ no_observers
+  pub due : AllByRecursion (IsDue (world_from names ts tables)) tables.tasks
 
 -- the state with other tasks
 abbrev pub with_tasks : List Task → DocState → DocState
@@ -84,9 +115,13 @@ with_tasks tasks d = record { names = d.names; world = record { parts = d.world.
 abbrev pub made : Owner → Plan → World → World
 made o plan w = world_after o w (plan (part_of w o))
 
--- an owner's command that changes its tables alone was made, and answered this
+-- an owner's command that changes its tables alone was made, and said and answered this
+abbrev pub MakesSaying : Owner → Command → List Said → Value → World → World → Type 0
+MakesSaying o c lines v was now = (effect (part_of was o) c ≡ Effect.tables (part_of now o) lines v) × (now ≡ with_part was (part_of now o))
+
+-- it said nothing
 abbrev pub Makes : Owner → Command → Value → World → World → Type 0
-Makes o c v was now = (effect (part_of was o) c ≡ Effect.tables (part_of now o) [] v) × (now ≡ with_part was (part_of now o))
+Makes o c v was now = MakesSaying o c [] v was now
 
 -- the name of a key, its owner, and that one's trees
 abbrev pub name_in : DocState → ℕ → NodeName
@@ -97,6 +132,22 @@ owner_in d k = (name_in d k).owner
 
 abbrev pub trees_in : DocState → ℕ → Trees
 trees_in d k = (part_of d.world (owner_in d k)).trees
+
+-- a record in names
+abbrev pub change_in : DocState → KeyedChange → Change NodeName
+change_in d r = named_change (name_in d) (change_of r)
+
+-- an observer's number with its records in names
+abbrev pub notice_in : {Z : Type 0} → DocState → ℕ × Vec KeyedChange Z → ℕ × List (Change NodeName)
+notice_in d n = (n.0, map (change_in d) n.1.items)
+
+-- the pending observers with their records, in order (DOM Standard, concept: notify mutation observers)
+abbrev pub notices_of : Part → List (ℕ × List (Change NodeName))
+notices_of p = map (λ k. (k, queue_of p.record_queues k)) p.pending
+
+-- the nodes of a record are nodes
+abbrev pub NamesNodes : DocState → KeyedChange → Type 0
+NamesNodes d r = IsChangeAt (IsKey d.names) (change_of r)
 
 -- the state after a step, and after a plan, that make no node
 abbrev pub stepped : Owner → Step → DocState → DocState
@@ -110,10 +161,6 @@ abbrev pub observing_of : Telling → Observing
 observing_of Observed = observed
 observing_of Suppressed = suppressed
 
--- an owner's steps do in its part what they do in a part alone: so it is of the page
-abbrev pub StepsAlone : Owner → Type 0
-StepsAlone o = (w : World) (steps : List Step) → part_of (world_after o w steps) o ≡ after (part_of w o) steps
-
 -- whether a node may be moved into a parent, before a child of it or last
 pub record MayMove (d : DocState) (parent : ℕ) (before : Option ℕ) (k : ℕ) : Type 0 where
   pub node : k < length d.names
@@ -126,6 +173,14 @@ pub record IsChild (d : DocState) (parent b : ℕ) : Type 0 where
   pub node : b < length d.names
   pub owner : owner_in d b ≡ owner_in d parent
   pub child : parent_of (trees_in d parent) (name_in d b) ≡ Some (name_in d parent)
+
+-- these are nodes
+abbrev pub AreNodes : DocState → List ℕ → Type 0
+AreNodes d ks = AllByRecursion (λ k. k < length d.names) ks
+
+-- so is this one, if there is one
+abbrev pub IsNodeIf : DocState → Option ℕ → Type 0
+IsNodeIf d k = ForSome k (λ k. k < length d.names)
 
 -- a node of the owner of another one
 abbrev pub IsOwnNode : DocState → ℕ → ℕ → Type 0
@@ -150,6 +205,12 @@ abbrev pub adoption_refusal : Kind → Option Refusal
 adoption_refusal Document = Some NotSupported
 adoption_refusal Shadow = Some Hierarchy
 adoption_refusal _ = None
+
+-- the refusal of an attaching: to a host, to an element whose name may be no host's, and past the limit (DOM Standard, attach
+-- a shadow root; own rule for the limit)
+abbrev pub attaching_refusal : Part → NodeName → Option Refusal
+attaching_refusal p x =
+    first_refusal ((is_in name_eq x p.attached || not (may_be_host (node_in p.trees x).element), NotSupported) ∷ (nat_lt MAX_COMPONENTS (length p.attached + 1), Limit) ∷ [])
 
 -- the refusal of a split (DOM Standard, split a Text node; own rule for the limit)
 abbrev pub splitting_refusal : Part → NodeName → ℕ → Option Refusal

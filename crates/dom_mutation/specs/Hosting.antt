@@ -12,7 +12,8 @@ use Rattle.dom_model.specs.TreeChanges.{with_node, change_subtree, with_document
 use Rattle.dom_model.specs.DocumentMachine.{new_root}
 use Rattle.dom_model.specs.Changes.{Plan}
 use Rattle.dom_model.specs.Part.{Part}
-use Rattle.dom_model.specs.Steps.{Step, set_document}
+use Rattle.dom_model.specs.Steps.{Step, set_document, after}
+use Rattle.dom_model.specs.WorldSteps.{world_after}
 use Rattle.dom_model.specs.World.{World, component_made, shadow_root_of, part_of, is_there, queued_notify}
 use Rattle.dom_slots.specs.Hosts.{ShadowHost, HostsAreNodes, root_named}
 use Rattle.dom_slots.specs.Shadows.{ShadowTrees, shadow_trees}
@@ -89,6 +90,10 @@ signals_in c ss = fold signal_in c ss
 abbrev pub document_in : NodeName → Contents → NodeName → Contents
 document_in d c x = record c { trees = change_subtree (with_document d) x c.trees }
 
+-- the trees where they do
+abbrev pub under_each : NodeName → Trees → NodeName → Trees
+under_each d ts x = change_subtree (with_document d) x ts
+
 -- the shadow roots of the hosts in the tree of a node, in tree order; hosts are the page's, so none stands below another
 -- (DOM Standard, concept: shadow-including inclusive descendant)
 abbrev pub roots_below : Contents → List ShadowHost → NodeName → List NodeName
@@ -109,6 +114,12 @@ SetsOwnDocuments o s = Unit {0}
 pub record OwnsNoHosts (w : World) (o : Owner) : Type 0 where
   pub attached : (part_of w o).attached ≡ []
   pub own : AreOf o (part_of w o).trees
+
+-- an owner with its own nodes alone: its steps, where they set the node documents of its own nodes alone, do in its part
+-- what they do in a part alone (own rule)
+pub record IsAlone (w : World) (o : Owner) : Type 0 where
+  pub own : AreOf o (part_of w o).trees
+  pub steps : (steps : List Step) → AllByRecursion (SetsOwnDocuments o) steps → part_of (world_after o w steps) o ≡ after (part_of w o) steps
 
 -- ---- attaching
 

@@ -1,5 +1,8 @@
 -- What contracts see of a `Doc`.
 pub mod Contents
 pub mod OwnTables
+pub mod Signalled
 pub mod Doc
 pub mod Hosting
+pub mod Ranging
+pub mod Numbering

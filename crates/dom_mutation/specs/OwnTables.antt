@@ -3,25 +3,33 @@ use Rattle.std.specs.Prelude.{◌≡◌, ℕ, zero, suc, ◌≤◌, List, [], �
 use Rattle.dom_base.specs.declared.Owner.{Owner}
 use Rattle.dom_base.specs.declared.Owner.TheVariants.{Page, Component}
 use Rattle.dom_base.specs.declared.NodeName.{NodeName}
-use Rattle.dom_model.specs.Traversal.{adjusted_iterator}
-use Rattle.dom_model.specs.World.{Task, micro_task, notify_task}
+use Rattle.dom_model.specs.Traversal.{Iterator, Walker, adjusted_iterator}
+use Rattle.dom_model.specs.World.{Task}
+use Rattle.dom_slots.specs.Kept.{SlotsNow}
 use Rattle.dom_tree.specs.Forest.{NamedTrees, name_at}
 use Rattle.dom_traversal.specs.Iterators.{KeyedIterator, iterator_view, IsIteratorOf, HasLeft}
 use Rattle.dom_traversal.specs.Walkers.{KeyedWalker, walker_view, IsWalkerOf}
+use Rattle.dom_observers.specs.Tables.{TablesOf, no_tables as no_observers}
+use Rattle.dom_observers.specs.Naming.{named_tables}
 use Rattle.dom_mutation.specs.Contents.{Tables, no_tables}
+use Rattle.dom_mutation.specs.Signalled.{SignalTables, signal_tables}
 
 -- an owner's iterators and walkers, by their numbers
 pub record KeyedTables : Type 0 where
   pub iterators : List KeyedIterator
   pub walkers : List KeyedWalker
 
+-- cursors, and what an owner has of observers
+abbrev pub tables_with : List Iterator → List Walker → TablesOf NodeName → Tables
+tables_with is ws r = record no_tables { iterators = is; walkers = ws; registrations = r.registrations; record_queues = r.record_queues; pending = r.pending }
+
 -- no iterators and no walkers
 abbrev pub no_keyed_tables : KeyedTables
 no_keyed_tables = record { iterators = []; walkers = [] }
 
--- the same tables in names
-abbrev pub tables_view : List NodeName → KeyedTables → Tables
-tables_view names t = record no_tables { iterators = map (iterator_view names) t.iterators; walkers = map (walker_view names) t.walkers }
+-- the same tables in names, and what the owner has of observers
+abbrev pub tables_view : List NodeName → KeyedTables → TablesOf ℕ → Tables
+tables_view names t r = tables_with (map (iterator_view names) t.iterators) (map (walker_view names) t.walkers) (named_tables (name_at names) r)
 
 -- each item of a list
 abbrev pub EachItem : {X : Type 0} → (X → Type 0) → List X → Type 0
@@ -51,10 +59,18 @@ table_of ts (Component (suc k)) = slice_get ts (suc k)
 
 -- ---- all tables
 
--- what a `Doc` holds beside its trees: each owner's tables, at its place, and the tasks (own rule)
+-- what a `Doc` holds beside its trees: each owner's tables, at its place, what each owner has of observers, the tasks, the
+-- hosts with what is assigned to slots, and the signalled slots of all owners (own rule)
 pub record AllTables : Type 0 where
   pub each : List KeyedTables
+  pub observers : Owner → TablesOf ℕ
   pub tasks : List Task
+  pub slots : SlotsNow
+  pub signalled : List ℕ
+
+-- all of them
+abbrev pub tables_of : List KeyedTables → (Owner → TablesOf ℕ) → List Task → SlotsNow → List ℕ → AllTables
+tables_of each observers tasks slots signalled = record { each = each; observers = observers; tasks = tasks; slots = slots; signalled = signalled }
 
 -- those with the tables at a place written
 abbrev pub with_table_at : AllTables → ℕ → KeyedTables → AllTables
@@ -64,18 +80,28 @@ with_table_at tables place u = record tables { each = slice_set tables.each plac
 abbrev pub with_table : AllTables → Owner → KeyedTables → AllTables
 with_table tables o u = with_table_at tables (place_of o) u
 
+-- those with other observers
+abbrev pub with_observers : AllTables → (Owner → TablesOf ℕ) → AllTables
+with_observers tables observers = record tables { observers = observers }
+
 -- those with other tasks
 abbrev pub with_queue : AllTables → List Task → AllTables
 with_queue tables tasks = record tables { tasks = tasks }
 
+-- what signals change of them, and those with it written
+abbrev pub signals_of : AllTables → SignalTables
+signals_of tables = signal_tables tables.slots tables.signalled tables.tasks
+
+abbrev pub with_signals : AllTables → SignalTables → AllTables
+with_signals tables s = record tables { tasks = s.tasks; slots = s.slots; signalled = s.signalled }
+
+-- no hosts
+abbrev pub no_slots : SlotsNow
+no_slots = record { hosts = []; table = []; begun = None }
+
 -- where the page alone is there, and has none
 abbrev pub first_tables : AllTables
-first_tables = record { each = no_keyed_tables ∷ []; tasks = [] }
-
--- a task that prints a label
-abbrev pub IsLabel : Task → Type 0
-IsLabel (micro_task o label) = Unit {0}
-IsLabel (notify_task o) = ⊥
+first_tables = record { each = no_keyed_tables ∷ []; observers = λ o. no_observers; tasks = []; slots = no_slots; signalled = [] }
 
 -- ---- what holds of an owner's tables
 

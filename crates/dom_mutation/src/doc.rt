@@ -1,5 +1,5 @@
 //! The documents of a run.
-ghost use Rattle.std.specs.Prelude.{◌≡◌, ℕ, ◌<◌, ◌↔◌, ◌⊎◌, ◌++◌, ◌∷◌, [], true, false, length, IfOk, IfErr, OnOk, OnErr};
+ghost use Rattle.std.specs.Prelude.{◌≡◌, ℕ, ◌<◌, ◌↔◌, ◌⊎◌, ◌++◌, ◌∷◌, [], true, false, length, None, IfOk, IfErr, OnOk, OnErr};
 ghost use Rattle.std.specs.Option.{option_map, ForSome};
 ghost use Rattle.dom_base.specs.declared.Owner.{Owner as OwnerOf};
 ghost use Rattle.dom_base.specs.declared.Owner.TheVariants.{Page};
@@ -14,18 +14,25 @@ ghost use Rattle.dom_model.specs.CommandRefusals.{past_limit};
 ghost use Rattle.dom_model.specs.DocumentMachine.{first_world};
 ghost use Rattle.dom_tree.specs.Forest.{name_at, node_from};
 ghost use Rattle.dom_tree.specs.Owners.{trees_of_owner, AreOwned};
+ghost use Rattle.dom_slots.specs.Kept.{AreSlotsOf};
+ghost use Rattle.dom_slots.specs.Shadows.{shadows, IsShownBy};
 ghost use Rattle.dom_mutation.specs.OwnTables.{table_of, place_of};
 ghost use Rattle.dom_mutation.specs.Doc.{made};
 
+mod attaching;
 mod attributes;
 mod cursors;
 mod data;
 mod documents;
+mod hosts;
 mod inserting;
 mod normalizing;
+mod observing;
 mod reads;
+mod records;
 mod removing;
 mod replacing;
+mod signals;
 mod splitting;
 mod steps;
 mod tasks;
@@ -35,6 +42,8 @@ use crate::tables::OwnTables;
 pub use attributes::is_name;
 use dom_base::{Fault, Kind, Owner};
 use dom_microtasks::Queue;
+use dom_observers::Observers;
+use dom_slots::Slots;
 use dom_tree::{Forest, NodeData};
 use indexmap::IndexMap;
 use node_arena::Key;
@@ -42,11 +51,15 @@ use std::alloc::{AllocError, Global};
 use std::marker::Model;
 
 /// The nodes of all owners, how they stand, each owner's tables, the page's first, and then those of the components by
-/// their numbers, and the microtasks.
+/// their numbers, the observers, the hosts with the slots of their shadow trees, the signalled slots of all owners in order,
+/// and the microtasks.
 #[derive(Drop)]
 pub struct Doc {
     forest: Forest,
     tables: Vec<OwnTables>,
+    observers: Observers,
+    slots: Slots,
+    signalled: Vec<Key>,
     queue: Queue,
     alloc: Global,
 }
@@ -83,11 +96,17 @@ impl Doc {
             Ok(()) => (),
             Err(_) => return Err(AllocError),
         }
+        let observers = Observers::new(alloc);
+        let slots = Slots::new(alloc);
+        let signalled = Vec::new(alloc);
         let queue = Queue::new(alloc);
         match forest.add(Owner::Page, document) {
             Ok(_) => Ok(Doc {
                 forest,
                 tables,
+                observers,
+                slots,
+                signalled,
                 queue,
                 alloc,
             }),
@@ -103,6 +122,17 @@ impl Doc {
         ensures present { (k : ℕ) → k < length self.now.names → is_there self.now.world (name_at self.now.names k).owner ≡ true }
     {
         &self.forest
+    }
+
+    /// The forest and the slots of its shadow trees, for reading: what an event path is built from.
+    pub fn forest_and_slots(&self) -> (&Forest, &Slots)
+        ensures names { result.0.now.names ≡ self.now.names }
+        ensures trees { (o : OwnerOf) → trees_of_owner o result.0.now.trees ≡ (part_of self.now.world o).trees }
+        ensures free { result.1.now.begun ≡ None }
+        ensures slots { AreSlotsOf result.0.now result.1.now }
+        ensures shown { IsShownBy (shadows result.0.now result.1.now.hosts) self.now.world }
+    {
+        (&self.forest, &self.slots)
     }
 
     /// Whether an owner has a part.

@@ -207,7 +207,7 @@ fn attributes_are_set_and_go(rt: HostRuntime) -> Result<(), AllocError> {
     );
     let element = key_of(&rt, &doc, 2);
     assert!(rt; doc.forest().attr(element, "id") == Some([7u16].as_slice()));
-    doc.remove_attr(element, "id");
+    doc.remove_attr(element, "id")?;
     assert!(rt; doc.forest().attr(key_of(&rt, &doc, 2), "id").is_none());
     Ok(())
 }

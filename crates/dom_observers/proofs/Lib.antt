@@ -4,3 +4,4 @@ pub mod Tables
 pub mod Lookups
 pub mod Ascending
 pub mod Naming
+pub mod Speaking

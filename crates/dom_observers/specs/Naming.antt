@@ -1,5 +1,6 @@
 -- The rules over keys and the rules over names: with every key replaced by its name, each call does the same.
 use Rattle.std.specs.Prelude.{◌≡◌, ℕ, ◌<◌, nat_eq, List, [], ◌∷◌, map, length, option_map}
+use Rattle.std.specs.Option.{ForSome}
 use Rattle.dom_base.specs.declared.NodeName.{NodeName}
 use Rattle.dom_model.specs.Names.{name_eq}
 use Rattle.dom_model.specs.Command.{ObserveWords}
@@ -50,6 +51,17 @@ module _ {M : Type 0} (P : M → Type 0) where
   abbrev pub AreAll : List M → Type 0
   AreAll [] = Unit {0}
   AreAll (x ∷ xs) = P x × AreAll xs
+
+  -- the nodes that a change tells of are of P
+  abbrev pub IsChangeAt : Change M → Type 0
+  IsChangeAt (child_list x added removed before after) = P x × AreAll added × AreAll removed × ForSome before P × ForSome after P
+  IsChangeAt (attributes x a old) = P x
+  IsChangeAt (character_data x old) = P x
+
+-- the nodes that an owner's registrations and records name are of P
+pub record SpeaksOf {M : Type 0} (P : M → Type 0) (t : TablesOf M) : Type 0 where
+  pub registrations : AreRegistered P t.registrations
+  pub records : AreAll (AreAll (IsChangeAt P)) t.record_queues
 
 -- keys of nodes with these names
 abbrev pub IsKey : List NodeName → ℕ → Type 0

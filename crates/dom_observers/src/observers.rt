@@ -1,8 +1,8 @@
 //! The mutation observers of all owners.
-ghost use Rattle.std.specs.Prelude.{◌≡◌, ◌<◌, ◌↔◌, ◌⊎◌, nat_eq, nat_lt, true, false, map, length, option_map, slice_get, is_some, IfOk, IfErr, OnOk, OnErr, if◌then◌else◌};
+ghost use Rattle.std.specs.Prelude.{◌≡◌, ◌<◌, ◌↔◌, ◌⊎◌, nat_eq, nat_lt, true, false, not, map, length, option_map, slice_get, is_some, IfOk, IfErr, OnOk, OnErr, if◌then◌else◌};
 ghost use Rattle.std.specs.Map.{lookup};
 ghost use Rattle.dom_base.specs.declared.Owner.{Owner as Owners};
-ghost use Rattle.dom_model.specs.Names.{owner_eq};
+ghost use Rattle.dom_model.specs.Names.{owner_eq, is_empty};
 ghost use Rattle.dom_model.specs.CommandRefusals.{past_limit};
 ghost use Rattle.dom_model.specs.Observers.{options_of, asks_for_nothing, target_of};
 ghost use Rattle.dom_tree.specs.Forest.{name_at};
@@ -100,6 +100,26 @@ impl Observers {
             return Err(Fault::Refused(Refusal::Unknown));
         };
         table.observe(observer, node, options)
+    }
+
+    /// Whether an owner has an observer of a number.
+    pub fn has(&self, owner: Owner, observer: u32) -> bool
+        ensures { result ≡ is_some (slice_get (tables_of self.now owner).record_queues observer) }
+    {
+        match self.tables.get(&owner) {
+            Some(table) => table.has(observer),
+            None => false,
+        }
+    }
+
+    /// Whether an owner has registrations, so that a change of a node of it may be recorded (own rule).
+    pub fn is_watched(&self, owner: Owner) -> bool
+        ensures { result ≡ not (is_empty (tables_of self.now owner).registrations) }
+    {
+        match self.tables.get(&owner) {
+            Some(table) => !table.has_no_registration(),
+            None => false,
+        }
     }
 
     /// Takes the registrations of an owner's observer away, transient ones too, and empties its record queue, where there is

@@ -1,5 +1,5 @@
 //! What one owner has of observers.
-ghost use Rattle.std.specs.Prelude.{◌≡◌, ◌↔◌, ◌⊎◌, nat_eq, nat_lt, true, false, not, ◌&&◌, ◌==◌, map, filter, fold, length, option_map, slice_get, IfOk, IfErr, OnOk, OnErr, if◌then◌else◌};
+ghost use Rattle.std.specs.Prelude.{◌≡◌, ◌↔◌, ◌⊎◌, nat_eq, nat_lt, true, false, not, ◌&&◌, ◌==◌, map, filter, fold, length, option_map, slice_get, is_some, IfOk, IfErr, OnOk, OnErr, if◌then◌else◌};
 ghost use Rattle.std.specs.List.{list_any};
 ghost use Rattle.dom_model.specs.Names.{is_empty};
 ghost use Rattle.dom_model.specs.CommandRefusals.{past_limit};
@@ -48,6 +48,13 @@ impl Table {
         ensures { result ≡ is_empty (table_of self.now).registrations }
     {
         self.registrations.is_empty()
+    }
+
+    /// Whether there is an observer of a number.
+    pub(crate) fn has(&self, observer: u32) -> bool
+        ensures { result ≡ is_some (slice_get (table_of self.now).record_queues observer) }
+    {
+        self.queues.get(observer as usize).is_some()
     }
 
     /// Makes an observer, and gives its number (DOM Standard, constructor of MutationObserver).

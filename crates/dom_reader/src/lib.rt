@@ -29,6 +29,7 @@ use dom_base::{MAX_LINE, Owner, Refusal};
 pub use line::{
     Command, EventWords, Filter, Line, ListenerWords, NameFilter, ObserveWords, Show, Spelled,
 };
+pub use nodes::owner_of;
 pub use splitter::Splitter;
 use std::alloc::{AllocError, Global};
 

@@ -12,8 +12,8 @@ use crate::numbers::{number_of, positive_of};
 use crate::words::word_at;
 use dom_base::Owner;
 
-/// The owner whose word this is.
-fn owner_of(word: &[u8]) -> Option<Owner>
+/// The owner whose word this is (own rule): `p`, or `c` and a number from 1 without leading zeros.
+pub fn owner_of(word: &[u8]) -> Option<Owner>
     ensures { result ≡ spec_owner_of word.now }
 {
     match word {

@@ -8,6 +8,7 @@ pub mod Tables
 pub mod Signalled
 pub mod Entering
 pub mod Ended
+pub mod Unchanged
 pub mod Hostless
 pub mod Attaching
 pub mod Recast

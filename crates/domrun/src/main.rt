@@ -1,26 +1,26 @@
-//! `domrun [FILE]`: runs the lines of a file, or of standard input, and writes the lines that answer them.
+//! `domrun [--view OWNER] [FILE]`: runs the lines of a file, or of standard input, and writes the lines that answer them; with
+//! a view the lines of that owner alone.
 //!
-//! Its exit statuses are those of `exit_of`, and 2, with `domrun: usage`, for words that it does not take. FILE is a path, or
-//! `-`, which is the default and means standard input.
+//! FILE is a path, or `-`, which is the default and means standard input. The exit statuses are those of `exit_of`, and 2, with
+//! `domrun: usage`, for words that it does not take. Faults are found in this order: the words, OWNER, the opening of FILE, the
+//! run's own.
 #![tactic(auto)]
 
 ghost use Rattle.std.specs.Prelude.{◌≡◌};
 ghost use Rattle.domrun.specs.Exits.{status_of, text_of};
 
+mod stop;
 #[cfg(test)]
 mod tests;
+mod words;
 
+use crate::stop::Stop;
+use crate::words::{Request, request_of};
+use dom_base::Owner;
 use dom_engine::{FromReader, IntoWriter, RunFault, run};
 use std::io::{Error, ErrorKind, Read};
 use std::process::ExitCode;
 use std::{env, fs, io};
-
-/// Why the program stopped: its words, or the run.
-#[derive(Clone, Copy)]
-enum Stop {
-    Usage,
-    Run(RunFault),
-}
 
 fn main(rt: HostRuntime) -> ExitCode {
     let (status, text) = match run_words(&rt) {
@@ -35,22 +35,14 @@ fn main(rt: HostRuntime) -> ExitCode {
     ExitCode::from(status)
 }
 
-/// Runs the input that the program's words name.
+/// Does what the program's words ask for.
 fn run_words(rt: &HostRuntime) -> Result<(), Stop> {
-    let mut words = env::args(rt).map_err(|e| words_refused(&e))?;
-    // The first word is the program's own name.
-    let _name = words.next();
-    let file = words.next();
-    if words.next().is_some() {
-        return Err(Stop::Usage);
-    }
-    match file {
-        None => run_reader(rt, rt.reader()),
-        Some(path) => run_path(rt, path.as_str()),
-    }
+    let words = env::args(rt).map_err(|e| words_refused(&e))?;
+    let words: Vec<String> = words.collect(rt.alloc())?;
+    run_request(rt, request_of(rt.alloc(), &words)?)
 }
 
-/// What it means that the words could not be read.
+/// What it means that the words could not be read: want of memory, or bytes that are no text.
 fn words_refused(error: &Error) -> Stop {
     match error.kind() {
         ErrorKind::OutOfMemory => Stop::Run(RunFault::Memory),
@@ -58,25 +50,27 @@ fn words_refused(error: &Error) -> Stop {
     }
 }
 
-/// Runs a file, or with `-` standard input. No other word begins with `-`.
-fn run_path(rt: &HostRuntime, path: &str) -> Result<(), Stop> {
+/// Runs the file that is asked for: with `-`, or with none, standard input.
+fn run_request(rt: &HostRuntime, request: Request<'_>) -> Result<(), Stop> {
+    let path = request.file.unwrap_or("-");
     if path == "-" {
-        return run_reader(rt, rt.reader());
-    }
-    if path.starts_with("-") {
-        return Err(Stop::Usage);
+        return run_reader(rt, rt.reader(), request.view);
     }
     match fs::File::open(rt, path) {
-        Ok(file) => run_reader(rt, file),
+        Ok(file) => run_reader(rt, file, request.view),
         Err(_) => Err(Stop::Run(RunFault::Read)),
     }
 }
 
 /// Runs the lines of a reader, and writes to standard output.
-fn run_reader<R: Read + Drop>(rt: &HostRuntime, reader: R) -> Result<(), Stop> {
+fn run_reader<R: Read + Drop>(
+    rt: &HostRuntime,
+    reader: R,
+    view: Option<Owner>,
+) -> Result<(), Stop> {
     let mut source = FromReader::new(reader);
     let mut sink = IntoWriter::new(io::writer(rt));
-    run(rt.alloc(), &mut source, &mut sink, None).map_err(Stop::Run)
+    run(rt.alloc(), &mut source, &mut sink, view).map_err(Stop::Run)
 }
 
 /// The exit status of a run, and what is written to standard error, without its line feed; nothing where the text is empty.

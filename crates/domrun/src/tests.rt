@@ -1,6 +1,128 @@
-//! How a run ends the program.
+//! What the program's words ask for, and how a run ends the program.
 use super::*;
+use crate::words::view_of;
 use std::test::Fail;
+
+/// What these words, behind the program's name, ask for.
+fn asked(
+    rt: &HostRuntime,
+    words: &[&str],
+) -> Result<Result<(Option<Owner>, Option<String>), Stop>, Fail> {
+    let mut all = Vec::new(rt.alloc());
+    all.push(String::from_str(rt.alloc(), "domrun")?)?;
+    for word in words {
+        all.push(String::from_str(rt.alloc(), word)?)?;
+    }
+    match request_of(rt.alloc(), &all) {
+        Ok(request) => {
+            let file = match request.file {
+                Some(path) => Some(String::from_str(rt.alloc(), path)?),
+                None => None,
+            };
+            Ok(Ok((request.view, file)))
+        }
+        Err(stop) => Ok(Err(stop)),
+    }
+}
+
+/// Whether the words ask for this view and this file.
+fn asks(
+    rt: &HostRuntime,
+    words: &[&str],
+    view: Option<Owner>,
+    file: Option<&str>,
+) -> Result<bool, Fail> {
+    match asked(rt, words)? {
+        Ok((its_view, its_file)) => Ok(
+            its_view == view && its_file.as_ref().map(|path| path.as_str()) == file,
+        ),
+        Err(_) => Ok(false),
+    }
+}
+
+/// Whether the words are refused.
+fn refused(rt: &HostRuntime, words: &[&str]) -> Result<bool, Fail> {
+    Ok(matches!(asked(rt, words)?, Err(Stop::Usage)))
+}
+
+#[test]
+fn owners_words(rt: HostRuntime) -> Result<(), Fail> {
+    assert_eq!(rt; view_of("p"), Some(Owner::Page));
+    assert_eq!(rt; view_of("c1"), Some(Owner::Component(1)));
+    assert_eq!(rt; view_of("c12"), Some(Owner::Component(12)));
+    assert_eq!(rt; view_of("c999999999"), Some(Owner::Component(999_999_999)));
+    for word in [
+        "",
+        "c0",
+        "c01",
+        "c",
+        "c1000000000",
+        "c1 ",
+        " p",
+        "pp",
+        "p1",
+        "P",
+        "C1",
+        "c-1",
+        "c+1",
+        "q",
+    ] {
+        assert_eq!(rt; view_of(word), None);
+    }
+    Ok(())
+}
+
+#[test]
+fn words_that_are_taken(rt: HostRuntime) -> Result<(), Fail> {
+    let page = Some(Owner::Page);
+    assert!(rt; asks(&rt, &[], None, None)?);
+    assert!(rt; asks(&rt, &["-"], None, Some("-"))?);
+    assert!(rt; asks(&rt, &["a.txt"], None, Some("a.txt"))?);
+    assert!(rt; asks(&rt, &[""], None, Some(""))?);
+    assert!(rt; asks(&rt, &["--", "a.txt"], None, Some("a.txt"))?);
+    assert!(rt; asks(&rt, &["--", "-"], None, Some("-"))?);
+    assert!(rt; asks(&rt, &["--", "--view"], None, Some("--view"))?);
+    assert!(rt; asks(&rt, &["--", "--help"], None, Some("--help"))?);
+    assert!(rt; asks(&rt, &["--view", "p"], page, None)?);
+    assert!(rt; asks(&rt, &["--view=p"], page, None)?);
+    assert!(rt; asks(&rt, &["--view", "p", "a.txt"], page, Some("a.txt"))?);
+    assert!(rt; asks(&rt, &["--view=p", "-"], page, Some("-"))?);
+    assert!(rt; asks(&rt, &["a.txt", "--view", "p"], page, Some("a.txt"))?);
+    assert!(rt; asks(&rt, &["a.txt", "--view=p"], page, Some("a.txt"))?);
+    assert!(rt;
+        asks(
+            &rt,
+            &["--view", "c12", "--", "a.txt"],
+            Some(Owner::Component(12)),
+            Some("a.txt")
+        )?
+    );
+    Ok(())
+}
+
+#[test]
+fn words_that_are_refused(rt: HostRuntime) -> Result<(), Fail> {
+    assert!(rt; refused(&rt, &["--help"])?);
+    assert!(rt; refused(&rt, &["-h"])?);
+    assert!(rt; refused(&rt, &["a.txt", "--help"])?);
+    assert!(rt; refused(&rt, &["--view", "p", "--help"])?);
+    assert!(rt; refused(&rt, &["--version"])?);
+    assert!(rt; refused(&rt, &["-V"])?);
+    assert!(rt; refused(&rt, &["-v", "p"])?);
+    assert!(rt; refused(&rt, &["--vie", "p"])?);
+    assert!(rt; refused(&rt, &["--view"])?);
+    assert!(rt; refused(&rt, &["--view="])?);
+    assert!(rt; refused(&rt, &["--view", ""])?);
+    assert!(rt; refused(&rt, &["--view", "c01", "a.txt"])?);
+    assert!(rt; refused(&rt, &["--view", "--", "p"])?);
+    assert!(rt; refused(&rt, &["--view", "p", "--view", "p"])?);
+    assert!(rt; refused(&rt, &["--view", "p", "--view=c1"])?);
+    assert!(rt; refused(&rt, &["a.txt", "b.txt"])?);
+    assert!(rt; refused(&rt, &["-", "-"])?);
+    assert!(rt; refused(&rt, &["--", "a.txt", "b.txt"])?);
+    assert!(rt; refused(&rt, &["--", "a.txt", "--view", "p"])?);
+    Ok(())
+}
 
 #[test]
 fn each_ending_has_its_status_and_text(rt: HostRuntime) -> Result<(), Fail> {

@@ -2,7 +2,7 @@
 use super::*;
 
 // A line of the session, which has to be answered so.
-fn check_answer(
+pub(super) fn check_answer(
     rt: &impl Abort,
     session: &mut Session,
     line: &[u8],

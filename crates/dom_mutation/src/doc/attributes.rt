@@ -9,6 +9,7 @@ ghost use Rattle.dom_mutation.specs.Doc.{made, name_in, owner_in};
 use crate::Doc;
 use dom_base::{DomStr, Fault, Refusal};
 use node_arena::Key;
+use std::alloc::AllocError;
 
 impl Doc {
     /// Sets an attribute of an element. One that is there keeps its place, and a new one goes last. Refused where the name
@@ -18,27 +19,28 @@ impl Doc {
         ensures refused { (result ≡ Err (Fault.Refused InvalidCharacter)) ↔ (is_name name.now ≡ false) }
         ensures other { IfErr result (λ fault. (fault ≡ Fault.Refused InvalidCharacter) ⊎ (fault ≡ Fault.Memory)) }
         ensures unchanged { is_name name.now ≡ false → self.new ≡ self.old }
-        ensures names { self.new.names ≡ self.old.names }
+        ensures names { OnOk result (self.new.names ≡ self.old.names) }
         ensures world { OnOk result (self.new.world ≡ made (owner_in self.old node) (setting_attribute (name_in self.old node) name.now value.items) self.old.world) }
     {
         if !is_name(name.as_bytes()) {
             return Err(Fault::Refused(Refusal::InvalidCharacter));
         }
-        self.tell_attribute(node, name);
+        self.tell_attribute(node, name)?;
         self.set_attribute(node, name, value)?;
         Ok(())
     }
 
     /// Takes an attribute away from an element. Without it nothing changes.
-    pub fn remove_attr(&mut self, node: Key, name: &str)
+    pub fn remove_attr(&mut self, node: Key, name: &str) -> Result<(), AllocError>
         requires { node < length self.old.names }
-        ensures names { self.new.names ≡ self.old.names }
-        ensures world { self.new.world ≡ made (owner_in self.old node) (unsetting_attribute (name_in self.old node) name.now) self.old.world }
+        ensures names { OnOk result (self.new.names ≡ self.old.names) }
+        ensures world { OnOk result (self.new.world ≡ made (owner_in self.old node) (unsetting_attribute (name_in self.old node) name.now) self.old.world) }
     {
-        if self.has_attr(node, name) {
-            self.tell_attribute(node, name);
-            self.unset_attribute(node, name);
+        if !self.has_attr(node, name) {
+            return Ok(());
         }
+        self.tell_attribute(node, name)?;
+        self.unset_attribute(node, name)
     }
 }
 

@@ -27,7 +27,7 @@ impl Doc {
         ensures refused { (result ≡ Err (Fault.Refused IndexSize)) ↔ (past_end (part_of self.old.world (owner_in self.old node)) (name_in self.old node) offset ≡ true) }
         ensures other { IfErr result (λ fault. (fault ≡ Fault.Refused IndexSize) ⊎ (fault ≡ Fault.Memory)) }
         ensures unchanged { past_end (part_of self.old.world (owner_in self.old node)) (name_in self.old node) offset ≡ true → self.new ≡ self.old }
-        ensures names { self.new.names ≡ self.old.names }
+        ensures names { OnOk result (self.new.names ≡ self.old.names) }
         ensures world { OnOk result (self.new.world ≡ made (owner_in self.old node) (replacing_data (name_in self.old node) offset count «data».items) self.old.world) }
     {
         if offset > self.length(node) {
@@ -37,18 +37,18 @@ impl Doc {
         Ok(())
     }
 
-    /// All data of a Text or a Comment give way to others, which takes no memory (DOM Standard, replace data).
-    pub fn set_data(&mut self, node: Key, data: DomStr)
+    /// All data of a Text or a Comment give way to others, which are not copied (DOM Standard, replace data).
+    pub fn set_data(&mut self, node: Key, data: DomStr) -> Result<(), AllocError>
         requires node_is_node { node < length self.old.names }
         requires has_data { has_data (kind_of (trees_in self.old node) (name_in self.old node)) ≡ true }
-        ensures names { self.new.names ≡ self.old.names }
-        ensures world { self.new.world ≡ made (owner_in self.old node) (replacing_all_data (name_in self.old node) «data».items) self.old.world }
+        ensures names { OnOk result (self.new.names ≡ self.old.names) }
+        ensures world { OnOk result (self.new.world ≡ made (owner_in self.old node) (replacing_all_data (name_in self.old node) «data».items) self.old.world) }
     {
         let count = self.length(node);
-        let _ = self.replacing_data(node, 0, count, data);
+        self.replacing_data(node, 0, count, data)
     }
 
-    /// From an offset on, so many code units give way to others. All of them give way without taking memory.
+    /// From an offset on, so many code units give way to others.
     pub(super) fn replacing_data(
         &mut self,
         node: Key,
@@ -57,13 +57,11 @@ impl Doc {
         data: DomStr,
     ) -> Result<(), AllocError>
         requires { node < length self.old.names }
-        ensures ok { OnOk result (self.new ≡ planned (owner_in self.old node) (replacing_data (name_in self.old node) offset count «data».items) self.old) }
-        ensures whole { offset ≡ 0 → length (node_in (trees_in self.old node) (name_in self.old node)).text ≤ count → IsOk result }
-        ensures names { self.new.names ≡ self.old.names }
+        ensures { OnOk result (self.new ≡ planned (owner_in self.old node) (replacing_data (name_in self.old node) offset count «data».items) self.old) }
     {
         self.laws();
         let left = self.text(node).len().saturating_sub(offset);
-        self.tell_data(node);
+        self.tell_data(node)?;
         self.change_data(node, offset, count.min(left), data)
     }
 }

@@ -1,5 +1,5 @@
 //! Insertion (DOM Standard, concepts: ensure pre-insert validity, pre-insert, insert).
-ghost use Rattle.std.specs.Prelude.{◌≡◌, ◌<◌, length, false, true, map, [], IfOk, OnOk, OnErr, ◌↔◌, Some};
+ghost use Rattle.std.specs.Prelude.{◌≡◌, ◌<◌, length, false, true, map, [], IfOk, OnOk, ◌↔◌, Some};
 ghost use Rattle.std.specs.List.{AllByRecursion};
 ghost use Rattle.dom_base.specs.declared.NodeName.{NodeName as Name};
 ghost use Rattle.std.specs.Option.{option_map, ForSome};
@@ -10,7 +10,7 @@ ghost use Rattle.dom_base.specs.declared.Refusal.{Refusal as RefusalOf};
 ghost use Rattle.dom_model.specs.Validity.{insertion_refusal};
 ghost use Rattle.dom_tree.specs.Forest.{err_of};
 ghost use Rattle.dom_model.specs.Output.{child_list};
-ghost use Rattle.dom_mutation.specs.Doc.{made, planned, placed_all, observing_of, name_in, owner_in, trees_in, MayMove, IsChild, KeepsPaths, NoneAbove};
+ghost use Rattle.dom_mutation.specs.Doc.{AreNodes, IsNodeIf, made, planned, placed_all, observing_of, name_in, owner_in, trees_in, MayMove, IsChild, KeepsPaths, NoneAbove};
 
 use super::removing::Telling;
 use crate::Doc;
@@ -20,20 +20,19 @@ use std::alloc::AllocError;
 
 impl Doc {
     /// Puts a node among the children of a parent, before the child given or last; of a fragment its children. It leaves
-    /// its parent and gets the parent's node document. Refused as the Standard has it (DOM Standard, pre-insert). Only a
-    /// fragment takes memory.
+    /// its parent and gets the parent's node document. Refused as the Standard has it (DOM Standard, pre-insert).
     pub fn insert(&mut self, parent: Key, node: Key, child: Option<Key>) -> Result<(), Fault>
         requires parent_is_node { parent < length self.old.names }
         requires node_is_node { node < length self.old.names }
         requires child_is_node { ForSome child (λ c. c < length self.old.names) }
         requires node_owner { owner_in self.old node ≡ owner_in self.old parent }
         requires child_owner { ForSome child (λ c. owner_in self.old c ≡ owner_in self.old parent) }
-        ensures names { self.new.names ≡ self.old.names }
+        ensures names { OnOk result (self.new.names ≡ self.old.names) }
         ensures world { OnOk result (self.new.world ≡ made (owner_in self.old parent) (pre_inserting (name_in self.old node) (name_in self.old parent) (option_map (name_in self.old) child)) self.old.world) }
 
         // A refusal is the Standard's, and changes nothing; nothing else but memory stops an insertion.
         ensures refused { (r : RefusalOf) → (result ≡ Err (Fault.Refused r)) ↔ (insertion_refusal (trees_in self.old parent) (name_in self.old parent) (name_in self.old node) (option_map (name_in self.old) child) ≡ Some r) }
-        ensures unchanged { OnErr result (self.new ≡ self.old) }
+        ensures unchanged { (r : RefusalOf) → result ≡ Err (Fault.Refused r) → self.new ≡ self.old }
     {
         let at = child;
         if let Err(refusal) = self.check_insert(parent, node, at) {
@@ -74,7 +73,7 @@ impl Doc {
         Some(child)
     }
 
-    /// An insertion, of which observers are told or not. Only a fragment's children take memory.
+    /// An insertion, of which observers are told or not.
     pub(super) fn inserting(
         &mut self,
         how: Telling,
@@ -85,19 +84,16 @@ impl Doc {
         requires parent_is_node { parent < length self.old.names }
         requires may_move { MayMove self.old parent before node }
         requires before_is_child { ForSome before (IsChild self.old parent) }
-        ensures ok { OnOk result (self.new ≡ planned (owner_in self.old parent) (inserting (observing_of how) (name_in self.old node) (name_in self.old parent) (option_map (name_in self.old) before)) self.old) }
-        ensures err { OnErr result (self.new ≡ self.old) }
+        ensures { OnOk result (self.new ≡ planned (owner_in self.old parent) (inserting (observing_of how) (name_in self.old node) (name_in self.old parent) (option_map (name_in self.old) before)) self.old) }
     {
         let child = before;
         let prev = self.sibling_before(parent, child);
         if self.is_fragment(node) {
             let children = self.children(node)?;
-            self.insert_children(how, node, children.as_slice(), parent, before, prev);
-            return Ok(());
+            return self.insert_children(how, node, children.as_slice(), parent, before, prev);
         }
         self.laws();
-        self.place_all(how, &[node], parent, before, prev);
-        Ok(())
+        self.place_all(how, &[node], parent, before, prev)
     }
 
     /// Whether a node is a fragment.
@@ -117,7 +113,7 @@ impl Doc {
         parent: Key,
         before: Option<Key>,
         prev: Option<Key>,
-    )
+    ) -> Result<(), AllocError>
         requires parent_is_node { parent < length self.old.names }
         requires may_move { MayMove self.old parent before fragment }
         requires before_is_child { ForSome before (IsChild self.old parent) }
@@ -125,21 +121,23 @@ impl Doc {
         requires prev_is_before { option_map (name_in self.old) prev ≡ sibling_before (trees_in self.old parent) (name_in self.old parent) (option_map (name_in self.old) before) }
         requires are_children { map (name_in self.old) children.now ≡ children_of (trees_in self.old fragment) (name_in self.old fragment) }
         requires are_nodes { AllByRecursion (λ k. (k < length self.old.names) × (owner_in self.old k ≡ owner_in self.old fragment)) children.now }
-        ensures { self.new ≡ planned (owner_in self.old parent) (inserting (observing_of how) (name_in self.old fragment) (name_in self.old parent) (option_map (name_in self.old) before)) self.old }
+        requires prev_is_node { IsNodeIf self.old prev }
+        ensures { OnOk result (self.new ≡ planned (owner_in self.old parent) (inserting (observing_of how) (name_in self.old fragment) (name_in self.old parent) (option_map (name_in self.old) before)) self.old) }
     {
         self.laws();
         if children.is_empty() {
-            return;
+            return Ok(());
         }
-        self.empty(fragment, children);
-        self.place_all(how, children, parent, before, prev);
+        self.empty(fragment, children)?;
+        self.place_all(how, children, parent, before, prev)
     }
 
     /// The sibling in front of nodes that are to be put before a child of a parent, or last.
     fn sibling_before(&self, parent: Key, before: Option<Key>) -> Option<Key>
         requires parent_is_node { parent < length self.now.names }
         requires before_is_child { ForSome before (IsChild self.now parent) }
-        ensures { option_map (name_in self.now) result ≡ sibling_before (trees_in self.now parent) (name_in self.now parent) (option_map (name_in self.now) before) }
+        ensures value { option_map (name_in self.now) result ≡ sibling_before (trees_in self.now parent) (name_in self.now parent) (option_map (name_in self.now) before) }
+        ensures node { IsNodeIf self.now result }
     {
         match before {
             Some(child) => self.prev(child),
@@ -172,17 +170,18 @@ impl Doc {
         parent: Key,
         before: Option<Key>,
         prev: Option<Key>,
-    )
+    ) -> Result<(), AllocError>
         requires parent_is_node { parent < length self.old.names }
         requires may_move { AllByRecursion (MayMove self.old parent before) moved.now }
         requires before_is_child { ForSome before (IsChild self.old parent) }
-        ensures { self.new ≡ placed_all (observing_of how) (map (name_in self.old) moved.now) (name_in self.old parent) (option_map (name_in self.old) before) (option_map (name_in self.old) prev) (owner_in self.old parent) self.old }
+        requires prev_is_node { IsNodeIf self.old prev }
+        ensures { OnOk result (self.new ≡ placed_all (observing_of how) (map (name_in self.old) moved.now) (name_in self.old parent) (option_map (name_in self.old) before) (option_map (name_in self.old) prev) (owner_in self.old parent) self.old) }
     {
         let child = before;
         let next = before;
         self.room_before(parent, child, moved.len());
-        self.place_each(moved, parent, before);
-        self.tell_placed(how, moved, parent, prev, next);
+        self.place_each(moved, parent, before)?;
+        self.tell_placed(how, moved, parent, prev, next)
     }
 
     /// Room is made for some nodes below a parent, before a child of it or last.
@@ -206,67 +205,83 @@ impl Doc {
         parent: Key,
         prev: Option<Key>,
         next: Option<Key>,
-    )
-        requires { parent < length self.old.names }
-        ensures { self.new ≡ planned (owner_in self.old parent) (steps_of (telling (observing_of how) (child_list (name_in self.old parent) (map (name_in self.old) moved.now) [] (option_map (name_in self.old) prev) (option_map (name_in self.old) next)))) self.old }
+    ) -> Result<(), AllocError>
+        requires parent_is_node { parent < length self.old.names }
+        requires moved_are_nodes { AreNodes self.old moved.now }
+        requires prev_is_node { IsNodeIf self.old prev }
+        requires next_is_node { IsNodeIf self.old next }
+        ensures { OnOk result (self.new ≡ planned (owner_in self.old parent) (steps_of (telling (observing_of how) (child_list (name_in self.old parent) (map (name_in self.old) moved.now) [] (option_map (name_in self.old) prev) (option_map (name_in self.old) next)))) self.old) }
     {
         if matches!(how, Telling::Observed) {
-            self.tell_children(parent, moved, &[], prev, next);
+            self.tell_children(parent, moved, &[], prev, next)?;
         }
+        Ok(())
     }
 
     /// Some nodes are placed below a parent, one after another.
-    fn place_each(&mut self, moved: &[Key], parent: Key, before: Option<Key>)
+    fn place_each(
+        &mut self,
+        moved: &[Key],
+        parent: Key,
+        before: Option<Key>,
+    ) -> Result<(), AllocError>
         requires parent_is_node { parent < length self.old.names }
         requires may_move { AllByRecursion (MayMove self.old parent before) moved.now }
         requires before_is_child { ForSome before (IsChild self.old parent) }
-        ensures { self.new ≡ planned (owner_in self.old parent) (in_turn (placing (name_in self.old parent) (option_map (name_in self.old) before)) (map (name_in self.old) moved.now)) self.old }
+        ensures { OnOk result (self.new ≡ planned (owner_in self.old parent) (in_turn (placing (name_in self.old parent) (option_map (name_in self.old) before)) (map (name_in self.old) moved.now)) self.old) }
     {
         self.laws();
         for node in moved {
             let reference = before;
-            self.placing(parent, reference, *node);
+            self.placing(parent, reference, *node)?;
         }
+        Ok(())
     }
 
     /// A fragment loses its children, of which observers are told once.
-    fn empty(&mut self, fragment: Key, children: &[Key])
+    fn empty(&mut self, fragment: Key, children: &[Key]) -> Result<(), AllocError>
         requires fragment_is_node { fragment < length self.old.names }
         requires children_are_nodes { AllByRecursion (λ k. (k < length self.old.names) × (owner_in self.old k ≡ owner_in self.old fragment)) children.now }
-        ensures state { self.new ≡ planned (owner_in self.old fragment) (emptying (name_in self.old fragment) (map (name_in self.old) children.now)) self.old }
-        ensures paths { (y : Name) → NoneAbove self.old fragment y children.now → inclusive_ancestors (trees_in self.new fragment) y ≡ inclusive_ancestors (trees_in self.old fragment) y }
+        ensures state { OnOk result (self.new ≡ planned (owner_in self.old fragment) (emptying (name_in self.old fragment) (map (name_in self.old) children.now)) self.old) }
+        ensures paths { OnOk result ((y : Name) → NoneAbove self.old fragment y children.now → inclusive_ancestors (trees_in self.new fragment) y ≡ inclusive_ancestors (trees_in self.old fragment) y) }
     {
         self.laws();
-        self.take_each(Telling::Suppressed, fragment, children);
-        self.tell_children(fragment, &[], children, None, None);
+        self.take_each(Telling::Suppressed, fragment, children)?;
+        self.tell_children(fragment, &[], children, None, None)
     }
 
     /// Some nodes are taken out, one after another, of which observers are told or not; `top` is one of their owner.
-    pub(super) fn take_each(&mut self, how: Telling, top: Key, children: &[Key])
+    pub(super) fn take_each(
+        &mut self,
+        how: Telling,
+        top: Key,
+        children: &[Key],
+    ) -> Result<(), AllocError>
         requires top_is_node { top < length self.old.names }
         requires children_are_nodes { AllByRecursion (λ k. (k < length self.old.names) × (owner_in self.old k ≡ owner_in self.old top)) children.now }
-        ensures state { self.new ≡ planned (owner_in self.old top) (in_turn (removing (observing_of how)) (map (name_in self.old) children.now)) self.old }
-        ensures paths { (y : Name) → NoneAbove self.old top y children.now → inclusive_ancestors (trees_in self.new top) y ≡ inclusive_ancestors (trees_in self.old top) y }
+        ensures state { OnOk result (self.new ≡ planned (owner_in self.old top) (in_turn (removing (observing_of how)) (map (name_in self.old) children.now)) self.old) }
+        ensures paths { OnOk result ((y : Name) → NoneAbove self.old top y children.now → inclusive_ancestors (trees_in self.new top) y ≡ inclusive_ancestors (trees_in self.old top) y) }
     {
         self.laws();
         for child in children {
             self.laws();
-            self.removing(how, *child);
+            self.removing(how, *child)?;
         }
+        Ok(())
     }
 
     /// A node is adopted and placed below a parent, before a child of it or last.
-    fn placing(&mut self, parent: Key, before: Option<Key>, node: Key)
+    fn placing(&mut self, parent: Key, before: Option<Key>, node: Key) -> Result<(), AllocError>
         requires parent_is_node { parent < length self.old.names }
         requires may_move { MayMove self.old parent before node }
         requires before_is_child { ForSome before (IsChild self.old parent) }
-        ensures state { self.new ≡ planned (owner_in self.old parent) (placing (name_in self.old parent) (option_map (name_in self.old) before) (name_in self.old node)) self.old }
-        ensures paths { KeepsPaths parent (name_in self.old node) self.old self.new }
+        ensures state { OnOk result (self.new ≡ planned (owner_in self.old parent) (placing (name_in self.old parent) (option_map (name_in self.old) before) (name_in self.old node)) self.old) }
+        ensures paths { OnOk result (KeepsPaths parent (name_in self.old node) self.old self.new) }
     {
         self.laws();
         let document = self.document_below(parent);
-        self.adopting(document, node);
+        self.adopting(document, node)?;
         self.laws();
-        self.place(node, parent, before);
+        self.place(node, parent, before)
     }
 }

@@ -1,5 +1,5 @@
 //! Normalization (DOM Standard, normalize(); concept: contiguous exclusive Text nodes).
-ghost use Rattle.std.specs.Prelude.{◌≡◌, ◌<◌, length, map, filter, flat_map, true, IfOk, IfErr, OnOk, Some};
+ghost use Rattle.std.specs.Prelude.{◌≡◌, ◌<◌, length, map, filter, flat_map, true, IfOk, OnOk, Some};
 ghost use Rattle.std.specs.List.{AllByRecursion};
 ghost use Rattle.std.specs.Option.{option_map, ForSome};
 ghost use Rattle.dom_model.specs.Names.{first_of, items_after, name_eq};
@@ -10,30 +10,27 @@ ghost use Rattle.dom_mutation.specs.Doc.{made, planned, name_in, owner_in, trees
 
 use super::removing::Telling;
 use crate::Doc;
-use dom_base::{DomStr, Fault, Kind};
+use dom_base::{DomStr, Kind};
 use node_arena::Key;
 use std::alloc::AllocError;
 
 impl Doc {
     /// Of the Texts below a node those without data leave, and each other one gets the data of the Texts directly after it,
     /// which leave (DOM Standard, normalize()). Nothing but memory stops it.
-    pub fn normalize(&mut self, node: Key) -> Result<(), Fault>
+    pub fn normalize(&mut self, node: Key) -> Result<(), AllocError>
         requires { node < length self.old.names }
-        ensures names { self.new.names ≡ self.old.names }
+        ensures names { OnOk result (self.new.names ≡ self.old.names) }
         ensures world { OnOk result (self.new.world ≡ made (owner_in self.old node) (normalizing (name_in self.old node)) self.old.world) }
-        ensures other { IfErr result (λ fault. fault ≡ Fault.Memory) }
     {
         let texts = self.texts_below(node)?;
-        self.normalize_each(node, texts.as_slice())?;
-        Ok(())
+        self.normalize_each(node, texts.as_slice())
     }
 
     /// Some Texts are normalized, one after another.
     fn normalize_each(&mut self, top: Key, texts: &[Key]) -> Result<(), AllocError>
         requires top_is_node { top < length self.old.names }
         requires texts_are_nodes { AllByRecursion (IsOwnNode self.old top) texts.now }
-        ensures names { self.new.names ≡ self.old.names }
-        ensures ok { OnOk result (self.new ≡ planned (owner_in self.old top) (in_turn normalizing_text (map (name_in self.old) texts.now)) self.old) }
+        ensures { OnOk result (self.new ≡ planned (owner_in self.old top) (in_turn normalizing_text (map (name_in self.old) texts.now)) self.old) }
     {
         self.laws();
         for text in texts {
@@ -45,12 +42,10 @@ impl Doc {
     /// A Text without data leaves, and another one is joined with those after it, if there are some.
     fn normalize_text(&mut self, node: Key) -> Result<(), AllocError>
         requires { node < length self.old.names }
-        ensures names { self.new.names ≡ self.old.names }
-        ensures ok { OnOk result (self.new ≡ planned (owner_in self.old node) (normalizing_text (name_in self.old node)) self.old) }
+        ensures { OnOk result (self.new ≡ planned (owner_in self.old node) (normalizing_text (name_in self.old node)) self.old) }
     {
         if self.length(node) == 0 {
-            self.removing(Telling::Observed, node);
-            return Ok(());
+            return self.removing(Telling::Observed, node);
         }
         let Some(parent) = self.parent(node) else {
             return Ok(());
@@ -66,16 +61,14 @@ impl Doc {
     fn joining(&mut self, node: Key, parent: Key, nexts: &[Key]) -> Result<(), AllocError>
         requires node_is_node { node < length self.old.names }
         requires nexts_are_nodes { AllByRecursion (IsOwnNode self.old node) nexts.now }
-        ensures names { self.new.names ≡ self.old.names }
-        ensures ok { OnOk result (self.new ≡ planned (owner_in self.old node) (joining (name_in self.old node) (name_in self.old parent) (map (name_in self.old) nexts.now)) self.old) }
+        ensures { OnOk result (self.new ≡ planned (owner_in self.old node) (joining (name_in self.old node) (name_in self.old parent) (map (name_in self.old) nexts.now)) self.old) }
     {
         self.laws();
         let size = self.length(node);
         let units = self.data_of(node, nexts)?;
         self.replacing_data(node, size, 0, units)?;
         self.join_each(node, size, nexts, parent);
-        self.take_each(Telling::Observed, node, nexts);
-        Ok(())
+        self.take_each(Telling::Observed, node, nexts)
     }
 
     /// The data of some Texts, one behind another; `top` is a node of their owner.

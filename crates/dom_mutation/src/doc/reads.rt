@@ -7,7 +7,8 @@ ghost use Rattle.dom_base.specs.declared.NodeName.{NodeName as Name};
 ghost use Rattle.dom_base.specs.declared.Owner.{Owner as OwnerOf};
 ghost use Rattle.dom_model.specs.World.{part_of, is_there, is_connected};
 ghost use Rattle.dom_model.specs.CommandRefusals.{past_limit};
-ghost use Rattle.dom_mutation.specs.Doc.{name_in, owner_in, trees_in, StepsAlone};
+ghost use Rattle.dom_mutation.specs.Doc.{name_in, owner_in, trees_in};
+ghost use Rattle.dom_mutation.specs.Hosting.{IsAlone};
 
 use crate::Doc;
 use dom_base::{Kind, Owner};
@@ -19,7 +20,7 @@ impl Doc {
     pub(super) fn laws(&self)
         ensures distinct { (j k : ℕ) → j < length self.now.names → k < length self.now.names → name_in self.now j ≡ name_in self.now k → j ≡ k }
         ensures once { (o : OwnerOf) (x : Name) → count_by (λ n. name_eq n.name x) (nodes (part_of self.now.world o).trees) ≤ 1 }
-        ensures alone { (k : ℕ) → k < length self.now.names → StepsAlone (owner_in self.now k) }
+        ensures alone { (k : ℕ) → k < length self.now.names → IsAlone self.now.world (owner_in self.now k) }
         ensures limited { (o : OwnerOf) → past_limit (part_of self.now.world o).node_count 0 ≡ false }
         ensures present { (k : ℕ) → k < length self.now.names → is_there self.now.world (owner_in self.now k) ≡ true }
     {
@@ -66,14 +67,21 @@ impl Doc {
         self.forest.length(node)
     }
 
-    /// Whether a node's shadow-including root is a document (DOM Standard, concept: connected). There are no hosts yet, so
-    /// this is its root.
+    /// Whether a node's shadow-including root is a document (DOM Standard, concept: connected). Hosts are the page's, so one
+    /// host at most stands above a node's root.
     pub fn is_connected(&self, node: Key) -> bool
         requires { node < length self.now.names }
         ensures { result ≡ is_connected self.now.world (name_in self.now node) }
     {
+        self.forest.nodes_stand_once();
         let root = self.forest.root(node);
-        is_document(self.forest.kind(root))
+        match self.slots.host_of(root) {
+            Some(host) => {
+                let above = self.forest.root(host);
+                is_document(self.forest.kind(above))
+            }
+            None => is_document(self.forest.kind(root)),
+        }
     }
 
     /// Whether a node has an attribute.

@@ -1,5 +1,5 @@
 //! Removal and adoption (DOM Standard, concepts: remove, adopt).
-ghost use Rattle.std.specs.Prelude.{◌≡◌, ◌<◌, ◌↔◌, ◌⊎◌, length, Some, IfErr, IsOk, OnOk, OnErr};
+ghost use Rattle.std.specs.Prelude.{◌≡◌, ◌<◌, ◌↔◌, ◌⊎◌, length, Some, IfErr, OnOk};
 ghost use Rattle.dom_base.specs.declared.Refusal.{Refusal as RefusalOf};
 ghost use Rattle.dom_base.specs.declared.Refusal.TheVariants.{Hierarchy, NotSupported};
 ghost use Rattle.dom_model.specs.Tree.{kind_of};
@@ -9,6 +9,7 @@ ghost use Rattle.dom_mutation.specs.Doc.{made, planned, name_in, owner_in, trees
 use crate::Doc;
 use dom_base::{Fault, Kind, Refusal};
 use node_arena::Key;
+use std::alloc::AllocError;
 
 /// Whether observers are told of a removal or an insertion (DOM Standard, suppress observers flag).
 #[derive(Clone, Copy)]
@@ -19,16 +20,12 @@ pub(super) enum Telling {
 
 impl Doc {
     /// A node leaves its parent, with a record of the parent. One without a parent stays as it is (DOM Standard, remove).
-    pub fn remove(&mut self, node: Key) -> Result<(), Fault>
+    pub fn remove(&mut self, node: Key) -> Result<(), AllocError>
         requires { node < length self.old.names }
-        ensures names { self.new.names ≡ self.old.names }
+        ensures names { OnOk result (self.new.names ≡ self.old.names) }
         ensures world { OnOk result (self.new.world ≡ made (owner_in self.old node) (removing observed (name_in self.old node)) self.old.world) }
-
-        // Nothing stops a removal: it takes no memory.
-        ensures ok { IsOk result }
     {
-        self.removing(Telling::Observed, node);
-        Ok(())
+        self.removing(Telling::Observed, node)
     }
 
     /// A node leaves its parent and gets a node document, with all below it (DOM Standard, adopt). A document is not
@@ -38,45 +35,46 @@ impl Doc {
         requires node_is_node { node < length self.old.names }
         requires one_owner { owner_in self.old document ≡ owner_in self.old node }
         ensures refused { (r : RefusalOf) → (result ≡ Err (Fault.Refused r)) ↔ (adoption_refusal (kind_of (trees_in self.old node) (name_in self.old node)) ≡ Some r) }
-        ensures other { IfErr result (λ fault. (fault ≡ Fault.Refused NotSupported) ⊎ (fault ≡ Fault.Refused Hierarchy)) }
-        ensures unchanged { OnErr result (self.new ≡ self.old) }
-        ensures names { self.new.names ≡ self.old.names }
+        ensures other { IfErr result (λ fault. (fault ≡ Fault.Refused NotSupported) ⊎ ((fault ≡ Fault.Refused Hierarchy) ⊎ (fault ≡ Fault.Memory))) }
+        ensures unchanged { (r : RefusalOf) → result ≡ Err (Fault.Refused r) → self.new ≡ self.old }
+        ensures names { OnOk result (self.new.names ≡ self.old.names) }
         ensures world { OnOk result (self.new.world ≡ made (owner_in self.old node) (adopting (name_in self.old document) (name_in self.old node)) self.old.world) }
     {
         match self.kind(node) {
             Kind::Document => Err(Fault::Refused(Refusal::NotSupported)),
             Kind::Shadow => Err(Fault::Refused(Refusal::Hierarchy)),
             _ => {
-                self.adopting(document, node);
+                self.adopting(document, node)?;
                 Ok(())
             }
         }
     }
 
     /// A removal, of which observers are told or not.
-    pub(super) fn removing(&mut self, how: Telling, node: Key)
+    pub(super) fn removing(&mut self, how: Telling, node: Key) -> Result<(), AllocError>
         requires { node < length self.old.names }
-        ensures { self.new ≡ planned (owner_in self.old node) (removing (observing_of how) (name_in self.old node)) self.old }
+        ensures { OnOk result (self.new ≡ planned (owner_in self.old node) (removing (observing_of how) (name_in self.old node)) self.old) }
     {
         let Some(parent) = self.parent(node) else {
-            return;
+            return Ok(());
         };
         let prev = self.prev(node);
         let next = self.next(node);
-        self.take_out(node);
+        self.take_out(node)?;
         if matches!(how, Telling::Observed) {
-            self.tell_children(parent, &[], &[node], prev, next);
+            self.tell_children(parent, &[], &[node], prev, next)?;
         }
+        Ok(())
     }
 
     /// A node leaves its parent and gets a node document, with all below it.
-    pub(super) fn adopting(&mut self, document: Key, node: Key)
+    pub(super) fn adopting(&mut self, document: Key, node: Key) -> Result<(), AllocError>
         requires document_is_node { document < length self.old.names }
         requires node_is_node { node < length self.old.names }
-        ensures { self.new ≡ planned (owner_in self.old node) (adopting (name_in self.old document) (name_in self.old node)) self.old }
+        ensures { OnOk result (self.new ≡ planned (owner_in self.old node) (adopting (name_in self.old document) (name_in self.old node)) self.old) }
     {
         self.laws();
-        self.removing(Telling::Observed, node);
-        self.change_document(document, node);
+        self.removing(Telling::Observed, node)?;
+        self.change_document(document, node)
     }
 }

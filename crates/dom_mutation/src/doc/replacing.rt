@@ -6,7 +6,7 @@ ghost use Rattle.dom_model.specs.Tree.{is_inclusive_ancestor};
 ghost use Rattle.dom_model.specs.Changes.{placed_nodes, replacing};
 ghost use Rattle.dom_model.specs.Validity.{replacement_refusal};
 ghost use Rattle.dom_tree.specs.Forest.{err_of};
-ghost use Rattle.dom_mutation.specs.Doc.{made, planned, name_in, owner_in, trees_in, IsChild};
+ghost use Rattle.dom_mutation.specs.Doc.{AreNodes, made, planned, name_in, owner_in, trees_in, IsChild};
 
 use super::removing::Telling;
 use crate::Doc;
@@ -23,7 +23,7 @@ impl Doc {
         requires child_is_node { child < length self.old.names }
         requires node_owner { owner_in self.old node ≡ owner_in self.old parent }
         requires child_owner { owner_in self.old child ≡ owner_in self.old parent }
-        ensures names { self.new.names ≡ self.old.names }
+        ensures names { OnOk result (self.new.names ≡ self.old.names) }
         ensures world { OnOk result (self.new.world ≡ made (owner_in self.old parent) (replacing (name_in self.old parent) (name_in self.old node) (name_in self.old child)) self.old.world) }
 
         // A refusal is the Standard's, and changes nothing; nothing else but memory stops a replacement.
@@ -57,7 +57,7 @@ impl Doc {
         requires node_owner { owner_in self.old node ≡ owner_in self.old parent }
         requires not_above { is_inclusive_ancestor (trees_in self.old parent) (name_in self.old node) (name_in self.old parent) ≡ false }
         requires child_is_child { IsChild self.old parent child }
-        ensures names { self.new.names ≡ self.old.names }
+        ensures names { OnOk result (self.new.names ≡ self.old.names) }
         ensures world { OnOk result (self.new ≡ planned (owner_in self.old parent) (replacing (name_in self.old parent) (name_in self.old node) (name_in self.old child)) self.old) }
     {
         self.laws();
@@ -65,17 +65,17 @@ impl Doc {
         let reference = self.reference_for(parent, node, next);
         let prev = self.prev(child);
         let added = self.placed_nodes(node)?;
-        self.removing(Telling::Suppressed, child);
+        self.removing(Telling::Suppressed, child)?;
         let before = reference;
         self.inserting(Telling::Suppressed, node, parent, before)?;
-        self.tell_children(parent, added.as_slice(), &[child], prev, reference);
-        Ok(())
+        self.tell_children(parent, added.as_slice(), &[child], prev, reference)
     }
 
     /// The nodes that an insertion places: a fragment's children, or the node itself.
     fn placed_nodes(&self, node: Key) -> Result<Vec<Key>, AllocError>
         requires { node < length self.now.names }
-        ensures { IfOk result (λ keys. map (name_in self.now) keys.items ≡ placed_nodes (trees_in self.now node) (name_in self.now node)) }
+        ensures value { IfOk result (λ keys. map (name_in self.now) keys.items ≡ placed_nodes (trees_in self.now node) (name_in self.now node)) }
+        ensures nodes { IfOk result (λ keys. AreNodes self.now keys.items) }
     {
         if self.is_fragment(node) {
             return self.children(node);

@@ -100,8 +100,7 @@ impl Doc {
         requires one_owner { owner_in self.old new ≡ owner_in self.old node }
         requires unlinked { parent_of (trees_in self.old node) (name_in self.old new) ≡ None }
         requires not_above { is_inclusive_ancestor (trees_in self.old node) (name_in self.old new) (name_in self.old node) ≡ false }
-        ensures names { self.new.names ≡ self.old.names }
-        ensures ok { OnOk result (self.new ≡ planned (owner_in self.old node) (cutting_tail (name_in self.old node) offset count (name_in self.old new)) self.old) }
+        ensures { OnOk result (self.new ≡ planned (owner_in self.old node) (cutting_tail (name_in self.old node) offset count (name_in self.old new)) self.old) }
     {
         self.laws();
         if let Some(parent) = self.parent(node) {
@@ -124,8 +123,7 @@ impl Doc {
         requires one_owner { owner_in self.old new ≡ owner_in self.old parent }
         requires unlinked { parent_of (trees_in self.old node) (name_in self.old new) ≡ None }
         requires not_above { is_inclusive_ancestor (trees_in self.old node) (name_in self.old new) (name_in self.old node) ≡ false }
-        ensures names { self.new.names ≡ self.old.names }
-        ensures ok { OnOk result (self.new ≡ planned (owner_in self.old node) (placing_tail (name_in self.old node) offset (name_in self.old new) (Some (name_in self.old parent))) self.old) }
+        ensures { OnOk result (self.new ≡ planned (owner_in self.old node) (placing_tail (name_in self.old node) offset (name_in self.old new) (Some (name_in self.old parent))) self.old) }
     {
         self.laws();
         let next = self.next(node);

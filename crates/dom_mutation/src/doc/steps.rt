@@ -1,38 +1,69 @@
 //! The elementary steps of which all changes consist.
 ghost use Rattle.std.specs.Prelude.{◌≡◌, ℕ, ◌<◌, ◌≤◌, length, true, false, is_some, map, IsOk, OnOk, OnErr, Some, None};
 ghost use Rattle.std.specs.Option.{option_map, ForSome};
-ghost use Rattle.dom_model.specs.Tree.{parent_of, is_inclusive_ancestor, index_of, attribute_value, node_in};
-ghost use Rattle.dom_model.specs.Steps.{make_room, place, take_out, set_attribute, replace_data, split_at, queue_record};
+ghost use Rattle.dom_model.specs.Tree.{parent_of, is_inclusive_ancestor, index_of, node_in};
+ghost use Rattle.dom_model.specs.Steps.{make_room, place, take_out, set_attribute, replace_data, split_at};
 ghost use Rattle.dom_model.specs.Changes.{steps_of};
 ghost use Rattle.dom_model.specs.TextChanges.{joins};
 ghost use Rattle.dom_model.specs.Tree.{Trees as TreesOf};
-ghost use Rattle.dom_model.specs.Output.{child_list, attributes, character_data};
 ghost use Rattle.dom_mutation.specs.Doc.{name_in, owner_in, trees_in, stepped, planned};
 
 use super::data::spliced;
 use super::place_of;
+use super::signals::{link, remove_attr, set_attr, settle, unlink};
 use crate::Doc;
 use dom_base::DomStr;
+use dom_observers::Observers;
 use dom_traversal::iterators_stay;
 use node_arena::Key;
 use std::alloc::AllocError;
 
 impl Doc {
-    /// A node leaves its parent, after its owner's iterators have left its tree.
-    pub(super) fn take_out(&mut self, node: Key)
+    /// A node leaves its parent, after it got its transient registrations and its owner's iterators left its tree; slots are
+    /// signalled.
+    pub(super) fn take_out(&mut self, node: Key) -> Result<(), AllocError>
         requires node_is_node { node < length self.old.names }
         requires has_parent { is_some (parent_of (trees_in self.old node) (name_in self.old node)) ≡ true }
-        ensures { self.new ≡ stepped (owner_in self.old node) (take_out (name_in self.old node)) self.old }
+        ensures { OnOk result (self.new ≡ stepped (owner_in self.old node) (take_out (name_in self.old node)) self.old) }
     {
         iterators_stay(&self.forest);
+        self.forest.nodes_stand_once();
+        let Some(parent) = self.forest.parent(node) else {
+            unreachable!()
+        };
+        if let Err(error) = self.observers.transient(&self.forest, parent, node) {
+            self.observers = Observers::new(self.alloc);
+            return Err(error);
+        }
         let owner = self.forest.name(node).owner;
         let tables = &mut self.tables[place_of(owner)];
         tables.leave(&self.forest, node);
-        self.forest.unlink(node);
+        let done = unlink(
+            &mut self.forest,
+            &mut self.slots,
+            &mut self.signalled,
+            &mut self.queue,
+            node,
+        );
+        settle(
+            done,
+            &mut self.forest,
+            &mut self.tables,
+            &mut self.observers,
+            &mut self.slots,
+            &mut self.signalled,
+            &mut self.queue,
+            self.alloc,
+        )
     }
 
     /// The tree of a node becomes a child of another one, just before the child given or last.
-    pub(super) fn place(&mut self, node: Key, parent: Key, before: Option<Key>)
+    pub(super) fn place(
+        &mut self,
+        node: Key,
+        parent: Key,
+        before: Option<Key>,
+    ) -> Result<(), AllocError>
         requires node_is_node { node < length self.old.names }
         requires parent_is_node { parent < length self.old.names }
         requires one_owner { owner_in self.old node ≡ owner_in self.old parent }
@@ -40,10 +71,28 @@ impl Doc {
         requires not_above { is_inclusive_ancestor (trees_in self.old parent) (name_in self.old node) (name_in self.old parent) ≡ false }
         requires before_is_node { ForSome before (λ b. b < length self.old.names) }
         requires before_is_child { ForSome before (λ b. parent_of (trees_in self.old b) (name_in self.old b) ≡ Some (name_in self.old parent)) }
-        ensures { self.new ≡ stepped (owner_in self.old parent) (place (name_in self.old node) (name_in self.old parent) (option_map (name_in self.old) before)) self.old }
+        ensures { OnOk result (self.new ≡ stepped (owner_in self.old parent) (place (name_in self.old node) (name_in self.old parent) (option_map (name_in self.old) before)) self.old) }
     {
         self.forest.nodes_stand_once();
-        self.forest.link_before(parent, node, before);
+        let done = link(
+            &mut self.forest,
+            &mut self.slots,
+            &mut self.signalled,
+            &mut self.queue,
+            node,
+            parent,
+            before,
+        );
+        settle(
+            done,
+            &mut self.forest,
+            &mut self.tables,
+            &mut self.observers,
+            &mut self.slots,
+            &mut self.signalled,
+            &mut self.queue,
+            self.alloc,
+        )
     }
 
     /// An attribute gets a value.
@@ -54,18 +103,52 @@ impl Doc {
         value: DomStr,
     ) -> Result<(), AllocError>
         requires { node < length self.old.names }
-        ensures ok { OnOk result (self.new ≡ stepped (owner_in self.old node) (set_attribute (name_in self.old node) name.now (Some value.items)) self.old) }
-        ensures err { OnErr result (self.new ≡ self.old) }
+        ensures { OnOk result (self.new ≡ stepped (owner_in self.old node) (set_attribute (name_in self.old node) name.now (Some value.items)) self.old) }
     {
-        self.forest.set_attr(node, name, value)
+        let done = set_attr(
+            &mut self.forest,
+            &mut self.slots,
+            &mut self.signalled,
+            &mut self.queue,
+            node,
+            name,
+            value,
+        );
+        settle(
+            done,
+            &mut self.forest,
+            &mut self.tables,
+            &mut self.observers,
+            &mut self.slots,
+            &mut self.signalled,
+            &mut self.queue,
+            self.alloc,
+        )
     }
 
     /// An attribute goes.
-    pub(super) fn unset_attribute(&mut self, node: Key, name: &str)
+    pub(super) fn unset_attribute(&mut self, node: Key, name: &str) -> Result<(), AllocError>
         requires { node < length self.old.names }
-        ensures { self.new ≡ stepped (owner_in self.old node) (set_attribute (name_in self.old node) name.now None) self.old }
+        ensures { OnOk result (self.new ≡ stepped (owner_in self.old node) (set_attribute (name_in self.old node) name.now None) self.old) }
     {
-        let _ = self.forest.remove_attr(node, name);
+        let done = remove_attr(
+            &mut self.forest,
+            &mut self.slots,
+            &mut self.signalled,
+            &mut self.queue,
+            node,
+            name,
+        );
+        settle(
+            done,
+            &mut self.forest,
+            &mut self.tables,
+            &mut self.observers,
+            &mut self.slots,
+            &mut self.signalled,
+            &mut self.queue,
+            self.alloc,
+        )
     }
 
     /// Code units of a Text or a Comment give way to others. There are no ranges whose ends this moves. All of them give
@@ -96,35 +179,6 @@ impl Doc {
         let _ = &self.forest;
     }
 
-    /// Observers are told that a node's children change. There are no observers.
-    pub(super) fn tell_children(
-        &mut self,
-        target: Key,
-        added: &[Key],
-        removed: &[Key],
-        prev: Option<Key>,
-        next: Option<Key>,
-    )
-        requires { target < length self.old.names }
-        ensures { self.new ≡ stepped (owner_in self.old target) (queue_record (child_list (name_in self.old target) (map (name_in self.old) added.now) (map (name_in self.old) removed.now) (option_map (name_in self.old) prev) (option_map (name_in self.old) next))) self.old }
-    {
-        let _ = &self.forest;
-    }
-
-    /// Observers are told that an attribute changes. There are no observers.
-    pub(super) fn tell_attribute(&mut self, node: Key, name: &str)
-        requires { node < length self.old.names }
-        ensures { self.new ≡ stepped (owner_in self.old node) (queue_record (attributes (name_in self.old node) name.now (attribute_value (node_in (trees_in self.old node) (name_in self.old node)) name.now))) self.old }
-    {
-        let _ = &self.forest;
-    }
-    /// Observers are told that data change. There are no observers.
-    pub(super) fn tell_data(&mut self, node: Key)
-        requires { node < length self.old.names }
-        ensures { self.new ≡ stepped (owner_in self.old node) (queue_record (character_data (name_in self.old node) (Some (node_in (trees_in self.old node) (name_in self.old node)).text))) self.old }
-    {
-        let _ = &self.forest;
-    }
     /// A Text was split at an offset, and its tail is in a new Text. There are no ranges whose ends this moves, whatever the
     /// index at which the Text stood below its parent.
     pub(super) fn split_at(&mut self, node: Key, offset: usize, new: Key, parent: Key)

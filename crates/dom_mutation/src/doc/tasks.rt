@@ -1,16 +1,19 @@
-//! The microtasks (HTML Standard, concept: microtask queue).
-ghost use Rattle.std.specs.Prelude.{◌≡◌, ◌++◌, ◌∷◌, [], drop, OnOk, OnErr};
+//! The microtasks (HTML Standard, concept: microtask queue), and the slots that a notification takes.
+ghost use Rattle.std.specs.Prelude.{◌≡◌, ◌<◌, ◌++◌, ◌∷◌, [], All, filter, map, length, drop, IfOk, OnOk, OnErr};
 ghost use Rattle.std.specs.Option.{option_map, ForSome};
 ghost use Rattle.dom_model.specs.Names.{first_of};
 ghost use Rattle.dom_model.specs.World.{micro_task};
 ghost use Rattle.dom_microtasks.specs.Tasks.{task_of};
-ghost use Rattle.dom_mutation.specs.OwnTables.{IsLabel};
-ghost use Rattle.dom_mutation.specs.Doc.{with_tasks};
+ghost use Rattle.dom_model.specs.Turns.{is_owned_by, without_signals};
+ghost use Rattle.dom_mutation.specs.Doc.{name_in, with_tasks, IsDue};
 
+use super::signals::{other_slots, own_slots};
 use crate::Doc;
 use dom_base::Owner;
-use dom_microtasks::Task;
+use dom_microtasks::{Queue, Task};
+use node_arena::Key;
 use std::alloc::AllocError;
+use std::mem;
 
 impl Doc {
     /// Queues a label of an owner behind all tasks (HTML Standard, queue a microtask). Where memory is refused, nothing
@@ -22,13 +25,35 @@ impl Doc {
         self.queue.push_micro(owner, label)
     }
 
-    /// Takes the first task out, if there is one (HTML Standard, perform a microtask checkpoint). It is a label: there
-    /// are no observers yet.
+    /// Takes the first task out, if there is one (HTML Standard, perform a microtask checkpoint). The owner of a
+    /// notification is there.
     pub fn pop(&mut self) -> Option<Task>
         ensures task { option_map task_of result ≡ first_of self.old.world.tasks }
         ensures rest { self.new ≡ with_tasks (drop 1 self.old.world.tasks) self.old }
-        ensures label { ForSome result (λ t. IsLabel (task_of t)) }
+        ensures due { ForSome result (λ t. IsDue self.old.world (task_of t)) }
     {
         self.queue.pop()
+    }
+
+    /// Takes all tasks out, for them to run (HTML Standard, perform a microtask checkpoint).
+    pub fn take_tasks(&mut self) -> Queue
+        ensures tasks { result ≡ self.old.world.tasks }
+        ensures rest { self.new ≡ with_tasks [] self.old }
+    {
+        mem::replace(&mut self.queue, Queue::new(self.alloc))
+    }
+
+    /// The slots of an owner that are signalled, in their order; then none of that owner is (DOM Standard, notify mutation
+    /// observers: signal slots). Where memory is refused, nothing changes.
+    pub fn take_signals(&mut self, owner: Owner) -> Result<Vec<Key>, AllocError>
+        ensures keys { IfOk result (λ keys. map (name_in self.old) keys.items ≡ filter (is_owned_by owner) self.old.world.signalled) }
+        ensures nodes { IfOk result (λ keys. All (λ k. k < length self.old.names) keys.items) }
+        ensures rest { OnOk result (self.new ≡ record self.old { world = without_signals self.old.world owner }) }
+        ensures err { OnErr result (self.new ≡ self.old) }
+    {
+        let own = own_slots(self.alloc, &self.forest, self.signalled.as_slice(), owner)?;
+        let others = other_slots(self.alloc, &self.forest, self.signalled.as_slice(), owner)?;
+        self.signalled = others;
+        Ok(own)
     }
 }

@@ -31,7 +31,7 @@ impl Doc {
         self.laws();
         match self.kind(node) {
             Kind::Text | Kind::Comment => {
-                self.set_data(node, data);
+                self.set_data(node, data)?;
                 Ok(())
             }
             Kind::Document => Ok(()),
@@ -62,17 +62,15 @@ impl Doc {
     /// A node loses its children, of which observers are told once.
     fn clear(&mut self, node: Key) -> Result<(), AllocError>
         requires { node < length self.old.names }
-        ensures names { self.new.names ≡ self.old.names }
-        ensures ok { OnOk result (self.new ≡ planned (owner_in self.old node) (replacing_children (name_in self.old node) []) self.old) }
+        ensures { OnOk result (self.new ≡ planned (owner_in self.old node) (replacing_children (name_in self.old node) []) self.old) }
     {
         self.laws();
         let children = self.children(node)?;
-        self.take_each(Telling::Suppressed, node, children.as_slice());
+        self.take_each(Telling::Suppressed, node, children.as_slice())?;
         if children.as_slice().is_empty() {
             return Ok(());
         }
-        self.tell_children(node, &[], children.as_slice(), None, None);
-        Ok(())
+        self.tell_children(node, &[], children.as_slice(), None, None)
     }
 
     /// The children of a node give way to a Text that was made, of which observers are told once.
@@ -81,14 +79,12 @@ impl Doc {
         requires text_is_node { text < length self.old.names }
         requires one_owner { owner_in self.old text ≡ owner_in self.old node }
         requires not_above { is_inclusive_ancestor (trees_in self.old node) (name_in self.old text) (name_in self.old node) ≡ false }
-        ensures names { self.new.names ≡ self.old.names }
-        ensures ok { OnOk result (self.new ≡ planned (owner_in self.old node) (putting_text (name_in self.old node) (name_in self.old text)) self.old) }
+        ensures { OnOk result (self.new ≡ planned (owner_in self.old node) (putting_text (name_in self.old node) (name_in self.old text)) self.old) }
     {
         self.laws();
         let children = self.children(node)?;
-        self.take_each(Telling::Suppressed, node, children.as_slice());
+        self.take_each(Telling::Suppressed, node, children.as_slice())?;
         self.inserting(Telling::Suppressed, text, node, None)?;
-        self.tell_children(node, &[text], children.as_slice(), None, None);
-        Ok(())
+        self.tell_children(node, &[text], children.as_slice(), None, None)
     }
 }

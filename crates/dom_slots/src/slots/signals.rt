@@ -80,10 +80,29 @@ impl Slots {
         ensures value { (p : Name → Truth) → ((k : ℕ) → k < length forest.now.names → p (name_at forest.now.names k) ≡ has_other_list was.now self.now.table k) → IfOk result (λ keys. map (name_at forest.now.names) keys.items ≡ option_map_or (λ around. signalled_by p (shadows forest.now self.now.hosts) (option_map (name_at forest.now.names) begun.slot) (name_at forest.now.names (step_node begun.step)) (name_at forest.now.names around) (is_move begun.step)) (around_of begun.step begun.left) []) }
         ensures nodes { IfOk result (λ keys. All (λ k. k < length forest.now.names) keys.items) }
     {
+        forest.nodes_stand_once();
         match begun.step.around(begun.left) {
+            Some(around) if was.is_same(&self.table) => {
+                self.bare_alone(forest, begun.step, around)
+            }
             Some(around) => self.signals_around(forest, was, begun, around),
             None => Ok(Vec::new(self.alloc)),
         }
+    }
+
+    /// The slots that a step signals around a node where each slot has the nodes that it had: the node itself, if at all. No
+    /// tree is walked.
+    fn bare_alone(&self, forest: &Forest, step: Step, around: Key) -> Result<Vec<Key>, AllocError>
+        requires slots { AreSlotsOf forest.now self.now }
+        requires around { around < length forest.now.names }
+        ensures value { IfOk result (λ keys. map (name_at forest.now.names) keys.items ≡ (if is_move step && is_bare_at (shadows forest.now self.now.hosts) (name_at forest.now.names around) then name_at forest.now.names around ∷ [] else [])) }
+        ensures nodes { IfOk result (λ keys. All (λ k. k < length forest.now.names) keys.items) }
+    {
+        let mut signals = Vec::new(self.alloc);
+        if step.is_move() && self.is_bare(forest, around) {
+            signals.push(around)?;
+        }
+        Ok(signals)
     }
 
     /// The slots that a step signals around a node.

@@ -1,4 +1,5 @@
 -- Where memory is refused at the start, nothing is read or written.
+use Rattle.std.proofs.Common.{sym}
 use Rattle.std.proofs.lemmas.Result.{err_from_is_err_and}
 use Rattle.dom_engine.proofs.ReadLaws.{stops-before}
 use Rattle.dom_engine.proofs.runner.run.Goals as goal
@@ -7,3 +8,9 @@ pub returns-in_err-runner-clause-stops : goal.returns-in_err-runner-clause-stops
 returns-in_err-runner-clause-stops g c =
     let p = err_from_is_err_and c.from_residual.result c.from_residual.ensures.1 in
     rw (p.1, p.2) (stops-before c.args.view _ _)
+
+pub returns-clause-ok : goal.returns-clause-ok
+returns-clause-ok g c = rw (sym c.in_ok-runner.ensures.2.2) c.run_all.ensures.ok
+
+pub returns-clause-stops : goal.returns-clause-stops
+returns-clause-stops g c = rw (sym c.in_ok-runner.ensures.2.2) c.run_all.ensures.stops

@@ -8,7 +8,9 @@ use Rattle.dom_mutation.proofs.Standing.{keeps_changed}
 use Rattle.dom_mutation.proofs.Steps.{data_world}
 use Rattle.dom_mutation.proofs.Shown.{owner_there, shown, known, step_held, step_done}
 use Rattle.dom_mutation.proofs.Spliced.{data_changed}
-use Rattle.dom_mutation.specs.Doc.{all_tables}
+use Rattle.dom_model.specs.Names.{name_eq}
+use Rattle.dom_slots.proofs.Recast.{keeps_if, slots-recast}
+use Rattle.dom_mutation.specs.Doc.{named_trees, all_tables}
 use Rattle.dom_mutation.proofs.doc.Doc.change_data.Goals as goal
 
 pub returns-in_err-text-clause-whole : goal.returns-in_err-text-clause-whole
@@ -27,6 +29,7 @@ invariant_of-self c =
     ∙ data_changed x c.args.offset c.args.count c.args.data.items f.trees (omega arith))
     c.requires
     (changed_node f.trees c.self.invariant.owned x.owner h x (λ n. refl) refl) (keeps_changed h (λ n. refl) x f.trees)
+    (slots-recast f (named_trees f.names (change_node h x f.trees)) c.self.inside.slots _ (keeps_if (λ n. name_eq n.name x) h record { name = λ n. refl; kind = λ n. refl; element = λ n. refl; attributes = λ n. refl }) refl refl c.self.invariant.signals.slots)
 
 pub returns-clause-ok : goal.returns-clause-ok
 returns-clause-ok c =
@@ -38,5 +41,5 @@ returns-clause-ok c =
     (c.set_data.ensures.trees ∙ ap (λ units. change_node (with_text units) x f.trees) (c.in_ok-text.ensures.items ∙ ap (replaced c.args.offset c.args.count c.args.data.items) c.text.ensures)
     ∙ data_changed x c.args.offset c.args.count c.args.data.items f.trees (omega arith))
     (λ ns. replace_data (name_at ns c.args.node) c.args.offset c.args.count c.args.data.items)
-    (data_world f.names f.trees (all_tables c.self.inside) x.owner (owner_there f c.self.invariant c.self.view_is c.args.node c.requires) x c.args.offset c.args.count c.args.data.items
+    (data_world f.names f.trees (all_tables c.self.inside) c.self.invariant x.owner (owner_there f c.self.invariant c.self.view_is c.args.node c.requires) x c.args.offset c.args.count c.args.data.items
     (changed_node f.trees c.self.invariant.owned x.owner h x (λ n. refl) refl))

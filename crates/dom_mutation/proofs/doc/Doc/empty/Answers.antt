@@ -1,17 +1,25 @@
-use Rattle.std.proofs.Common.{[], ◌∷◌, None, map, ap, ◌∙◌, subst, ◌≡◌}
+use Rattle.std.proofs.Common.{[], ◌∷◌, None, map, sym, ap, ◌∙◌, subst}
+use Rattle.std.proofs.lemmas.Result.{on_ok_weaker}
 use Rattle.dom_model.specs.Tree.{inclusive_ancestors}
 use Rattle.dom_model.specs.Part.{Part}
 use Rattle.dom_model.specs.Output.{child_list}
 use Rattle.dom_model.specs.Steps.{queue_record}
-use Rattle.dom_mutation.specs.Doc.{name_in, owner_in, trees_in, StepsAlone}
+use Rattle.dom_model.specs.Changes.{in_turn, suppressed, removing}
+use Rattle.dom_mutation.specs.Doc.{DocState, name_in, owner_in, trees_in}
+use Rattle.dom_mutation.specs.Hosting.{IsAlone}
+use Rattle.dom_mutation.proofs.Made.{alone_made}
+use Rattle.dom_mutation.proofs.OwnPlans.{plans_each, plans_removing}
 use Rattle.dom_mutation.proofs.doc.Doc.empty.Goals as goal
 
 pub returns-clause-paths : goal.returns-clause-paths
-returns-clause-paths c y off =
+returns-clause-paths c =
     let d = c.args.self.now in
     let e = c.take_each.new.self in
-    let own : owner_in e c.args.fragment ≡ owner_in d c.args.fragment = ap (λ s. owner_in s c.args.fragment) c.take_each.ensures.state in
-    let alone = subst StepsAlone (Rattle.std.proofs.Common.sym own) (c.laws.ensures.alone c.args.fragment c.requires.fragment_is_node) in
-    ap (λ s. inclusive_ancestors (trees_in s c.args.fragment) y) c.tell_children.ensures
-    ∙ ap (λ (p : Part). inclusive_ancestors p.trees y) (alone e.world (queue_record (child_list (name_in e c.args.fragment) [] (map (name_in e) c.args.children.now) None None) ∷ []))
-    ∙ c.take_each.ensures.paths y off
+    let o = owner_in d c.args.fragment in
+    let ys = map (name_in d) c.args.children.now in
+    let alone = subst (λ (s : DocState). IsAlone s.world (owner_in s c.args.fragment)) (sym c.in_ok-take_each.ensures.state)
+    (alone_made o (in_turn (removing suppressed) ys) d.world (c.laws.ensures.alone c.args.fragment c.requires.fragment_is_node) (plans_each o (removing suppressed) (plans_removing o suppressed) ys)) in
+    on_ok_weaker c.tell_children.result (λ told y off. ap (λ (s : DocState). inclusive_ancestors (trees_in s c.args.fragment) y) told
+    ∙ ap (λ (p : Part). inclusive_ancestors p.trees y) (alone.steps (queue_record (child_list (name_in e c.args.fragment) [] (map (name_in e) c.args.children.now) None None) ∷ []) (tt, tt))
+    ∙ c.in_ok-take_each.ensures.paths y off)
+    c.tell_children.ensures

@@ -1,9 +1,10 @@
 use Rattle.std.proofs.Common.{option_map, sym, ◌∙◌}
+use Rattle.std.proofs.lemmas.Result.{on_ok_weaker}
 use Rattle.dom_mutation.specs.Doc.{name_in, observing_of}
 use Rattle.dom_mutation.proofs.Inserted.{inserted_single}
 use Rattle.dom_mutation.proofs.doc.Doc.inserting.Goals as goal
 
-pub returns-clause-ok : goal.returns-clause-ok
-returns-clause-ok c =
-    inserted_single c.args.self.now c.place_all.new.self c.laws.ensures.alone (observing_of c.args.how) c.args.parent c.args.node c.args.before (option_map (name_in c.args.self.now) c.sibling_before-prev.result)
-    c.requires.parent_is_node c.requires.may_move (sym c.is_fragment.ensures ∙ c.if-is_fragment.false) c.sibling_before-prev.ensures c.place_all.ensures
+pub returns : goal.returns
+returns c =
+    on_ok_weaker c.place_all.result (inserted_single c.args.self.now c.place_all.new.self c.laws.ensures.alone (observing_of c.args.how) c.args.parent c.args.node c.args.before (option_map (name_in c.args.self.now) c.sibling_before-prev.result)
+    c.requires.parent_is_node c.requires.may_move (sym c.is_fragment.ensures ∙ c.if-is_fragment.false) c.sibling_before-prev.ensures.value) c.place_all.ensures

@@ -1,13 +1,24 @@
-use Rattle.std.proofs.Common.{ℕ, ◌<◌, Bool, [], length, sym, ap, subst, ◌∙◌}
+use Rattle.std.proofs.Common.{ℕ, ◌<◌, Bool, [], length, sym, ap, subst, ◌∙◌, arith}
 use Rattle.std.specs.Prelude.{slice_get}
 use Rattle.dom_model.specs.Command.{Command}
 use Rattle.dom_model.specs.Output.{reference}
 use Rattle.dom_model.specs.Effects.{Effect}
 use Rattle.dom_tree.specs.Forest.{name_at}
 use Rattle.dom_mutation.proofs.Cursors.{item_there, with_own, at_effect}
-use Rattle.dom_mutation.proofs.Passing.{there_iter, at, iter_there, reads, name_known}
+use Rattle.dom_mutation.proofs.Passing.{place_there, there_iter, at, iter_there, reads, name_known}
 use Rattle.dom_mutation.specs.Doc.{all_tables}
 use Rattle.dom_mutation.proofs.doc.Doc.iter_at.Goals as goal
+
+pub index-tables-requires : goal.index-tables-requires
+index-tables-requires c =
+    let f = c.self.inside.forest in
+    let less : c.place_of.result < length (all_tables c.self.inside).each = place_there f c.self.invariant c.self.view_is c.args.owner (there_iter f c.self.invariant c.self.view_is c.args.owner c.args.number c.requires) c.place_of.result c.place_of.ensures in
+    omega (arith, c.self.inside.tables.ok.0)
+
+pub iter_at-requires : goal.iter_at-requires
+iter_at-requires c =
+    let f = c.self.inside.forest in
+    iter_there f c.self.invariant c.self.view_is c.args.owner (there_iter f c.self.invariant c.self.view_is c.args.owner c.args.number c.requires) c.place_of.result c.place_of.ensures c.index-tables.result.now c.index-tables.ensures c.args.number c.requires
 
 pub returns-clause-node : goal.returns-clause-node
 returns-clause-node c =

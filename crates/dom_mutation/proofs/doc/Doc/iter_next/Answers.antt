@@ -1,13 +1,19 @@
-use Rattle.std.proofs.Common.{false, Some, option_map, subst}
+use Rattle.std.proofs.Common.{false, Some, option_map, subst, ◌<◌, length, arith}
 use Rattle.std.specs.Prelude.{slice_get, slice_set}
 use Rattle.dom_model.specs.Command.{Command}
 use Rattle.dom_model.specs.Effects.{node_or_null}
 use Rattle.dom_tree.specs.Forest.{name_at}
 use Rattle.dom_traversal.specs.Iterators.{IsIteratorOf, iterator_at}
 use Rattle.dom_mutation.proofs.Cursors.{item_there, next_effect}
-use Rattle.dom_mutation.proofs.Passing.{there_iter, at, iter_there, iters_of, writes, held_written, iter_moved, name_known}
+use Rattle.dom_mutation.proofs.Passing.{place_there, there_iter, at, iter_there, iters_of, writes, held_written, iter_moved, name_known}
 use Rattle.dom_mutation.specs.Doc.{all_tables}
 use Rattle.dom_mutation.proofs.doc.Doc.iter_next.Goals as goal
+
+pub index_mut-tables-requires : goal.index_mut-tables-requires
+index_mut-tables-requires c =
+    let f = c.self.inside.forest in
+    let less : c.place_of.result < length (all_tables c.self.inside).each = place_there f c.self.invariant c.self.view_is c.args.owner (there_iter f c.self.invariant c.self.view_is c.args.owner c.args.number c.requires) c.place_of.result c.place_of.ensures in
+    omega (arith, c.self.inside.tables.ok.0)
 
 pub iter_next-requires-clause-there : goal.iter_next-requires-clause-there
 iter_next-requires-clause-there c =

@@ -1,4 +1,4 @@
-use Rattle.std.proofs.Common.{◌≡◌, ◌≤◌, true, false, arith, subst, sym}
+use Rattle.std.proofs.Common.{◌≡◌, ◌≤◌, true, false, arith, subst}
 use Rattle.std.specs.Prelude.{count_by}
 use Rattle.dom_model.specs.Names.{name_eq}
 use Rattle.dom_model.specs.Tree.{Node, Trees, nodes}
@@ -6,10 +6,13 @@ use Rattle.dom_model.specs.World.{part_of, is_there}
 use Rattle.dom_tree.specs.Owners.{trees_of_owner}
 use Rattle.dom_mutation.proofs.Once.{once_forest, once_own, times_count}
 use Rattle.dom_tree.specs.Forest.{name_at}
-use Rattle.dom_mutation.specs.Doc.{owner_in, StepsAlone, all_tables}
+use Rattle.dom_mutation.specs.Doc.{DocState, owner_in, contents, all_tables}
+use Rattle.dom_mutation.specs.Hosting.{IsAlone}
+use Rattle.dom_tree.specs.Owners.{AreOf}
+use Rattle.dom_tree.proofs.Owned.{AreOf-own}
 use Rattle.dom_model.specs.CommandRefusals.{past_limit}
-use Rattle.dom_mutation.proofs.Held.{there_page, within_limit}
-use Rattle.dom_mutation.proofs.Made.{page_alone}
+use Rattle.dom_mutation.proofs.Held.{are_hosts, within_limit}
+use Rattle.dom_mutation.proofs.OwnSteps.{hosted_alone}
 use Rattle.dom_mutation.proofs.Shown.{own_in_part, owner_there}
 use Rattle.dom_mutation.proofs.doc.Doc.laws.Goals as goal
 
@@ -30,8 +33,12 @@ returns-clause-present c k k< =
 pub returns-clause-alone : goal.returns-clause-alone
 returns-clause-alone c k k< =
     let f = c.self.inside.forest in
-    let page = there_page f.names f.trees (all_tables c.self.inside) c.self.invariant (name_at f.names k).owner (owner_there f c.self.invariant c.self.view_is k k<) in
-    subst (λ e. StepsAlone (owner_in e k)) c.self.view_is (subst StepsAlone (sym page) page_alone)
+    let o = (name_at f.names k).owner in
+    let now = contents f.names f.trees (all_tables c.self.inside) in
+    subst (λ (e : DocState). IsAlone e.world (owner_in e k)) c.self.view_is record {
+      own = subst (AreOf o) (own_in_part f.names f.trees c.self.invariant o) (AreOf-own o f.trees c.self.invariant.owned.owners);
+      steps = hosted_alone now c.self.inside.slots.hosts (are_hosts f.names f.trees (all_tables c.self.inside) c.self.invariant) o;
+    }
 
 pub returns-clause-limited : goal.returns-clause-limited
 returns-clause-limited c o =

@@ -1,7 +1,10 @@
-use Rattle.dom_mutation.proofs.Joined.{normalizes_on}
+use Rattle.dom_mutation.proofs.Joined.{normalizes_first, normalizes_on}
 use Rattle.dom_mutation.proofs.doc.Doc.normalize_each.Goals as goal
+
+pub loop-text-init : goal.loop-text-init
+loop-text-init c = normalizes_first c.args.top c.args.texts.now c.args.self.now (c.laws.ensures.alone c.args.top c.requires.top_is_node)
 
 pub loop-text-preserved : goal.loop-text-preserved
 loop-text-preserved c =
-    normalizes_on c.args.top c.args.texts.now c.args.self.now c.loop-text.text-index c.text-item.result c.loop-text.self c.normalize_text.new.self (c.laws.ensures.alone c.args.top c.requires.top_is_node)
-    c.loop-text-test.true c.text-item.is c.requires.texts_are_nodes c.loop-text.invariant c.in_ok-normalize_text.ensures.ok
+    normalizes_on c.args.top c.args.texts.now c.args.self.now c.loop-text.text-index c.text-item.result c.loop-text.self c.normalize_text.new.self
+    c.loop-text-test.true c.text-item.is c.requires.texts_are_nodes c.loop-text.invariant c.in_ok-normalize_text.ensures

@@ -1,5 +1,6 @@
 use Rattle.std.proofs.Common.{[], map, option_map, sym, ap, ◌∙◌}
 use Rattle.std.proofs.lemmas.List.{length-map}
+use Rattle.std.proofs.lemmas.Result.{on_ok_weaker}
 use Rattle.dom_model.specs.Output.{child_list}
 use Rattle.dom_model.specs.Changes.{in_turn, making_room, placing, steps_of, telling}
 use Rattle.dom_mutation.specs.Doc.{DocState, name_in, owner_in, planned, observing_of}
@@ -25,5 +26,6 @@ returns c =
     let keys = c.args.moved.now in
     let tell : DocState → DocState = λ e. planned (owner_in e parent) (steps_of (telling (observing_of c.args.how) (child_list (name_in e parent) (map (name_in e) keys) [] (option_map (name_in e) c.args.prev) (option_map (name_in e) c.args.before)))) e in
     let turn : DocState → DocState = λ e. planned (owner_in e parent) (in_turn (placing (name_in e parent) (option_map (name_in e) c.args.before)) (map (name_in e) keys)) e in
-    c.tell_placed.ensures ∙ ap tell c.place_each.ensures ∙ ap (λ e. tell (turn e)) c.room_before.ensures.state
-    ∙ ap (λ n. tell (turn (planned (owner_in d parent) (making_room (name_in d parent) (option_map (name_in d) c.args.before) n) d))) (sym (length-map keys (name_in d)))
+    on_ok_weaker c.tell_placed.result (λ told. told ∙ ap tell c.in_ok-place_each.ensures ∙ ap (λ e. tell (turn e)) c.room_before.ensures.state
+    ∙ ap (λ n. tell (turn (planned (owner_in d parent) (making_room (name_in d parent) (option_map (name_in d) c.args.before) n) d))) (sym (length-map keys (name_in d))))
+    c.tell_placed.ensures

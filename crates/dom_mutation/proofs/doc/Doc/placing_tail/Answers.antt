@@ -1,5 +1,3 @@
-use Rattle.std.proofs.Common.{ap, ◌∙◌}
-use Rattle.dom_mutation.specs.Doc.{DocState}
 use Rattle.dom_mutation.proofs.Replaced.{next_is_near}
 use Rattle.dom_mutation.proofs.Tails.{tail_may, tail_placed}
 use Rattle.dom_mutation.proofs.doc.Doc.placing_tail.Goals as goal
@@ -13,10 +11,7 @@ pub inserting-requires-clause-before_is_child : goal.inserting-requires-clause-b
 inserting-requires-clause-before_is_child c =
     next_is_near c.args.self.now c.laws.ensures.once c.args.parent c.args.node c.next-next.result c.requires.node_is_child c.next-next.ensures.value c.next-next.ensures.node c.next-next.ensures.owner
 
-pub returns-clause-names : goal.returns-clause-names
-returns-clause-names c = ap (λ (s : DocState). s.names) (c.split_at.ensures 0) ∙ ap (λ (s : DocState). s.names) c.in_ok-inserting.ensures.ok
-
-pub returns-clause-ok : goal.returns-clause-ok
-returns-clause-ok c =
+pub returns : goal.returns
+returns c =
     tail_placed c.args.self.now c.inserting.new.self c.split_at.new.self c.args.parent c.args.node c.args.new c.args.offset c.next-next.result (c.laws.ensures.alone c.args.node c.requires.node_is_child.node)
-    c.requires.node_is_child.owner c.next-next.ensures.value c.in_ok-inserting.ensures.ok c.split_at.ensures
+    c.requires.node_is_child.owner c.requires.one_owner c.next-next.ensures.value c.in_ok-inserting.ensures c.split_at.ensures

@@ -1,5 +1,6 @@
 use Rattle.std.proofs.Common.{◌≡◌, true, [], ◌∷◌, Option, Some, None, refl, sym, ap, ◌∙◌}
 use Rattle.std.specs.Prelude.{is_some}
+use Rattle.std.proofs.lemmas.Result.{on_ok_weaker}
 use Rattle.dom_base.specs.declared.NodeName.{NodeName}
 use Rattle.dom_base.specs.declared.Owner.{Owner}
 use Rattle.dom_model.specs.Names.{Word, DomString}
@@ -28,9 +29,10 @@ unset d o x a has = by (attribute_value (node_in (part_of d.world o).trees x) a)
     by None e h = cc
     by (Some old) e h = ap both e ∙ sym (ap made_of e)
 
-pub returns-then-has_attr-clause-world : goal.returns-then-has_attr-clause-world
-returns-then-has_attr-clause-world c =
+pub returns-clause-world : goal.returns-clause-world
+returns-clause-world c =
     let d = c.args.self.now in
-    ap (λ e. e.world) (c.unset_attribute.ensures
-    ∙ ap (λ e. stepped (owner_in e c.args.node) (set_attribute (name_in e c.args.node) c.args.name.now None) e) c.tell_attribute.ensures
-    ∙ unset d (owner_in d c.args.node) (name_in d c.args.node) c.args.name.now (sym c.has_attr.ensures ∙ c.if-has_attr.true))
+    on_ok_weaker c.unset_attribute.result (λ unset_now. ap (λ e. e.world) (unset_now
+    ∙ ap (λ e. stepped (owner_in e c.args.node) (set_attribute (name_in e c.args.node) c.args.name.now None) e) c.in_ok-tell_attribute.ensures
+    ∙ unset d (owner_in d c.args.node) (name_in d c.args.node) c.args.name.now (sym c.has_attr.ensures ∙ c.if-not-has_attr.false)))
+    c.unset_attribute.ensures

@@ -19,4 +19,4 @@ pub returns-clause-world : goal.returns-clause-world
 returns-clause-world c =
     text_whole c.args.self.now c.make_text.new.self c.args.node c.in_ok-text.text (Some (name_in c.args.self.now c.document_below-document.result)) c.args.units.items c.in_ok-text.ensures.names c.in_ok-text.ensures.world c.in_ok-text.ensures.key c.requires (c.laws.ensures.alone c.args.node c.requires)
     c.laws-2.ensures.distinct c.laws-2.ensures.once c.put_text.new.self (ap is_empty (sym c.as_slice.ensures.value) ∙ some_left c.as_slice.result.now c.if-is_empty.ensures)
-    (ap (λ y. Some y) c.document_below-document.ensures.value) c.in_ok-put_text.ensures.ok
+    (ap (λ y. Some y) c.document_below-document.ensures.value) c.in_ok-put_text.ensures

@@ -1,7 +1,9 @@
-use Rattle.std.proofs.Common.{◌∷◌, [], ℕ, List, map, option_map, ap, ◌∙◌}
+use Rattle.std.proofs.Common.{◌≡◌, ◌∷◌, [], ℕ, List, map, option_map, sym, ap, subst, ◌∙◌}
+use Rattle.std.proofs.lemmas.Result.{on_ok_weaker}
 use Rattle.dom_model.specs.Output.{child_list}
 use Rattle.dom_model.specs.Steps.{queue_record}
-use Rattle.dom_mutation.specs.Doc.{name_in, owner_in, stepped}
+use Rattle.dom_mutation.specs.Doc.{DocState, AreNodes, name_in, owner_in, stepped}
+use Rattle.dom_mutation.proofs.Nodes.{nodes_kept}
 use Rattle.dom_mutation.proofs.Turns.{may_now, child_now}
 use Rattle.dom_mutation.proofs.Replaced.{next_is_near, stays_removed, replaced_whole}
 use Rattle.dom_mutation.proofs.doc.Doc.replacing.Goals as goal
@@ -14,21 +16,27 @@ pub inserting-requires-clause-may_move : goal.inserting-requires-clause-may_move
 inserting-requires-clause-may_move c =
     may_now c.args.parent c.reference_for-reference.result c.args.self.now c.removing.new.self
     (stays_removed c.args.self.now c.removing.new.self c.laws.ensures.once c.laws.ensures.alone c.args.parent c.args.node c.args.child c.next-next.result c.reference_for-reference.result c.requires.child_is_child
-    c.next-next.ensures.value c.reference_for-reference.ensures.value c.removing.ensures c.reference_for-reference.ensures.child)
+    c.next-next.ensures.value c.reference_for-reference.ensures.value c.in_ok-removing.ensures c.reference_for-reference.ensures.child)
     c.args.node (record { node = c.requires.node_is_node; owner = c.requires.node_owner; not_above = c.requires.not_above; apart = c.reference_for-reference.ensures.apart })
 
 pub inserting-requires-clause-before_is_child : goal.inserting-requires-clause-before_is_child
 inserting-requires-clause-before_is_child c =
     child_now c.args.parent c.reference_for-reference.result c.args.self.now c.removing.new.self
     (stays_removed c.args.self.now c.removing.new.self c.laws.ensures.once c.laws.ensures.alone c.args.parent c.args.node c.args.child c.next-next.result c.reference_for-reference.result c.requires.child_is_child
-    c.next-next.ensures.value c.reference_for-reference.ensures.value c.removing.ensures c.reference_for-reference.ensures.child)
+    c.next-next.ensures.value c.reference_for-reference.ensures.value c.in_ok-removing.ensures c.reference_for-reference.ensures.child)
     c.reference_for-reference.ensures.child
 
 pub returns-clause-world : goal.returns-clause-world
 returns-clause-world c =
     let f = c.inserting.new.self in
-    replaced_whole c.args.self.now c.removing.new.self f c.tell_children.new.self c.args.parent c.args.node c.args.child c.in_ok-added.added.items c.prev-prev.result c.next-next.result c.reference_for-reference.result
-    (c.laws.ensures.alone c.args.parent c.requires.parent_is_node) c.requires.node_owner c.requires.child_is_child.owner c.in_ok-added.ensures c.prev-prev.ensures.value c.next-next.ensures.value c.reference_for-reference.ensures.value
-    c.removing.ensures c.in_ok-inserting.ensures.ok
-    (c.tell_children.ensures
-    ∙ ap (λ (ks : List ℕ). stepped (owner_in f c.args.parent) (queue_record (child_list (name_in f c.args.parent) (map (name_in f) ks) (name_in f c.args.child ∷ []) (option_map (name_in f) c.prev-prev.result) (option_map (name_in f) c.reference_for-reference.result))) f) c.as_slice.ensures.value)
+    on_ok_weaker c.tell_children.result (λ told. replaced_whole c.args.self.now c.removing.new.self f c.tell_children.new.self c.args.parent c.args.node c.args.child c.in_ok-added.added.items c.prev-prev.result c.next-next.result c.reference_for-reference.result
+    (c.laws.ensures.alone c.args.parent c.requires.parent_is_node) c.requires.node_owner c.requires.child_is_child.owner c.in_ok-added.ensures.value c.prev-prev.ensures.value c.next-next.ensures.value c.reference_for-reference.ensures.value
+    c.in_ok-removing.ensures c.in_ok-inserting.ensures
+    (told
+    ∙ ap (λ (ks : List ℕ). stepped (owner_in f c.args.parent) (queue_record (child_list (name_in f c.args.parent) (map (name_in f) ks) (name_in f c.args.child ∷ []) (option_map (name_in f) c.prev-prev.result) (option_map (name_in f) c.reference_for-reference.result))) f) c.as_slice.ensures.value))
+    c.tell_children.ensures
+
+pub tell_children-requires-clause-added_are_nodes : goal.tell_children-requires-clause-added_are_nodes
+tell_children-requires-clause-added_are_nodes c =
+    let same : c.inserting.new.self.names ≡ c.args.self.now.names = ap (λ (s : DocState). s.names) c.in_ok-inserting.ensures ∙ ap (λ (s : DocState). s.names) c.in_ok-removing.ensures in
+    subst (AreNodes c.inserting.new.self) (sym c.as_slice.ensures.value) (nodes_kept c.args.self.now c.inserting.new.self same c.in_ok-added.added.items c.in_ok-added.ensures.nodes)

@@ -25,4 +25,4 @@ returns-clause-world c =
     let left = c.saturating_sub-count.ensures in
     let counts : c.saturating_sub-count.result ≡ length (node_in (trees_in c.args.self.now c.args.node) (name_in c.args.self.now c.args.node)).text - c.args.offset = omega (arith, units, left) in
     split_whole c.args.self.now c.make_text.new.self c.args.node c.in_ok-new.new (option_map (name_in c.args.self.now) c.document-document.result) c.in_ok-tail.tail.items c.in_ok-new.ensures.names c.in_ok-new.ensures.world c.in_ok-new.ensures.key c.requires (c.laws.ensures.alone c.args.node c.requires)
-    c.laws-2.ensures.distinct c.laws-2.ensures.once c.cut_tail.new.self c.args.offset c.saturating_sub-count.result counts c.document-document.ensures.value c.in_ok-tail.ensures c.in_ok-cut_tail.ensures.ok
+    c.laws-2.ensures.distinct c.laws-2.ensures.once c.cut_tail.new.self c.args.offset c.saturating_sub-count.result counts c.document-document.ensures.value c.in_ok-tail.ensures c.in_ok-cut_tail.ensures

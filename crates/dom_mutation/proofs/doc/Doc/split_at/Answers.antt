@@ -11,4 +11,4 @@ returns c index =
     let f = c.self.inside.forest in
     let x = name_at f.names c.args.node in
     subst (λ (e : DocState). e ≡ stepped (owner_in e c.args.node) (split_at (name_in e c.args.node) c.args.offset (name_in e c.args.new) (name_in e c.args.parent) index) e) c.self.view_is
-    (ap (λ w. record { names = f.names; world = w }) (split_world f.names f.trees (all_tables c.self.inside) x.owner (owner_there f c.self.invariant c.self.view_is c.args.node c.requires) x c.args.offset (name_at f.names c.args.new) (name_at f.names c.args.parent) index))
+    (ap (λ w. record { names = f.names; world = w }) (split_world f.names f.trees (all_tables c.self.inside) c.self.invariant x.owner (owner_there f c.self.invariant c.self.view_is c.args.node c.requires) x c.args.offset (name_at f.names c.args.new) (name_at f.names c.args.parent) index))

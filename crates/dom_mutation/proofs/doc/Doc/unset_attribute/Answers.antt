@@ -1,27 +1,46 @@
-use Rattle.std.proofs.Common.{None, refl}
+use Rattle.std.proofs.Common.{None, refl, arith}
 use Rattle.dom_model.specs.TreeChanges.{change_node, with_attribute}
 use Rattle.dom_model.specs.Steps.{set_attribute}
+use Rattle.dom_slots.specs.declared.step.Step.TheVariants.{Attribute}
 use Rattle.dom_tree.specs.Forest.{name_at}
 use Rattle.dom_tree.proofs.OwnChanges.{changed_node}
+use Rattle.dom_observers.specs.Owners.{tables_of as observers_of}
+use Rattle.dom_mutation.specs.Signalled.{signal_tables}
+use Rattle.dom_mutation.specs.OwnTables.{tables_of}
+use Rattle.dom_mutation.specs.Doc.{contents, all_tables}
+use Rattle.dom_mutation.proofs.Held.{are_hosts}
+use Rattle.dom_mutation.proofs.HostedSteps.{attribute_hosted}
+use Rattle.dom_mutation.proofs.Shown.{owner_there}
+use Rattle.dom_mutation.proofs.Signalling.{tree_held, tree_state}
 use Rattle.dom_mutation.proofs.Standing.{keeps_changed}
-use Rattle.dom_mutation.proofs.Steps.{attribute_world}
-use Rattle.dom_mutation.proofs.Shown.{owner_there, step_held, step_done}
-use Rattle.dom_mutation.specs.Doc.{all_tables}
+use Rattle.dom_mutation.proofs.Steps.{trees_change}
 use Rattle.dom_mutation.proofs.doc.Doc.unset_attribute.Goals as goal
+
+pub settle-requires : goal.settle-requires
+settle-requires c = let counted = c.self.invariant.counted in omega arith
 
 pub invariant_of-self : goal.invariant_of-self
 invariant_of-self c =
     let f = c.self.inside.forest in
     let x = name_at f.names c.args.node in
     let h = with_attribute c.args.name.now None in
-    step_held f c.self.invariant c.self.view_is c.args.node (change_node h x) c.remove_attr.new.self c.remove_attr.ensures.names c.remove_attr.ensures.trees c.requires
-    (changed_node f.trees c.self.invariant.owned x.owner h x (λ n. refl) refl) (keeps_changed h (λ n. refl) x f.trees)
+    tree_held f c.self.invariant c.self.view_is c.args.node c.requires (change_node h x) (changed_node f.trees c.self.invariant.owned x.owner h x (λ n. refl) refl) (keeps_changed h (λ n. refl) x f.trees) (Attribute c.args.node)
+    c.remove_attr-done.new.forest c.settle.new.forest (signal_tables c.remove_attr-done.new.slots c.remove_attr-done.new.signalled.items c.remove_attr-done.new.queue)
+    (tables_of c.settle.new.tables.items (observers_of c.settle.new.observers) c.settle.new.queue c.settle.new.slots c.settle.new.signalled.items) c.remove_attr-done.result c.settle.result c.remove_attr-done.ensures.names c.remove_attr-done.ensures.trees c.remove_attr-done.ensures.signals
+    record { result = c.settle.ensures.result; forest = c.settle.ensures.forest; tables = c.settle.ensures.tables; empty = c.settle.ensures.empty; first = c.settle.ensures.first }
 
 pub returns : goal.returns
 returns c =
     let f = c.self.inside.forest in
     let x = name_at f.names c.args.node in
     let h = with_attribute c.args.name.now None in
-    step_done f c.self.invariant c.self.view_is c.args.node (change_node h x) c.remove_attr.new.self c.remove_attr.ensures.names c.remove_attr.ensures.trees (λ ns. set_attribute (name_at ns c.args.node) c.args.name.now None)
-    (attribute_world f.names f.trees (all_tables c.self.inside) x.owner (owner_there f c.self.invariant c.self.view_is c.args.node c.requires) x c.args.name.now None
-    (changed_node f.trees c.self.invariant.owned x.owner h x (λ n. refl) refl))
+    let change = changed_node f.trees c.self.invariant.owned x.owner h x (λ n. refl) refl in
+    let there = owner_there f c.self.invariant c.self.view_is c.args.node c.requires in
+    let all = all_tables c.self.inside in
+    tree_state f c.self.invariant c.self.view_is c.args.node c.requires (change_node h x) change (keeps_changed h (λ n. refl) x f.trees) (Attribute c.args.node)
+    c.remove_attr-done.new.forest c.settle.new.forest (signal_tables c.remove_attr-done.new.slots c.remove_attr-done.new.signalled.items c.remove_attr-done.new.queue)
+    (tables_of c.settle.new.tables.items (observers_of c.settle.new.observers) c.settle.new.queue c.settle.new.slots c.settle.new.signalled.items) c.remove_attr-done.result c.settle.result c.remove_attr-done.ensures.names c.remove_attr-done.ensures.trees c.remove_attr-done.ensures.signals
+    record { result = c.settle.ensures.result; forest = c.settle.ensures.forest; tables = c.settle.ensures.tables; empty = c.settle.ensures.empty; first = c.settle.ensures.first }
+    (λ ns. set_attribute (name_at ns c.args.node) c.args.name.now None)
+    (attribute_hosted (contents f.names f.trees all) c.self.inside.slots.hosts (are_hosts f.names f.trees all c.self.invariant) x.owner there (change_node h x f.trees) (contents f.names (change_node h x f.trees) all).tables change.owned
+    c.args.node None c.args.name.now None (trees_change f.names f.trees all c.self.invariant x.owner there (set_attribute x c.args.name.now None) (change_node h x) change refl))

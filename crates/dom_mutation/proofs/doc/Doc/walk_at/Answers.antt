@@ -1,13 +1,24 @@
-use Rattle.std.proofs.Common.{◌<◌, [], length, sym, ap, subst, ◌∙◌}
+use Rattle.std.proofs.Common.{◌<◌, [], length, sym, ap, subst, ◌∙◌, arith}
 use Rattle.std.specs.Prelude.{slice_get}
 use Rattle.dom_model.specs.Command.{Command}
 use Rattle.dom_model.specs.Output.{a_node}
 use Rattle.dom_model.specs.Effects.{Effect}
 use Rattle.dom_tree.specs.Forest.{name_at}
 use Rattle.dom_mutation.proofs.Cursors.{item_there, with_own, walk_at_effect}
-use Rattle.dom_mutation.proofs.Passing.{there_walk, at, walk_there, reads, name_known}
+use Rattle.dom_mutation.proofs.Passing.{place_there, there_walk, at, walk_there, reads, name_known}
 use Rattle.dom_mutation.specs.Doc.{all_tables}
 use Rattle.dom_mutation.proofs.doc.Doc.walk_at.Goals as goal
+
+pub index-tables-requires : goal.index-tables-requires
+index-tables-requires c =
+    let f = c.self.inside.forest in
+    let less : c.place_of.result < length (all_tables c.self.inside).each = place_there f c.self.invariant c.self.view_is c.args.owner (there_walk f c.self.invariant c.self.view_is c.args.owner c.args.number c.requires) c.place_of.result c.place_of.ensures in
+    omega (arith, c.self.inside.tables.ok.0)
+
+pub walker_at-requires : goal.walker_at-requires
+walker_at-requires c =
+    let f = c.self.inside.forest in
+    walk_there f c.self.invariant c.self.view_is c.args.owner (there_walk f c.self.invariant c.self.view_is c.args.owner c.args.number c.requires) c.place_of.result c.place_of.ensures c.index-tables.result.now c.index-tables.ensures c.args.number c.requires
 
 pub returns-clause-node : goal.returns-clause-node
 returns-clause-node c =

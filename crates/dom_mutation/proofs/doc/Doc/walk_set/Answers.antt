@@ -1,4 +1,4 @@
-use Rattle.std.proofs.Common.{◌≡◌, ◌<◌, length}
+use Rattle.std.proofs.Common.{◌≡◌, ◌<◌, length, arith}
 use Rattle.std.specs.Prelude.{slice_get, slice_set}
 use Rattle.dom_model.specs.Command.{Command, own}
 use Rattle.dom_model.specs.Output.{nothing}
@@ -6,8 +6,14 @@ use Rattle.dom_tree.specs.Forest.{name_at}
 use Rattle.dom_mutation.specs.Doc.{owner_in, all_tables}
 use Rattle.dom_mutation.proofs.Shown.{known}
 use Rattle.dom_mutation.proofs.Cursors.{item_there, walk_set_effect}
-use Rattle.dom_mutation.proofs.Passing.{there_walk, at, walk_there, writes, held_written, walk_moved}
+use Rattle.dom_mutation.proofs.Passing.{place_there, there_walk, at, walk_there, writes, held_written, walk_moved}
 use Rattle.dom_mutation.proofs.doc.Doc.walk_set.Goals as goal
+
+pub index_mut-tables-requires : goal.index_mut-tables-requires
+index_mut-tables-requires c =
+    let f = c.self.inside.forest in
+    let less : c.place_of.result < length (all_tables c.self.inside).each = place_there f c.self.invariant c.self.view_is c.args.owner (there_walk f c.self.invariant c.self.view_is c.args.owner c.args.number c.requires.there) c.place_of.result c.place_of.ensures in
+    omega (arith, c.self.inside.tables.ok.0)
 
 pub set_walker-requires : goal.set_walker-requires
 set_walker-requires c =

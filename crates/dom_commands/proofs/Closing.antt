@@ -1,0 +1,212 @@
+-- The end of a turn: the tasks run, one after another, and their lines are put. And how a label is queued.
+use Rattle.std.specs.Prelude.{OnOk}
+use Rattle.std.specs.List.{AllByRecursion}
+use Rattle.std.proofs.Common.{true, false, ◌≡◌, ℕ, ◌<◌, length, arith, List, [], ◌∷◌, ◌++◌, drop, map, filter, Option, Some, None, Result, Ok, Err, append_assoc, append-nil, sym, ap, ◌∙◌, refl, subst}
+use Rattle.std.proofs.lemmas.Option.{none-some, same_Some}
+use Rattle.dom_base.specs.declared.Owner.{Owner}
+use Rattle.dom_base.specs.declared.NodeName.{NodeName}
+use Rattle.dom_model.specs.Listeners.{Listener}
+use Rattle.dom_model.specs.Names.{Word, first_of}
+use Rattle.dom_model.specs.Command.{Command, EventWords}
+use Rattle.dom_model.specs.DocumentMachine.{accepted}
+use Rattle.dom_model.specs.Output.{Output, says, replied, nothing}
+use Rattle.dom_model.specs.Part.{Part}
+use Rattle.dom_model.specs.Runs.{Run, run_each}
+use Rattle.dom_model.specs.Turns.{opening_turn, ending_turn, running_task, notifying, notified, notified_lines, is_owned_by, without_signals, slotchange, firing_slotchange}
+use Rattle.dom_model.specs.World.{World, Task, micro_task, part_of, with_part, is_there}
+use Rattle.dom_model.specs.Dispatch.{dispatch_in}
+use Rattle.dom_isolation.specs.Worlds.{IsThere, task_owner}
+use Rattle.dom_isolation.proofs.Lists.{all-then}
+use Rattle.dom_isolation.proofs.OwnerSteps.{stays-running}
+use Rattle.dom_isolation.proofs.TaskWorlds.{Stands, at_end-stands, told-stands, dispatch-stands}
+use Rattle.dom_text.specs.Text.{output_text}
+use Rattle.dom_tree.specs.Forest.{name_at}
+use Rattle.dom_mutation.specs.Doc.{DocState}
+use Rattle.dom_dispatch.specs.Named.{IsListenerAt}
+use Rattle.dom_commands.specs.Heard.{heard, own_listeners}
+use Rattle.dom_commands.specs.Machine.{MachineNow, machine_now, IsSound, AreAtNodes, AreThere}
+use Rattle.dom_commands.specs.Turned.{with_turn}
+use Rattle.dom_commands.proofs.Heard.{FitsIn, part-heard, with_part-heard, there-heard}
+use Rattle.dom_commands.proofs.Listening.{OwnersAreThere, fits-own}
+use Rattle.dom_commands.proofs.Machines.{seen_at}
+use Rattle.dom_commands.proofs.TextLaws.{output_text-append}
+
+-- a world with other tasks
+abbrev tasked : World → List Task → World
+tasked w ts = record { parts = w.parts; signalled = w.signalled; tasks = ts; turn = w.turn }
+
+-- ---- runs, one after another
+
+module _ {A : Type 0} (f : World → A → Run World) where
+  -- Where runs for items stand, after some of them: the world and the text so far, and the items left.
+  pub record Ran (was now : World) (all left : List A) (before after : List ℕ) : Type 0 where
+    pub world : (run_each f now left).0 ≡ (run_each f was all).0
+    pub text : after ++ output_text (run_each f now left).1 ≡ before ++ output_text (run_each f was all).1
+
+  pub ran_none : (w : World) (all : List A) (text : List ℕ) → Ran w w all all text text
+  ran_none w all text = record { world = refl; text = refl }
+
+  -- one more
+  pub ran_more : (was now then : World) (all rest : List A) (x : A) (before after next : List ℕ) → Ran was now all (x ∷ rest) before after → then ≡ (f now x).0 → next ≡ after ++ output_text (f now x).1 → Ran was then all rest before next
+  ran_more was now then all rest x before after next ran world text =
+      let r = f now x in
+      record {
+        world = ap (λ v. (run_each f v rest).0) world ∙ ran.world;
+        text = ap (λ v. next ++ output_text (run_each f v rest).1) world ∙ ap (λ t. t ++ output_text (run_each f r.0 rest).1) text
+            ∙ append_assoc after (output_text r.1) (output_text (run_each f r.0 rest).1)
+            ∙ ap (λ (t : List ℕ). after ++ t) (sym (output_text-append r.1 (run_each f r.0 rest).1)) ∙ ran.text;
+      }
+
+  -- no item is left
+  pub ran_world : (was now : World) (all : List A) (before after : List ℕ) → Ran was now all [] before after → now ≡ (run_each f was all).0
+  ran_world was now all before after ran = ran.world
+
+  pub ran_text : (was now : World) (all : List A) (before after : List ℕ) → Ran was now all [] before after → after ≡ before ++ output_text (run_each f was all).1
+  ran_text was now all before after ran = sym (append-nil after) ∙ ran.text
+
+-- ---- the queue
+
+-- what a first task and the others make
+pub first_rest : (ts us : List Task) (t : Task) → Some t ≡ first_of ts → us ≡ drop 1 ts → ts ≡ t ∷ us
+first_rest [] us t e is = absurd (none-some t (sym e))
+first_rest (u ∷ ts) us t e is = ap (λ v. v ∷ ts) (sym (same_Some t u e)) ∙ ap (λ vs. t ∷ vs) (sym is)
+
+pub none_left : (ts : List Task) → None ≡ first_of ts → ts ≡ []
+none_left [] e = refl
+none_left (u ∷ ts) e = absurd (none-some u e)
+
+-- a task less
+pub tasks_less : (ts us : List Task) (t : Task) → ts ≡ t ∷ us → length us < length ts
+tasks_less ts us t e = let same = ap (length {A = Task}) e in omega arith
+
+-- the owners of the other tasks stay
+pub there_after : (w v : World) (t : Task) (ts : List Task) → AreThere w (t ∷ ts) → v ≡ (running_task w t).0 → AreThere v ts
+there_after w v t ts h e =
+    subst (λ u. AreThere u ts) (sym e) (all-then (λ u. IsThere w (task_owner u)) (λ u. IsThere (running_task w t).0 (task_owner u)) (λ u k. stays-running w t (task_owner u) k) ts h.1)
+
+-- ---- machines on the way
+
+stands : (m : MachineNow) → IsSound m → Stands m.world
+stands m s = record { reached = s.reached; whole = s.whole }
+
+sound_from : (n : MachineNow) (w : World) → n.world ≡ w → AreAtNodes n → Stands w → IsSound n
+sound_from n w e at s = record { listeners = at; reached = (subst Stands (sym e) s).reached; whole = (subst Stands (sym e) s).whole }
+
+-- with the tasks taken out
+pub taken_sound : (m n : MachineNow) → IsSound m → n.world ≡ record m.world { tasks = []; turn = None } → AreAtNodes n → IsSound n
+taken_sound m n s e at = sound_from n (record m.world { tasks = []; turn = None }) e at (at_end-stands m.world (stands m s))
+
+-- with an owner's observers told
+pub told_sound : (m n : MachineNow) (o : Owner) → IsThere m.world o → IsSound m → n.world ≡ with_part (without_signals m.world o) (notified (part_of m.world o)) → AreAtNodes n → IsSound n
+told_sound m n o there s e at = sound_from n (with_part (without_signals m.world o) (notified (part_of m.world o))) e at (told-stands m.world o there (stands m s))
+
+-- an event like `slotchange`, by another name
+abbrev pub named_event : Word → EventWords
+named_event n = record { event = n; bubbles = true; cancelable = false; composed = false }
+
+-- after an event
+pub fired_sound : (m n : MachineNow) (x : NodeName) → IsSound m → n.world ≡ (dispatch_in m.world x None slotchange).run.0 → AreAtNodes n → IsSound n
+fired_sound m n x s e at = sound_from n (dispatch_in m.world x None slotchange).run.0 e at (dispatch-stands m.world x None slotchange (stands m s))
+
+-- what holds however a call ends
+pub on_ok : {T E : Type 0} {P : Type 0} (r : Result T E) → P → OnOk r P
+on_ok (Ok x) p = p
+on_ok (Err e) p = tt
+
+-- ---- the tasks are taken out, in a world with listeners
+
+module _ (s t : DocState) (ls : List (Listener ℕ)) (m : MachineNow) (seen : machine_now s ls ≡ m) (sound : IsSound m) (names : t.names ≡ s.names) (world : t.world ≡ record s.world { tasks = []; turn = None }) where
+  pub closed_world : (machine_now t ls).world ≡ record m.world { tasks = []; turn = None }
+  closed_world =
+      ap (λ (ns : List NodeName). heard (own_listeners ns ls) t.world) names ∙ ap (heard (own_listeners s.names ls)) world ∙ ap (λ (n : MachineNow). record n.world { tasks = []; turn = None }) seen
+
+  pub closed_sound : IsSound (machine_now t ls)
+  closed_sound = taken_sound m (machine_now t ls) sound closed_world (subst (λ (ns : List NodeName). AllByRecursion (IsListenerAt ns) ls) (sym names) (seen_at s ls m seen sound))
+
+  -- those of them
+  pub closed_there : (ts : List Task) → ts ≡ s.world.tasks → AreThere (machine_now t ls).world ts
+  closed_there ts is =
+      let same : ts ≡ m.world.tasks = is ∙ ap (λ (n : MachineNow). n.world.tasks) seen in
+      subst (λ us. AreThere (machine_now t ls).world us) (sym same) (subst (λ w. AreThere w m.world.tasks) (sym closed_world) sound.reached.owners.tasks)
+
+  -- what they run to
+  pub closed_run : (ts : List Task) → ts ≡ s.world.tasks → run_each running_task (machine_now t ls).world ts ≡ ending_turn m.world
+  closed_run ts is =
+      ap (λ w. run_each running_task w ts) closed_world ∙ ap (run_each running_task (record m.world { tasks = []; turn = None })) (is ∙ ap (λ (n : MachineNow). n.world.tasks) seen)
+
+-- however it ends
+pub ended_world : {T E : Type 0} (r : Result T E) (u : World) (q p : Run World) → q ≡ p → OnOk r (u ≡ q.0) → OnOk r (u ≡ p.0)
+ended_world (Ok x) u q p same e = e ∙ ap (λ (z : Run World). z.0) same
+ended_world (Err x) u q p same e = tt
+
+pub ended_text : {T E : Type 0} (r : Result T E) (before after : List ℕ) (q p : Run World) → q ≡ p → OnOk r (after ≡ before ++ output_text q.1) → OnOk r (after ≡ before ++ output_text p.1)
+ended_text (Ok x) before after q p same e = e ∙ ap (λ (z : Run World). before ++ output_text z.1) same
+ended_text (Err x) before after q p same e = tt
+
+-- ---- a notification, in a world with listeners
+
+module _ (of : Owner → List (Listener NodeName)) (w : World) (fits : FitsIn of w) (o : Owner) where
+  pub told-heard : heard of (with_part w (notified (part_of w o))) ≡ with_part (heard of w) (notified (part_of (heard of w) o))
+  told-heard = sym (with_part-heard of w (notified (part_of w o))) ∙ ap (λ (p : Part). with_part (heard of w) (notified p)) (sym (part-heard of w fits o))
+
+  pub lines-heard : notified_lines (part_of w o) ≡ notified_lines (part_of (heard of w) o)
+  lines-heard = ap notified_lines (sym (part-heard of w fits o))
+
+module _ (s t u : DocState) (ls : List (Listener ℕ)) (m : MachineNow) (seen : machine_now s ls ≡ m) (sound : IsSound m) (there : OwnersAreThere s.names s.world) (o : Owner) (here : IsThere m.world o)
+    (t_names : t.names ≡ s.names) (t_world : t.world ≡ without_signals s.world o) where
+  -- the owner is there in the state behind
+  pub told_there : IsThere t.world o
+  told_there =
+      sym (ap (λ (w : World). is_there w o) (sym t_world)) ∙ sym (there-heard (own_listeners s.names ls) s.world o) ∙ ap (λ (n : MachineNow). is_there n.world o) seen ∙ here
+
+  -- the same lines
+  pub told_lines : notified_lines (part_of t.world o) ≡ notified_lines (part_of m.world o)
+  told_lines =
+      ap (λ (w : World). notified_lines (part_of w o)) t_world
+      ∙ lines-heard (own_listeners s.names ls) s.world (fits-own s.names s.world there ls (seen_at s ls m seen sound)) o
+      ∙ ap (λ (n : MachineNow). notified_lines (part_of n.world o)) seen
+
+  module _ (u_names : u.names ≡ t.names) (u_world : u.world ≡ with_part t.world (notified (part_of t.world o))) where
+    -- its observers were told
+    pub told_world : (machine_now u ls).world ≡ with_part (without_signals m.world o) (notified (part_of m.world o))
+    told_world =
+        let of = own_listeners s.names ls in
+        let base = without_signals s.world o in
+        ap (λ (ns : List NodeName). heard (own_listeners ns ls) u.world) (u_names ∙ t_names)
+        ∙ ap (heard of) (u_world ∙ ap (λ (w : World). with_part w (notified (part_of w o))) t_world)
+        ∙ told-heard of base (fits-own s.names s.world there ls (seen_at s ls m seen sound)) o
+        ∙ ap (λ (n : MachineNow). with_part (without_signals n.world o) (notified (part_of n.world o))) seen
+
+    pub told_is_sound : IsSound (machine_now u ls)
+    told_is_sound =
+        told_sound m (machine_now u ls) o here sound told_world (subst (λ (ns : List NodeName). AllByRecursion (IsListenerAt ns) ls) (sym (u_names ∙ t_names)) (seen_at s ls m seen sound))
+
+    -- and the slots are those that were signalled
+    pub told_slots : (keys : List ℕ) → map (name_at s.names) keys ≡ filter (is_owned_by o) s.world.signalled → map (name_at u.names) keys ≡ filter (is_owned_by o) m.world.signalled
+    told_slots keys is =
+        ap (λ (ns : List NodeName). map (name_at ns) keys) (u_names ∙ t_names) ∙ is ∙ ap (λ (n : MachineNow). filter (is_owned_by o) n.world.signalled) seen
+
+-- the events after it
+module _ (w v : World) (o : Owner) (told : v ≡ with_part (without_signals w o) (notified (part_of w o))) (slots : List NodeName) (are : slots ≡ filter (is_owned_by o) w.signalled) where
+  signalled_run : run_each firing_slotchange v slots ≡ run_each firing_slotchange (with_part (without_signals w o) (notified (part_of w o))) (filter (is_owned_by o) w.signalled)
+  signalled_run = ap (λ u. run_each firing_slotchange u slots) told ∙ ap (run_each firing_slotchange (with_part (without_signals w o) (notified (part_of w o)))) are
+
+  pub notify_world : {T E : Type 0} (u : World) (r : Result T E) → OnOk r (u ≡ (run_each firing_slotchange v slots).0) → OnOk r (u ≡ (notifying w o).0)
+  notify_world u (Ok x) e = e ∙ ap (λ (q : Run World). q.0) signalled_run
+  notify_world u (Err x) e = tt
+
+  pub notify_text : {T E : Type 0} (before mid after : List ℕ) → mid ≡ before ++ output_text (notified_lines (part_of w o)) → (r : Result T E) → OnOk r (after ≡ mid ++ output_text (run_each firing_slotchange v slots).1) → OnOk r (after ≡ before ++ output_text (notifying w o).1)
+  notify_text before mid after first (Err x) e = tt
+  notify_text before mid after first (Ok x) e =
+      let lines = notified_lines (part_of w o) in
+      let more = (run_each firing_slotchange (with_part (without_signals w o) (notified (part_of w o))) (filter (is_owned_by o) w.signalled)).1 in
+      e ∙ ap (λ (q : Run World). mid ++ output_text q.1) signalled_run ∙ ap (λ (t : List ℕ). t ++ output_text more) first
+      ∙ append_assoc before (output_text lines) (output_text more) ∙ ap (λ (t : List ℕ). before ++ t) (sym (output_text-append lines more))
+
+-- ---- a label
+
+-- the turn may be opened after a label is queued
+pub micro_queued : (t : Option Owner) (w : World) (o : Owner) (label : Word) →
+    (opening_turn (with_turn t (tasked w (w.tasks ++ micro_task o label ∷ []))) o, says o (replied nothing) ∷ []) ≡ accepted (with_turn t w) o (Command.micro label)
+micro_queued None w o label = refl
+micro_queued (Some x) w o label = refl

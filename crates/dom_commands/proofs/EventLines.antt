@@ -1,0 +1,82 @@
+-- The lines of a dispatch name nodes.
+use Rattle.std.proofs.Common.{◌≡◌, ℕ, ◌<◌, Bool, true, false, List, [], ◌∷◌, ◌++◌, filter, fold, length, map, reverse, arith, refl, ap}
+use Rattle.std.specs.Prelude.{nat_eq, ◌||◌, All}
+use Rattle.std.specs.List.{AllByRecursion}
+use Rattle.std.proofs.lemmas.List.Elements.{All-cons}
+use Rattle.std.specs.Option.{ForSome}
+use Rattle.dom_base.specs.declared.Action.{Action}
+use Rattle.dom_base.specs.declared.Action.TheVariants.{Log, Stop, StopNow, Cancel}
+use Rattle.dom_base.specs.declared.NodeName.{NodeName}
+use Rattle.dom_model.specs.Command.{EventWords}
+use Rattle.dom_model.specs.Dispatch.{visit_of, visits_of, is_at_target, event_output}
+use Rattle.dom_model.specs.Listeners.{Listener, Visit, Dispatching, after_action, may_cancel, line_of, kept_after, called, hears, visited, begun}
+use Rattle.dom_model.specs.Output.{Output}
+use Rattle.dom_model.specs.Paths.{View}
+use Rattle.dom_isolation.proofs.Lists.{all-append, all-filter, all-map, all-reverse, all-then}
+use Rattle.dom_isolation.proofs.Tests.{either_way}
+use Rattle.dom_path.specs.Items.{ShowsNodes}
+use Rattle.dom_dispatch.specs.declared.event.LogLine.{LogLine}
+use Rattle.dom_dispatch.specs.Dispatches.{line_in}
+use Rattle.dom_dispatch.specs.Named.{line_named}
+use Rattle.dom_commands.specs.Machine.{NamesNodes, line_shown}
+
+-- what holds of each item
+pub every : {X : Type 0} (P : X → Type 0) (xs : List X) → AllByRecursion P xs → All P xs
+every P [] h = λ k d within. absurd (omega arith)
+every P (x ∷ xs) h = All-cons P x xs h.0 (every P xs h.1)
+
+module _ (names : List NodeName) (e : EventWords) where
+  -- what a visit shows are nodes
+  record VisitsNodes (v : Visit ℕ) : Type 0 where
+    target : v.target < length names
+    current : v.current < length names
+    related : ForSome v.related (λ k. k < length names)
+    path : All (λ k. k < length names) v.path
+
+  visit-nodes : (capturing : Bool) (v : View ℕ) → ShowsNodes names v → VisitsNodes (visit_of nat_eq capturing v)
+  visit-nodes capturing v h = record { target = h.target; current = h.node; related = h.related; path = every (λ k. k < length names) v.path h.path }
+
+  visits-nodes : (bubbles : Bool) (vs : List (View ℕ)) → AllByRecursion (ShowsNodes names) vs → AllByRecursion VisitsNodes (visits_of nat_eq bubbles vs)
+  visits-nodes bubbles vs h =
+      let shows = ShowsNodes names in
+      let up = filter (λ v. bubbles || is_at_target nat_eq v) vs in
+      all-append VisitsNodes (map (visit_of nat_eq true) (reverse vs)) (map (visit_of nat_eq false) up)
+      (all-map VisitsNodes (visit_of nat_eq true) (reverse vs) (all-then shows (λ v. VisitsNodes (visit_of nat_eq true v)) (visit-nodes true) (reverse vs) (all-reverse shows vs h)))
+      (all-map VisitsNodes (visit_of nat_eq false) up (all-then shows (λ v. VisitsNodes (visit_of nat_eq false v)) (visit-nodes false) up (all-filter shows (λ v. bubbles || is_at_target nat_eq v) vs h)))
+
+  action-lines : (a : Action) (cancels : Bool) (d : Dispatching ℕ) → AllByRecursion (NamesNodes names) d.lines → AllByRecursion (NamesNodes names) (after_action a cancels d).lines
+  action-lines Log cancels d h = h
+  action-lines Stop cancels d h = h
+  action-lines StopNow cancels d h = h
+  action-lines Cancel cancels d h = h
+
+  called-lines : (v : Visit ℕ) → VisitsNodes v → (d : Dispatching ℕ) (l : Listener ℕ) → AllByRecursion (NamesNodes names) d.lines → AllByRecursion (NamesNodes names) (called nat_eq e v d l).lines
+  called-lines v at d l h =
+      let lines = d.lines ++ line_of v l.words ∷ [] in
+      let next : Dispatching ℕ = record d { listeners = kept_after nat_eq l d.listeners; lines = lines } in
+      let more = all-append (NamesNodes names) d.lines (line_of v l.words ∷ []) h (record { target = at.target; current = at.current; related = at.related; path = at.path }, tt) in
+      either_way (λ (s : Dispatching ℕ). AllByRecursion (NamesNodes names) s.lines) d.stopped_now d (after_action l.words.action (may_cancel e l.words) next) h (action-lines l.words.action (may_cancel e l.words) next more)
+
+  calls-lines : (v : Visit ℕ) → VisitsNodes v → (ls : List (Listener ℕ)) (d : Dispatching ℕ) → AllByRecursion (NamesNodes names) d.lines → AllByRecursion (NamesNodes names) (fold (called nat_eq e v) d ls).lines
+  calls-lines v at [] d h = h
+  calls-lines v at (l ∷ ls) d h = calls-lines v at ls (called nat_eq e v d l) (called-lines v at d l h)
+
+  visits-lines : (vs : List (Visit ℕ)) → AllByRecursion VisitsNodes vs → (d : Dispatching ℕ) → AllByRecursion (NamesNodes names) d.lines → AllByRecursion (NamesNodes names) (fold (visited nat_eq e) d vs).lines
+  visits-lines [] at d h = h
+  visits-lines (v ∷ vs) at d h =
+      let hearing = filter (hears nat_eq e v) d.listeners in
+      visits-lines vs at.1 (visited nat_eq e d v) (either_way (λ (s : Dispatching ℕ). AllByRecursion (NamesNodes names) s.lines) d.stopped d (fold (called nat_eq e v) d hearing) h (calls-lines v at.0 hearing d h))
+
+  -- the lines of a dispatch along what a path shows
+  pub dispatch-lines : (ls : List (Listener ℕ)) (shown : List (View ℕ)) → AllByRecursion (ShowsNodes names) shown → AllByRecursion (NamesNodes names) (fold (visited nat_eq e) (begun ls) (visits_of nat_eq e.bubbles shown)).lines
+  dispatch-lines ls shown at = visits-lines (visits_of nat_eq e.bubbles shown) (visits-nodes e.bubbles shown at) (begun ls) tt
+
+-- the lines of an outcome are those of keys
+pub line_nodes : (names : List NodeName) (ls : List LogLine) → AllByRecursion (NamesNodes names) (map line_in ls) → AllByRecursion (λ l. NamesNodes names (line_in l)) ls
+line_nodes names [] h = tt
+line_nodes names (l ∷ ls) h = (h.0, line_nodes names ls h.1)
+
+-- and are printed by names
+pub lines_shown : (names : List NodeName) (ls : List LogLine) → map (line_shown names) ls ≡ map event_output (map (line_named names) (map line_in ls))
+lines_shown names [] = refl
+lines_shown names (l ∷ ls) = ap (λ (os : List Output). line_shown names l ∷ os) (lines_shown names ls)

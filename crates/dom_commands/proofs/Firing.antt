@@ -1,0 +1,87 @@
+-- A dispatch by keys, in a state with listeners, is the dispatch in its world.
+use Rattle.std.proofs.Common.{◌≡◌, ℕ, false, List, map, Option, option_map, sym, ap, subst, ◌∙◌}
+use Rattle.std.specs.List.{AllByRecursion}
+use Rattle.std.specs.Prelude.{nat_eq}
+use Rattle.dom_base.specs.declared.NodeName.{NodeName}
+use Rattle.dom_base.specs.declared.Owner.{Owner}
+use Rattle.dom_model.specs.Command.{EventWords}
+use Rattle.dom_model.specs.Dispatch.{dispatch_in, visits_of}
+use Rattle.dom_model.specs.Listeners.{Listener, begun}
+use Rattle.dom_model.specs.World.{World, shadow_root_of}
+use Rattle.dom_isolation.specs.Laws.{IsReached}
+use Rattle.dom_isolation.specs.Tables.{IsWhole}
+use Rattle.dom_isolation.proofs.Alike.{host_of-same}
+use Rattle.dom_tree.specs.Forest.{NamedTrees, name_at}
+use Rattle.dom_slots.specs.Hosts.{ShadowHost}
+use Rattle.dom_slots.specs.Shadows.{ShadowTrees, shadows, IsShownBy}
+use Rattle.dom_mutation.specs.Doc.{DocState}
+use Rattle.dom_path.specs.Items.{IsWorldOf}
+use Rattle.dom_dispatch.specs.declared.event.Outcome.{Outcome}
+use Rattle.dom_dispatch.specs.Dispatches.{IsDispatched, IsDispatchedIn}
+use Rattle.dom_dispatch.specs.Named.{IsListenerAt}
+use Rattle.dom_commands.specs.Heard.{heard, own_listeners}
+use Rattle.dom_commands.specs.Machine.{MachineNow, machine_now, IsSound, line_shown}
+use Rattle.dom_commands.proofs.Dispatching.{dispatched-heard}
+use Rattle.dom_commands.proofs.EventLines.{lines_shown}
+use Rattle.dom_commands.proofs.Heard.{FitsIn, part-heard, component-heard}
+use Rattle.dom_commands.proofs.Listening.{OwnersAreThere, fits-own, has-own, after-visits}
+
+-- a world with listeners has the same trees and hosts
+pub shown-heard : (of : Owner → List (Listener NodeName)) (s : ShadowTrees) (w : World) → FitsIn of w → IsShownBy s w → IsShownBy s (heard of w)
+shown-heard of s w fits is =
+    record {
+      trees = λ o. ap (λ p. p.trees) (part-heard of w fits o) ∙ is.trees o;
+      owned = is.owned;
+      roots = λ x. is.roots x ∙ ap (option_map shadow_root_of) (sym (component-heard of w fits x));
+      hosts = λ o. is.hosts o ∙ sym (host_of-same (heard of w) w (λ a. ap (λ p. p.attached) (part-heard of w fits a)) o);
+      only = is.only;
+    }
+
+-- The dispatch, and what it leaves.
+module _ (f : NamedTrees) (hosts : List ShadowHost) (ls now : List (Listener ℕ)) (w : World) (there : OwnersAreThere f.names w) (at : AllByRecursion (IsListenerAt f.names) ls)
+    (shown : IsShownBy (shadows f hosts) w) (reached : IsReached false (heard (own_listeners f.names ls) w)) (whole : IsWhole (heard (own_listeners f.names ls) w))
+    (target : ℕ) (related : Option ℕ) (e : EventWords) (outcome : Outcome) (keys : IsDispatched f hosts ls now target related e outcome) where
+  -- listeners stay at nodes
+  pub fired_at : AllByRecursion (IsListenerAt f.names) now
+  fired_at = subst (AllByRecursion (IsListenerAt f.names)) (sym keys.listeners) (after-visits nat_eq (IsListenerAt f.names) e (visits_of nat_eq e.bubbles keys.shown) (begun ls) at)
+
+  -- and the world is the dispatch's
+  pub fired_world : (IsDispatchedIn f hosts ls now target related e outcome) →
+      heard (own_listeners f.names now) w ≡ (dispatch_in (heard (own_listeners f.names ls) w) (name_at f.names target) (option_map (name_at f.names) related) e).run.0
+  fired_world done =
+      let of = own_listeners f.names ls in
+      let fits : FitsIn of w = fits-own f.names w there ls at in
+      let is : IsWorldOf f hosts (heard of w) = record { shown = shown-heard of (shadows f hosts) w fits shown; reached = reached; whole = whole } in
+      sym (dispatched-heard of (own_listeners f.names now) w fits (fits-own f.names w there now fired_at) reached (name_at f.names target) (option_map (name_at f.names) related) e (done (heard of w) is (has-own f.names w ls fits)).0)
+
+-- what a dispatch is to have done: the listeners, the world, the lines and the answer
+abbrev Fires : List NodeName → DocState → MachineNow → List (Listener ℕ) → ℕ → Option ℕ → EventWords → Outcome → Type 0
+Fires names t m now target related e outcome =
+    let d = dispatch_in m.world (name_at m.names target) (option_map (name_at m.names) related) e in
+    AllByRecursion (IsListenerAt t.names) now × ((machine_now t now).world ≡ d.run.0) × (map (line_shown names) outcome.lines.items ≡ d.run.1) × (outcome.answer ≡ d.answer)
+
+-- in a machine that is seen so
+pub fired : (s : DocState) (ls now : List (Listener ℕ)) (m : MachineNow) → machine_now s ls ≡ m → IsSound m → (f : NamedTrees) (hosts : List ShadowHost) → f.names ≡ s.names → OwnersAreThere s.names s.world →
+    IsShownBy (shadows f hosts) s.world → (target : ℕ) (related : Option ℕ) (e : EventWords) (outcome : Outcome) → IsDispatched f hosts ls now target related e outcome →
+    (AllByRecursion (IsListenerAt f.names) ls → IsDispatchedIn f hosts ls now target related e outcome) → Fires f.names s m now target related e outcome
+fired s ls now m seen sound f hosts ns there shown target related e outcome keys names =
+    subst (λ (n : MachineNow). Fires f.names s n now target related e outcome) seen
+    (subst (λ (t : DocState). IsSound (machine_now t ls) → OwnersAreThere t.names t.world → IsShownBy (shadows f hosts) t.world → Fires f.names t (machine_now t ls) now target related e outcome)
+    (ap (λ (xs : List NodeName). state xs) ns) from (subst IsSound (sym seen) sound) there shown)
+  where
+    state : List NodeName → DocState
+    state xs = record { names = xs; world = s.world }
+
+    from : IsSound (machine_now (state f.names) ls) → OwnersAreThere f.names s.world → IsShownBy (shadows f hosts) s.world → Fires f.names (state f.names) (machine_now (state f.names) ls) now target related e outcome
+    from sound there shown =
+        let at = sound.listeners in
+        let done = names at in
+        let of = own_listeners f.names ls in
+        let fits : FitsIn of s.world = fits-own f.names s.world there ls at in
+        let is : IsWorldOf f hosts (heard of s.world) = record { shown = shown-heard of (shadows f hosts) s.world fits shown; reached = sound.reached; whole = sound.whole } in
+        let end = done (heard of s.world) is (has-own f.names s.world ls fits) in (
+          fired_at f hosts ls now s.world there at shown sound.reached sound.whole target related e outcome keys,
+          fired_world f hosts ls now s.world there at shown sound.reached sound.whole target related e outcome keys done,
+          lines_shown f.names outcome.lines.items ∙ sym end.1,
+          sym end.2,
+        )

@@ -1,0 +1,62 @@
+-- The turn that a dispatch opens, and what the dispatch is to the document machine.
+use Rattle.std.proofs.Common.{◌≡◌, ℕ, Bool, true, false, List, [], ◌∷◌, ◌++◌, Option, Some, None, Ok, refl, sym, ap, subst, ◌∙◌, append_assoc}
+use Rattle.std.specs.Option.{option_map}
+use Rattle.std.specs.List.{AllByRecursion}
+use Rattle.dom_base.specs.declared.NodeName.{NodeName}
+use Rattle.dom_base.specs.declared.Owner.{Owner}
+use Rattle.dom_model.specs.Command.{Command, Spelled, EventWords}
+use Rattle.dom_model.specs.CommandNames.{named}
+use Rattle.dom_model.specs.Dispatch.{Dispatched, dispatch_in}
+use Rattle.dom_model.specs.DocumentMachine.{refusal}
+use Rattle.dom_model.specs.Listeners.{Listener}
+use Rattle.dom_model.specs.Output.{says, replied, a_truth}
+use Rattle.dom_model.specs.Turns.{opening_turn}
+use Rattle.dom_model.specs.World.{World, part_of, is_there}
+use Rattle.dom_model.proofs.PartLaws.{owner-part_of}
+use Rattle.dom_isolation.specs.Laws.{IsReached}
+use Rattle.dom_isolation.specs.Tables.{IsWhole}
+use Rattle.dom_text.specs.Text.{output_text}
+use Rattle.dom_mutation.specs.Doc.{DocState}
+use Rattle.dom_reader.specs.declared.line.Spelled as line
+use Rattle.dom_reader.specs.Views.{spelled_view}
+use Rattle.dom_dispatch.specs.Named.{IsListenerAt}
+use Rattle.dom_commands.specs.Handled.{IsHandled}
+use Rattle.dom_commands.specs.Heard.{heard, own_listeners}
+use Rattle.dom_commands.specs.Machine.{machine_now, IsSound}
+use Rattle.dom_commands.proofs.EventCommands.{named_alike, reached-opening, whole-opening}
+use Rattle.dom_commands.proofs.HeardCommands.{opening-heard}
+use Rattle.dom_commands.proofs.TextLaws.{output_text-append}
+
+-- a machine stays sound when a turn is opened
+pub opened_sound : (s t : DocState) (ls : List (Listener ℕ)) (o : Owner) → t.names ≡ s.names → t.world ≡ opening_turn s.world o → is_there (machine_now s ls).world o ≡ true → IsSound (machine_now s ls) → IsSound (machine_now t ls)
+opened_sound s t ls o names world there sound =
+    let of = own_listeners s.names ls in
+    let is : opening_turn (heard of s.world) o ≡ (machine_now t ls).world =
+    opening-heard of s.world o ∙ ap (heard of) (sym world) ∙ ap (λ (ns : List NodeName). heard (own_listeners ns ls) t.world) (sym names) in
+    record {
+      listeners = subst (λ (ns : List NodeName). AllByRecursion (IsListenerAt ns) ls) (sym names) sound.listeners;
+      reached = subst (IsReached false) is (reached-opening (heard of s.world) o there sound.reached);
+      whole = subst IsWhole is (whole-opening (heard of s.world) o sound.whole);
+    }
+
+-- spellings read alike when a turn is open
+pub opened_name : (w v : World) (o : Owner) (x : Spelled) → named (part_of w o) x ≡ named (part_of (opening_turn v o) o) x
+opened_name w v o x = named_alike (part_of w o) (part_of (opening_turn v o) o) x (owner-part_of w o ∙ sym (owner-part_of (opening_turn v o) o))
+
+pub opened_names : (w v : World) (o : Owner) (r : Option line.Spelled) → option_map (λ x. named (part_of w o) (spelled_view x)) r ≡ option_map (named (part_of (opening_turn v o) o)) (option_map spelled_view r)
+opened_names w v o None = refl
+opened_names w v o (Some x) = ap Some (opened_name w v o (spelled_view x))
+
+-- what a dispatch does: its world, its lines, and then its answer
+pub dispatch_handled : (w : World) (o : Owner) (x : Spelled) (e : EventWords) (related : Option Spelled) (d : Dispatched World) → refusal w o (Command.dispatch x e related) ≡ None →
+    d ≡ dispatch_in (opening_turn w o) (named (part_of (opening_turn w o) o) x) (option_map (named (part_of (opening_turn w o) o)) related) e → (end : World) (before middle after : List ℕ) (answer : Bool) →
+    end ≡ d.run.0 → middle ≡ before ++ output_text d.run.1 → answer ≡ d.answer → after ≡ middle ++ output_text (says o (replied (a_truth answer)) ∷ []) →
+    IsHandled o (Command.dispatch x e related) w end before after (Ok tt)
+dispatch_handled w o x e related d none same end before middle after answer world text truth ending =
+    let reply = says o (replied (a_truth d.answer)) ∷ [] in (
+      none,
+      world ∙ ap (λ (q : Dispatched World). q.run.0) same,
+      ending ∙ ap (λ (b : Bool). middle ++ output_text (says o (replied (a_truth b)) ∷ [])) truth ∙ ap (λ (t : List ℕ). t ++ output_text reply) text
+          ∙ append_assoc before (output_text d.run.1) (output_text reply) ∙ ap (λ (t : List ℕ). before ++ t) (sym (output_text-append d.run.1 reply))
+          ∙ ap (λ (q : Dispatched World). before ++ output_text (q.run.1 ++ says o (replied (a_truth q.answer)) ∷ [])) same,
+    )

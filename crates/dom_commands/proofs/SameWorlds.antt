@@ -1,0 +1,90 @@
+-- Worlds in which the same owners have the same parts are the same.
+use Rattle.std.proofs.Common.{◌≡◌, ◌≢◌, ℕ, zero, suc, Bool, true, false, ◌||◌, List, [], ◌∷◌, ◌++◌, length, map, Option, Some, None, unwrap_or, refl, sym, ap, subst, ◌∙◌, arith, true≢false}
+use Rattle.std.specs.Prelude.{is_some}
+use Rattle.std.proofs.lemmas.Bool.{cond-true, cond-false}
+use Rattle.dom_base.specs.declared.Owner.{Owner}
+use Rattle.dom_base.specs.declared.Owner.TheVariants.{Page}
+use Rattle.dom_model.specs.Names.{owner_eq}
+use Rattle.dom_model.specs.Part.{Part, empty_part}
+use Rattle.dom_model.specs.World.{World, find_part, part_of, component_made}
+use Rattle.dom_model.proofs.OwnerLaws.{owner_eq-same, owner_eq-true, ne-owner_eq}
+use Rattle.dom_isolation.specs.Worlds.{attached_components, owners_in, HasOwners}
+use Rattle.dom_isolation.proofs.Owners.{has_owner, there-listed, later-absent}
+use Rattle.dom_isolation.proofs.Tests.{by_cases, or-neither}
+
+-- ---- owners that stand once
+
+abbrev pub AreOnce : List Owner → Type 0
+AreOnce [] = Unit {0}
+AreOnce (o ∷ os) = (has_owner os o ≡ false) × AreOnce os
+
+has-behind : (os : List Owner) (o x : Owner) → has_owner os x ≡ false → o ≢ x → has_owner (os ++ o ∷ []) x ≡ false
+has-behind [] o x off other = or-neither (owner_eq o x) false (ne-owner_eq o x other) refl
+has-behind (p ∷ os) o x off other = by (owner_eq p x) off (has-behind os o x)
+  where
+    by : (b : Bool) → (b || has_owner os x) ≡ false → (has_owner os x ≡ false → o ≢ x → has_owner (os ++ o ∷ []) x ≡ false) → (b || has_owner (os ++ o ∷ []) x) ≡ false
+    by true h more = absurd (true≢false h)
+    by false h more = more h other
+
+once-behind : (os : List Owner) (o : Owner) → AreOnce os → has_owner os o ≡ false → AreOnce (os ++ o ∷ [])
+once-behind [] o once off = (refl, tt)
+once-behind (p ∷ os) o once off = by (owner_eq p o) refl off (once-behind os o once.1)
+  where
+    by : (b : Bool) → owner_eq p o ≡ b → (b || has_owner os o) ≡ false → (has_owner os o ≡ false → AreOnce (os ++ o ∷ [])) → AreOnce (p ∷ os ++ o ∷ [])
+    by true e h more = absurd (true≢false h)
+    by false e h more = (has-behind os o p once.0 (λ same. true≢false (sym (ap (owner_eq p) same ∙ owner_eq-same p) ∙ e)), more h)
+
+attached-once : (n : ℕ) → AreOnce (attached_components n)
+attached-once zero = tt
+attached-once (suc n) = once-behind (attached_components n) (component_made Page n) (attached-once n) (later-absent n n (omega arith))
+
+no_page : (n : ℕ) → has_owner (attached_components n) Page ≡ false
+no_page zero = refl
+no_page (suc n) = has-behind (attached_components n) (component_made Page n) Page (no_page n) (λ e. absurd cc)
+
+-- the owners of a world stand once
+owners-once : (n : ℕ) → AreOnce (Page ∷ attached_components n)
+owners-once n = (no_page n, attached-once n)
+
+-- ---- parts
+
+abbrev part_in : List Part → Owner → Part
+part_in ps o = unwrap_or (find_part ps o) (empty_part o)
+
+first-found : (p : Part) (ps : List Part) → part_in (p ∷ ps) p.owner ≡ p
+first-found p ps = ap (λ (f : Option Part). unwrap_or f (empty_part p.owner)) (cond-true (owner_eq p.owner p.owner) (Some p) (find_part ps p.owner) (owner_eq-same p.owner))
+
+other-found : (p : Part) (ps : List Part) (o : Owner) → owner_eq p.owner o ≡ false → part_in (p ∷ ps) o ≡ part_in ps o
+other-found p ps o e = ap (λ (f : Option Part). unwrap_or f (empty_part o)) (cond-false (owner_eq p.owner o) (Some p) (find_part ps o) e)
+
+absent-found : (ps : List Part) (o : Owner) → has_owner (map (λ (p : Part). p.owner) ps) o ≡ false → part_in ps o ≡ empty_part o
+absent-found ps o off = by (find_part ps o) (there-listed ps o ∙ off)
+  where
+    by : (f : Option Part) → is_some f ≡ false → unwrap_or f (empty_part o) ≡ empty_part o
+    by None h = refl
+    by (Some p) h = absurd (true≢false h)
+
+parts-same : (ps qs : List Part) → map (λ (p : Part). p.owner) ps ≡ map (λ (p : Part). p.owner) qs → AreOnce (map (λ (p : Part). p.owner) ps) → ((o : Owner) → part_in ps o ≡ part_in qs o) → ps ≡ qs
+parts-same [] [] e once same = refl
+parts-same [] (q ∷ qs) e once same = absurd cc
+parts-same (p ∷ ps) [] e once same = absurd cc
+parts-same (p ∷ ps) (q ∷ qs) e once same =
+    let owners : List Part → List Owner = map (λ (p : Part). p.owner) in
+    let first : p.owner ≡ q.owner = cc in
+    let rest : owners ps ≡ owners qs = cc in
+    let here : p ≡ q = sym (first-found p ps) ∙ same p.owner ∙ ap (part_in (q ∷ qs)) first ∙ first-found q qs in
+    let deeper : (o : Owner) → part_in ps o ≡ part_in qs o = λ o. by_cases (owner_eq p.owner o)
+    (λ h. let is : p.owner ≡ o = owner_eq-true p.owner o h in
+    let off : has_owner (owners ps) o ≡ false = sym (ap (has_owner (owners ps)) is) ∙ once.0 in
+    absent-found ps o off ∙ sym (absent-found qs o (sym (ap (λ os. has_owner os o) rest) ∙ off)))
+    (λ h. sym (other-found p ps o h) ∙ same o ∙ other-found q qs o (sym (ap (λ (x : Owner). owner_eq x o) first) ∙ h)) in
+    λ j. here j ∷ parts-same ps qs rest once.1 deeper j
+
+-- in a world that was reached each owner stands once
+pub once-in : (w : World) → HasOwners w → AreOnce (owners_in w)
+once-in w people = subst AreOnce (sym people.parts) (owners-once (length (part_of w Page).attached))
+
+-- two worlds with the same owners' parts, and the same beside them
+pub worlds-same : (v u : World) → AreOnce (owners_in u) → owners_in v ≡ owners_in u → ((o : Owner) → part_of v o ≡ part_of u o) → record v { parts = [] } ≡ record u { parts = [] } → v ≡ u
+worlds-same v u once owners same rest =
+    λ j. record { parts = parts-same v.parts u.parts owners (subst AreOnce (sym owners) once) same j; signalled = (rest j).signalled; tasks = (rest j).tasks; turn = (rest j).turn }

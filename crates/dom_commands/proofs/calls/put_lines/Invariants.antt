@@ -1,0 +1,7 @@
+use Rattle.std.proofs.Common.{◌≡◌, map, take, ◌++◌}
+use Rattle.dom_text.specs.Text.{output_text}
+use Rattle.dom_commands.specs.Machine.{line_shown}
+use Rattle.dom_commands.proofs.calls.put_lines.Given as goal
+
+abbrev pub invariant-loop-line : goal.invariant-loop-line
+invariant-loop-line l = l.out.items ≡ l.initial.out.items ++ output_text (map (line_shown l.forest.names) (take l.line-index l.lines))

@@ -1,0 +1,52 @@
+use Rattle.std.proofs.Common.{List, ◌++◌, All, map, sym, ap, subst, ◌∙◌}
+use Rattle.std.specs.List.{AllByRecursion}
+use Rattle.dom_text.specs.Text.{output_text}
+use Rattle.dom_dispatch.specs.declared.event.LogLine.{LogLine}
+use Rattle.dom_dispatch.specs.Dispatches.{event_words, line_in}
+use Rattle.dom_commands.specs.Machine.{NamesNodes, line_shown}
+use Rattle.dom_commands.proofs.EventLines.{dispatch-lines, line_nodes, every}
+use Rattle.dom_commands.proofs.Firing.{fired}
+use Rattle.dom_commands.proofs.machine.Machine.fire.Goals as goal
+
+pub dispatch-requires-clause-slots : goal.dispatch-requires-clause-slots
+dispatch-requires-clause-slots c = c.forest_and_slots.ensures.slots
+
+pub put_lines-requires-clause-nodes : goal.put_lines-requires-clause-nodes
+put_lines-requires-clause-nodes c =
+    let names = c.forest_and_slots.result.0.now.names in
+    let keys = c.in_ok-outcome.ensures.keys in
+    subst (All (λ (l : LogLine). NamesNodes names (line_in l))) (sym c.as_slice.ensures.value)
+    (every (λ (l : LogLine). NamesNodes names (line_in l)) c.in_ok-outcome.outcome.lines.items
+    (line_nodes names c.in_ok-outcome.outcome.lines.items
+    (subst (AllByRecursion (NamesNodes names)) (sym keys.lines) (dispatch-lines names (event_words c.args.event) c.self.inside.listeners keys.shown keys.nodes))))
+
+pub returns-clause-world : goal.returns-clause-world
+returns-clause-world c =
+    let all = fired c.self.inside.state c.self.inside.listeners c.dispatch.new.self c.args.self.now c.self.view_is c.requires.sound c.forest_and_slots.result.0.now c.forest_and_slots.result.1.now.hosts c.forest_and_slots.ensures.names
+    c.names_tell_nodes.ensures.there c.forest_and_slots.ensures.shown c.args.target c.args.event.related (event_words c.args.event)
+    c.in_ok-outcome.outcome c.in_ok-outcome.ensures.keys c.in_ok-outcome.ensures.names in
+    all.1
+
+pub returns-clause-answer : goal.returns-clause-answer
+returns-clause-answer c =
+    let all = fired c.self.inside.state c.self.inside.listeners c.dispatch.new.self c.args.self.now c.self.view_is c.requires.sound c.forest_and_slots.result.0.now c.forest_and_slots.result.1.now.hosts c.forest_and_slots.ensures.names
+    c.names_tell_nodes.ensures.there c.forest_and_slots.ensures.shown c.args.target c.args.event.related (event_words c.args.event)
+    c.in_ok-outcome.outcome c.in_ok-outcome.ensures.keys c.in_ok-outcome.ensures.names in
+    all.3
+
+pub returns-clause-listeners : goal.returns-clause-listeners
+returns-clause-listeners c =
+    let all = fired c.self.inside.state c.self.inside.listeners c.dispatch.new.self c.args.self.now c.self.view_is c.requires.sound c.forest_and_slots.result.0.now c.forest_and_slots.result.1.now.hosts c.forest_and_slots.ensures.names
+    c.names_tell_nodes.ensures.there c.forest_and_slots.ensures.shown c.args.target c.args.event.related (event_words c.args.event)
+    c.in_ok-outcome.outcome c.in_ok-outcome.ensures.keys c.in_ok-outcome.ensures.names in
+    all.0
+
+pub returns-clause-text : goal.returns-clause-text
+returns-clause-text c =
+    let all = fired c.self.inside.state c.self.inside.listeners c.dispatch.new.self c.args.self.now c.self.view_is c.requires.sound c.forest_and_slots.result.0.now c.forest_and_slots.result.1.now.hosts c.forest_and_slots.ensures.names
+    c.names_tell_nodes.ensures.there c.forest_and_slots.ensures.shown c.args.target c.args.event.related (event_words c.args.event)
+    c.in_ok-outcome.outcome c.in_ok-outcome.ensures.keys c.in_ok-outcome.ensures.names in
+    let names = c.forest_and_slots.result.0.now.names in
+    c.in_ok-put_lines.ensures
+    ∙ ap (λ (ls : List LogLine). c.args.out.now.items ++ output_text (map (line_shown names) ls)) c.as_slice.ensures.value
+    ∙ ap (λ os. c.args.out.now.items ++ output_text os) all.2

@@ -1,0 +1,49 @@
+use Rattle.std.proofs.Common.{◌≡◌, ℕ, List, ◌++◌, map, ap, ◌∙◌}
+use Rattle.dom_model.specs.Output.{Output}
+use Rattle.dom_text.specs.Text.{output_text}
+use Rattle.dom_tree.specs.Forest.{name_at}
+use Rattle.dom_commands.specs.Machine.{machine_now}
+use Rattle.dom_commands.proofs.Closing.{told_there, told_lines, told_world, told_is_sound, told_slots, notify_world, notify_text}
+use Rattle.dom_commands.proofs.machine.Machine.notify.Goals as goal
+
+pub tell_observers-requires : goal.tell_observers-requires
+tell_observers-requires c =
+    told_there c.self.inside.state c.take_signals.new.self c.take_signals.new.self c.self.inside.listeners c.args.self.now c.self.view_is c.requires.sound c.names_tell_nodes.ensures.there c.args.owner c.requires.there
+    c.in_ok-slots.ensures.names c.in_ok-slots.ensures.world
+
+pub signal_slots-requires-clause-sound : goal.signal_slots-requires-clause-sound
+signal_slots-requires-clause-sound c =
+    told_is_sound c.self.inside.state c.take_signals.new.self c.tell_observers.new.self c.self.inside.listeners c.args.self.now c.self.view_is c.requires.sound c.names_tell_nodes.ensures.there c.args.owner c.requires.there
+    c.in_ok-slots.ensures.names c.in_ok-slots.ensures.world c.in_ok-tell_observers.ensures.names c.in_ok-tell_observers.ensures.world
+
+pub returns-clause-text : goal.returns-clause-text
+returns-clause-text c =
+    let s = c.self.inside.state in
+    let t = c.take_signals.new.self in
+    let u = c.tell_observers.new.self in
+    let ls = c.self.inside.listeners in
+    let m = c.args.self.now in
+    let o = c.args.owner in
+    let text = c.args.out.now.items in
+    let names = c.in_ok-slots.ensures.names in
+    let world = c.in_ok-slots.ensures.world in
+    let there = c.names_tell_nodes.ensures.there in
+    let told = told_world s t u ls m c.self.view_is c.requires.sound there o c.requires.there names world c.in_ok-tell_observers.ensures.names c.in_ok-tell_observers.ensures.world in
+    let are = told_slots s t u ls m c.self.view_is c.requires.sound there o c.requires.there names world c.in_ok-tell_observers.ensures.names c.in_ok-tell_observers.ensures.world c.in_ok-slots.slots.items c.in_ok-slots.ensures.keys in
+    notify_text m.world (machine_now u ls).world o told (map (name_at u.names) c.as_slice.result.now) (ap (map (name_at u.names)) c.as_slice.ensures.value ∙ are) text c.tell_observers.new.out.items c.signal_slots.new.out.items
+    (c.in_ok-tell_observers.ensures.text ∙ ap (λ (os : List Output). text ++ output_text os) (told_lines s t u ls m c.self.view_is c.requires.sound there o c.requires.there names world)) c.signal_slots.result c.signal_slots.ensures.text
+
+pub returns-clause-world : goal.returns-clause-world
+returns-clause-world c =
+    let s = c.self.inside.state in
+    let t = c.take_signals.new.self in
+    let u = c.tell_observers.new.self in
+    let ls = c.self.inside.listeners in
+    let m = c.args.self.now in
+    let o = c.args.owner in
+    let names = c.in_ok-slots.ensures.names in
+    let world = c.in_ok-slots.ensures.world in
+    let there = c.names_tell_nodes.ensures.there in
+    let told = told_world s t u ls m c.self.view_is c.requires.sound there o c.requires.there names world c.in_ok-tell_observers.ensures.names c.in_ok-tell_observers.ensures.world in
+    let are = told_slots s t u ls m c.self.view_is c.requires.sound there o c.requires.there names world c.in_ok-tell_observers.ensures.names c.in_ok-tell_observers.ensures.world c.in_ok-slots.slots.items c.in_ok-slots.ensures.keys in
+    notify_world m.world (machine_now u ls).world o told (map (name_at u.names) c.as_slice.result.now) (ap (map (name_at u.names)) c.as_slice.ensures.value ∙ are) c.signal_slots.new.self.world c.signal_slots.result c.signal_slots.ensures.world

@@ -1,0 +1,22 @@
+use Rattle.std.proofs.Common.{◌≡◌, List, ◌∷◌, subst}
+use Rattle.dom_model.specs.Turns.{running_task}
+use Rattle.dom_model.specs.World.{Task}
+use Rattle.dom_microtasks.specs.Tasks.{task_of}
+use Rattle.dom_commands.specs.Machine.{AreThere}
+use Rattle.dom_commands.proofs.Closing.{Ran, ran_more, first_rest, there_after}
+use Rattle.dom_commands.proofs.machine.Machine.run_tasks.Goals as goal
+
+pub loop-task-preserved : goal.loop-task-preserved
+loop-task-preserved c =
+    let was = c.args.self.now.world in
+    let now = c.loop-task.self.world in
+    let ts = c.loop-task.tasks in
+    let us = c.pop.new.self in
+    let t = task_of c.in-Some.task in
+    let first : ts ≡ t ∷ us = first_rest ts us t c.in-Some.ensures.task c.in-Some.ensures.rest in
+    let ran = subst (λ (xs : List Task). Ran running_task was now c.args.tasks xs c.args.out.now.items c.loop-task.out.items) first c.loop-task.invariant.0 in
+    let there = subst (AreThere now) first c.loop-task.invariant.2 in (
+      ran_more running_task was now c.run_task.new.self.world c.args.tasks us t c.args.out.now.items c.loop-task.out.items c.run_task.new.out.items ran c.in_ok-run_task.ensures.world c.in_ok-run_task.ensures.text,
+      c.in_ok-run_task.ensures.sound,
+      there_after now c.run_task.new.self.world t us there c.in_ok-run_task.ensures.world,
+    )

@@ -1,0 +1,35 @@
+use Rattle.std.proofs.Common.{Err, [], ◌∷◌, Some, refl, sym, ap, ◌∙◌}
+use Rattle.std.proofs.lemmas.Result.{err_from_is_err_and}
+use Rattle.dom_base.specs.declared.Fault.TheVariants.{Refused}
+use Rattle.dom_base.specs.declared.Refusal.TheVariants.{IndexSize}
+use Rattle.dom_model.specs.TextChanges.{replacing_data}
+use Rattle.dom_model.specs.Command.{Command}
+use Rattle.dom_model.specs.CommandNames.{named}
+use Rattle.dom_model.specs.Output.{nothing}
+use Rattle.dom_reader.specs.Views.{spelled_view}
+use Rattle.dom_commands.specs.declared.admission.Named.TheVariants.{Data}
+use Rattle.dom_commands.proofs.Handling.{refused, plans, faults}
+use Rattle.dom_commands.proofs.Namings.{naming-replace_data}
+use Rattle.dom_commands.proofs.CommandPlans.{IsKey, node-made, lone_holds, lone_fails, only_refusal, accepted_not, past_end-key}
+use Rattle.dom_commands.proofs.state.State.replace_data.Goals as goal
+
+pub returns-in_err-admit-clause-handled : goal.returns-in_err-admit-clause-handled
+returns-in_err-admit-clause-handled c =
+    let p = err_from_is_err_and c.from_residual.result c.from_residual.ensures.1 in
+    rw (p.1, p.2) (refused c.args.self.now.world c.args.owner (Command.replace_data (spelled_view c.args.node) c.args.offset c.args.count c.args.text.items) (Data c.args.node ∷ []) c.args.out.now.items c.in_err-admit.field-0.0 (naming-replace_data c.args.node c.args.offset c.args.count c.args.text.items) (sym c.admit.ensures ∙ c.in_err-admit.was))
+
+pub returns-in_err-replace_data-clause-handled : goal.returns-in_err-replace_data-clause-handled
+returns-in_err-replace_data-clause-handled c =
+    let p = err_from_is_err_and c.from_residual-in_err-replace_data.result c.from_residual-in_err-replace_data.ensures.1 in
+    let d = c.self.inside.doc in
+    let node_is : IsKey d.names d.world c.args.owner c.key-node.result (spelled_view c.args.node) = rw (← c.self.view_is) at c.key-node.ensures.name in
+    rw (p.1, p.2) (faults c.self.inside.turn d c.args.self.now c.self.view_is c.args.owner (Command.replace_data (spelled_view c.args.node) c.args.offset c.args.count c.args.text.items) (Data c.args.node ∷ []) (naming-replace_data c.args.node c.args.offset c.args.count c.args.text.items) (sym c.admit.ensures ∙ c.in_ok-admit.was) c.replace_data.new.self.world c.args.out.now.items c.in_err-replace_data.field-0.0
+    (λ r e. (lone_holds _ IndexSize (sym (past_end-key d.names d.world c.args.owner (spelled_view c.args.node) c.key-node.result c.args.offset node_is) ∙ (c.in_err-replace_data.ensures.refused.0 (ap Err (e ∙ ap Refused (only_refusal c.in_err-replace_data.field-0.0 IndexSize r c.in_err-replace_data.ensures.other e))))) ∙ ap Some (sym (only_refusal c.in_err-replace_data.field-0.0 IndexSize r c.in_err-replace_data.ensures.other e)), ap (λ s. s.world) (c.in_err-replace_data.ensures.unchanged (c.in_err-replace_data.ensures.refused.0 (ap Err (e ∙ ap Refused (only_refusal c.in_err-replace_data.field-0.0 IndexSize r c.in_err-replace_data.ensures.other e))))))))
+
+pub returns-clause-handled : goal.returns-clause-handled
+returns-clause-handled c =
+    let d = c.self.inside.doc in
+    let node_is : IsKey d.names d.world c.args.owner c.key-node.result (spelled_view c.args.node) = rw (← c.self.view_is) at c.key-node.ensures.name in
+    plans c.self.inside.turn d c.args.self.now c.self.view_is c.args.owner (Command.replace_data (spelled_view c.args.node) c.args.offset c.args.count c.args.text.items) (Data c.args.node ∷ []) (naming-replace_data c.args.node c.args.offset c.args.count c.args.text.items) (sym c.admit.ensures ∙ c.in_ok-admit.was) c.replace_data.new.self.world c.accept.new.self.world (λ p. replacing_data (named p (spelled_view c.args.node)) c.args.offset c.args.count c.args.text.items p) (λ p. nothing) nothing c.args.out.now.items c.accept.new.out.items c.accept.result refl
+    (lone_fails _ IndexSize (λ h. accepted_not IndexSize (c.in_ok-replace_data.ensures.refused.1 ((past_end-key d.names d.world c.args.owner (spelled_view c.args.node) c.key-node.result c.args.offset node_is) ∙ h))))
+    (node-made d.names d.world c.args.owner (λ x. replacing_data x c.args.offset c.args.count c.args.text.items) (spelled_view c.args.node) c.key-node.result node_is c.replace_data.new.self.world c.in_ok-replace_data.ensures.world) refl c.accept.ensures.done

@@ -1,0 +1,9 @@
+pub mod Offered
+pub mod Turned
+pub mod Refusals
+pub mod Making
+pub mod Handled
+pub mod Recorded
+pub mod TreeText
+pub mod Heard
+pub mod Machine

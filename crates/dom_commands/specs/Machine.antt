@@ -1,0 +1,71 @@
+-- What a contract sees of a `Machine`.
+use Rattle.std.specs.Prelude.{◌≡◌, ℕ, ◌<◌, false, List, length, take, All, Result, Ok, Err}
+use Rattle.std.specs.Option.{ForSome}
+use Rattle.std.specs.List.{AllByRecursion}
+use Rattle.dom_base.specs.declared.Fault.{Fault}
+use Rattle.dom_base.specs.declared.Fault.TheVariants.{Refused, Memory}
+use Rattle.dom_base.specs.declared.NodeName.{NodeName}
+use Rattle.dom_model.specs.Dispatch.{event_output}
+use Rattle.dom_model.specs.Listeners.{Listener}
+use Rattle.dom_model.specs.Output.{Output, EventLine}
+use Rattle.dom_model.specs.World.{World, Task}
+use Rattle.dom_isolation.specs.Laws.{IsReached}
+use Rattle.dom_isolation.specs.Tables.{IsWhole}
+use Rattle.dom_isolation.specs.Worlds.{IsThere, task_owner}
+use Rattle.dom_mutation.specs.Doc.{DocState}
+use Rattle.dom_dispatch.specs.declared.event.LogLine.{LogLine}
+use Rattle.dom_dispatch.specs.Dispatches.{line_in}
+use Rattle.dom_dispatch.specs.Named.{IsListenerAt, line_named}
+use Rattle.dom_commands.specs.Heard.{heard, own_listeners}
+
+-- the names of the nodes by their keys, the listeners by keys, and the world
+pub record MachineNow : Type 0 where
+  pub names : List NodeName
+  pub listeners : List (Listener ℕ)
+  pub world : World
+
+-- a state with listeners
+abbrev pub machine_now : DocState → List (Listener ℕ) → MachineNow
+machine_now s ls = record { names = s.names; listeners = ls; world = heard (own_listeners s.names ls) s.world }
+
+-- the listeners are at nodes
+abbrev pub AreAtNodes : MachineNow → Type 0
+AreAtNodes m = AllByRecursion (IsListenerAt m.names) m.listeners
+
+-- What holds of a machine between two lines: its listeners are at nodes, and its world is one that the definitions reach, whose
+-- tables name what is there.
+pub record IsSound (m : MachineNow) : Type 0 where
+  pub listeners : AreAtNodes m
+  pub reached : IsReached false m.world
+  pub whole : IsWhole m.world
+
+-- the owners of tasks are there
+abbrev pub AreThere : World → List Task → Type 0
+AreThere w ts = AllByRecursion (λ t. IsThere w (task_owner t)) ts
+
+-- the first names are these: nodes were made, or none
+abbrev pub BeginsWith : List NodeName → List NodeName → Type 0
+BeginsWith names more = take (length names) more ≡ names
+
+-- what was done has kept the names of nodes; where memory was refused, nothing is said (own rule)
+abbrev pub KeepsNames : List NodeName → List NodeName → Result (Unit {0}) Fault → Type 0
+KeepsNames old new (Ok x) = BeginsWith old new
+KeepsNames old new (Err (Refused r)) = BeginsWith old new
+KeepsNames old new (Err Memory) = Unit {0}
+
+-- what was done has left the listeners at nodes; where memory was refused, nothing is said (own rule)
+abbrev pub KeepsListeners : MachineNow → Result (Unit {0}) Fault → Type 0
+KeepsListeners new (Ok x) = AreAtNodes new
+KeepsListeners new (Err (Refused r)) = AreAtNodes new
+KeepsListeners new (Err Memory) = Unit {0}
+
+-- what the line of a call names are nodes
+pub record NamesNodes (names : List NodeName) (l : EventLine ℕ) : Type 0 where
+  pub target : l.target < length names
+  pub current : l.current < length names
+  pub related : ForSome l.related (λ k. k < length names)
+  pub path : All (λ k. k < length names) l.path
+
+-- a line of a dispatch, as it is printed
+abbrev pub line_shown : List NodeName → LogLine → Output
+line_shown names l = event_output (line_named names (line_in l))

@@ -1,0 +1,87 @@
+//! Dispatches of events, and the lines that tell of them.
+ghost use Rattle.std.specs.Prelude.{◌≡◌, ◌<◌, ◌++◌, ◌∷◌, [], All, length, map, IfOk, OnOk};
+ghost use Rattle.std.specs.Option.{option_map, ForSome};
+ghost use Rattle.dom_model.specs.Dispatch.{dispatch_in};
+ghost use Rattle.dom_text.specs.Text.{output_text};
+ghost use Rattle.dom_tree.specs.Forest.{name_at};
+ghost use Rattle.dom_dispatch.specs.Dispatches.{event_words, line_in, IsOwnLine};
+ghost use Rattle.dom_commands.specs.Machine.{AreAtNodes, IsSound, NamesNodes, line_shown};
+
+use crate::commands::names_of;
+use crate::machine::Machine;
+use dom_dispatch::{EventInit, LogLine};
+use dom_printer::{Event, put_event};
+use dom_tree::Forest;
+use node_arena::Key;
+use std::alloc::{AllocError, Global};
+
+impl Machine {
+    /// Dispatches an event at a node, puts the lines of the calls of listeners, and answers whether it was not cancelled (DOM
+    /// Standard, concept: dispatch).
+    pub(crate) fn fire(
+        &mut self,
+        target: Key,
+        event: EventInit,
+        out: &mut Vec<u8>,
+    ) -> Result<bool, AllocError>
+        requires sound { IsSound self.old }
+        requires target_is_node { target < length self.old.names }
+        requires related_is_node { ForSome event.related (λ k. k < length self.old.names) }
+        ensures world { OnOk result (self.new.world ≡ (dispatch_in self.old.world (name_at self.old.names target) (option_map (name_at self.old.names) event.related) (event_words event)).run.0) }
+        ensures text { OnOk result (out.new.items ≡ out.old.items ++ output_text (dispatch_in self.old.world (name_at self.old.names target) (option_map (name_at self.old.names) event.related) (event_words event)).run.1) }
+        ensures answer { IfOk result (λ answer. answer ≡ (dispatch_in self.old.world (name_at self.old.names target) (option_map (name_at self.old.names) event.related) (event_words event)).answer) }
+        ensures names { OnOk result (self.new.names ≡ self.old.names) }
+        ensures listeners { OnOk result (AreAtNodes self.new) }
+    {
+        self.state.names_tell_nodes();
+        let (forest, slots) = self.state.forest_and_slots();
+        let outcome = self.listeners.dispatch(forest, slots, target, event)?;
+        put_lines(self.alloc, forest, outcome.lines.as_slice(), out)?;
+        Ok(outcome.answer)
+    }
+}
+
+/// Puts the lines of the calls of listeners, each as its owner sees it.
+fn put_lines(
+    alloc: Global,
+    forest: &Forest,
+    lines: &[LogLine],
+    out: &mut Vec<u8>,
+) -> Result<(), AllocError>
+    requires nodes { All (λ l. NamesNodes forest.now.names (line_in l)) lines.now }
+    requires owners { All (IsOwnLine forest.now.names) lines.now }
+    ensures { OnOk result (out.new.items ≡ out.old.items ++ output_text (map (line_shown forest.now.names) lines.now)) }
+{
+    for line in lines {
+        put_line(alloc, forest, line, out)?;
+    }
+    Ok(())
+}
+
+/// Puts the line of the call of a listener, as its owner sees it.
+fn put_line(
+    alloc: Global,
+    forest: &Forest,
+    line: &LogLine,
+    out: &mut Vec<u8>,
+) -> Result<(), AllocError>
+    requires nodes { NamesNodes forest.now.names (line_in line.now) }
+    requires owner { IsOwnLine forest.now.names line.now }
+    ensures { OnOk result (out.new.items ≡ out.old.items ++ output_text (line_shown forest.now.names line.now ∷ [])) }
+{
+    let path = names_of(alloc, forest, line.path.as_slice())?;
+    let related = match line.related {
+        Some(related) => Some(forest.name(related)),
+        None => None,
+    };
+    let event = Event {
+        label: line.label.as_bytes(),
+        event: line.name.as_bytes(),
+        phase: line.phase,
+        target: forest.name(line.target),
+        current: forest.name(line.current),
+        related,
+        path: path.as_slice(),
+    };
+    put_event(out, line.owner, &event)
+}

@@ -1,0 +1,209 @@
+//! The commands on listeners and events.
+ghost use Rattle.std.specs.Prelude.{◌≡◌, ◌<◌, not, true, length, string_bytes, OnOk, Some};
+ghost use Rattle.std.specs.Option.{option_map, ForSome};
+ghost use Rattle.dom_model.specs.Command.{listen, unlisten, dispatch, EventWords as EventOf};
+ghost use Rattle.dom_model.specs.CommandNames.{named};
+ghost use Rattle.dom_model.specs.CommandRefusals.{related_refusal};
+ghost use Rattle.dom_model.specs.DocumentMachine.{refusal};
+ghost use Rattle.dom_model.specs.Names.{name_eq};
+ghost use Rattle.dom_model.specs.Tree.{has_node, root_of};
+ghost use Rattle.dom_model.specs.Turns.{opening_turn};
+ghost use Rattle.dom_model.specs.World.{part_of, is_there};
+ghost use Rattle.dom_reader.specs.Views.{event_view, listener_view, spelled_view};
+ghost use Rattle.dom_tree.specs.Forest.{name_at};
+ghost use Rattle.dom_dispatch.specs.Dispatches.{event_words};
+ghost use Rattle.dom_dispatch.specs.Entries.{words_of};
+ghost use Rattle.dom_commands.specs.Handled.{IsHandled, let_pass};
+ghost use Rattle.dom_commands.specs.Machine.{IsSound, KeepsListeners};
+
+use crate::admission::Named;
+use crate::machine::Machine;
+use crate::state::State;
+use dom_base::{Fault, Owner, Refusal};
+use dom_dispatch::{EventInit, ListenerInit};
+use dom_printer::{Value, put_reply};
+use dom_reader::{EventWords, ListenerWords, Spelled};
+use node_arena::Key;
+
+impl Machine {
+    /// `listen N TYPE LABEL ACTION [capture] [once] [passive]`: a node gets a listener, unless it has one with this type, label and
+    /// capture.
+    pub(crate) fn listen(
+        &mut self,
+        owner: Owner,
+        node: Spelled,
+        words: ListenerWords,
+        out: &mut Vec<u8>,
+    ) -> Result<(), Fault>
+        requires { IsSound self.old }
+        ensures handled { IsHandled owner (listen (spelled_view node) (listener_view words)) self.old.world self.new.world out.old.items out.new.items result }
+        ensures listeners { KeepsListeners self.new result }
+    {
+        self.state.names_tell_nodes();
+        self.state.admit(owner, &[Named::Any(node)])?;
+        let node = self.state.key(owner, node);
+        self.listeners.listen(node, listener_init(words))?;
+        self.state.accept(owner, &Value::Nothing, out)
+    }
+
+    /// `unlisten N TYPE LABEL [capture]`: the listener of a node with this type, label and capture goes, if there is one.
+    pub(crate) fn unlisten(
+        &mut self,
+        owner: Owner,
+        node: Spelled,
+        event: &str,
+        label: &str,
+        capture: bool,
+        out: &mut Vec<u8>,
+    ) -> Result<(), Fault>
+        requires { IsSound self.old }
+        ensures handled { IsHandled owner (unlisten (spelled_view node) event.now label.now capture) self.old.world self.new.world out.old.items out.new.items result }
+        ensures listeners { KeepsListeners self.new result }
+    {
+        self.state.names_tell_nodes();
+        self.state.admit(owner, &[Named::Any(node)])?;
+        let node = self.state.key(owner, node);
+        self.listeners.unlisten(node, event, label, capture);
+        self.state.accept(owner, &Value::Nothing, out)
+    }
+}
+
+impl Machine {
+    /// `dispatch N TYPE [bubbles] [cancelable] [composed] [related N]`: an event is dispatched at a node; whether it was not cancelled.
+    pub(crate) fn dispatch(
+        &mut self,
+        owner: Owner,
+        target: Spelled,
+        event: EventWords,
+        related: Option<Spelled>,
+        out: &mut Vec<u8>,
+    ) -> Result<(), Fault>
+        requires { IsSound self.old }
+        ensures handled { IsHandled owner (dispatch (spelled_view target) (event_view event) (option_map spelled_view related)) self.old.world self.new.world out.old.items out.new.items result }
+        ensures listeners { KeepsListeners self.new result }
+    {
+        self.state.names_tell_nodes();
+        self.state.admit_event(owner, target, related)?;
+        let target = self.state.key(owner, target);
+        let related = self.state.key_of(owner, related);
+        self.open_turn(owner);
+        let answer = self.fire(target, event_init(event, related), out)?;
+        put_reply(out, owner, &Value::Truth(answer))?;
+        Ok(())
+    }
+
+    /// Opens an owner's turn, where none is open.
+    fn open_turn(&mut self, owner: Owner)
+        requires sound { IsSound self.old }
+        requires owner_is_there { is_there self.old.world owner ≡ true }
+        ensures world { self.new.world ≡ opening_turn self.old.world owner }
+        ensures names { self.new.names ≡ self.old.names }
+        ensures sound { IsSound self.new }
+    {
+        self.state.open_turn(owner);
+    }
+}
+
+impl State {
+    /// Lets the line of a dispatch pass, or says why it is refused.
+    fn admit_event(
+        &self,
+        owner: Owner,
+        target: Spelled,
+        related: Option<Spelled>,
+    ) -> Result<(), Fault>
+        ensures refusal { (e : EventOf) → result ≡ let_pass (refusal self.now.world owner (dispatch (spelled_view target) e (option_map spelled_view related))) }
+        ensures target { OnOk result (has_node (part_of self.now.world owner).trees (named (part_of self.now.world owner) (spelled_view target)) ≡ true) }
+        ensures related { OnOk result (ForSome related (λ r. has_node (part_of self.now.world owner).trees (named (part_of self.now.world owner) (spelled_view r)) ≡ true)) }
+    {
+        match related {
+            None => self.admit(owner, &[Named::Any(target)]),
+            Some(related) => self.admit_related(owner, target, related),
+        }
+    }
+
+    /// Lets the line of a dispatch with a related node pass, or says why it is refused.
+    fn admit_related(&self, owner: Owner, target: Spelled, related: Spelled) -> Result<(), Fault>
+        ensures refusal { (e : EventOf) → result ≡ let_pass (refusal self.now.world owner (dispatch (spelled_view target) e (Some (spelled_view related)))) }
+        ensures target { OnOk result (has_node (part_of self.now.world owner).trees (named (part_of self.now.world owner) (spelled_view target)) ≡ true) }
+        ensures related { OnOk result (has_node (part_of self.now.world owner).trees (named (part_of self.now.world owner) (spelled_view related)) ≡ true) }
+    {
+        self.admit(owner, &[Named::Any(target), Named::Any(related)])?;
+        match self.related_refusal(owner, target, related) {
+            None => Ok(()),
+            Some(refusal) => Err(Fault::Refused(refusal)),
+        }
+    }
+
+    /// The refusal of a related node: a component's has the root of the target.
+    fn related_refusal(&self, owner: Owner, target: Spelled, related: Spelled) -> Option<Refusal>
+        requires target_is_there { has_node (part_of self.now.world owner).trees (named (part_of self.now.world owner) (spelled_view target)) ≡ true }
+        requires related_is_there { has_node (part_of self.now.world owner).trees (named (part_of self.now.world owner) (spelled_view related)) ≡ true }
+        ensures { result ≡ related_refusal owner (part_of self.now.world owner) (named (part_of self.now.world owner) (spelled_view target)) (Some (spelled_view related)) }
+    {
+        match owner {
+            Owner::Page => None,
+            Owner::Component(_) => {
+                if self.has_other_root(owner, target, related) {
+                    Some(Refusal::TypeFault)
+                } else {
+                    None
+                }
+            }
+        }
+    }
+
+    /// Whether two nodes that are there have other roots.
+    fn has_other_root(&self, owner: Owner, node: Spelled, other: Spelled) -> bool
+        requires node_is_there { has_node (part_of self.now.world owner).trees (named (part_of self.now.world owner) (spelled_view node)) ≡ true }
+        requires other_is_there { has_node (part_of self.now.world owner).trees (named (part_of self.now.world owner) (spelled_view other)) ≡ true }
+        ensures { result ≡ not (name_eq (root_of (part_of self.now.world owner).trees (named (part_of self.now.world owner) (spelled_view node))) (root_of (part_of self.now.world owner).trees (named (part_of self.now.world owner) (spelled_view other)))) }
+    {
+        let (node, other) = (self.key(owner, node), self.key(owner, other));
+        let forest = self.doc.forest();
+        forest.nodes_stand_once();
+        let root = forest.root(node);
+        let other_root = forest.root(other);
+        root != other_root
+    }
+
+    /// The node that an owner's line names, if it names one, which is there.
+    fn key_of(&self, owner: Owner, node: Option<Spelled>) -> Option<Key>
+        requires { ForSome node (λ r. has_node (part_of self.now.world owner).trees (named (part_of self.now.world owner) (spelled_view r)) ≡ true) }
+        ensures node { ForSome result (λ k. k < length self.now.names) }
+        ensures name { option_map (name_at self.now.names) result ≡ option_map (λ r. named (part_of self.now.world owner) (spelled_view r)) node }
+    {
+        match node {
+            Some(node) => Some(self.key(owner, node)),
+            None => None,
+        }
+    }
+}
+
+/// The words of a line, as those of an event.
+fn event_init(words: EventWords, related: Option<Key>) -> EventInit
+    ensures words { event_words result ≡ event_view words }
+    ensures related { result.related ≡ related }
+{
+    EventInit {
+        name: words.event,
+        bubbles: words.bubbles,
+        cancelable: words.cancelable,
+        composed: words.composed,
+        related,
+    }
+}
+
+/// The words of a line, as those of a listener.
+fn listener_init(words: ListenerWords) -> ListenerInit
+    ensures { words_of result ≡ listener_view words }
+{
+    ListenerInit {
+        event: words.event,
+        label: words.label,
+        action: words.action,
+        capture: words.capture,
+        once: words.once,
+        passive: words.passive,
+    }
+}

@@ -1,0 +1,44 @@
+//! The document machine: what a run holds between its lines.
+ghost use Rattle.std.specs.Prelude.{◌≡◌, IfOk};
+ghost use Rattle.dom_model.specs.DocumentMachine.{first_world};
+ghost use Rattle.dom_commands.specs.Machine.{IsSound};
+
+use crate::state::State;
+use dom_dispatch::Listeners;
+use std::alloc::{AllocError, Global};
+use std::marker::Model;
+
+/// The documents with the open turn, and the listeners of all nodes.
+#[derive(Drop)]
+pub struct Machine {
+    pub(crate) state: State,
+    pub(crate) listeners: Listeners,
+    pub(crate) alloc: Global,
+}
+
+impl Model for Machine {
+    ghost use Rattle.std.specs.Coded.{codes};
+    ghost use Rattle.dom_model.specs.Codes.{trees_code};
+    ghost use Rattle.dom_commands.specs.Machine.{MachineNow, machine_now};
+
+    ghost Value = { MachineNow };
+
+    ghost coded = { Prim.hlevel (codes, trees_code) };
+
+    ghost view = { λ m. machine_now m.state m.listeners };
+}
+
+impl Machine {
+    /// The machine before the first line: the page has its first document, and there is no more.
+    pub fn new(alloc: Global) -> Result<Machine, AllocError>
+        ensures world { IfOk result (λ machine. machine.world ≡ first_world) }
+        ensures sound { IfOk result (λ machine. IsSound machine) }
+    {
+        let state = State::new(alloc)?;
+        Ok(Machine {
+            state,
+            listeners: Listeners::new(alloc),
+            alloc,
+        })
+    }
+}

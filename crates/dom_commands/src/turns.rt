@@ -1,0 +1,110 @@
+//! The ends of turns.
+ghost use Rattle.std.specs.Prelude.{◌≡◌, ◌++◌, [], None, OnOk, is_some};
+ghost use Rattle.dom_model.specs.Names.{owner_eq};
+ghost use Rattle.dom_model.specs.Command.{end_turn};
+ghost use Rattle.dom_model.specs.Turns.{has_other_turn, ending_turn, ending_other_turn, ending_any_turn};
+ghost use Rattle.dom_text.specs.Text.{output_text};
+ghost use Rattle.dom_commands.specs.Handled.{IsHandled};
+ghost use Rattle.dom_commands.specs.Machine.{IsSound, KeepsListeners};
+
+use crate::machine::Machine;
+use crate::state::State;
+use dom_base::{Fault, Owner};
+use dom_microtasks::Queue;
+use dom_printer::{Value, put_reply};
+use std::alloc::AllocError;
+
+impl State {
+    /// Takes all tasks out, and closes the open turn, if there is one.
+    fn take_tasks(&mut self) -> Queue
+        ensures tasks { result ≡ self.old.world.tasks }
+        ensures world { self.new.world ≡ record self.old.world { tasks = []; turn = None } }
+        ensures names { self.new.names ≡ self.old.names }
+    {
+        self.turn = None;
+        self.doc.take_tasks()
+    }
+
+    /// Whether the open turn is another component's.
+    fn has_other_turn(&self, owner: Owner) -> bool
+        ensures { result ≡ has_other_turn self.now.world owner }
+    {
+        match self.turn {
+            Some(Owner::Component(number)) => !is_component(owner, number),
+            _ => false,
+        }
+    }
+
+    /// Whether a turn is open.
+    fn has_turn(&self) -> bool
+        ensures { result ≡ is_some self.now.world.turn }
+    {
+        self.turn.is_some()
+    }
+}
+
+impl Machine {
+    /// Ends the open turn, if there is one: the microtasks run, and their lines are put.
+    fn close_turn(&mut self, out: &mut Vec<u8>) -> Result<(), AllocError>
+        requires { IsSound self.old }
+        ensures text { OnOk result (out.new.items ≡ out.old.items ++ output_text (ending_turn self.old.world).1) }
+        ensures world { OnOk result (self.new.world ≡ (ending_turn self.old.world).0) }
+        ensures sound { OnOk result (IsSound self.new) }
+    {
+        let tasks = self.state.take_tasks();
+        self.run_tasks(tasks, out)
+    }
+
+    /// Ends another component's turn, if it is open, before a line of an owner.
+    pub(crate) fn close_other_turn(
+        &mut self,
+        owner: Owner,
+        out: &mut Vec<u8>,
+    ) -> Result<(), AllocError>
+        requires { IsSound self.old }
+        ensures text { OnOk result (out.new.items ≡ out.old.items ++ output_text (ending_other_turn self.old.world owner).1) }
+        ensures world { OnOk result (self.new.world ≡ (ending_other_turn self.old.world owner).0) }
+        ensures sound { OnOk result (IsSound self.new) }
+    {
+        if self.state.has_other_turn(owner) {
+            return self.close_turn(out);
+        }
+        Ok(())
+    }
+
+    /// Ends any open turn, at the end of input.
+    pub fn close_any_turn(&mut self, out: &mut Vec<u8>) -> Result<(), AllocError>
+        requires { IsSound self.old }
+        ensures text { OnOk result (out.new.items ≡ out.old.items ++ output_text (ending_any_turn self.old.world).1) }
+        ensures world { OnOk result (self.new.world ≡ (ending_any_turn self.old.world).0) }
+        ensures sound { OnOk result (IsSound self.new) }
+    {
+        if self.state.has_turn() {
+            return self.close_turn(out);
+        }
+        Ok(())
+    }
+
+    /// `.`: the end of a turn.
+    pub(crate) fn end_turn(&mut self, owner: Owner, out: &mut Vec<u8>) -> Result<(), Fault>
+        requires { IsSound self.old }
+        ensures handled { IsHandled owner end_turn self.old.world self.new.world out.old.items out.new.items result }
+        ensures listeners { KeepsListeners self.new result }
+    {
+        self.state.names_tell_nodes();
+        self.state.admit(owner, &[])?;
+        self.close_turn(out)?;
+        put_reply(out, owner, &Value::Nothing)?;
+        Ok(())
+    }
+}
+
+/// Whether an owner is the component of this number.
+fn is_component(owner: Owner, number: u32) -> bool
+    ensures { result ≡ owner_eq (Owner.Component number) owner }
+{
+    match owner {
+        Owner::Page => false,
+        Owner::Component(other) => number == other,
+    }
+}

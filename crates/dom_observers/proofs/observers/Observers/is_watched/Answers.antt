@@ -1,0 +1,14 @@
+use Rattle.std.proofs.Common.{ℕ, not, sym, ap, ◌∙◌}
+use Rattle.dom_model.specs.Names.{is_empty}
+use Rattle.dom_observers.specs.Tables.{TablesOf}
+use Rattle.dom_observers.proofs.Lookups.{had, had-none}
+use Rattle.dom_observers.proofs.observers.Observers.is_watched.Goals as goal
+
+pub returns-in-Some : goal.returns-in-Some
+returns-in-Some c =
+    ap not c.has_no_registration.ensures
+    ∙ ap (λ (t : TablesOf ℕ). not (is_empty t.registrations)) (sym (had c.self.inside c.args.self.now c.args.owner c.in-Some.table.now c.self.view_is c.in-Some.ensures.value))
+
+pub returns-in-None : goal.returns-in-None
+returns-in-None c =
+    ap (λ (t : TablesOf ℕ). not (is_empty t.registrations)) (sym (had-none c.self.inside c.args.self.now c.args.owner c.self.view_is c.in-None.ensures.value))

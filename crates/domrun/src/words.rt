@@ -1,0 +1,67 @@
+//! The program's words: whose lines are written, and which file is read.
+ghost use Rattle.std.specs.Prelude.{◌≡◌, IfErr, IfOk, option_map};
+ghost use Rattle.clap.specs.Words.{app_of, found_of, matches_of, rows_of};
+ghost use Rattle.dom_text.specs.Readers.{owner_of as spec_owner_of};
+ghost use Rattle.domrun.specs.Words.{AreTaken, HaveForm, command_line as spec_command_line, file_in, texts_of, view_in};
+
+use crate::stop::Stop;
+use clap::{Arg, ArgMatches, Command};
+use dom_base::Owner;
+use dom_reader::owner_of;
+use std::alloc::{AllocError, Global};
+
+/// What the words ask for: the owner whose lines are written, all of them where there is none, and the file that is read.
+#[derive(Clone, Copy)]
+pub struct Request<'a> {
+    pub view: Option<Owner>,
+    pub file: Option<&'a str>,
+}
+
+/// The owner whose word this is, none of another text: `p`, or `c` and a number from 1 without leading zeros (own rule).
+pub fn view_of(word: &str) -> Option<Owner>
+    ensures { result ≡ spec_owner_of word.now }
+{
+    owner_of(word.as_bytes())
+}
+
+/// What the program's words ask for, the first of them being its own name: `--view` with an owner's word behind it or after
+/// `=`, and one word beside it, behind `--` too, in any order and each at most once (own rule). Other words are refused as
+/// `Usage`; every other error is want of memory.
+pub fn request_of<'a>(alloc: Global, words: &'a [String]) -> Result<Request<'a>, Stop>
+    ensures taken { IfOk result (λ _. AreTaken (texts_of words.now)) }
+    ensures view { IfOk result (λ request. request.view ≡ view_in (texts_of words.now)) }
+    ensures file { IfOk result (λ request. option_map (λ file. file.now) request.file ≡ file_in (texts_of words.now)) }
+    ensures usage { IfErr result (λ stop. stop ≡ Stop.Usage → AreTaken (texts_of words.now) → ⊥) }
+{
+    let matches = matches_in(alloc, words)?;
+    let file = matches.get_str("file");
+    match matches.get_str("view") {
+        None => Ok(Request { view: None, file }),
+        Some(word) => match view_of(word) {
+            None => Err(Stop::Usage),
+            view => Ok(Request { view, file }),
+        },
+    }
+}
+
+/// What the words give to the parts of the command line.
+fn matches_in<'a>(alloc: Global, words: &'a [String]) -> Result<ArgMatches<'a>, Stop>
+    ensures form { IfOk result (λ _. HaveForm (texts_of words.now)) }
+    ensures rows { IfOk result (λ found. rows_of (found_of found) ≡ matches_of spec_command_line (texts_of words.now)) }
+    ensures usage { IfErr result (λ stop. stop ≡ Stop.Usage → HaveForm (texts_of words.now) → ⊥) }
+{
+    let command = command_line(alloc)?;
+    Ok(command.try_get_matches_from(words)?)
+}
+
+/// The parts of the command line. There is no call for help among them, so it is refused like any other word.
+fn command_line<'a>(alloc: Global) -> Result<Command<'a>, AllocError>
+    ensures { IfOk result (λ command. app_of command ≡ spec_command_line) }
+{
+    let view = Arg::new(alloc, "view").long("view");
+    let file = Arg::new(alloc, "file");
+    Command::new(alloc, "domrun")
+        .disable_help_flag(true)
+        .arg(view)?
+        .arg(file)
+}
