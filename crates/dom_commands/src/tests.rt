@@ -1,4 +1,7 @@
 //! Lines and their answers on a machine.
+ghost use Rattle.std.specs.Prelude.{OnOk};
+ghost use Rattle.dom_commands.specs.Machine.{IsSound};
+
 use crate::Machine;
 use dom_reader::parse_line;
 use std::alloc::Global;
@@ -12,7 +15,10 @@ fn check_line(
     machine: &mut Machine,
     line: &str,
     answer: &str,
-) -> Result<(), Fail> {
+) -> Result<(), Fail>
+    requires { IsSound machine.old }
+    ensures { OnOk result (IsSound machine.new) }
+{
     let read = parse_line(alloc, line.as_bytes())?;
     let text = machine.answer(read)?;
     assert_eq!(rt; text.as_slice(), answer.as_bytes());
