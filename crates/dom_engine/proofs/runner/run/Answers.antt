@@ -10,7 +10,7 @@ returns-in_err-runner-clause-stops g c =
     rw (p.1, p.2) (stops-before c.args.view _ _)
 
 pub returns-clause-ok : goal.returns-clause-ok
-returns-clause-ok g c = rw (sym c.in_ok-runner.ensures.2.2) c.run_all.ensures.ok
+returns-clause-ok g c = rw (sym c.in_ok-runner.ensures.2) c.run_all.ensures.ok
 
 pub returns-clause-stops : goal.returns-clause-stops
-returns-clause-stops g c = rw (sym c.in_ok-runner.ensures.2.2) c.run_all.ensures.stops
+returns-clause-stops g c = rw (sym c.in_ok-runner.ensures.2) c.run_all.ensures.stops
