@@ -9,7 +9,7 @@ use Rattle.dom_model.specs.Listeners.{Listener}
 use Rattle.dom_model.specs.Names.{Word, first_of}
 use Rattle.dom_model.specs.Command.{Command, EventWords}
 use Rattle.dom_model.specs.DocumentMachine.{accepted}
-use Rattle.dom_model.specs.Output.{Output, says, replied, nothing}
+use Rattle.dom_model.specs.Output.{says, replied, nothing}
 use Rattle.dom_model.specs.Part.{Part}
 use Rattle.dom_model.specs.Runs.{Run, run_each}
 use Rattle.dom_model.specs.Turns.{opening_turn, ending_turn, running_task, notifying, notified, notified_lines, is_owned_by, without_signals, slotchange, firing_slotchange}

@@ -28,7 +28,7 @@ use Rattle.dom_commands.specs.Making.{making}
 use Rattle.dom_commands.specs.Handled.{IsDone, IsHandled, let_pass}
 use Rattle.dom_commands.specs.Refusals.{is_there_as, is_fit, has_foreign, are_there, are_fitting, early_refusal}
 use Rattle.dom_commands.specs.Turned.{with_turn, turned, opened_turn}
-use Rattle.dom_commands.proofs.Refusing.{IsNaming, and_true, refusal-of_names}
+use Rattle.dom_commands.proofs.Refusing.{IsNaming, IsNamingOf, naming_of, and_true, refusal-of_own}
 use Rattle.dom_commands.proofs.Turned.{after_turned}
 
 -- ---- the tests that all commands share
@@ -66,9 +66,9 @@ pub one_there : (w : World) (o : Owner) (n : Named) → let_pass (early_refusal 
 one_there w o n e = sym (and_true (is_there_as (part_of w o) n)) ∙ all_there w o (n ∷ []) e
 
 -- a line that doesn't pass is refused, and nothing is changed
-pub refused : (w : World) (o : Owner) (c : Command) (names : List Named) (text : List ℕ) (f : Fault) → IsNaming c names → let_pass (early_refusal w o names) ≡ Err f →
+pub refused_own : (w : World) (o : Owner) (c : Command) (names : List Named) (text : List ℕ) (f : Fault) → IsNamingOf o c names → let_pass (early_refusal w o names) ≡ Err f →
     IsHandled o c w w text text (Err f)
-refused w o c names text f is h = by (early_refusal w o names) (refusal-of_names w o c names is) f h
+refused_own w o c names text f is h = by (early_refusal w o names) (refusal-of_own w o c names is) f h
   where
     by : (e : Option Refusal) → refusal w o c ≡ option_or e (own_refusal (part_of w o) c) → (f : Fault) → let_pass e ≡ Err f → IsHandled o c w w text text (Err f)
     by None is f h = absurd cc
@@ -77,12 +77,20 @@ refused w o c names text f is h = by (early_refusal w o names) (refusal-of_names
         (is ∙ ap Some same, refl, refl)
     by (Some r) is Memory h = tt
 
+pub refused : (w : World) (o : Owner) (c : Command) (names : List Named) (text : List ℕ) (f : Fault) → IsNaming c names → let_pass (early_refusal w o names) ≡ Err f →
+    IsHandled o c w w text text (Err f)
+refused w o c names text f is h = refused_own w o c names text f (naming_of o c names is) h
+
 -- what is done by a command that passes is its own refusal, or its run
+pub handled_own : (w new : World) (o : Owner) (c : Command) (names : List Named) (before after : List ℕ) (r : Result (Unit {0}) Fault) → IsNamingOf o c names →
+    let_pass (early_refusal w o names) ≡ Ok tt → IsDone (own_refusal (part_of w o) c) (accepted w o c) w new before after r → IsHandled o c w new before after r
+handled_own w new o c names before after r is pass done =
+    let own : refusal w o c ≡ own_refusal (part_of w o) c = refusal-of_own w o c names is ∙ ap (λ e. option_or e (own_refusal (part_of w o) c)) (passed (early_refusal w o names) pass) in
+    subst (λ e. IsDone e (accepted w o c) w new before after r) (sym own) done
+
 pub handled : (w new : World) (o : Owner) (c : Command) (names : List Named) (before after : List ℕ) (r : Result (Unit {0}) Fault) → IsNaming c names →
     let_pass (early_refusal w o names) ≡ Ok tt → IsDone (own_refusal (part_of w o) c) (accepted w o c) w new before after r → IsHandled o c w new before after r
-handled w new o c names before after r is pass done =
-    let own : refusal w o c ≡ own_refusal (part_of w o) c = refusal-of_names w o c names is ∙ ap (λ e. option_or e (own_refusal (part_of w o) c)) (passed (early_refusal w o names) pass) in
-    subst (λ e. IsDone e (accepted w o c) w new before after r) (sym own) done
+handled w new o c names before after r is pass done = handled_own w new o c names before after r (naming_of o c names is) pass done
 
 -- a command that makes a node
 pub makes_node : (w new : World) (o : Owner) (c : Command) (k : Kind) (a e : Word) (s u : DomString) (before after : List ℕ) (r : Result (Unit {0}) Fault) → IsNaming c [] →
@@ -266,13 +274,18 @@ reads w new o c names v reply before after r is runs pass none value ending =
     (answered w o v reply (admitted w o names pass) value ∙ sym runs) ending)
 
 -- a command that only answers, and reads more than its owner's part
+pub asks_own : (w new : World) (o : Owner) (c : Command) (names : List Named) (v : World → Value) (reply : Value) (before after : List ℕ) (r : Result (Unit {0}) Fault) →
+    IsNamingOf o c names → accepted w o c ≡ (opening_turn w o, says o (replied (v (opening_turn w o))) ∷ []) → let_pass (early_refusal w o names) ≡ Ok tt → own_refusal (part_of w o) c ≡ None →
+    reply ≡ v (opening_turn w o) → IsDone None (opening_turn w o, says o (replied reply) ∷ []) w new before after r → IsHandled o c w new before after r
+asks_own w new o c names v reply before after r is runs pass none value ending =
+    let run : Value → Run World = λ a. (opening_turn w o, says o (replied a) ∷ []) in
+    handled_own w new o c names before after r is pass
+    (finished (own_refusal (part_of w o) c) (run reply) (accepted w o c) w w new before after r none (ap run value ∙ sym runs) ending)
+
 pub asks : (w new : World) (o : Owner) (c : Command) (names : List Named) (v : World → Value) (reply : Value) (before after : List ℕ) (r : Result (Unit {0}) Fault) →
     IsNaming c names → accepted w o c ≡ (opening_turn w o, says o (replied (v (opening_turn w o))) ∷ []) → let_pass (early_refusal w o names) ≡ Ok tt → own_refusal (part_of w o) c ≡ None →
     reply ≡ v (opening_turn w o) → IsDone None (opening_turn w o, says o (replied reply) ∷ []) w new before after r → IsHandled o c w new before after r
-asks w new o c names v reply before after r is runs pass none value ending =
-    let run : Value → Run World = λ a. (opening_turn w o, says o (replied a) ∷ []) in
-    handled w new o c names before after r is pass
-    (finished (own_refusal (part_of w o) c) (run reply) (accepted w o c) w w new before after r none (ap run value ∙ sym runs) ending)
+asks w new o c names v reply before after r is runs pass none value ending = asks_own w new o c names v reply before after r (naming_of o c names is) runs pass none value ending
 
 -- a command that only answers, and is refused by tests of its own, or memory was refused
 pub unanswered : (w : World) (o : Owner) (c : Command) (names : List Named) (text : List ℕ) (f : Fault) → IsNaming c names → let_pass (early_refusal w o names) ≡ Ok tt →

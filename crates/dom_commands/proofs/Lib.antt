@@ -7,6 +7,7 @@ pub mod CommandPlans
 pub mod Cursors
 pub mod Selecting
 pub mod Connecting
+pub mod Attaching
 pub mod Spots
 pub mod SpotReads
 pub mod Standing

@@ -1,32 +1,35 @@
 -- What is done in a state is done in the machine around it.
-use Rattle.std.proofs.Common.{◌≡◌, ℕ, Bool, true, false, List, [], ◌∷◌, Result, Ok, Err, refl, sym, ap, subst, ◌∙◌, true≢false}
+use Rattle.std.proofs.Common.{◌≡◌, ℕ, suc, true, false, List, [], ◌∷◌, None, Result, Ok, Err, length, arith, refl, sym, ap, subst, ◌∙◌, true≢false}
 use Rattle.std.proofs.Math.Seq.{take-length}
 use Rattle.std.specs.List.{AllByRecursion}
-use Rattle.std.specs.Prelude.{is_some, if◌then◌else◌}
-use Rattle.std.specs.declared.alloc.AllocError.{AllocError}
-use Rattle.std.specs.Result.{OnOk}
+use Rattle.std.specs.Prelude.{is_some, slice_get}
+use Rattle.std.proofs.lemmas.Option.{slice_get_past}
 use Rattle.dom_base.specs.declared.Fault.{Fault}
 use Rattle.dom_base.specs.declared.Fault.TheVariants.{Refused, Memory}
 use Rattle.dom_base.specs.declared.NodeName.{NodeName}
 use Rattle.dom_base.specs.declared.Owner.{Owner}
-use Rattle.dom_base.specs.declared.Owner.TheVariants.{Page}
+use Rattle.dom_base.specs.declared.Owner.TheVariants.{Page, Component}
 use Rattle.dom_model.specs.Command.{Command, Line}
 use Rattle.dom_model.specs.Listeners.{Listener}
-use Rattle.dom_model.specs.DocumentMachine.{first_world, step, finish}
+use Rattle.dom_model.specs.DocumentMachine.{first_world, refusal, step}
 use Rattle.dom_model.specs.Names.{node_of}
-use Rattle.dom_model.specs.Runs.{quiet}
-use Rattle.dom_model.specs.Turns.{opening_turn, ending_turn, has_other_turn, ending_other_turn}
-use Rattle.dom_model.specs.World.{World}
+use Rattle.dom_model.specs.Turns.{opening_turn}
+use Rattle.dom_model.specs.Part.{Part}
+use Rattle.dom_model.specs.World.{World, part_of, is_there, component_made}
+use Rattle.dom_model.proofs.StepLaws.{Component-IsNoPage}
 use Rattle.dom_isolation.specs.Laws.{IsReached}
 use Rattle.dom_isolation.specs.Tables.{IsWhole}
-use Rattle.dom_isolation.proofs.Reached.{first-is_reached, step-keeps_reached, ending-keeps_reached, finish-keeps_reached}
-use Rattle.dom_isolation.proofs.TableLines.{first-is_whole, step-keeps_whole, ending-keeps_whole, finish-keeps_whole}
+use Rattle.dom_isolation.proofs.Reached.{first-is_reached, step-keeps_reached}
+use Rattle.dom_isolation.proofs.ReachedFacts.{attached-are_there}
+use Rattle.dom_isolation.proofs.TableLines.{first-is_whole, step-keeps_whole}
 use Rattle.dom_mutation.specs.Doc.{DocState}
 use Rattle.dom_dispatch.specs.Named.{IsListenerAt}
 use Rattle.dom_commands.specs.Handled.{IsHandled}
 use Rattle.dom_commands.specs.Heard.{heard, own_listeners}
 use Rattle.dom_commands.specs.Machine.{MachineNow, machine_now, IsSound, AreAtNodes, BeginsWith, KeepsNames, KeepsListeners}
 use Rattle.dom_commands.specs.Offered.{is_silent, is_plain}
+use Rattle.dom_commands.proofs.Handling.{opened-part}
+use Rattle.dom_commands.proofs.Heard.{FitsIn, there-heard, part-heard}
 use Rattle.dom_commands.proofs.HeardCommands.{IsNew, handled-heard}
 use Rattle.dom_commands.proofs.Listening.{OwnersAreThere, fits-own, at-kept, own-kept}
 
@@ -42,10 +45,20 @@ silent_plain (Command.dispatch x e related) h = absurd (true≢false (sym h))
 silent_plain Command.end_turn h = absurd (true≢false (sym h))
 silent_plain c h = refl
 
--- and makes no component
-silent_new : (of : Owner → List (Listener NodeName)) (w : World) (o : Owner) (c : Command) → is_silent c ≡ true → IsNew of w o c
-silent_new of w o (Command.attach x) h = absurd (true≢false (sym h))
-silent_new of w o c h = tt
+-- The component that the page's next attach makes was not there.
+next_absent : (of : Owner → List (Listener NodeName)) (w : World) → FitsIn of w → IsReached false (heard of w) → is_there w (component_made Page (length (part_of w Page).attached)) ≡ false
+next_absent of w fits reached =
+    let hosts = (part_of w Page).attached in
+    let c = component_made Page (length hosts) in
+    sym (there-heard of w c) ∙ attached-are_there false (heard of w) reached c (Component-IsNoPage (suc (length hosts)))
+    ∙ ap (λ (p : Part). is_some (slice_get p.attached (length hosts))) (part-heard of w fits Page) ∙ ap is_some (slice_get_past hosts (length hosts) (omega arith))
+
+-- so the component that a command makes has no listeners
+made_new : (of : Owner → List (Listener NodeName)) (w : World) → FitsIn of w → IsReached false (heard of w) → (o : Owner) (c : Command) → refusal w o c ≡ None → IsNew of (opening_turn w o) o c
+made_new of w fits reached Page (Command.attach x) passes =
+    ap (λ (p : Part). of (component_made Page (length p.attached))) (sym (opened-part w Page)) ∙ fits (component_made Page (length (part_of w Page).attached)) (next_absent of w fits reached)
+made_new of w fits reached (Component k) (Command.attach x) passes = absurd cc
+made_new of w fits reached o c passes = tt
 
 module _ (s t : DocState) (ls : List (Listener ℕ)) (there : OwnersAreThere s.names s.world) (at : AllByRecursion (IsListenerAt s.names) ls) where
   -- listeners hear in the state behind as before
@@ -53,12 +66,15 @@ module _ (s t : DocState) (ls : List (Listener ℕ)) (there : OwnersAreThere s.n
   heard_kept kept = ap (λ of. heard of t.world) (sym (own-kept s.names t.names kept ls at))
 
   -- such a command
-  pub silent_handled : (o : Owner) (c : Command) → is_silent c ≡ true → (before after : List ℕ) (r : Result (Unit {0}) Fault) → KeepsNames s.names t.names r → IsHandled o c s.world t.world before after r →
+  pub silent_handled : IsReached false (machine_now s ls).world → (o : Owner) (c : Command) → is_silent c ≡ true → (before after : List ℕ) (r : Result (Unit {0}) Fault) → KeepsNames s.names t.names r → IsHandled o c s.world t.world before after r →
       IsHandled o c (machine_now s ls).world (machine_now t ls).world before after r
-  silent_handled o c silent before after r kept h = by r kept (handled-heard of s.world t.world (fits-own s.names s.world there ls at) o c (silent_plain c silent) (λ e. silent_new of (opening_turn s.world o) o c silent) before after r h)
+  silent_handled reached o c silent before after r kept h = by r kept (handled-heard of s.world t.world fits o c (silent_plain c silent) (λ e. made_new of s.world fits reached o c e) before after r h)
     where
       of : Owner → List (Listener NodeName)
       of = own_listeners s.names ls
+
+      fits : FitsIn of s.world
+      fits = fits-own s.names s.world there ls at
 
       by : (r : Result (Unit {0}) Fault) → KeepsNames s.names t.names r → IsHandled o c (heard of s.world) (heard of t.world) before after r → IsHandled o c (machine_now s ls).world (machine_now t ls).world before after r
       by (Ok x) kept h = subst (λ (w : World). IsHandled o c (heard of s.world) w before after (Ok x)) (heard_kept kept) h
@@ -74,6 +90,10 @@ module _ (s t : DocState) (ls : List (Listener ℕ)) (there : OwnersAreThere s.n
 -- what holds of the listeners of a machine that is seen so
 pub seen_at : (s : DocState) (ls : List (Listener ℕ)) (m : MachineNow) → machine_now s ls ≡ m → IsSound m → AllByRecursion (IsListenerAt s.names) ls
 seen_at s ls m seen sound = (subst IsSound (sym seen) sound).listeners
+
+-- and of its world
+pub seen_reached : (s : DocState) (ls : List (Listener ℕ)) (m : MachineNow) → machine_now s ls ≡ m → IsSound m → IsReached false (machine_now s ls).world
+seen_reached s ls m seen sound = (subst IsSound (sym seen) sound).reached
 
 -- ---- lines
 

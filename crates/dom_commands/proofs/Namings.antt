@@ -1,12 +1,15 @@
 -- The nodes that each command names.
-use Rattle.std.proofs.Common.{ℕ, Bool, [], ◌∷◌, None, Some, refl, sym}
+use Rattle.std.proofs.Common.{◌≡◌, ℕ, Bool, false, [], ◌∷◌, None, Some, refl, sym}
+use Rattle.dom_base.specs.declared.Owner.{Owner}
+use Rattle.dom_base.specs.declared.Owner.TheVariants.{Page, Component}
 use Rattle.dom_base.specs.declared.Move.{Move}
 use Rattle.dom_model.specs.Names.{Word, DomString}
 use Rattle.dom_model.specs.Command.{Command, EventWords, Filter, ListenerWords}
+use Rattle.dom_model.specs.Trace.{is_page}
 use Rattle.dom_reader.specs.declared.line.Spelled.{Spelled}
 use Rattle.dom_reader.specs.Views.{spelled_view}
-use Rattle.dom_commands.specs.declared.admission.Named.TheVariants.{Any, Element, Text, Document, Data, Child, Parent, Iterator, Walker}
-use Rattle.dom_commands.proofs.Refusing.{IsNaming, by_owner, and_true, and_last}
+use Rattle.dom_commands.specs.declared.admission.Named.TheVariants.{Any, Element, Text, Document, Data, Child, Parent, Slottable, Slot, Iterator, Walker}
+use Rattle.dom_commands.proofs.Refusing.{IsNaming, IsNamingOf, by_owner, and_true, and_last}
 
 pub naming-new_element : (a : Word) → IsNaming (Command.new_element a) []
 naming-new_element a = record { offered = by_owner _ refl (λ k. refl); foreign = refl; exist = λ p. refl; fit = λ p. refl }
@@ -22,6 +25,10 @@ naming-new_fragment = record { offered = by_owner _ refl (λ k. refl); foreign =
 
 pub naming-new_document : IsNaming Command.new_document []
 naming-new_document = record { offered = by_owner _ refl (λ k. refl); foreign = refl; exist = λ p. refl; fit = λ p. refl }
+
+-- of the page alone
+pub naming-attach : (x : Spelled) → IsNamingOf Page (Command.attach (spelled_view x)) (Element x ∷ [])
+naming-attach x = record { mine = refl; foreign = refl; exist = λ p. and_true _; fit = λ p. refl }
 
 pub naming-append : (a x : Spelled) → IsNaming (Command.append (spelled_view a) (spelled_view x)) (Any a ∷ Any x ∷ [])
 naming-append a x = record { offered = by_owner _ refl (λ k. refl); foreign = refl; exist = λ p. and_true _; fit = λ p. refl }
@@ -109,6 +116,17 @@ naming-matches x s = record { offered = by_owner _ refl (λ k. refl); foreign = 
 
 pub naming-connected : (x : Spelled) → IsNaming (Command.connected (spelled_view x)) (Any x ∷ [])
 naming-connected x = record { offered = by_owner _ refl (λ k. refl); foreign = refl; exist = λ p. and_true _; fit = λ p. refl }
+
+pub naming-shadow_root : (x : Spelled) → IsNaming (Command.shadow_root (spelled_view x)) (Element x ∷ [])
+naming-shadow_root x = record { offered = by_owner _ refl (λ k. refl); foreign = refl; exist = λ p. and_true _; fit = λ p. refl }
+
+pub naming-slot_of : (x : Spelled) → IsNaming (Command.slot_of (spelled_view x)) (Slottable x ∷ [])
+naming-slot_of x = record { offered = by_owner _ refl (λ k. refl); foreign = refl; exist = λ p. and_true _; fit = λ p. refl }
+
+-- of components alone
+pub naming-assigned : (o : Owner) → is_page o ≡ false → (x : Spelled) → IsNamingOf o (Command.assigned (spelled_view x)) (Slot x ∷ [])
+naming-assigned Page h x = absurd cc
+naming-assigned (Component k) h x = record { mine = refl; foreign = refl; exist = λ p. and_true _; fit = λ p. refl }
 
 pub naming-micro : (label : Word) → IsNaming (Command.micro label) []
 naming-micro label = record { offered = by_owner _ refl (λ k. refl); foreign = refl; exist = λ p. refl; fit = λ p. refl }

@@ -22,6 +22,17 @@ pub record IsNaming (c : Command) (names : List Named) : Type 0 where
   pub exist : (p : Part) → (nodes_exist p c && thing_exists p c) ≡ are_there p names
   pub fit : (p : Part) → nodes_fit p c ≡ are_fitting p names
 
+-- one of this owner that names these
+pub record IsNamingOf (o : Owner) (c : Command) (names : List Named) : Type 0 where
+  pub mine : is_command_of o c ≡ true
+  pub foreign : names_foreign c ≡ has_foreign names
+  pub exist : (p : Part) → (nodes_exist p c && thing_exists p c) ≡ are_there p names
+  pub fit : (p : Part) → nodes_fit p c ≡ are_fitting p names
+
+-- one of all owners is one of each
+pub naming_of : (o : Owner) (c : Command) (names : List Named) → IsNaming c names → IsNamingOf o c names
+naming_of o c names is = record { mine = is.offered o; foreign = is.foreign; exist = is.exist; fit = is.fit }
+
 -- what holds of the page and of each component holds of all owners
 pub by_owner : (P : Owner → Type 0) → P Page → ((k : ℕ) → P (Component k)) → (o : Owner) → P o
 by_owner P page component Page = page
@@ -50,7 +61,11 @@ and_last true b = sym (and_true b)
 and_last false b = refl
 
 -- for a command that names these
-pub refusal-of_names : (w : World) (o : Owner) (c : Command) (names : List Named) → IsNaming c names → refusal w o c ≡ option_or (early_refusal w o names) (own_refusal (part_of w o) c)
-refusal-of_names w o c names is =
-    rw (is.offered o, is.foreign, is.exist (part_of w o), is.fit (part_of w o))
+pub refusal-of_own : (w : World) (o : Owner) (c : Command) (names : List Named) → IsNamingOf o c names → refusal w o c ≡ option_or (early_refusal w o names) (own_refusal (part_of w o) c)
+refusal-of_own w o c names is =
+    rw (is.mine, is.foreign, is.exist (part_of w o), is.fit (part_of w o))
     (joined (is_busy w o) (has_foreign names) (not (is_there w o)) (not (are_there (part_of w o) names)) (not (are_fitting (part_of w o) names)) (own_refusal (part_of w o) c))
+
+-- for one of all owners
+pub refusal-of_names : (w : World) (o : Owner) (c : Command) (names : List Named) → IsNaming c names → refusal w o c ≡ option_or (early_refusal w o names) (own_refusal (part_of w o) c)
+refusal-of_names w o c names is = refusal-of_own w o c names (naming_of o c names is)

@@ -2,13 +2,14 @@
 use Rattle.std.specs.Prelude.{Bool, true, false, ◌||◌}
 use Rattle.dom_model.specs.Command.{Command}
 
--- the commands offered so far that make, move and change nodes, and microtasks
+-- the commands offered so far that make, move and change nodes, those that make components, and microtasks
 abbrev pub is_change : Command → Bool
 is_change (Command.new_element a) = true
 is_change (Command.new_text s) = true
 is_change (Command.new_comment s) = true
 is_change Command.new_fragment = true
 is_change Command.new_document = true
+is_change (Command.attach x) = true
 is_change (Command.append p x) = true
 is_change (Command.insert p x c) = true
 is_change (Command.replace p x c) = true
@@ -34,6 +35,9 @@ is_question (Command.document_of x) = true
 is_question (Command.children x) = true
 is_question (Command.contains x y) = true
 is_question (Command.connected x) = true
+is_question (Command.shadow_root x) = true
+is_question (Command.slot_of x) = true
+is_question (Command.assigned x) = true
 is_question (Command.iterator_new x f) = true
 is_question (Command.iterator_next i) = true
 is_question (Command.iterator_previous i) = true

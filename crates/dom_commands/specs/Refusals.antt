@@ -1,12 +1,13 @@
 -- The refusals that come before those of a command's own: the tests in their order (own rules).
-use Rattle.std.specs.Prelude.{ℕ, Bool, true, false, not, ◌||◌, List, [], ◌∷◌, slice_get, Option, Some, None, is_some}
+use Rattle.std.specs.Prelude.{ℕ, Bool, true, false, not, ◌&&◌, ◌||◌, codes, List, [], ◌∷◌, slice_get, Option, Some, None, is_some}
 use Rattle.std.specs.List.{list_any, list_all}
 use Rattle.std.specs.Option.{option_map_or}
 use Rattle.dom_base.specs.declared.Owner.{Owner}
 use Rattle.dom_base.specs.declared.Kind.{Kind}
 use Rattle.dom_base.specs.declared.Refusal.{Refusal}
 use Rattle.dom_base.specs.declared.Refusal.TheVariants.{Busy, Foreign, Unknown, WrongKind}
-use Rattle.dom_model.specs.Tree.{node_in, has_node, is_element, is_text, is_document, has_data}
+use Rattle.dom_model.specs.Names.{Word, text_eq}
+use Rattle.dom_model.specs.Tree.{Node, node_in, has_node, is_element, is_text, is_document, has_data}
 use Rattle.dom_model.specs.Command.{Spelled, own, foreign}
 use Rattle.dom_model.specs.CommandNames.{named, is_foreign}
 use Rattle.dom_model.specs.Part.{Part}
@@ -32,20 +33,28 @@ node_named (names.Document x) = Some x
 node_named (names.Data x) = Some x
 node_named (names.Child x) = Some x
 node_named (names.Parent x) = Some x
+node_named (names.Slottable x) = Some x
+node_named (names.Slot x) = Some x
 node_named (names.Iterator k) = None
 node_named (names.Walker k) = None
 
--- whether a node of this kind is what is asked for
-abbrev pub accepts : Named → Kind → Bool
-accepts (names.Any x) kind = true
-accepts (names.Element x) kind = is_element kind
-accepts (names.Text x) kind = is_text kind
-accepts (names.Document x) kind = is_document kind
-accepts (names.Data x) kind = has_data kind
-accepts (names.Child x) kind = is_element kind || has_data kind
-accepts (names.Parent x) kind = not (has_data kind)
-accepts (names.Iterator k) kind = true
-accepts (names.Walker k) kind = true
+-- whether a node of this kind, an element of this name if it is one, is what is asked for
+abbrev pub accepts : Named → Kind → Word → Bool
+accepts (names.Any x) kind name = true
+accepts (names.Element x) kind name = is_element kind
+accepts (names.Text x) kind name = is_text kind
+accepts (names.Document x) kind name = is_document kind
+accepts (names.Data x) kind name = has_data kind
+accepts (names.Child x) kind name = is_element kind || has_data kind
+accepts (names.Parent x) kind name = not (has_data kind)
+accepts (names.Slottable x) kind name = is_element kind || is_text kind
+accepts (names.Slot x) kind name = is_element kind && text_eq name (codes "slot")
+accepts (names.Iterator k) kind name = true
+accepts (names.Walker k) kind name = true
+
+-- whether a node is
+abbrev pub accepts_node : Named → Node → Bool
+accepts_node n node = accepts n node.kind node.element
 
 -- whether a node is named that is spelled as another owner's
 abbrev pub is_others : Named → Bool
@@ -60,12 +69,14 @@ is_there_as p (names.Document x) = has_node p.trees (named p (spelled_view x))
 is_there_as p (names.Data x) = has_node p.trees (named p (spelled_view x))
 is_there_as p (names.Child x) = has_node p.trees (named p (spelled_view x))
 is_there_as p (names.Parent x) = has_node p.trees (named p (spelled_view x))
+is_there_as p (names.Slottable x) = has_node p.trees (named p (spelled_view x))
+is_there_as p (names.Slot x) = has_node p.trees (named p (spelled_view x))
 is_there_as p (names.Iterator k) = is_some (slice_get p.iterators k)
 is_there_as p (names.Walker k) = is_some (slice_get p.walkers k)
 
 -- whether a node is of the kind that is asked for; an iterator or a walker always is
 abbrev pub is_fit : Part → Named → Bool
-is_fit p n = option_map_or (λ x. accepts n (node_in p.trees (named p (spelled_view x))).kind) (node_named n) true
+is_fit p n = option_map_or (λ x. accepts_node n (node_in p.trees (named p (spelled_view x)))) (node_named n) true
 
 -- whether one of the nodes is spelled as another owner's
 abbrev pub has_foreign : List Named → Bool

@@ -24,6 +24,10 @@ pub(crate) enum Named {
     Child(Spelled),
     /// Any node but a Text or a Comment.
     Parent(Spelled),
+    /// An element or a Text.
+    Slottable(Spelled),
+    /// An element named `slot`.
+    Slot(Spelled),
     Iterator(u32),
     Walker(u32),
 }
@@ -40,14 +44,16 @@ impl Named {
             | Named::Document(node)
             | Named::Data(node)
             | Named::Child(node)
-            | Named::Parent(node) => Some(node),
+            | Named::Parent(node)
+            | Named::Slottable(node)
+            | Named::Slot(node) => Some(node),
             Named::Iterator(_) | Named::Walker(_) => None,
         }
     }
 
-    /// Whether a node of this kind is what is asked for.
-    fn accepts(self, kind: Kind) -> bool
-        ensures { result ≡ accepts self kind }
+    /// Whether a node of this kind, an element of this name if it is one, is what is asked for.
+    fn accepts(self, kind: Kind, name: &str) -> bool
+        ensures { result ≡ accepts self kind name.now }
     {
         match self {
             Named::Any(_) | Named::Iterator(_) | Named::Walker(_) => true,
@@ -57,6 +63,8 @@ impl Named {
             Named::Data(_) => matches!(kind, Kind::Text | Kind::Comment),
             Named::Child(_) => matches!(kind, Kind::Element | Kind::Text | Kind::Comment),
             Named::Parent(_) => !matches!(kind, Kind::Text | Kind::Comment),
+            Named::Slottable(_) => matches!(kind, Kind::Element | Kind::Text),
+            Named::Slot(_) => matches!(kind, Kind::Element) && name == "slot",
         }
     }
 }
@@ -106,7 +114,9 @@ impl State {
             | Named::Document(node)
             | Named::Data(node)
             | Named::Child(node)
-            | Named::Parent(node) => self.has(owner, node),
+            | Named::Parent(node)
+            | Named::Slottable(node)
+            | Named::Slot(node) => self.has(owner, node),
         }
     }
 
@@ -122,7 +132,7 @@ impl State {
         ensures { result ≡ is_fit (part_of self.now.world owner) named }
     {
         match named.node() {
-            Some(node) => named.accepts(self.kind(owner, node)),
+            Some(node) => named.accepts(self.kind(owner, node), self.element(owner, node)),
             None => true,
         }
     }

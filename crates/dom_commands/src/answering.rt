@@ -138,7 +138,7 @@ fn is_event(command: &Command) -> bool
     )
 }
 
-/// Whether a command is one of those that make, move and change nodes, or a microtask.
+/// Whether a command is one of those that make, move and change nodes, one that makes a component, or a microtask.
 fn is_change(command: &Command) -> bool
     ensures { result ≡ is_change (command_view command.now) }
 {
@@ -149,6 +149,7 @@ fn is_change(command: &Command) -> bool
             | Command::NewComment(_)
             | Command::NewFragment
             | Command::NewDocument
+            | Command::Attach(_)
             | Command::Append(_, _)
             | Command::Insert(_, _, _)
             | Command::Replace(_, _, _)
@@ -178,6 +179,9 @@ fn is_question(command: &Command) -> bool
             | Command::Children(_)
             | Command::Contains(_, _)
             | Command::Connected(_)
+            | Command::ShadowRoot(_)
+            | Command::SlotOf(_)
+            | Command::Assigned(_)
             | Command::IteratorNew(_, _)
             | Command::IteratorNext(_)
             | Command::IteratorPrevious(_)

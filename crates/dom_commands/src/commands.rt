@@ -16,6 +16,7 @@ mod making;
 mod moving;
 mod reads;
 mod selecting;
+mod shadows;
 mod tasks;
 
 use crate::state::State;
@@ -57,6 +58,7 @@ impl State {
             Command::NewComment(text) => self.new_comment(owner, text, out),
             Command::NewFragment => self.new_fragment(owner, out),
             Command::NewDocument => self.new_document(owner, out),
+            Command::Attach(host) => self.attach(owner, host, out),
             Command::Append(parent, node) => self.append(owner, parent, node, out),
             Command::Insert(parent, node, child) => self.insert(owner, parent, node, child, out),
             Command::Replace(parent, node, child) => self.replace(owner, parent, node, child, out),
@@ -94,6 +96,9 @@ impl State {
             Command::Children(node) => self.children(owner, node, out),
             Command::Contains(above, node) => self.contains(owner, above, node, out),
             Command::Connected(node) => self.connected(owner, node, out),
+            Command::ShadowRoot(element) => self.shadow_root(owner, element, out),
+            Command::SlotOf(node) => self.slot_of(owner, node, out),
+            Command::Assigned(slot) => self.assigned(owner, slot, out),
             Command::IteratorNew(root, filter) => self.new_iterator(owner, root, filter, out),
             Command::IteratorNext(number) => self.next_of_iterator(owner, number, out),
             Command::IteratorPrevious(number) => self.previous_of_iterator(owner, number, out),

@@ -138,6 +138,16 @@ impl State {
         }
     }
 
+    /// The local name of the element that an owner's line names; another node, and a name that no node has, read as empty.
+    pub(crate) fn element(&self, owner: Owner, node: Spelled) -> &str
+        ensures { result.now ≡ (node_in (part_of self.now.world owner).trees (named (part_of self.now.world owner) (spelled_view node))).element }
+    {
+        match self.find(owner, node) {
+            Some(key) => self.doc.forest().element(key),
+            None => "",
+        }
+    }
+
     /// The node document of the node that an owner's line names, if it has one.
     pub(crate) fn document(&self, owner: Owner, node: Spelled) -> Option<Key>
         ensures value { option_map (name_at self.now.names) result ≡ (node_in (part_of self.now.world owner).trees (named (part_of self.now.world owner) (spelled_view node))).document }

@@ -1,5 +1,6 @@
 //! Lines and their answers on a session.
 mod attributes;
+mod components;
 mod cursors;
 mod data;
 mod events;

@@ -66,7 +66,10 @@ p parent x => p ! syntax
 p docof => p ! syntax
 p children n0 n1 => p ! syntax
 p contains n0 => p ! syntax
-p attach n1 => p ! syntax
+p attach n1 n1 => p ! syntax
+p shadow-root => p ! syntax
+p slot-of => p ! syntax
+p assigned n1 => p ! syntax
 p observer => p ! syntax",
     )
 }
@@ -99,6 +102,10 @@ c1 parent m0 => c1 ! busy
 c1 docof n0 => c1 ! busy
 c1 children m0 => c1 ! busy
 c1 contains m0 n1 => c1 ! busy
+c1 shadow-root n1 => c1 ! busy
+c1 slot-of m1 => c1 ! busy
+c1 assigned m1 => c1 ! busy
+c1 attach m1 => c1 ! syntax
 c1 . => c1 ! busy
 c1 tre m0 => c1 ! syntax",
     )
@@ -132,6 +139,9 @@ c1 parent m0 => c1 ! unknown
 c1 docof n0 => c1 ! foreign
 c1 children m0 => c1 ! unknown
 c1 contains m0 m0 => c1 ! unknown
+c1 shadow-root m1 => c1 ! unknown
+c1 slot-of n1 => c1 ! foreign
+c1 assigned m1 => c1 ! unknown
 c1 . => c1 ! unknown
 c1 attach m0 => c1 ! syntax
 p tree n0 => p ok (n0 document)",
@@ -164,7 +174,10 @@ p parent m0 => p ! foreign
 p docof m0 => p ! foreign
 p children c9:m9 => p ! foreign
 p contains n9 m0 => p ! foreign
-p contains m0 n0 => p ! foreign",
+p contains m0 n0 => p ! foreign
+p attach m1 => p ! foreign
+p shadow-root c1:m1 => p ! foreign
+p slot-of m1 => p ! foreign",
     )
 }
 
@@ -197,7 +210,10 @@ p parent n9 => p ! unknown
 p docof n9 => p ! unknown
 p children n9 => p ! unknown
 p contains n0 n9 => p ! unknown
-p contains n9 n0 => p ! unknown",
+p contains n9 n0 => p ! unknown
+p attach n9 => p ! unknown
+p shadow-root n9 => p ! unknown
+p slot-of n9 => p ! unknown",
     )
 }
 
@@ -220,7 +236,11 @@ p data n1 \"x\" => p ! wrong-kind
 p data n0 \"x\" => p ! wrong-kind
 p replace-data n5 9 9 \"x\" => p ! wrong-kind
 p split n3 9 => p ! wrong-kind
-p split n1 0 => p ! wrong-kind",
+p split n1 0 => p ! wrong-kind
+p attach n2 => p ! wrong-kind
+p attach n0 => p ! wrong-kind
+p shadow-root n5 => p ! wrong-kind
+p slot-of n3 => p ! wrong-kind",
     )
 }
 
@@ -231,6 +251,7 @@ fn commands_have_refusals_of_their_own(rt: HostRuntime) -> Result<(), Fail> {
         rt.alloc(),
         "p new element 1a => p ! invalid-character
 p new element a.b => p ! invalid-character
+p attach n6 => p ! not-supported
 p append n2 n8 => p ! hierarchy
 p append n4 n1 => p ! hierarchy
 p append n1 n1 => p ! hierarchy

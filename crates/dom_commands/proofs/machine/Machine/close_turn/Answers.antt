@@ -1,4 +1,3 @@
-use Rattle.std.proofs.Common.{◌≡◌}
 use Rattle.dom_model.specs.Runs.{run_each}
 use Rattle.dom_model.specs.Turns.{running_task, ending_turn}
 use Rattle.dom_commands.specs.Machine.{machine_now}

@@ -1,5 +1,4 @@
-use Rattle.std.proofs.Common.{◌≡◌, ℕ, List, ◌++◌, true, false, None, ap, ◌∙◌}
-use Rattle.dom_model.specs.Command.{EventWords}
+use Rattle.std.proofs.Common.{ℕ, List, ◌++◌, None, ap, ◌∙◌}
 use Rattle.dom_model.specs.Dispatch.{dispatch_in}
 use Rattle.dom_text.specs.Text.{output_text}
 use Rattle.dom_tree.specs.Forest.{name_at}
