@@ -27,3 +27,4 @@ pub mod Machines
 pub mod EventLines
 pub mod Firing
 pub mod Notices
+pub mod Observing

@@ -2,10 +2,10 @@
 use Rattle.std.proofs.Common.{ℕ, Bool, [], ◌∷◌, None, Some, refl, sym}
 use Rattle.dom_base.specs.declared.Move.{Move}
 use Rattle.dom_model.specs.Names.{Word, DomString}
-use Rattle.dom_model.specs.Command.{Command, EventWords, Filter, ListenerWords}
+use Rattle.dom_model.specs.Command.{Command, EventWords, Filter, ListenerWords, ObserveWords}
 use Rattle.dom_reader.specs.declared.line.Spelled.{Spelled}
 use Rattle.dom_reader.specs.Views.{spelled_view}
-use Rattle.dom_commands.specs.declared.admission.Named.TheVariants.{Any, Element, Text, Document, Data, Child, Parent, Iterator, Walker}
+use Rattle.dom_commands.specs.declared.admission.Named.TheVariants.{Any, Element, Text, Document, Data, Child, Parent, Iterator, Walker, Observer}
 use Rattle.dom_commands.proofs.Refusing.{IsNaming, by_owner, and_true, and_last}
 
 pub naming-new_element : (a : Word) → IsNaming (Command.new_element a) []
@@ -109,6 +109,18 @@ naming-matches x s = record { offered = by_owner _ refl (λ k. refl); foreign = 
 
 pub naming-connected : (x : Spelled) → IsNaming (Command.connected (spelled_view x)) (Any x ∷ [])
 naming-connected x = record { offered = by_owner _ refl (λ k. refl); foreign = refl; exist = λ p. and_true _; fit = λ p. refl }
+
+pub naming-observer : IsNaming Command.observer []
+naming-observer = record { offered = by_owner _ refl (λ k. refl); foreign = refl; exist = λ p. refl; fit = λ p. refl }
+
+pub naming-observe : (k : ℕ) (x : Spelled) (words : ObserveWords) → IsNaming (Command.observe k (spelled_view x) words) (Any x ∷ Observer k ∷ [])
+naming-observe k x words = record { offered = by_owner _ refl (λ k. refl); foreign = refl; exist = λ p. and_last _ _; fit = λ p. refl }
+
+pub naming-disconnect : (k : ℕ) → IsNaming (Command.disconnect k) (Observer k ∷ [])
+naming-disconnect k = record { offered = by_owner _ refl (λ k. refl); foreign = refl; exist = λ p. sym (and_true _); fit = λ p. refl }
+
+pub naming-take : (k : ℕ) → IsNaming (Command.take k) (Observer k ∷ [])
+naming-take k = record { offered = by_owner _ refl (λ k. refl); foreign = refl; exist = λ p. sym (and_true _); fit = λ p. refl }
 
 pub naming-micro : (label : Word) → IsNaming (Command.micro label) []
 naming-micro label = record { offered = by_owner _ refl (λ k. refl); foreign = refl; exist = λ p. refl; fit = λ p. refl }

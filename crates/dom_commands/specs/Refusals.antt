@@ -34,6 +34,7 @@ node_named (names.Child x) = Some x
 node_named (names.Parent x) = Some x
 node_named (names.Iterator k) = None
 node_named (names.Walker k) = None
+node_named (names.Observer k) = None
 
 -- whether a node of this kind is what is asked for
 abbrev pub accepts : Named → Kind → Bool
@@ -46,12 +47,13 @@ accepts (names.Child x) kind = is_element kind || has_data kind
 accepts (names.Parent x) kind = not (has_data kind)
 accepts (names.Iterator k) kind = true
 accepts (names.Walker k) kind = true
+accepts (names.Observer k) kind = true
 
 -- whether a node is named that is spelled as another owner's
 abbrev pub is_others : Named → Bool
 is_others n = option_map_or (λ x. is_foreign (spelled_view x)) (node_named n) false
 
--- whether an owner's node, iterator or walker is there
+-- whether an owner's node, iterator, walker or observer is there
 abbrev pub is_there_as : Part → Named → Bool
 is_there_as p (names.Any x) = has_node p.trees (named p (spelled_view x))
 is_there_as p (names.Element x) = has_node p.trees (named p (spelled_view x))
@@ -62,8 +64,9 @@ is_there_as p (names.Child x) = has_node p.trees (named p (spelled_view x))
 is_there_as p (names.Parent x) = has_node p.trees (named p (spelled_view x))
 is_there_as p (names.Iterator k) = is_some (slice_get p.iterators k)
 is_there_as p (names.Walker k) = is_some (slice_get p.walkers k)
+is_there_as p (names.Observer k) = is_some (slice_get p.record_queues k)
 
--- whether a node is of the kind that is asked for; an iterator or a walker always is
+-- whether a node is of the kind that is asked for; an iterator, a walker or an observer always is
 abbrev pub is_fit : Part → Named → Bool
 is_fit p n = option_map_or (λ x. accepts n (node_in p.trees (named p (spelled_view x))).kind) (node_named n) true
 

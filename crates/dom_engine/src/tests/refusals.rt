@@ -67,7 +67,7 @@ p docof => p ! syntax
 p children n0 n1 => p ! syntax
 p contains n0 => p ! syntax
 p attach n1 => p ! syntax
-p observer => p ! syntax",
+p observer x => p ! syntax",
     )
 }
 
