@@ -8,6 +8,7 @@ mod large;
 mod lines;
 mod making;
 mod moving;
+mod observing;
 mod reads;
 mod refusals;
 mod selecting;

@@ -66,7 +66,7 @@ p append n0 n2
 p append n0 n1 => p ! hierarchy
 p tree n1 => p ok (n1 element a)
 c1 tree m0 => c1 ! busy
-p observer => p ! syntax",
+p observer x => p ! syntax",
     )
 }
 

@@ -70,7 +70,7 @@ p attach n1 n1 => p ! syntax
 p shadow-root => p ! syntax
 p slot-of => p ! syntax
 p assigned n1 => p ! syntax
-p observer => p ! syntax",
+p observer x => p ! syntax",
     )
 }
 
