@@ -15,7 +15,7 @@ use Rattle.dom_commands.proofs.Finding.{named-number_in}
 use Rattle.dom_commands.proofs.CommandPlans.{IsKey}
 
 -- a node that is named, by the number of its name
-numbered : (p : Part) (s : Spelled) (x : NodeName) → x ≡ named p s → named p (own x.number) ≡ named p s
+pub numbered : (p : Part) (s : Spelled) (x : NodeName) → x ≡ named p s → named p (own x.number) ≡ named p s
 numbered p s x is = ap (λ (y : NodeName). node_of p.owner y.number) (is ∙ named-number_in p s) ∙ sym (named-number_in p s)
 
 module _ (names : List NodeName) (w now : World) (o : Owner) (s : Spelled) (key : ℕ) (is : IsKey names w o key s) where

@@ -1,6 +1,7 @@
 -- How a command is handled: it passes the tests that all commands share, then it makes a plan and answers, or only answers.
-use Rattle.std.proofs.Common.{◌≡◌, ℕ, Bool, true, false, not, ◌&&◌, unwrap_or, List, [], ◌∷◌, ◌++◌, Option, Some, None, Result, Ok, Err, refl, sym, ap, subst, ◌∙◌}
+use Rattle.std.proofs.Common.{◌≡◌, ℕ, Bool, true, false, not, ◌&&◌, unwrap_or, List, [], ◌∷◌, ◌++◌, map, Option, Some, None, Result, Ok, Err, refl, sym, ap, subst, ◌∙◌, append_assoc}
 use Rattle.std.specs.Prelude.{is_some, if◌then◌else◌}
+use Rattle.std.proofs.lemmas.List.{append-nil}
 use Rattle.std.specs.Option.{option_or}
 use Rattle.dom_base.specs.declared.Fault.{Fault}
 use Rattle.dom_base.specs.declared.Fault.TheVariants.{Refused, Memory}
@@ -11,7 +12,7 @@ use Rattle.dom_base.specs.declared.Kind.{Kind}
 use Rattle.dom_model.specs.Names.{Word, DomString, owner_eq}
 use Rattle.dom_model.specs.Changes.{Plan}
 use Rattle.dom_model.specs.Effects.{effect, changes, answers}
-use Rattle.dom_model.specs.Output.{Output, says, replied, Value}
+use Rattle.dom_model.specs.Output.{Output, says, replied, Said, Value}
 use Rattle.dom_model.specs.Part.{Part, empty_part}
 use Rattle.dom_model.specs.Validity.{first_refusal}
 use Rattle.dom_model.specs.Runs.{Run}
@@ -22,13 +23,14 @@ use Rattle.dom_model.specs.CommandRefusals.{own_refusal, limit_on}
 use Rattle.dom_model.specs.DocumentMachine.{effect_in, refusal, accepted, is_busy}
 use Rattle.dom_model.proofs.OwnerLaws.{owner_eq-same, owner_eq-true}
 use Rattle.dom_text.specs.Text.{output_text}
-use Rattle.dom_mutation.specs.Doc.{DocState, made, Makes}
+use Rattle.dom_mutation.specs.Doc.{DocState, made, Makes, MakesSaying}
 use Rattle.dom_commands.specs.declared.admission.Named.{Named}
 use Rattle.dom_commands.specs.Making.{making}
 use Rattle.dom_commands.specs.Handled.{IsDone, IsHandled, let_pass}
 use Rattle.dom_commands.specs.Refusals.{is_there_as, is_fit, has_foreign, are_there, are_fitting, early_refusal}
 use Rattle.dom_commands.specs.Turned.{with_turn, turned, opened_turn}
 use Rattle.dom_commands.proofs.Refusing.{IsNaming, IsNamingOf, naming_of, and_true, refusal-of_own}
+use Rattle.dom_commands.proofs.TextLaws.{output_text-append}
 use Rattle.dom_commands.proofs.Turned.{after_turned}
 
 -- ---- the tests that all commands share
@@ -116,6 +118,14 @@ finished own run goal old mid new before after (Ok x) none e h = (none, h.1 ∙ 
 finished own run goal old mid new before after (Err (Refused q)) none e h = let no : None ≡ Some q = h.0 in absurd cc
 finished own run goal old mid new before after (Err Memory) none e h = tt
 
+-- lines that were put before an ending are said with it
+said_before : (lines more : List Output) (end old new : World) (before between after : List ℕ) (r : Result (Unit {0}) Fault) → between ≡ before ++ output_text lines →
+    IsDone None (end, more) old new between after r → IsDone None (end, lines ++ more) old new before after r
+said_before lines more end old new before between after (Ok x) put h =
+    (h.0, h.1, h.2 ∙ ap (λ text. text ++ output_text more) put ∙ append_assoc before (output_text lines) (output_text more) ∙ ap (λ text. before ++ text) (sym (output_text-append lines more)))
+said_before lines more end old new before between after (Err (Refused q)) put h = let no : None ≡ Some q = h.0 in absurd cc
+said_before lines more end old new before between after (Err Memory) put h = tt
+
 -- a command that is done
 abbrev pub done : Unit {0} → Result (Unit {0}) Fault
 done u = Ok u
@@ -148,11 +158,11 @@ changed t w new o plan v reply e is =
 abbrev pub effecting : World → Owner → Command → Run World
 effecting w o c = let u = opening_turn w o in effect_in u o (effect (part_of u o) c)
 
--- the turn may be opened after a command that changes its owner's tables alone
-pub tables_changed : (t : Option Owner) (w new : World) (o : Owner) (c : Command) (v : Value) → Makes o c v w new →
-    (opening_turn (with_turn t new) o, says o (replied v) ∷ []) ≡ effecting (with_turn t w) o c
-tables_changed t w new o c v is =
-    let run : World → Run World = λ u. (u, says o (replied v) ∷ []) in
+-- the turn may be opened after a command that changes its owner's tables alone, and says lines
+pub tables_changed : (t : Option Owner) (w new : World) (o : Owner) (c : Command) (lines : List Said) (v : Value) → MakesSaying o c lines v w new →
+    (opening_turn (with_turn t new) o, map (says o) lines ++ says o (replied v) ∷ []) ≡ effecting (with_turn t w) o c
+tables_changed t w new o c lines v is =
+    let run : World → Run World = λ u. (u, map (says o) lines ++ says o (replied v) ∷ []) in
     ap run (opened t new o ∙ ap (with_turn (opened_turn t o)) is.1)
     ∙ sym (ap (λ (u : World). effect_in u o (effect (part_of u o) c)) (opened t w o) ∙ ap (effect_in (with_turn (opened_turn t o) w) o) is.0)
 
@@ -175,15 +185,23 @@ module _ (t : Option Owner) (d s : DocState) (seen : turned t d ≡ s) (o : Owne
       (finished (own_refusal (part_of d.world o) c) (opening_turn (with_turn t mid) o, says o (replied reply) ∷ []) (accepted (with_turn t d.world) o c) (with_turn t d.world) (with_turn t mid) new before after r none
       (changed t d.world mid o plan v reply e value ∙ sym runs) ending)
 
-  -- the command changes its owner's tables alone
+  -- the command changes its owner's tables alone, and says lines
+  pub tabled_saying : (mid new : World) (lines : List Said) (v reply : Value) (before between after : List ℕ) (r : Result (Unit {0}) Fault) →
+      accepted (with_turn t d.world) o c ≡ effecting (with_turn t d.world) o c → own_refusal (part_of d.world o) c ≡ None → MakesSaying o c lines v d.world mid →
+      reply ≡ v → between ≡ before ++ output_text (map (says o) lines) → IsDone None (opening_turn (with_turn t mid) o, says o (replied reply) ∷ []) (with_turn t mid) new between after r →
+      IsHandled o c s.world new before after r
+  tabled_saying mid new lines v reply before between after r runs none makes value put ending =
+      let run : Value → Run World = λ a. (opening_turn (with_turn t mid) o, map (says o) lines ++ says o (replied a) ∷ []) in
+      in_state new before after r
+      (finished (own_refusal (part_of d.world o) c) (run reply) (accepted (with_turn t d.world) o c) (with_turn t d.world) (with_turn t mid) new before after r none
+      (ap run value ∙ tables_changed t d.world mid o c lines v makes ∙ sym runs)
+      (said_before (map (says o) lines) (says o (replied reply) ∷ []) (opening_turn (with_turn t mid) o) (with_turn t mid) new before between after r put ending))
+
+  -- it says none
   pub tabled : (mid new : World) (v reply : Value) (before after : List ℕ) (r : Result (Unit {0}) Fault) →
       accepted (with_turn t d.world) o c ≡ effecting (with_turn t d.world) o c → own_refusal (part_of d.world o) c ≡ None → Makes o c v d.world mid →
       reply ≡ v → IsDone None (opening_turn (with_turn t mid) o, says o (replied reply) ∷ []) (with_turn t mid) new before after r → IsHandled o c s.world new before after r
-  tabled mid new v reply before after r runs none makes value ending =
-      let run : Value → Run World = λ a. (opening_turn (with_turn t mid) o, says o (replied a) ∷ []) in
-      in_state new before after r
-      (finished (own_refusal (part_of d.world o) c) (run reply) (accepted (with_turn t d.world) o c) (with_turn t d.world) (with_turn t mid) new before after r none
-      (ap run value ∙ tables_changed t d.world mid o c v makes ∙ sym runs) ending)
+  tabled mid new v reply before after r runs none makes value ending = tabled_saying mid new [] v reply before before after r runs none makes value (sym (append-nil before)) ending
 
   -- the command answers what its owner's tables say, and changes nothing
   pub told : (new : World) (v reply : Value) (before after : List ℕ) (r : Result (Unit {0}) Fault) →

@@ -28,3 +28,4 @@ pub mod Machines
 pub mod EventLines
 pub mod Firing
 pub mod Notices
+pub mod Observing

@@ -4,11 +4,11 @@ use Rattle.dom_base.specs.declared.Owner.{Owner}
 use Rattle.dom_base.specs.declared.Owner.TheVariants.{Page, Component}
 use Rattle.dom_base.specs.declared.Move.{Move}
 use Rattle.dom_model.specs.Names.{Word, DomString}
-use Rattle.dom_model.specs.Command.{Command, EventWords, Filter, ListenerWords}
+use Rattle.dom_model.specs.Command.{Command, EventWords, Filter, ListenerWords, ObserveWords}
 use Rattle.dom_model.specs.Trace.{is_page}
 use Rattle.dom_reader.specs.declared.line.Spelled.{Spelled}
 use Rattle.dom_reader.specs.Views.{spelled_view}
-use Rattle.dom_commands.specs.declared.admission.Named.TheVariants.{Any, Element, Text, Document, Data, Child, Parent, Slottable, Slot, Iterator, Walker}
+use Rattle.dom_commands.specs.declared.admission.Named.TheVariants.{Any, Element, Text, Document, Data, Child, Parent, Slottable, Slot, Iterator, Walker, Observer}
 use Rattle.dom_commands.proofs.Refusing.{IsNaming, IsNamingOf, by_owner, and_true, and_last}
 
 pub naming-new_element : (a : Word) → IsNaming (Command.new_element a) []
@@ -127,6 +127,18 @@ naming-slot_of x = record { offered = by_owner _ refl (λ k. refl); foreign = re
 pub naming-assigned : (o : Owner) → is_page o ≡ false → (x : Spelled) → IsNamingOf o (Command.assigned (spelled_view x)) (Slot x ∷ [])
 naming-assigned Page h x = absurd cc
 naming-assigned (Component k) h x = record { mine = refl; foreign = refl; exist = λ p. and_true _; fit = λ p. refl }
+
+pub naming-observer : IsNaming Command.observer []
+naming-observer = record { offered = by_owner _ refl (λ k. refl); foreign = refl; exist = λ p. refl; fit = λ p. refl }
+
+pub naming-observe : (k : ℕ) (x : Spelled) (words : ObserveWords) → IsNaming (Command.observe k (spelled_view x) words) (Any x ∷ Observer k ∷ [])
+naming-observe k x words = record { offered = by_owner _ refl (λ k. refl); foreign = refl; exist = λ p. and_last _ _; fit = λ p. refl }
+
+pub naming-disconnect : (k : ℕ) → IsNaming (Command.disconnect k) (Observer k ∷ [])
+naming-disconnect k = record { offered = by_owner _ refl (λ k. refl); foreign = refl; exist = λ p. sym (and_true _); fit = λ p. refl }
+
+pub naming-take : (k : ℕ) → IsNaming (Command.take k) (Observer k ∷ [])
+naming-take k = record { offered = by_owner _ refl (λ k. refl); foreign = refl; exist = λ p. sym (and_true _); fit = λ p. refl }
 
 pub naming-micro : (label : Word) → IsNaming (Command.micro label) []
 naming-micro label = record { offered = by_owner _ refl (λ k. refl); foreign = refl; exist = λ p. refl; fit = λ p. refl }

@@ -24,7 +24,7 @@ lines_same f g same (x ∷ xs) = ap (λ ys. ys ++ flat_map f xs) (same x) ∙ ap
 told_lines : Owner → ℕ × List (Change NodeName) → List Output
 told_lines o n = map (λ c. says o (recorded n.0 c)) n.1
 
-map_twice : {X Y Z : Type 0} (g : X → Y) (h : Y → Z) (xs : List X) → map h (map g xs) ≡ map (λ x. h (g x)) xs
+pub map_twice : {X Y Z : Type 0} (g : X → Y) (h : Y → Z) (xs : List X) → map h (map g xs) ≡ map (λ x. h (g x)) xs
 map_twice g h [] = refl
 map_twice g h (x ∷ xs) = ap (λ zs. h (g x) ∷ zs) (map_twice g h xs)
 

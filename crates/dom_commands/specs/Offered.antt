@@ -26,7 +26,7 @@ is_change (Command.micro label) = true
 is_change _ = false
 
 -- the commands offered so far that change no tree: those that ask where nodes stand and what an element has, those on
--- iterators and walkers, and those on selectors
+-- iterators and walkers, those on selectors, and those on observers
 abbrev pub is_question : Command → Bool
 is_question (Command.tree x) = true
 is_question (Command.attribute x a) = true
@@ -48,6 +48,10 @@ is_question (Command.walker_at w) = true
 is_question (Command.walker_set w x) = true
 is_question (Command.query x s) = true
 is_question (Command.matches x s) = true
+is_question Command.observer = true
+is_question (Command.observe k x words) = true
+is_question (Command.disconnect k) = true
+is_question (Command.take k) = true
 is_question _ = false
 
 -- the commands offered so far that call no listener and change none

@@ -37,6 +37,7 @@ node_named (names.Slottable x) = Some x
 node_named (names.Slot x) = Some x
 node_named (names.Iterator k) = None
 node_named (names.Walker k) = None
+node_named (names.Observer k) = None
 
 -- whether a node of this kind, an element of this name if it is one, is what is asked for
 abbrev pub accepts : Named → Kind → Word → Bool
@@ -51,6 +52,7 @@ accepts (names.Slottable x) kind name = is_element kind || is_text kind
 accepts (names.Slot x) kind name = is_element kind && text_eq name (codes "slot")
 accepts (names.Iterator k) kind name = true
 accepts (names.Walker k) kind name = true
+accepts (names.Observer k) kind name = true
 
 -- whether a node is
 abbrev pub accepts_node : Named → Node → Bool
@@ -60,7 +62,7 @@ accepts_node n node = accepts n node.kind node.element
 abbrev pub is_others : Named → Bool
 is_others n = option_map_or (λ x. is_foreign (spelled_view x)) (node_named n) false
 
--- whether an owner's node, iterator or walker is there
+-- whether an owner's node, iterator, walker or observer is there
 abbrev pub is_there_as : Part → Named → Bool
 is_there_as p (names.Any x) = has_node p.trees (named p (spelled_view x))
 is_there_as p (names.Element x) = has_node p.trees (named p (spelled_view x))
@@ -73,8 +75,9 @@ is_there_as p (names.Slottable x) = has_node p.trees (named p (spelled_view x))
 is_there_as p (names.Slot x) = has_node p.trees (named p (spelled_view x))
 is_there_as p (names.Iterator k) = is_some (slice_get p.iterators k)
 is_there_as p (names.Walker k) = is_some (slice_get p.walkers k)
+is_there_as p (names.Observer k) = is_some (slice_get p.record_queues k)
 
--- whether a node is of the kind that is asked for; an iterator or a walker always is
+-- whether a node is of the kind that is asked for; an iterator, a walker or an observer always is
 abbrev pub is_fit : Part → Named → Bool
 is_fit p n = option_map_or (λ x. accepts_node n (node_in p.trees (named p (spelled_view x)))) (node_named n) true
 

@@ -192,5 +192,9 @@ fn is_question(command: &Command) -> bool
             | Command::WalkerSet(_, _)
             | Command::Query(_, _)
             | Command::Matches(_, _)
+            | Command::Observer
+            | Command::Observe(_, _, _)
+            | Command::Disconnect(_)
+            | Command::Take(_)
     )
 }

@@ -14,6 +14,7 @@ mod cursors;
 mod data;
 mod making;
 mod moving;
+mod observing;
 mod reads;
 mod selecting;
 mod shadows;
@@ -109,6 +110,10 @@ impl State {
             Command::WalkerSet(number, node) => self.set_walker(owner, number, node, out),
             Command::Query(node, text) => self.query(owner, node, text, out),
             Command::Matches(element, text) => self.matches(owner, element, text, out),
+            Command::Observer => self.new_observer(owner, out),
+            Command::Observe(number, node, words) => self.observe(owner, number, node, words, out),
+            Command::Disconnect(number) => self.disconnect(owner, number, out),
+            Command::Take(number) => self.take_records(owner, number, out),
             _ => unreachable!(),
         }
     }

@@ -9,8 +9,6 @@ mod events;
 mod machine;
 mod records;
 mod state;
-#[cfg(test)]
-mod tests;
 mod tree_text;
 mod turns;
 

@@ -6,9 +6,6 @@ ghost use Rattle.dom_tree.specs.Forest.{name_at};
 ghost use Rattle.dom_printer.specs.Steps.{attributes_view, opening_view, step_view, steps_view, shown, shown_steps};
 ghost use Rattle.dom_commands.specs.TreeText.{place_view, key_of, place_after, step_at};
 
-#[cfg(test)]
-mod tests;
-
 use dom_base::Kind;
 use dom_printer::{Attribute, Opening, TreeStep, Words};
 use dom_tree::Forest;

@@ -5,13 +5,9 @@
 mod fault;
 pub mod laws;
 mod piece;
-#[cfg(test)]
-mod run_tests;
 mod runner;
 mod session;
 mod streams;
-#[cfg(test)]
-mod tests;
 mod view;
 mod writing;
 

@@ -1,10 +1,7 @@
 -- Other tasks: what holds of a `Doc` then, and its state.
-use Rattle.std.proofs.Common.{◌≡◌, Bool, true, false, List, [], ◌∷◌, ◌++◌, drop, fold, Option, Some, Result, Ok, Err, option_map, sym, ap, subst, ◌∙◌}
+use Rattle.std.proofs.Common.{◌≡◌, Bool, true, false, List, [], ◌∷◌, ◌++◌, fold, Result, Ok, Err, sym, ap, subst, ◌∙◌}
 use Rattle.std.specs.Prelude.{OnOk, OnErr, if◌then◌else◌}
 use Rattle.std.specs.List.{AllByRecursion, list_any}
-use Rattle.std.specs.Option.{ForSome}
-use Rattle.std.proofs.lemmas.Option.{none-some, same_Some}
-use Rattle.dom_model.specs.Names.{first_of}
 use Rattle.dom_base.specs.declared.NodeName.{NodeName}
 use Rattle.dom_base.specs.declared.Owner.{Owner}
 use Rattle.dom_model.specs.World.{World, Task, notify_task, is_there, is_notify_of, queued_notify}
@@ -19,14 +16,6 @@ module _ (w : World) where
   due_push : (ts : List Task) (t : Task) → AllByRecursion (IsDue w) ts → IsDue w t → AllByRecursion (IsDue w) (ts ++ t ∷ [])
   due_push [] t all h = (h, tt)
   due_push (u ∷ ts) t all h = (all.0, due_push ts t all.1 h)
-
-  due_rest : (ts : List Task) → AllByRecursion (IsDue w) ts → AllByRecursion (IsDue w) (drop 1 ts)
-  due_rest [] all = tt
-  due_rest (u ∷ ts) all = all.1
-
-  due_first : (ts : List Task) (t : Task) → AllByRecursion (IsDue w) ts → first_of ts ≡ Some t → IsDue w t
-  due_first [] t all e = absurd (none-some t e)
-  due_first (u ∷ ts) t all e = subst (IsDue w) (same_Some u t e) all.0
 
   -- a notification more
   pub due_notified : (o : Owner) → is_there w o ≡ true → (ts : List Task) → AllByRecursion (IsDue w) ts → AllByRecursion (IsDue w) (queued_notify o ts)
@@ -66,11 +55,3 @@ module _ (f : NamedTrees) {tables : AllTables} (held : IsHeld f.names f.trees ta
     pub held_pushed : (t : Task) → IsDue (world_from f.names f.trees tables) t → (r : Result T E) → OnOk r (tasks ≡ tables.tasks ++ t ∷ []) → OnErr r (tasks ≡ tables.tasks) → IsHeld f.names f.trees (with_queue tables tasks)
     held_pushed t due (Ok x) is same = held_tasks f.names f.trees tables held tasks (subst (AllByRecursion (IsDue (world_from f.names f.trees tables))) (sym is) (due_push (world_from f.names f.trees tables) tables.tasks t held.due due))
     held_pushed t due (Err e) is same = held_tasks f.names f.trees tables held tasks (subst (AllByRecursion (IsDue (world_from f.names f.trees tables))) (sym same) held.due)
-
-  -- the first one goes
-  pub held_popped : (tasks : List Task) → tasks ≡ drop 1 tables.tasks → IsHeld f.names f.trees (with_queue tables tasks)
-  held_popped tasks is = held_tasks f.names f.trees tables held tasks (subst (AllByRecursion (IsDue (world_from f.names f.trees tables))) (sym is) (due_rest (world_from f.names f.trees tables) tables.tasks held.due))
-
-  -- its owner is there
-  pub popped_due : {T : Type 0} (task_of : T → Task) (r : Option T) → option_map task_of r ≡ first_of tables.tasks → ForSome r (λ t. IsDue d.world (task_of t))
-  popped_due task_of r is t e = subst (λ (s : DocState). IsDue s.world (task_of t)) is_d (due_first (world_from f.names f.trees tables) tables.tasks (task_of t) held.due (sym is ∙ ap (option_map task_of) e))

@@ -3,9 +3,5 @@
 
 mod doc;
 mod tables;
-#[cfg(test)]
-mod tests;
-#[cfg(test)]
-mod text_tests;
 
 pub use doc::{Doc, is_name};

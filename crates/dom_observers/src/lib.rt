@@ -11,8 +11,6 @@ mod path;
 mod registered;
 mod table;
 mod takers;
-#[cfg(test)]
-mod tests;
 
 pub use change::{Change, Record};
 pub use laws::{keys_stand_for_names, path_keys_are_named};

@@ -8,8 +8,6 @@ mod pieces;
 mod records;
 mod replies;
 mod strings;
-#[cfg(test)]
-mod tests;
 mod trees;
 
 pub use records::{Change, Event, put_event, put_micro, put_record};

@@ -12,8 +12,6 @@ mod not_read;
 mod numbers;
 mod splitter;
 mod strings;
-#[cfg(test)]
-mod tests;
 mod vocabulary;
 mod words;
 

@@ -1,16 +1,13 @@
 //! The microtasks (HTML Standard, concept: microtask queue), and the slots that a notification takes.
-ghost use Rattle.std.specs.Prelude.{◌≡◌, ◌<◌, ◌++◌, ◌∷◌, [], All, filter, map, length, drop, IfOk, OnOk, OnErr};
-ghost use Rattle.std.specs.Option.{option_map, ForSome};
-ghost use Rattle.dom_model.specs.Names.{first_of};
+ghost use Rattle.std.specs.Prelude.{◌≡◌, ◌<◌, ◌++◌, ◌∷◌, [], All, filter, map, length, IfOk, OnOk, OnErr};
 ghost use Rattle.dom_model.specs.World.{micro_task};
-ghost use Rattle.dom_microtasks.specs.Tasks.{task_of};
 ghost use Rattle.dom_model.specs.Turns.{is_owned_by, without_signals};
-ghost use Rattle.dom_mutation.specs.Doc.{name_in, with_tasks, IsDue};
+ghost use Rattle.dom_mutation.specs.Doc.{name_in, with_tasks};
 
 use super::signals::{other_slots, own_slots};
 use crate::Doc;
 use dom_base::Owner;
-use dom_microtasks::{Queue, Task};
+use dom_microtasks::Queue;
 use node_arena::Key;
 use std::alloc::AllocError;
 use std::mem;
@@ -23,16 +20,6 @@ impl Doc {
         ensures err { OnErr result (self.new ≡ self.old) }
     {
         self.queue.push_micro(owner, label)
-    }
-
-    /// Takes the first task out, if there is one (HTML Standard, perform a microtask checkpoint). The owner of a
-    /// notification is there.
-    pub fn pop(&mut self) -> Option<Task>
-        ensures task { option_map task_of result ≡ first_of self.old.world.tasks }
-        ensures rest { self.new ≡ with_tasks (drop 1 self.old.world.tasks) self.old }
-        ensures due { ForSome result (λ t. IsDue self.old.world (task_of t)) }
-    {
-        self.queue.pop()
     }
 
     /// Takes all tasks out, for them to run (HTML Standard, perform a microtask checkpoint).

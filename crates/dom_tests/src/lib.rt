@@ -1,0 +1,16 @@
+//! Tests of what the layers offer in public. They stand in a crate of their own, so that a check of the tests takes the layers as
+//! proved, and proves none of them once more.
+#![tactic(auto)]
+
+#[cfg(test)]
+mod documents;
+#[cfg(test)]
+mod observers;
+#[cfg(test)]
+mod printer;
+#[cfg(test)]
+mod reader;
+#[cfg(test)]
+mod run;
+#[cfg(test)]
+mod session;
