@@ -15,6 +15,7 @@ use Rattle.dom_model.specs.Runs.{Run, run_each}
 use Rattle.dom_model.specs.Turns.{opening_turn, ending_turn, running_task, notifying, notified, notified_lines, is_owned_by, without_signals, slotchange, firing_slotchange}
 use Rattle.dom_model.specs.World.{World, Task, micro_task, part_of, with_part, is_there}
 use Rattle.dom_model.specs.Dispatch.{dispatch_in}
+use Rattle.dom_isolation.specs.Bounds.{IsBounded}
 use Rattle.dom_isolation.specs.Worlds.{IsThere, task_owner}
 use Rattle.dom_isolation.proofs.Lists.{all-then}
 use Rattle.dom_isolation.proofs.OwnerSteps.{stays-running}
@@ -26,6 +27,7 @@ use Rattle.dom_dispatch.specs.Named.{IsListenerAt}
 use Rattle.dom_commands.specs.Heard.{heard, own_listeners}
 use Rattle.dom_commands.specs.Machine.{MachineNow, machine_now, IsSound, AreAtNodes, AreThere}
 use Rattle.dom_commands.specs.Turned.{with_turn}
+use Rattle.dom_commands.proofs.Bounded.{bounded-dispatch, bounded-told}
 use Rattle.dom_commands.proofs.Heard.{FitsIn, part-heard, with_part-heard, there-heard}
 use Rattle.dom_commands.proofs.Listening.{OwnersAreThere, fits-own}
 use Rattle.dom_commands.proofs.Machines.{seen_at}
@@ -89,16 +91,16 @@ there_after w v t ts h e =
 stands : (m : MachineNow) → IsSound m → Stands m.world
 stands m s = record { reached = s.reached; whole = s.whole }
 
-sound_from : (n : MachineNow) (w : World) → n.world ≡ w → AreAtNodes n → Stands w → IsSound n
-sound_from n w e at s = record { listeners = at; reached = (subst Stands (sym e) s).reached; whole = (subst Stands (sym e) s).whole }
+sound_from : (n : MachineNow) (w : World) → n.world ≡ w → AreAtNodes n → Stands w → IsBounded w → IsSound n
+sound_from n w e at s b = record { listeners = at; reached = (subst Stands (sym e) s).reached; whole = (subst Stands (sym e) s).whole; bounds = subst IsBounded (sym e) b }
 
 -- with the tasks taken out
 pub taken_sound : (m n : MachineNow) → IsSound m → n.world ≡ record m.world { tasks = []; turn = None } → AreAtNodes n → IsSound n
-taken_sound m n s e at = sound_from n (record m.world { tasks = []; turn = None }) e at (at_end-stands m.world (stands m s))
+taken_sound m n s e at = sound_from n (record m.world { tasks = []; turn = None }) e at (at_end-stands m.world (stands m s)) s.bounds
 
 -- with an owner's observers told
 pub told_sound : (m n : MachineNow) (o : Owner) → IsThere m.world o → IsSound m → n.world ≡ with_part (without_signals m.world o) (notified (part_of m.world o)) → AreAtNodes n → IsSound n
-told_sound m n o there s e at = sound_from n (with_part (without_signals m.world o) (notified (part_of m.world o))) e at (told-stands m.world o there (stands m s))
+told_sound m n o there s e at = sound_from n (with_part (without_signals m.world o) (notified (part_of m.world o))) e at (told-stands m.world o there (stands m s)) (bounded-told m.world o s.bounds)
 
 -- an event like `slotchange`, by another name
 abbrev pub named_event : Word → EventWords
@@ -106,7 +108,7 @@ named_event n = record { event = n; bubbles = true; cancelable = false; composed
 
 -- after an event
 pub fired_sound : (m n : MachineNow) (x : NodeName) → IsSound m → n.world ≡ (dispatch_in m.world x None slotchange).run.0 → AreAtNodes n → IsSound n
-fired_sound m n x s e at = sound_from n (dispatch_in m.world x None slotchange).run.0 e at (dispatch-stands m.world x None slotchange (stands m s))
+fired_sound m n x s e at = sound_from n (dispatch_in m.world x None slotchange).run.0 e at (dispatch-stands m.world x None slotchange (stands m s)) (bounded-dispatch m.world x None slotchange s.bounds)
 
 -- what holds however a call ends
 pub on_ok : {T E : Type 0} {P : Type 0} (r : Result T E) → P → OnOk r P

@@ -19,6 +19,7 @@ pub mod Closing
 pub mod Heard
 pub mod DeafPlans
 pub mod HeardCommands
+pub mod Bounded
 pub mod SameWorlds
 pub mod Listening
 pub mod Dispatching

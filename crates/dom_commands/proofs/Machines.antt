@@ -17,8 +17,10 @@ use Rattle.dom_model.specs.Turns.{opening_turn}
 use Rattle.dom_model.specs.Part.{Part}
 use Rattle.dom_model.specs.World.{World, part_of, is_there, component_made}
 use Rattle.dom_model.proofs.StepLaws.{Component-IsNoPage}
+use Rattle.dom_isolation.specs.Bounds.{IsBounded}
 use Rattle.dom_isolation.specs.Laws.{IsReached}
 use Rattle.dom_isolation.specs.Tables.{IsWhole}
+use Rattle.dom_isolation.proofs.BoundWorlds.{first-is_bounded, step-keeps_bounds}
 use Rattle.dom_isolation.proofs.Reached.{first-is_reached, step-keeps_reached}
 use Rattle.dom_isolation.proofs.ReachedFacts.{attached-are_there}
 use Rattle.dom_isolation.proofs.TableLines.{first-is_whole, step-keeps_whole}
@@ -28,6 +30,7 @@ use Rattle.dom_commands.specs.Handled.{IsHandled}
 use Rattle.dom_commands.specs.Heard.{heard, own_listeners}
 use Rattle.dom_commands.specs.Machine.{MachineNow, machine_now, IsSound, AreAtNodes, BeginsWith, KeepsNames, KeepsListeners}
 use Rattle.dom_commands.specs.Offered.{is_silent, is_plain}
+use Rattle.dom_commands.proofs.Bounded.{bounded-unheard}
 use Rattle.dom_commands.proofs.Handling.{opened-part}
 use Rattle.dom_commands.proofs.Heard.{FitsIn, there-heard, part-heard}
 use Rattle.dom_commands.proofs.HeardCommands.{IsNew, handled-heard}
@@ -95,6 +98,11 @@ seen_at s ls m seen sound = (subst IsSound (sym seen) sound).listeners
 pub seen_reached : (s : DocState) (ls : List (Listener ℕ)) (m : MachineNow) → machine_now s ls ≡ m → IsSound m → IsReached false (machine_now s ls).world
 seen_reached s ls m seen sound = (subst IsSound (sym seen) sound).reached
 
+-- the ends of ranges are within their nodes in the world of its documents
+pub seen_bounds : (s : DocState) (ls : List (Listener ℕ)) (m : MachineNow) → machine_now s ls ≡ m → IsSound m → OwnersAreThere s.names s.world → IsBounded s.world
+seen_bounds s ls m seen sound there =
+    bounded-unheard (own_listeners s.names ls) s.world (fits-own s.names s.world there ls (seen_at s ls m seen sound)) (subst IsSound (sym seen) sound).bounds
+
 -- ---- lines
 
 -- a line
@@ -104,11 +112,12 @@ line_sound m n l sound is at =
       listeners = at;
       reached = subst (IsReached false) (sym is) (step-keeps_reached false m.world l sound.reached (λ e. absurd (true≢false (sym e))));
       whole = subst IsWhole (sym is) (step-keeps_whole false m.world l sound.reached sound.whole);
+      bounds = subst IsBounded (sym is) (step-keeps_bounds false m.world l sound.reached sound.whole sound.bounds);
     }
 
 -- the first machine
 pub first_sound : (s : DocState) → s ≡ record { names = node_of Page 0 ∷ []; world = first_world } → IsSound (machine_now s [])
-first_sound s is = subst (λ (t : DocState). IsSound (machine_now t [])) (sym is) (record { listeners = tt; reached = first-is_reached false; whole = first-is_whole })
+first_sound s is = subst (λ (t : DocState). IsSound (machine_now t [])) (sym is) (record { listeners = tt; reached = first-is_reached false; whole = first-is_whole; bounds = first-is_bounded })
 
 -- listeners that are at nodes are so however a command ends
 pub always_at : (m : MachineNow) (r : Result (Unit {0}) Fault) → AreAtNodes m → KeepsListeners m r

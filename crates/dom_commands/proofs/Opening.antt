@@ -13,6 +13,7 @@ use Rattle.dom_model.specs.Output.{says, replied, a_truth}
 use Rattle.dom_model.specs.Turns.{opening_turn}
 use Rattle.dom_model.specs.World.{World, part_of, is_there}
 use Rattle.dom_model.proofs.PartLaws.{owner-part_of}
+use Rattle.dom_isolation.specs.Bounds.{IsBounded}
 use Rattle.dom_isolation.specs.Laws.{IsReached}
 use Rattle.dom_isolation.specs.Tables.{IsWhole}
 use Rattle.dom_text.specs.Text.{output_text}
@@ -23,6 +24,7 @@ use Rattle.dom_dispatch.specs.Named.{IsListenerAt}
 use Rattle.dom_commands.specs.Handled.{IsHandled}
 use Rattle.dom_commands.specs.Heard.{heard, own_listeners}
 use Rattle.dom_commands.specs.Machine.{machine_now, IsSound}
+use Rattle.dom_commands.proofs.Bounded.{bounded-opening}
 use Rattle.dom_commands.proofs.EventCommands.{named_alike, reached-opening, whole-opening}
 use Rattle.dom_commands.proofs.HeardCommands.{opening-heard}
 use Rattle.dom_commands.proofs.TextLaws.{output_text-append}
@@ -37,6 +39,7 @@ opened_sound s t ls o names world there sound =
       listeners = subst (λ (ns : List NodeName). AllByRecursion (IsListenerAt ns) ls) (sym names) sound.listeners;
       reached = subst (IsReached false) is (reached-opening (heard of s.world) o there sound.reached);
       whole = subst IsWhole is (whole-opening (heard of s.world) o sound.whole);
+      bounds = subst IsBounded is (bounded-opening (heard of s.world) o sound.bounds);
     }
 
 -- spellings read alike when a turn is open

@@ -9,6 +9,7 @@ use Rattle.dom_model.specs.Dispatch.{event_output}
 use Rattle.dom_model.specs.Listeners.{Listener}
 use Rattle.dom_model.specs.Output.{Output, EventLine}
 use Rattle.dom_model.specs.World.{World, Task}
+use Rattle.dom_isolation.specs.Bounds.{IsBounded}
 use Rattle.dom_isolation.specs.Laws.{IsReached}
 use Rattle.dom_isolation.specs.Tables.{IsWhole}
 use Rattle.dom_isolation.specs.Worlds.{IsThere, task_owner}
@@ -33,11 +34,12 @@ abbrev pub AreAtNodes : MachineNow → Type 0
 AreAtNodes m = AllByRecursion (IsListenerAt m.names) m.listeners
 
 -- What holds of a machine between two lines: its listeners are at nodes, and its world is one that the definitions reach, whose
--- tables name what is there.
+-- tables name what is there, and whose live ranges end within their nodes.
 pub record IsSound (m : MachineNow) : Type 0 where
   pub listeners : AreAtNodes m
   pub reached : IsReached false m.world
   pub whole : IsWhole m.world
+  pub bounds : IsBounded m.world
 
 -- the owners of tasks are there
 abbrev pub AreThere : World → List Task → Type 0

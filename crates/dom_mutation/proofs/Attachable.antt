@@ -142,6 +142,7 @@ module _ (f : NamedTrees) (was : AllTables) (held : IsHeld f.names f.trees was) 
       observers = refl;
       tasks = refl;
       signalled = refl;
+      ranges = refl;
       hosts = hosts ∙ ap (λ o. was.slots.hosts ++ record { host = host; root = length f.names; owner = o } ∷ []) owner_is;
       free = free;
       slots = of;

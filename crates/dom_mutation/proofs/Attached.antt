@@ -25,14 +25,22 @@ use Rattle.dom_slots.specs.Kept.{AreSlotsOf}
 use Rattle.dom_observers.specs.Tables.{TablesOf, no_tables as no_observers}
 use Rattle.dom_observers.specs.Naming.{IsKey, SpeaksOf}
 use Rattle.dom_tree.specs.Forest.{NamedTrees, name_at, count_of}
+use Rattle.dom_ranges.specs.Settings.{named_ranges}
+use Rattle.dom_ranges.specs.Tables.{ranges_of}
+use Rattle.dom_model.specs.Ranges.{Range}
 use Rattle.dom_mutation.specs.Contents.{Tables}
+use Rattle.dom_mutation.specs.Numbering.{AreNumbered}
+use Rattle.dom_mutation.specs.Ranging.{AreRangesOf}
 use Rattle.dom_mutation.specs.OwnTables.{KeyedTables, AllTables, no_keyed_tables, tables_view, owners_up_to, owner_at, table_of, AreTablesOf}
 use Rattle.dom_mutation.specs.Hosting.{AreMadeFrom, host_names, AreHostsOf, IsAttached}
 use Rattle.dom_mutation.specs.Doc.{named_trees, own_tables, shown_tables, contents, world_from, IsHeld, IsDue}
-use Rattle.dom_mutation.proofs.AttachedWorlds.{counted_other, counted_new, component_new, attached_world, attached_hosts}
+use Rattle.dom_mutation.proofs.AttachedWorlds.{count_none, counted_other, counted_new, component_new, attached_world, attached_hosts}
 use Rattle.dom_mutation.proofs.Held.{are_hosts, no_cursors, due_kept}
 use Rattle.dom_mutation.proofs.HostedSteps.{names_pushed, names_renamed}
 use Rattle.dom_mutation.proofs.Keeping.{tables_more, view_same, speaks_grown}
+use Rattle.dom_mutation.proofs.Numbers.{numbered_more}
+use Rattle.dom_mutation.proofs.RangedKeeping.{named_grown}
+use Rattle.dom_mutation.proofs.RangedOwners.{ranges_attached}
 use Rattle.dom_mutation.proofs.Places.{In-push, In-end}
 use Rattle.dom_mutation.proofs.Worlds.{In, in_there, there_in}
 
@@ -66,6 +74,7 @@ pub record HasOneHostMore (f g : NamedTrees) (was now : AllTables) (host : ℕ) 
   pub observers : now.observers ≡ was.observers
   pub tasks : now.tasks ≡ was.tasks
   pub signalled : now.signalled ≡ was.signalled
+  pub ranges : now.ranges ≡ was.ranges
   pub hosts : now.slots.hosts ≡ was.slots.hosts ++ record { host = host; root = length f.names; owner = component_made Page (length was.slots.hosts) } ∷ []
   pub free : now.slots.begun ≡ None
   pub slots : AreSlotsOf g now.slots
@@ -104,9 +113,18 @@ module _ (f g : NamedTrees) (was now : AllTables) (host : ℕ) (d : Option NodeN
       by None e = view_same f.names (shadow_root_of c) f.trees q no_keyed_tables (was.observers q) (no_cursors (named_trees f.names f.trees) q) (held.speaks q)
       by (Some t) e = view_same f.names (shadow_root_of c) f.trees q t (was.observers q) (held.own q t e) (held.speaks q)
 
-  -- an owner's tables in names, with these hosts
-  abbrev with_attached : Tables → List NodeName → Tables
-  with_attached t xs = record t { attached = xs }
+  -- an owner's tables in names, with these hosts and live ranges
+  abbrev with_those : Tables → List NodeName → List (Option (Range NodeName)) → Tables
+  with_those t xs rs = record t { attached = xs; ranges = rs }
+
+  -- its live ranges by names
+  live_now : (q : Owner) → named_ranges g.names (ranges_of now.ranges q) ≡ named_ranges f.names (ranges_of was.ranges q)
+  live_now q =
+      ap (λ t. named_ranges g.names (ranges_of t q)) more.ranges
+      ∙ (ap (λ ns. named_ranges ns (ranges_of was.ranges q)) more.names ∙ named_grown f.names (shadow_root_of c) was.ranges held.ranges.own q)
+
+  live_new : named_ranges g.names (ranges_of now.ranges c) ≡ []
+  live_new = live_now c ∙ ap (named_ranges f.names) (held.ranges.absent c (component_new (contents f.names f.trees was) hosts_were (are_hosts f.names f.trees was held)))
 
   view_now : (q : Owner) → q ≢ c → tables_view g.names (own_tables now q) (now.observers q) ≡ tables_view f.names (own_tables was q) (was.observers q)
   view_now q other =
@@ -137,8 +155,9 @@ module _ (f g : NamedTrees) (was now : AllTables) (host : ℕ) (d : Option NodeN
     owners = ap (λ ts. owners_up_to (length ts)) more.each ∙ (ap owners_up_to long ∙ ap (λ n. owners_up_to (length was.each) ++ owner_at n ∷ []) held.counted);
     names = more.names;
     trees = more.trees;
-    page = (λ i. with_attached (view_now Page (λ e. cc) i) (hosts_now i));
-    new = ap (λ t. with_attached (tables_view g.names (unwrap_or t no_keyed_tables) (now.observers c)) []) table_new ∙ ap (λ (r : TablesOf ℕ). with_attached (tables_view g.names no_keyed_tables r) []) unobserved_new;
+    page = (λ i. with_those (view_now Page (λ e. cc) i) (hosts_now i) (live_now Page i));
+    new = ap (λ t. with_those (tables_view g.names (unwrap_or t no_keyed_tables) (now.observers c)) [] (named_ranges g.names (ranges_of now.ranges c))) table_new
+        ∙ (ap (λ (r : TablesOf ℕ). with_those (tables_view g.names no_keyed_tables r) [] (named_ranges g.names (ranges_of now.ranges c))) unobserved_new ∙ ap (with_those (tables_view g.names no_keyed_tables no_observers) []) live_new);
     rest = λ q page other. by q page other;
     signalled = ap (λ ns. map (name_at ns) now.signalled) more.names ∙ (ap (map (name_at grown)) more.signalled ∙ names_stay was.signalled held.signals.nodes);
     tasks = more.tasks;
@@ -147,9 +166,10 @@ module _ (f g : NamedTrees) (was now : AllTables) (host : ℕ) (d : Option NodeN
       long : length (was.each ++ no_keyed_tables ∷ []) ≡ suc (length was.each)
       long = let pushed = length_push was.each no_keyed_tables in omega (arith, pushed)
 
-      by : (q : Owner) → q ≢ Page → q ≢ c → shown_tables g.names now.slots.hosts q (own_tables now q) (now.observers q) ≡ shown_tables f.names hosts_were q (own_tables was q) (was.observers q)
+      by : (q : Owner) → q ≢ Page → q ≢ c
+          → shown_tables g.names now.slots.hosts q (own_tables now q) (now.observers q) (ranges_of now.ranges q) ≡ shown_tables f.names hosts_were q (own_tables was q) (was.observers q) (ranges_of was.ranges q)
       by Page page other = absurd (page refl)
-      by (Component k) page other = ap (λ t. with_attached t []) (view_now (Component k) other)
+      by (Component k) page other = (λ i. with_those (view_now (Component k) other i) [] (live_now (Component k) i))
 
   abbrev new_hosts : List ShadowHost
   new_hosts = hosts_were ++ record { host = host; root = length f.names; owner = c } ∷ []
@@ -198,6 +218,13 @@ module _ (f g : NamedTrees) (was now : AllTables) (host : ℕ) (d : Option NodeN
         (tables_more f.names (shadow_root_of c) f.trees (new_root (shadow_root_of c) Shadow d) refl new_name q t (held.own q t (sym (table_rest q (owner_eq-false q c other)) ∙ e)))
   ]
 
+  -- none of its nodes was there before
+  uncounted : (k : ℕ) → k < length f.names → (name_at f.names k).owner ≢ c
+  uncounted k k< e =
+      let on = sym (ap (is_there (world_from f.names f.trees was)) e) ∙ held.present k k< in
+      let off = component_new (contents f.names f.trees was) hosts_were (are_hosts f.names f.trees was held) in
+      cc
+
   -- it is held
   pub attached_held : length was.slots.hosts < 1000 → IsHeld g.names g.trees now
   attached_held room = record {
@@ -213,6 +240,10 @@ module _ (f g : NamedTrees) (was now : AllTables) (host : ℕ) (d : Option NodeN
     speaks = λ p. subst (λ ns. SpeaksOf (IsKey ns) (now.observers p)) (sym more.names) (subst (λ (os : Owner → TablesOf ℕ). SpeaksOf (IsKey grown) (os p)) (sym more.observers) (speaks_grown f.names (shadow_root_of c) (was.observers p) (held.speaks p)));
     unobserved = λ p off. ap (λ (os : Owner → TablesOf ℕ). os p) more.observers ∙ held.unobserved p (absent_before p off);
     due = subst (λ (ts : List Task). AllByRecursion (IsDue (world_from g.names g.trees now)) ts) (sym more.tasks) (due_kept (world_from f.names f.trees was) (world_from g.names g.trees now) there_after was.tasks held.due);
+    ranges = subst (AreRangesOf (contents g.names g.trees now)) (sym more.ranges)
+        (ranges_attached (contents f.names f.trees was) (contents g.names g.trees now) was.ranges c (name_at f.names host) d (component_new (contents f.names f.trees was) hosts_were (are_hosts f.names f.trees was held)) one held.ranges);
+    numbered = subst AreNumbered (sym more.names)
+        (subst (λ n. AreNumbered (f.names ++ node_of c n ∷ [])) (count_none c f.names uncounted) (numbered_more f.names c held.numbered));
   }
     where
       nodes_after : All (λ k. k < length g.names) now.signalled

@@ -25,7 +25,7 @@ use Rattle.dom_tree.proofs.OwnChanges.{added}
 use Rattle.dom_tree.proofs.Owned.{read_own}
 use Rattle.dom_mutation.specs.Contents.{Contents, Tables, part_with, part_in, world_of}
 use Rattle.dom_mutation.specs.Hosting.{IsMadeAs, AreMadeFrom, host_names, host_owners, AreHostsOf, IsAttached}
-use Rattle.dom_mutation.proofs.Held.{count_more}
+use Rattle.dom_mutation.proofs.Numbers.{count_more}
 use Rattle.dom_mutation.proofs.HostedSteps.{names_pushed, nodes_renamed, made_renamed, names_renamed}
 use Rattle.dom_mutation.proofs.HostedWorlds.{made-number, made-no_page, single_hosted, page_hosted}
 use Rattle.dom_mutation.proofs.Places.{In-push, In-end}

@@ -1,24 +1,30 @@
 -- After a plan, or a part of one, live ranges' offsets are within lengths in the state that it leaves, if they were: so the next
 -- step that asks for that may be made.
-use Rattle.std.proofs.Common.{◌≡◌, ℕ, true, None, List, [], subst, sym}
-use Rattle.std.specs.Prelude.{IsTrue}
+use Rattle.std.proofs.Common.{◌≡◌, ℕ, ◌+◌, ◌<◌, ◌≤◌, true, false, None, Some, List, [], ◌∷◌, ◌++◌, length, refl, subst, sym, ap, ◌∙◌, arith}
+use Rattle.std.proofs.lemmas.Bool.{ltb-false}
+use Rattle.std.proofs.Math.ListN.{get_or-append}
 use Rattle.dom_base.specs.declared.NodeName.{NodeName}
 use Rattle.dom_base.specs.declared.Owner.{Owner}
+use Rattle.dom_base.specs.declared.Owner.TheVariants.{Page}
 use Rattle.dom_model.specs.Changes.{Plan, Observing, suppressed, in_turn, doing, removing, emptying}
-use Rattle.dom_model.specs.Names.{DomString}
+use Rattle.dom_model.specs.CommandRefusals.{past_limit}
+use Rattle.dom_model.specs.Names.{DomString, node_of}
 use Rattle.dom_model.specs.Output.{Change, child_list}
 use Rattle.dom_model.specs.Steps.{make, queue_record, after}
-use Rattle.dom_model.specs.TextChanges.{replacing_data, normalizing_text}
-use Rattle.dom_model.specs.Tree.{Node, has_node, has_data, is_text, kind_of}
-use Rattle.dom_model.specs.World.{part_of}
+use Rattle.dom_model.specs.TextChanges.{replacing_data}
+use Rattle.dom_model.specs.Part.{Part}
+use Rattle.dom_model.specs.Tree.{Node, has_data, kind_of, children_of, parent_of, index_of}
+use Rattle.dom_model.specs.World.{World, part_of}
 use Rattle.dom_isolation.specs.Bounds.{HasBounds}
 use Rattle.dom_isolation.specs.Worlds.{IsPart}
 use Rattle.dom_isolation.proofs.KeptOffsets.{make-keeps, queue_record-keeps, removal-keeps, data-keeps}
-use Rattle.dom_mutation.specs.Doc.{DocState, planned}
+use Rattle.dom_tree.specs.Forest.{name_at}
+use Rattle.dom_mutation.specs.Doc.{DocState, owner_in, made, planned}
 use Rattle.dom_mutation.specs.Hosting.{PlansOwn, IsAlone}
-use Rattle.dom_mutation.proofs.BoundedPlans.{removals-keep, emptying-keeps, normalized_text-keeps}
+use Rattle.dom_mutation.proofs.BoundedPlans.{removals-keep, emptying-keeps, index_few}
+use Rattle.dom_mutation.proofs.OwnParts.{children_few}
 use Rattle.dom_mutation.proofs.Made.{plan_alone}
-use Rattle.dom_mutation.proofs.OwnPlans.{plans_then, plans_each, plans_removing, plans_data, plans_normalizing_text}
+use Rattle.dom_mutation.proofs.OwnPlans.{plans_then, plans_each, plans_removing, plans_data}
 
 module _ (o : Owner) (d : DocState) (alone : IsAlone d.world o) (part : IsPart (part_of d.world o)) (bounds : HasBounds (part_of d.world o)) where
   -- after a plan that keeps the bounds in the owner's part
@@ -51,6 +57,26 @@ module _ (o : Owner) (d : DocState) (alone : IsAlone d.world o) (part : IsPart (
   pub bounds_grown : (x : NodeName) (offset count : ℕ) (new : DomString) → has_data (kind_of (part_of d.world o).trees x) ≡ true → (e : DocState) → e ≡ planned o (replacing_data x offset count new) d → HasBounds (part_of e.world o)
   bounds_grown x offset count new has = bounds_after (replacing_data x offset count new) (plans_data o x offset count new) (data-keeps x offset count new (part_of d.world o) part has bounds)
 
-  -- before the next Text is normalized
-  pub bounds_normalized : (x : NodeName) → IsTrue (has_node (part_of d.world o).trees x) → is_text (kind_of (part_of d.world o).trees x) ≡ true → (e : DocState) → e ≡ planned o (normalizing_text x) d → HasBounds (part_of e.world o)
-  bounds_normalized x there text = bounds_after (normalizing_text x) (plans_normalizing_text o x) (normalized_text-keeps x (part_of d.world o) part there text bounds)
+-- ---- for a node's owner
+
+-- where the names stay
+pub bounds_at : (d e : DocState) (k : ℕ) → e.names ≡ d.names → HasBounds (part_of e.world (owner_in d k)) → HasBounds (part_of e.world (owner_in e k))
+bounds_at d e k names h = subst (λ (ns : List NodeName). HasBounds (part_of e.world (name_at ns k).owner)) (sym names) h
+
+-- where a node was made
+pub bounds_added : (d e : DocState) (k : ℕ) (y : NodeName) (n : Node) → k < length d.names → IsAlone d.world (owner_in d k) → IsPart (part_of d.world (owner_in d k)) → HasBounds (part_of d.world (owner_in d k))
+    → e.names ≡ d.names ++ y ∷ [] → e.world ≡ made (owner_in d k) (doing (make n)) d.world → HasBounds (part_of e.world (owner_in e k))
+bounds_added d e k y n here alone part bounds names world =
+    let o = owner_in d k in
+    let same : owner_in e k ≡ o = ap (λ (ns : List NodeName). (name_at ns k).owner) names ∙ ap (λ (x : NodeName). x.owner) (get_or-append d.names (y ∷ []) (node_of Page 0) k here) in
+    subst (λ (p : Owner). HasBounds (part_of e.world p)) (sym same) (subst (λ (w : World). HasBounds (part_of w o)) (sym world) (bounds_made o d alone part bounds n (planned o (doing (make n)) d) refl))
+
+-- ---- how many nodes there are
+
+-- no node has more than a million children
+pub children_limited : (p : Part) → IsPart p → past_limit p.node_count 0 ≡ false → (x : NodeName) → length (children_of p.trees x) ≤ 1000000
+children_limited p part limited x = let few = children_few p part x in let most = ltb-false 1000000 (p.node_count + 0) limited in omega arith
+
+-- so a child's index is below that
+pub index_limited : (p : Part) → IsPart p → past_limit p.node_count 0 ≡ false → (x parent : NodeName) → parent_of p.trees x ≡ Some parent → index_of p.trees x < 1000000
+index_limited p part limited x parent up = let few = index_few p part x parent up in let most = ltb-false 1000000 (p.node_count + 0) limited in omega arith

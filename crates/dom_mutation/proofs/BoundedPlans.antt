@@ -25,6 +25,7 @@ use Rattle.dom_isolation.proofs.PlanBounds.{room-removals}
 use Rattle.dom_isolation.proofs.PlanPlaces.{after-append, still}
 use Rattle.dom_isolation.proofs.PlanTexts.{leads-removals, leads-normalizing_text}
 use Rattle.dom_isolation.proofs.TextBounds.{text-data, total, joining-fits, room-normalizing_text}
+use Rattle.dom_mutation.specs.Doc.{JoinsFit}
 use Rattle.dom_mutation.proofs.OwnParts.{children_few}
 
 -- ---- lengths
@@ -84,11 +85,7 @@ normalized_text-leaves x y p i there there_y text =
     let t = has_node-times p.trees y there_y in
     (times-has_node (after p (normalizing_text x p)).trees y (still changed y t), ap is_text (changed.kinds y t) ∙ text)
 
--- each of some Texts may be joined to a first one, which has their data behind its own
-abbrev pub JoinsFit : Trees → NodeName → ℕ → List NodeName → Type 0
-JoinsFit ts first size [] = Unit {0}
-JoinsFit ts first size (y ∷ ys) = (size + length_of ts y ≤ length_of ts first) × JoinsFit ts first (size + length_of ts y) ys
-
+-- each of some Texts may be joined to a first one
 joins-fit : (ts us : Trees) (first : NodeName) (size : ℕ) (ys : List NodeName) → size + total ts ys ≤ length_of us first → AllByRecursion (λ y. length_of us y ≡ length_of ts y) ys → JoinsFit us first size ys
 joins-fit ts us first size [] few same = tt
 joins-fit ts us first size (y ∷ ys) few same =

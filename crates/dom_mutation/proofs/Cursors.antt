@@ -28,7 +28,9 @@ use Rattle.dom_mutation.specs.Doc.{named_trees, own_tables, shown_tables, conten
 use Rattle.dom_mutation.proofs.Worlds.{part_at, part_off, changed}
 use Rattle.dom_mutation.proofs.Places.{single_owners, table_set, table_set_other}
 use Rattle.dom_mutation.proofs.Own.{next_own, previous_own, move_own}
+use Rattle.dom_ranges.specs.Tables.{ranges_of}
 use Rattle.dom_mutation.proofs.Held.{held_with, there_table}
+use Rattle.dom_mutation.proofs.RangedKeeping.{ranges_stay}
 
 -- an item that is written where it stands
 same_item : {X : Type 0} (xs : List X) (k : ℕ) (x : X) → slice_get xs k ≡ Some x → slice_set xs k x ≡ xs
@@ -100,7 +102,7 @@ module _ (names : List NodeName) (ts : Trees) (tables : AllTables) (held : IsHel
 
   -- the owner's part with other tables
   abbrev pub with_own : KeyedTables → Part
-  with_own v = part_with o (trees_of_owner o ts) (count_of o names) (shown_tables names tables.slots.hosts o v (tables.observers o))
+  with_own v = part_with o (trees_of_owner o ts) (count_of o names) (shown_tables names tables.slots.hosts o v (tables.observers o) (ranges_of tables.ranges o))
 
   pub part_was : part_of (world_from names ts tables) o ≡ with_own t
   part_was = part_at (contents names ts tables) o there ∙ ap (λ m. with_own (unwrap_or m no_keyed_tables)) at
@@ -128,6 +130,7 @@ module _ (names : List NodeName) (ts : Trees) (tables : AllTables) (held : IsHel
           | inl same ↦ own_case p v (owner_eq-true p o same) e
           | inr other ↦ held.own p v (sym (table_set_other tables.each o t u at p (owner_eq-false p o other)) ∙ e)
         ]) held.made record { free = held.signals.free; slots = held.signals.slots; nodes = held.signals.nodes } held.speaks held.unobserved held.due
+        (ranges_stay (contents names ts tables) (contents names ts (with_table tables o u)) tables.ranges held.ranges refl (ap owners_up_to (length-set tables.each (place_of o) u)) (λ p. refl)) held.numbered
       where
         own_case : (p : Owner) (v : KeyedTables) → p ≡ o → table_of (slice_set tables.each (place_of o) u) p ≡ Some v → AreTablesOf (named_trees names ts) p v
         own_case p v same e =
@@ -149,7 +152,7 @@ module _ (names : List NodeName) (ts : Trees) (tables : AllTables) (held : IsHel
         signalled = refl;
         tasks = refl;
         own = sym (part_at (contents names ts (with_table tables o u)) o there_set);
-        others = λ q other. ap (λ m. part_with q (trees_of_owner q ts) (count_of q names) (shown_tables names tables.slots.hosts q (unwrap_or m no_keyed_tables) (tables.observers q))) (table_set_other tables.each o t u at q other);
+        others = λ q other. ap (λ m. part_with q (trees_of_owner q ts) (count_of q names) (shown_tables names tables.slots.hosts q (unwrap_or m no_keyed_tables) (tables.observers q) (ranges_of tables.ranges q))) (table_set_other tables.each o t u at q other);
       },
     )
 

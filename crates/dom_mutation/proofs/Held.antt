@@ -24,18 +24,23 @@ use Rattle.dom_model.specs.Steps.{make}
 use Rattle.dom_model.specs.World.{World, part_of, is_there, Task, micro_task, notify_task}
 use Rattle.dom_model.specs.WorldSteps.{world_step}
 use Rattle.dom_model.specs.Part.{Part, next_name as part_next}
+use Rattle.dom_model.specs.Ranges.{Range}
 use Rattle.dom_model.specs.CommandRefusals.{past_limit}
 use Rattle.dom_model.proofs.OwnerLaws.{owner_eq-same, owner_eq-true, ne-owner_eq}
 use Rattle.dom_tree.specs.Forest.{NamedTrees, name_at, next_name, count_of}
 use Rattle.dom_tree.specs.Owners.{AreOwned, trees_of_owner, IsOwnChange}
 use Rattle.dom_tree.proofs.OwnChanges.{added}
 use Rattle.dom_observers.specs.Tables.{TablesOf, no_tables as no_observers}
+use Rattle.dom_ranges.specs.Settings.{named_ranges}
+use Rattle.dom_ranges.specs.Tables.{RangeLists, ranges_of}
 use Rattle.dom_observers.specs.Naming.{IsKey, SpeaksOf}
 use Rattle.dom_observers.proofs.Speaking.{speaks_none}
 use Rattle.dom_mutation.specs.Contents.{Tables, part_with}
-use Rattle.dom_mutation.specs.OwnTables.{KeyedTables, tables_view, place_of, owner_at, owners_up_to, table_of, AreTablesOf, AllTables, no_keyed_tables, no_slots, first_tables, signals_of, with_queue, with_observers}
+use Rattle.dom_mutation.specs.OwnTables.{KeyedTables, tables_view, place_of, owner_at, owners_up_to, table_of, AreTablesOf, AllTables, no_keyed_tables, no_slots, first_tables, AreFirst, signals_of, with_live, with_queue, with_observers}
 use Rattle.dom_mutation.specs.Signalled.{AreSignals}
 use Rattle.dom_mutation.specs.Hosting.{AreMadeFrom, AreHostsOf}
+use Rattle.dom_mutation.specs.Numbering.{AreNumbered}
+use Rattle.dom_mutation.specs.Ranging.{AreRangesOf}
 use Rattle.dom_slots.specs.Hosts.{ShadowHost}
 use Rattle.dom_slots.specs.Kept.{AreSlotsOf, StandsOnce, HasOneMore}
 use Rattle.dom_slots.proofs.Added.{slots-more}
@@ -47,6 +52,9 @@ use Rattle.dom_mutation.proofs.Worlds.{there_in, in_there, there_same, part_at, 
 use Rattle.dom_mutation.proofs.Places.{place_within, owners_in, table_place, table_owner}
 use Rattle.dom_mutation.proofs.Standing.{KeepsAbove}
 use Rattle.dom_mutation.proofs.Keeping.{tables_kept, tables_more, view_same, speaks_grown}
+use Rattle.dom_mutation.proofs.Numbers.{count_more, numbered_more}
+use Rattle.dom_mutation.proofs.RangedKeeping.{ranges_stay, ranges_grown, named_grown}
+use Rattle.dom_mutation.proofs.RangedOwners.{ranges_none}
 
 -- empty tables are each owner's
 pub no_cursors : (f : NamedTrees) (o : Owner) → AreTablesOf f o no_keyed_tables
@@ -96,8 +104,8 @@ module _ (names : List NodeName) (ts : Trees) (tables : AllTables) (held : IsHel
       → ((k : ℕ) → k < length more → is_there (world_from names ts tables) (name_at more k).owner ≡ true) → ((p : Owner) → count_of p more ≤ 1000000)
       → ((p : Owner) → ForSome (table_of others.each p) (AreTablesOf (named_trees more us) p)) → AreMadeFrom more 0 tables.slots.hosts → AreSignals more us (signals_of others)
       → ((p : Owner) → SpeaksOf (IsKey more) (others.observers p)) → ((p : Owner) → is_there (world_from names ts tables) p ≡ false → others.observers p ≡ no_observers)
-      → AllByRecursion (IsDue (world_from names ts tables)) others.tasks → IsHeld more us others
-  held_with owned apart present limited own made signals speaks unobserved due = record {
+      → AllByRecursion (IsDue (world_from names ts tables)) others.tasks → AreRangesOf (contents more us others) others.ranges → AreNumbered more → IsHeld more us others
+  held_with owned apart present limited own made signals speaks unobserved due ranges numbered = record {
     owned = owned;
     present = λ k k<. who (name_at more k).owner ∙ present k k<;
     absent = λ p off. apart p (λ same_owner. let on : is_there (world_from names ts tables) p ≡ true = subst (λ (q : Owner). is_there (world_from names ts tables) q ≡ true) (sym same_owner) there in let gone = sym (who p) ∙ off in cc)
@@ -111,6 +119,8 @@ module _ (names : List NodeName) (ts : Trees) (tables : AllTables) (held : IsHel
     speaks = speaks;
     unobserved = λ p off. unobserved p (sym (who p) ∙ off);
     due = due_kept (world_from names ts tables) (world_from more us others) (λ p on. who p ∙ on) others.tasks due;
+    ranges = ranges;
+    numbered = numbered;
   }
 
 pub held_changed : (names : List NodeName) (ts : Trees) (tables : AllTables) → IsHeld names ts tables → (o : Owner) → is_there (world_from names ts tables) o ≡ true
@@ -118,6 +128,7 @@ pub held_changed : (names : List NodeName) (ts : Trees) (tables : AllTables) →
 held_changed names ts tables held o there f change keeps slots =
     held_with names ts tables held o there names (f ts) tables refl refl change.owned change.others held.present held.limited
     (λ p t e. tables_kept names ts (f ts) keeps p t (held.own p t e)) held.made record { free = held.signals.free; slots = slots; nodes = held.signals.nodes } held.speaks held.unobserved held.due
+    (ranges_stay (contents names ts tables) (contents names (f ts) tables) tables.ranges held.ranges refl refl (λ p. refl)) held.numbered
 
 -- other observers
 pub held_observers : (names : List NodeName) (ts : Trees) (tables : AllTables) → IsHeld names ts tables → (observers : Owner → TablesOf ℕ) → ((p : Owner) → SpeaksOf (IsKey names) (observers p))
@@ -135,6 +146,8 @@ held_observers names ts tables held observers speaks unobserved = record {
   speaks = speaks;
   unobserved = λ o off. unobserved o (sym (who o) ∙ off);
   due = due_kept (world_from names ts tables) (world_from names ts (with_observers tables observers)) (λ o on. who o ∙ on) tables.tasks held.due;
+  ranges = ranges_stay (contents names ts tables) (contents names ts (with_observers tables observers)) tables.ranges held.ranges refl refl (λ o. refl);
+  numbered = held.numbered;
 }
   where
     who : (o : Owner) → is_there (world_from names ts (with_observers tables observers)) o ≡ is_there (world_from names ts tables) o
@@ -155,6 +168,8 @@ held_tasks names ts tables held tasks due = record {
   speaks = held.speaks;
   unobserved = held.unobserved;
   due = due_kept (world_from names ts tables) (world_from names ts (with_queue tables tasks)) (λ o on. on) tasks due;
+  ranges = ranges_stay (contents names ts tables) (contents names ts (with_queue tables tasks)) tables.ranges held.ranges refl refl (λ o. refl);
+  numbered = held.numbered;
 }
 
 -- ---- limits
@@ -166,9 +181,6 @@ limit_count n m same few = (
 )
 
 -- ---- one node more
-
-pub count_more : (o : Owner) (names : List NodeName) (x : NodeName) → count_of o (names ++ x ∷ []) ≡ count_of o names + cond (owner_eq x.owner o) 1 0
-count_more o names x = sum_by-append (λ y. cond (owner_eq y.owner o) 1 0) names (x ∷ []) ∙ ap (λ n. count_of o names + n) (zero-add (cond (owner_eq x.owner o) 1 0))
 
 limited_more : (names : List NodeName) (o p : Owner) (n : ℕ) → count_of o names ≤ 1000000 → count_of p names ≤ 1000000 → count_of o names ≢ 1000000 → count_of p (names ++ node_of o n ∷ []) ≤ 1000000
 limited_more names o p n few few_of other = elim (cases_Bool (owner_eq o p)) [
@@ -202,17 +214,22 @@ module _ (names : List NodeName) (ts : Trees) (tables : AllTables) (held : IsHel
       (made_renamed names grown (names_pushed names (next_name o names)) tables.slots.hosts 0 held.signals.slots.hosts held.made)
       record { free = held.signals.free; slots = slots; nodes = λ k d h. longer _ (held.signals.nodes k d h) }
       (λ p. speaks_grown names (next_name o names) (tables.observers p) (held.speaks p)) held.unobserved held.due
+      (ranges_grown (contents names ts tables) (contents grown (with_node n ts) tables) tables.ranges (next_name o names) held.ranges refl refl (named_grown names (next_name o names) tables.ranges held.ranges.own)) (numbered_more names o held.numbered)
     where
       longer : (i : ℕ) → i < length names → i < length grown
       longer i within = let more = length_push names (next_name o names) in omega arith
 
   -- each owner's tables are the same in names
-  view_grown : (q : Owner) → shown_tables grown tables.slots.hosts q (own_tables tables q) (tables.observers q) ≡ shown_tables names tables.slots.hosts q (own_tables tables q) (tables.observers q)
+  view_grown : (q : Owner)
+      → shown_tables grown tables.slots.hosts q (own_tables tables q) (tables.observers q) (ranges_of tables.ranges q) ≡ shown_tables names tables.slots.hosts q (own_tables tables q) (tables.observers q) (ranges_of tables.ranges q)
   view_grown q =
-      ap (λ (t : Tables). with_attached t (attached_of grown tables.slots.hosts q)) (by (table_of tables.each q) refl) ∙ ap (with_attached (tables_view names (own_tables tables q) (tables.observers q))) (hosts_grown q)
+      let rs = ranges_of tables.ranges q in
+      let view = tables_view names (own_tables tables q) (tables.observers q) in
+      ap (λ (t : Tables). with_those t (attached_of grown tables.slots.hosts q) (named_ranges grown rs)) (by (table_of tables.each q) refl)
+      ∙ (ap (λ xs. with_those view xs (named_ranges grown rs)) (hosts_grown q) ∙ ap (with_those view (attached_of names tables.slots.hosts q)) (named_grown names (next_name o names) tables.ranges held.ranges.own q))
     where
-      with_attached : Tables → List NodeName → Tables
-      with_attached t xs = record t { attached = xs }
+      with_those : Tables → List NodeName → List (Option (Range NodeName)) → Tables
+      with_those t xs rs = record t { attached = xs; ranges = rs }
 
       hosts_grown : (p : Owner) → attached_of grown tables.slots.hosts p ≡ attached_of names tables.slots.hosts p
       hosts_grown Page = sym (names_renamed names grown (names_pushed names (next_name o names)) tables.slots.hosts held.signals.slots.hosts)
@@ -229,13 +246,13 @@ module _ (names : List NodeName) (ts : Trees) (tables : AllTables) (held : IsHel
         owners = refl;
         signalled = names_stay tables.signalled held.signals.nodes;
         tasks = refl;
-        own = ap (λ us. part_with o us (count_of o grown) (shown_tables grown tables.slots.hosts o (own_tables tables o) (tables.observers o))) own_change.own
-            ∙ ap (λ k. part_with o (with_node n (trees_of_owner o ts)) k (shown_tables grown tables.slots.hosts o (own_tables tables o) (tables.observers o))) more_own
+        own = ap (λ us. part_with o us (count_of o grown) (shown_tables grown tables.slots.hosts o (own_tables tables o) (tables.observers o) (ranges_of tables.ranges o))) own_change.own
+            ∙ ap (λ k. part_with o (with_node n (trees_of_owner o ts)) k (shown_tables grown tables.slots.hosts o (own_tables tables o) (tables.observers o) (ranges_of tables.ranges o))) more_own
             ∙ ap (λ t. part_with o (with_node n (trees_of_owner o ts)) (suc (count_of o names)) t) (view_grown o)
-            ∙ ap (λ (x : NodeName). part_with o (with_node (with_name x n) (trees_of_owner o ts)) (suc (count_of o names)) (shown_tables names tables.slots.hosts o (own_tables tables o) (tables.observers o))) is;
+            ∙ ap (λ (x : NodeName). part_with o (with_node (with_name x n) (trees_of_owner o ts)) (suc (count_of o names)) (shown_tables names tables.slots.hosts o (own_tables tables o) (tables.observers o) (ranges_of tables.ranges o))) is;
         others = λ q other.
-            ap (λ us. part_with q us (count_of q grown) (shown_tables grown tables.slots.hosts q (own_tables tables q) (tables.observers q))) (own_change.others q other)
-            ∙ ap (λ k. part_with q (trees_of_owner q ts) k (shown_tables grown tables.slots.hosts q (own_tables tables q) (tables.observers q))) (more_other q other)
+            ap (λ us. part_with q us (count_of q grown) (shown_tables grown tables.slots.hosts q (own_tables tables q) (tables.observers q) (ranges_of tables.ranges q))) (own_change.others q other)
+            ∙ ap (λ k. part_with q (trees_of_owner q ts) k (shown_tables grown tables.slots.hosts q (own_tables tables q) (tables.observers q) (ranges_of tables.ranges q))) (more_other q other)
             ∙ ap (λ t. part_with q (trees_of_owner q ts) (count_of q names) t) (view_grown q);
       }
     where
@@ -325,8 +342,8 @@ no_slots_of : (f : NamedTrees) → AreSlotsOf f no_slots
 no_slots_of f = record { hosts = tt; table = record { nodes = λ k. All-nil (λ j. j < length f.names); lists = λ k within. refl; beyond = λ k far. refl } }
 
 -- without nodes, where the page alone is there
-pub empty_held : IsHeld [] none first_tables
-empty_held = record {
+pub empty_held : (rs : RangeLists) → ((o : Owner) → ranges_of rs o ≡ []) → IsHeld [] none (with_live first_tables rs)
+empty_held rs empty = record {
   owned = record { owners = tt; order = tt };
   present = λ k k<. absurd (omega arith);
   absent = λ o off. refl;
@@ -339,6 +356,8 @@ empty_held = record {
   speaks = λ o. speaks_none (IsKey []);
   unobserved = λ o off. refl;
   due = tt;
+  ranges = ranges_none (contents [] none (with_live first_tables rs)) rs empty (λ o. ap (named_ranges []) (empty o));
+  numbered = λ k k<. absurd (omega arith);
 }
   where
     same_own : (o : Owner) (t : KeyedTables) → table_of (no_keyed_tables ∷ []) o ≡ Some t → no_keyed_tables ≡ t
@@ -347,16 +366,18 @@ empty_held = record {
     same_own (Component (suc k)) t e = absurd (none-some t e)
 
 -- so is what was given up
-pub given_up : (g : NamedTrees) (tables : AllTables) → g ≡ record { names = []; trees = none } → tables ≡ first_tables → IsHeld g.names g.trees tables
-given_up g tables empty first = subst (λ (p : NamedTrees). IsHeld p.names p.trees tables) (sym empty) (subst (IsHeld [] none) (sym first) empty_held)
+pub given_up : (g : NamedTrees) (tables : AllTables) → g ≡ record { names = []; trees = none } → AreFirst tables → IsHeld g.names g.trees tables
+given_up g tables empty first =
+    subst (λ (p : NamedTrees). IsHeld p.names p.trees tables) (sym empty) (subst (IsHeld [] none) (sym first.all) (empty_held tables.ranges first.no_ranges))
 
 -- with the first one
-pub first_held : (g : NamedTrees) (tables : AllTables) (n : Node) → n.name ≡ node_of Page 0 → tables ≡ first_tables → g.names ≡ node_of Page 0 ∷ [] → g.trees ≡ with_node n none → IsHeld g.names g.trees tables
+pub first_held : (g : NamedTrees) (tables : AllTables) (n : Node) → n.name ≡ node_of Page 0 → AreFirst tables → g.names ≡ node_of Page 0 ∷ [] → g.trees ≡ with_node n none → IsHeld g.names g.trees tables
 first_held g tables n is one names trees =
-    subst (IsHeld g.names g.trees) (sym one)
-    (subst (λ ns. IsHeld ns g.trees first_tables) (sym names)
-    (subst (λ ts. IsHeld (node_of Page 0 ∷ []) ts first_tables) (sym trees)
-    (held_more [] none first_tables empty_held Page refl n is (λ k less. absurd (omega arith)) (λ e. omega arith) (no_slots_of (named_trees (node_of Page 0 ∷ []) (with_node n none))))))
+    let first = with_live first_tables tables.ranges in
+    subst (IsHeld g.names g.trees) (sym one.all)
+    (subst (λ ns. IsHeld ns g.trees first) (sym names)
+    (subst (λ ts. IsHeld (node_of Page 0 ∷ []) ts first) (sym trees)
+    (held_more [] none first (empty_held tables.ranges one.no_ranges) Page refl n is (λ k less. absurd (omega arith)) (λ e. omega arith) (no_slots_of (named_trees (node_of Page 0 ∷ []) (with_node n none))))))
 
 -- when there is no room for one node more
 limit_at : (names : List NodeName) (ts : Trees) (tables : AllTables) → IsHeld names ts tables → (o : Owner) → is_there (world_from names ts tables) o ≡ true

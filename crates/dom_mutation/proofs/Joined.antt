@@ -162,10 +162,11 @@ own_nodes d e top ks names h = subst (λ (ns : List NodeName). AllByRecursion (�
 pub joined_whole : (d e f g : DocState) (node parent size : ℕ) (units : DomString) (ks : List ℕ) → IsAlone d.world (owner_in d node)
     → size ≡ length_of (trees_in d node) (name_in d node) → units ≡ flat_map (λ y. (node_in (trees_in d node) y).text) (map (name_in d) ks)
     → e ≡ planned (owner_in d node) (replacing_data (name_in d node) size 0 units) d
-    → ((ts : Trees) → f ≡ planned (owner_in e node) (steps_of (joins ts (name_in e node) (name_in e parent) size (map (name_in e) ks))) e)
+    → joins (trees_in e node) (name_in e node) (name_in e parent) size (map (name_in e) ks) ≡ joins (trees_in d node) (name_in e node) (name_in e parent) size (map (name_in e) ks)
+    → f ≡ planned (owner_in e node) (steps_of (joins (trees_in e node) (name_in e node) (name_in e parent) size (map (name_in e) ks))) e
     → g ≡ planned (owner_in f node) (in_turn (removing observed) (map (name_in f) ks)) f
     → g ≡ planned (owner_in d node) (joining (name_in d node) (name_in d parent) (map (name_in d) ks)) d
-joined_whole d e f g node parent size units ks alone sized collected replaced carried left_ =
+joined_whole d e f g node parent size units ks alone sized collected replaced exact carried left_ =
     let o = owner_in d node in
     let x = name_in d node in
     let q = name_in d parent in
@@ -174,7 +175,7 @@ joined_whole d e f g node parent size units ks alone sized collected replaced ca
     let carry : DocState → DocState = λ s. planned (owner_in s node) (steps_of (joins ts (name_in s node) (name_in s parent) size (map (name_in s) ks))) s in
     let leave : DocState → DocState = λ s. planned (owner_in s node) (in_turn (removing observed) (map (name_in s) ks)) s in
     let all : ℕ → DomString → DocState = λ n u. planned o (replacing_data x n 0 u and_then steps_of (joins ts x q n ys) and_then in_turn (removing observed) ys) d in
-    left_ ∙ ap leave (carried ts) ∙ ap (λ s. leave (carry s)) replaced
+    left_ ∙ ap leave (carried ∙ ap (λ steps. planned (owner_in e node) (steps_of steps) e) exact) ∙ ap (λ s. leave (carry s)) replaced
     ∙ ap (planned o (in_turn (removing observed) ys)) (planned_then o (replacing_data x size 0 units) (steps_of (joins ts x q size ys)) d alone (plans_data o x size 0 units))
     ∙ planned_then o (replacing_data x size 0 units and_then steps_of (joins ts x q size ys)) (in_turn (removing observed) ys) d alone
     (plans_then o (replacing_data x size 0 units) (steps_of (joins ts x q size ys)) (plans_data o x size 0 units) (λ p own. plans_joins o ts x q size ys))
@@ -217,34 +218,6 @@ module _ (d : DocState) (node : ℕ) where
   normal_joined e q [] h up listed some is = cc
   normal_joined e q (k ∷ ks) h up listed some is =
       is ∙ ap (λ ys. after_steps (steps_if false (Some q) ys)) listed ∙ ap (λ a. after_steps (steps_if false a (texts_after ts x))) (sym up) ∙ ap (λ b. after_steps (steps_if b (parent_of ts x) (texts_after ts x))) (sym h)
-
--- ---- one Text after another
-
--- how far the loop has come that normalizes them, with these left
-pub record Normalizes (top : ℕ) (all : List ℕ) (d : DocState) (rest : List ℕ) (e : DocState) : Type 0 where
-  pub names : e.names ≡ d.names
-  pub alone : IsAlone e.world (owner_in d top)
-  pub state : planned (owner_in d top) (in_turn normalizing_text (map (name_in d) rest)) e ≡ planned (owner_in d top) (in_turn normalizing_text (map (name_in d) all)) d
-
-pub normalizes_first : (top : ℕ) (all : List ℕ) (d : DocState) → IsAlone d.world (owner_in d top) → Normalizes top all d all d
-normalizes_first top all d alone = record { names = refl; alone = alone; state = refl }
-
--- a step of it
-pub normalizes_on : (top : ℕ) (all : List ℕ) (d : DocState) (i k : ℕ) (e f : DocState) → i < length all → k ≡ get_or all i k → AllByRecursion (IsOwnNode d top) all
-    → Normalizes top all d (drop i all) e → f ≡ planned (owner_in e k) (normalizing_text (name_in e k)) e → Normalizes top all d (drop (i + 1) all) f
-normalizes_on top all d i k e f i< is nodes turn made =
-    let now : drop i all ≡ k ∷ drop (suc i) all = drop-cons all i k i< ∙ ap (λ j. j ∷ drop (suc i) all) (sym is) in
-    let here = (subst (AllByRecursion (IsOwnNode d top)) now (all_drop (IsOwnNode d top) i all nodes)).0 in
-    let state = subst (λ ks. planned (owner_in d top) (in_turn normalizing_text (map (name_in d) ks)) e ≡ planned (owner_in d top) (in_turn normalizing_text (map (name_in d) all)) d) now turn.state in
-    let at : f ≡ planned (owner_in d top) (normalizing_text (name_in d k)) e =
-    made ∙ ap (λ (ns : List NodeName). planned (name_at ns k).owner (normalizing_text (name_at ns k)) e) turn.names ∙ ap (λ w. planned w (normalizing_text (name_in d k)) e) here.1 in
-    subst (λ j. Normalizes top all d (drop j all) f) (sym (add-one i))
-    (record {
-      names = ap (λ (s : DocState). s.names) at ∙ turn.names;
-      alone = subst (λ (s : DocState). IsAlone s.world (owner_in d top)) (sym at) (alone_made (owner_in d top) (normalizing_text (name_in d k)) e.world turn.alone (plans_normalizing_text (owner_in d top) (name_in d k)));
-      state = ap (planned (owner_in d top) (in_turn normalizing_text (map (name_in d) (drop (suc i) all)))) at
-          ∙ planned_turn (owner_in d top) normalizing_text (name_in d k) (map (name_in d) (drop (suc i) all)) e turn.alone (plans_normalizing_text (owner_in d top) (name_in d k)) ∙ state;
-    })
 
 -- ---- the Texts below a node
 

@@ -3,6 +3,7 @@ pub mod Worlds
 pub mod Places
 pub mod Leaving
 pub mod Quiet
+pub mod Numbers
 pub mod Held
 pub mod Observed
 pub mod Observing
@@ -63,3 +64,7 @@ pub mod RangedRefusals
 pub mod BoundedDocs
 pub mod Attached
 pub mod Attachable
+pub mod RangedStates
+pub mod JoinedEach
+pub mod Joining
+pub mod RangedPassing

@@ -19,6 +19,8 @@ use Rattle.dom_traversal.specs.Iterators.{iterator_view}
 use Rattle.dom_traversal.specs.Walkers.{walker_view}
 use Rattle.dom_observers.specs.Tables.{TablesOf, no_tables as no_observers}
 use Rattle.dom_observers.specs.Naming.{named_tables, named_change, IsKey, SpeaksOf}
+use Rattle.dom_ranges.specs.Settings.{named_ranges}
+use Rattle.dom_ranges.specs.Tables.{ranges_of}
 use Rattle.dom_mutation.specs.Contents.{part_with}
 use Rattle.dom_mutation.specs.OwnTables.{tables_with, AllTables, with_observers}
 use Rattle.dom_mutation.specs.Doc.{own_tables, attached_of, shown_tables, contents, world_from, IsHeld, MakesSaying}
@@ -29,7 +31,7 @@ use Rattle.dom_mutation.proofs.Held.{held_observers}
 module _ (names : List NodeName) (ts : Trees) (tables : AllTables) (held : IsHeld names ts tables) (o : Owner) where
   -- the owner's part with these
   abbrev pub with_seen : TablesOf NodeName → Part
-  with_seen r = part_with o (trees_of_owner o ts) (count_of o names) (record (tables_with (map (iterator_view names) (own_tables tables o).iterators) (map (walker_view names) (own_tables tables o).walkers) r) { attached = attached_of names tables.slots.hosts o })
+  with_seen r = part_with o (trees_of_owner o ts) (count_of o names) (record (tables_with (map (iterator_view names) (own_tables tables o).iterators) (map (walker_view names) (own_tables tables o).walkers) r) { attached = attached_of names tables.slots.hosts o; ranges = named_ranges names (ranges_of tables.ranges o) })
 
   -- its observers in names, whether it is there or not
   pub queues_in : (part_of (world_from names ts tables) o).record_queues ≡ (named_tables (name_at names) (tables.observers o)).record_queues
@@ -89,7 +91,7 @@ module _ (names : List NodeName) (ts : Trees) (tables : AllTables) (held : IsHel
         signalled = refl;
         tasks = refl;
         own = ap (λ t. with_seen (named_tables (name_at names) t)) seen_own ∙ same;
-        others = λ q other. ap (λ t. part_with q (trees_of_owner q ts) (count_of q names) (shown_tables names tables.slots.hosts q (own_tables tables q) t)) (seen_other q other);
+        others = λ q other. ap (λ t. part_with q (trees_of_owner q ts) (count_of q names) (shown_tables names tables.slots.hosts q (own_tables tables q) t (ranges_of tables.ranges q))) (seen_other q other);
       }
 
       -- the world then

@@ -23,36 +23,8 @@ use Rattle.dom_tree.proofs.Once.{one-true, one-false, times_in-none, times_in-tr
 use Rattle.dom_tree.proofs.Owned.{own_trees}
 use Rattle.dom_mutation.specs.Contents.{Contents, part_in}
 use Rattle.dom_mutation.specs.Numbering.{AreNumbered}
-use Rattle.dom_mutation.proofs.Held.{count_more}
+use Rattle.dom_mutation.proofs.Numbers.{pick_first, pick_second}
 use Rattle.dom_mutation.proofs.Once.{name_found, once_forest, once_own}
-
--- a choice of numbers
-pick_first : (b : Bool) (m k : ℕ) → b ≡ true → (if b then m else k) ≡ m
-pick_first b m k e = cond-true b m k e
-
-pick_second : (b : Bool) (m k : ℕ) → b ≡ false → (if b then m else k) ≡ k
-pick_second b m k e = cond-false b m k e
-
--- ---- numbers
-
--- a node more has its owner's next number
-pub numbered_more : (names : List NodeName) (o : Owner) → AreNumbered names → AreNumbered (names ++ node_of o (count_of o names) ∷ [])
-numbered_more names o numbered k less = at (let within : k ≤ length names = omega (arith, length_push names (node_of o (count_of o names))) in eq-or-lt_of_le within)
-  where
-    grown : (p : Owner) → count_of p names ≤ count_of p (names ++ node_of o (count_of o names) ∷ [])
-    grown p = let more = count_more p names (node_of o (count_of o names)) in omega arith
-
-    last : count_of o names < count_of o (names ++ node_of o (count_of o names) ∷ [])
-    last = let more = count_more o names (node_of o (count_of o names)) in let one = pick_first (owner_eq (node_of o (count_of o names)).owner o) 1 0 (owner_eq-same o) in omega arith
-
-    at : (k ≡ length names) ⊎ (k < length names) → (name_at (names ++ node_of o (count_of o names) ∷ []) k).number < count_of (name_at (names ++ node_of o (count_of o names) ∷ []) k).owner (names ++ node_of o (count_of o names) ∷ [])
-    at (inl same) =
-        subst (λ (y : NodeName). y.number < count_of y.owner (names ++ node_of o (count_of o names) ∷ []))
-        (sym (ap (name_at (names ++ node_of o (count_of o names) ∷ [])) same ∙ get_or-append_seam names (node_of o (count_of o names)) [] (node_of Page 0))) last
-    at (inr h) =
-        subst (λ (y : NodeName). y.number < count_of y.owner (names ++ node_of o (count_of o names) ∷ []))
-        (sym (get_or-append names (node_of o (count_of o names) ∷ []) (node_of Page 0) k h))
-        (let below = numbered k h in let more = grown (name_at names k).owner in omega arith)
 
 -- ---- an owner's part
 

@@ -1,5 +1,5 @@
 -- Steps that signal slots: what holds after them, and the state then; and what holds where they were refused memory.
-use Rattle.std.proofs.Common.{◌≡◌, ℕ, ◌<◌, true, false, List, [], fold, map, length, Result, Ok, Err, Option, Some, None, refl, sym, ap, subst, ◌∙◌}
+use Rattle.std.proofs.Common.{◌≡◌, ℕ, ◌^◌, arith, ◌<◌, true, false, List, [], fold, map, length, Result, Ok, Err, Option, Some, None, refl, sym, ap, subst, ◌∙◌}
 use Rattle.std.specs.Prelude.{OnOk, OnErr, nat_eq, slice_set, if◌then◌else◌}
 use Rattle.std.specs.List.{AllByRecursion}
 use Rattle.std.proofs.lemmas.List.{length-set}
@@ -7,7 +7,7 @@ use Rattle.std.specs.Option.{ForSome}
 use Rattle.dom_base.specs.declared.NodeName.{NodeName}
 use Rattle.dom_base.specs.declared.Owner.{Owner}
 use Rattle.dom_model.specs.Names.{name_eq, owner_eq, append_once}
-use Rattle.dom_model.specs.Tree.{Trees, none, parent_of}
+use Rattle.dom_model.specs.Tree.{Trees, none, parent_of, index_of}
 use Rattle.dom_model.specs.TreeChanges.{taken_out}
 use Rattle.dom_model.specs.Steps.{Step as ModelStep, take_out, part_step}
 use Rattle.dom_model.specs.World.{Task, is_there}
@@ -19,7 +19,11 @@ use Rattle.dom_slots.specs.declared.step.Step.{Step}
 use Rattle.dom_slots.specs.declared.step.Step.TheVariants.{Removal}
 use Rattle.dom_tree.specs.Forest.{NamedTrees, name_at}
 use Rattle.dom_tree.specs.Owners.{IsOwnChange}
+use Rattle.dom_tree.proofs.Owned.{read_own}
 use Rattle.dom_tree.proofs.OwnChanges.{taken}
+use Rattle.dom_model.specs.Ranges.{after_removal}
+use Rattle.dom_ranges.specs.Rules.{is_inside}
+use Rattle.dom_ranges.specs.Tables.{RangeLists, ends_by, ranges_of}
 use Rattle.dom_traversal.proofs.Counts.{StandOnce, StandAlone}
 use Rattle.dom_observers.specs.Tables.{TablesOf, no_tables as no_observers, left as keyed_left}
 use Rattle.dom_observers.specs.Paths.{path_keys}
@@ -27,25 +31,32 @@ use Rattle.dom_observers.specs.Naming.{IsKey, SpeaksOf, TellApart}
 use Rattle.dom_mutation.specs.Contents.{Contents, part_in, world_of}
 use Rattle.dom_mutation.specs.Hosting.{signals_in}
 use Rattle.dom_mutation.specs.Signalled.{SignalTables, HasSignalled, HasLeft}
-use Rattle.dom_mutation.specs.OwnTables.{KeyedTables, AllTables, owners_up_to, place_of, table_of, AreTablesOf, AreLeft, first_tables, signals_of, with_signals, with_table_at, with_observers}
+use Rattle.dom_mutation.specs.OwnTables.{KeyedTables, AllTables, owners_up_to, place_of, table_of, AreTablesOf, AreLeft, AreFirst, signals_of, with_live, with_signals, with_table_at, with_observers}
+use Rattle.dom_mutation.specs.Ranging.{AreRangesOf, ranged}
 use Rattle.dom_mutation.specs.Doc.{DocState, named_trees, own_tables, shown_tables, contents, world_from, state_from, IsHeld, IsDue, name_in, owner_in, stepped}
+use Rattle.dom_mutation.proofs.BoundedPlans.{index_few}
 use Rattle.dom_mutation.proofs.Held.{are_hosts, held_with, given_up}
 use Rattle.dom_mutation.proofs.HostedSteps.{signalled_fields, removal_hosted}
 use Rattle.dom_mutation.proofs.Keeping.{Stays, tables_kept}
+use Rattle.dom_mutation.proofs.OwnParts.{own_part}
+use Rattle.dom_mutation.proofs.RangedFits.{removal_fits}
+use Rattle.dom_mutation.proofs.RangedKeeping.{ranges_stay}
+use Rattle.dom_mutation.proofs.RangedSteps.{removal_ranged}
 use Rattle.dom_mutation.proofs.Shown.{state_with, owner_there}
 use Rattle.dom_mutation.proofs.Signals.{all_appended, all_named}
 use Rattle.dom_mutation.proofs.Tasks.{due_signalled}
 use Rattle.dom_mutation.proofs.Standing.{KeepsAbove}
-use Rattle.dom_mutation.proofs.Steps.{left_own, left_speaks, left_off, left_change}
+use Rattle.dom_mutation.proofs.Steps.{left_own, left_speaks, left_off, left_part, left_change}
 use Rattle.dom_mutation.proofs.Worlds.{IsChangeOf}
 
 module _ (f : NamedTrees) {tables : AllTables} (held : IsHeld f.names f.trees tables) {d : DocState} (is_d : state_from f.names f.trees tables ≡ d) (k : ℕ) (k< : k < length d.names)
     (each : List KeyedTables) (same : length each ≡ length tables.each) (h : Trees → Trees) (change : IsOwnChange (name_at f.names k).owner h f.trees)
     (own : (p : Owner) → ForSome (table_of each p) (AreTablesOf (named_trees f.names (h f.trees)) p))
-    (seen : Owner → TablesOf ℕ) (speaks : (p : Owner) → SpeaksOf (IsKey f.names) (seen p)) (unobserved : (p : Owner) → is_there (world_from f.names f.trees tables) p ≡ false → seen p ≡ no_observers) where
+    (seen : Owner → TablesOf ℕ) (speaks : (p : Owner) → SpeaksOf (IsKey f.names) (seen p)) (unobserved : (p : Owner) → is_there (world_from f.names f.trees tables) p ≡ false → seen p ≡ no_observers)
+    (live : RangeLists) (stand : AreRangesOf (contents f.names (h f.trees) (record tables { each = each; observers = seen; ranges = live })) live) where
   -- the tables then
   abbrev pub next : AllTables
-  next = record tables { each = each; observers = seen }
+  next = record tables { each = each; observers = seen; ranges = live }
 
   -- what is held after the step, before slots are signalled
   abbrev pub before_signals : Contents
@@ -72,10 +83,11 @@ module _ (f : NamedTrees) {tables : AllTables} (held : IsHeld f.names f.trees ta
         subst (λ (ns : List NodeName). IsHeld ns m.trees (with_signals next after)) (sym names)
         (subst (λ (us : Trees). IsHeld f.names us (with_signals next after)) (sym trees)
         (held_with f.names f.trees tables held (name_at f.names k).owner (owner_there f held is_d k k<) f.names (h f.trees) (with_signals next after) same here.hosts change.owned change.others held.present held.limited own held.made
-        record { free = here.held.free; slots = here.held.slots; nodes = here.held.nodes } speaks unobserved due_then))
+        record { free = here.held.free; slots = here.held.slots; nodes = here.held.nodes } speaks unobserved due_then
+        (ranges_stay (contents f.names (h f.trees) next) (contents f.names (h f.trees) (with_signals next after)) live stand refl refl (λ p. refl)) held.numbered))
 
     build : List Owner → List ShadowHost → List NodeName → List Task → Contents
-    build os hs xs ts = record { owners = os; names = f.names; trees = h f.trees; tables = λ o. shown_tables f.names hs o (own_tables next o) (seen o); signalled = xs; tasks = ts }
+    build os hs xs ts = record { owners = os; names = f.names; trees = h f.trees; tables = λ o. shown_tables f.names hs o (own_tables next o) (seen o) (ranges_of live o); signalled = xs; tasks = ts }
 
     contents_now : contents f.names (h f.trees) (with_signals next after) ≡ signals_in before_signals signalled
     unfolding build
@@ -103,7 +115,7 @@ on_three (Ok x) a b c f = f a b c
 on_three (Err e) a b c f = tt
 
 module _ {T E : Type 0} (m g : NamedTrees) (mid last : AllTables) where
-  pub settled_held : (r : Result T E) → OnOk r (g ≡ m) → OnOk r (last ≡ mid) → OnErr r (g ≡ record { names = []; trees = none }) → OnErr r (last ≡ first_tables) → OnOk r (IsHeld m.names m.trees mid) → IsHeld g.names g.trees last
+  pub settled_held : (r : Result T E) → OnOk r (g ≡ m) → OnOk r (last ≡ mid) → OnErr r (g ≡ record { names = []; trees = none }) → OnErr r (AreFirst last) → OnOk r (IsHeld m.names m.trees mid) → IsHeld g.names g.trees last
   settled_held (Ok x) forest tables empty first held = subst (λ (p : NamedTrees). IsHeld p.names p.trees last) (sym forest) (subst (IsHeld m.names m.trees) (sym tables) held)
   settled_held (Err e) forest tables empty first held = given_up g last empty first
 
@@ -120,7 +132,7 @@ pub record Settled {T E : Type 0} (m g : NamedTrees) (mid last : AllTables) (r q
   pub forest : OnOk r (g ≡ m)
   pub tables : OnOk r (last ≡ mid)
   pub empty : OnErr r (g ≡ record { names = []; trees = none })
-  pub first : OnErr r (last ≡ first_tables)
+  pub first : OnErr r (AreFirst last)
 
 -- ---- steps that change one owner's trees alone
 
@@ -130,17 +142,20 @@ module _ (f : NamedTrees) {tables : AllTables} (held : IsHeld f.names f.trees ta
   pub own_kept : (p : Owner) → ForSome (table_of tables.each p) (AreTablesOf (named_trees f.names (h f.trees)) p)
   own_kept p t e = tables_kept f.names f.trees (h f.trees) keeps p t (held.own p t e)
 
+  pub ranges_kept : AreRangesOf (contents f.names (h f.trees) tables) tables.ranges
+  ranges_kept = ranges_stay (contents f.names f.trees tables) (contents f.names (h f.trees) tables) tables.ranges held.ranges refl refl (λ p. refl)
+
   pub tree_held : IsHeld g.names g.trees last
   tree_held =
       settled_held m g (with_signals tables after) last r settled.forest settled.tables settled.empty settled.first
-      (on_three r names trees signals (λ ns us sig. signalled_held f held is_d k k< tables.each refl h change own_kept tables.observers held.speaks held.unobserved m ns us s None after sig))
+      (on_three r names trees signals (λ ns us sig. signalled_held f held is_d k k< tables.each refl h change own_kept tables.observers held.speaks held.unobserved tables.ranges ranges_kept m ns us s None after sig))
 
   pub tree_state : (t : List NodeName → ModelStep)
-      → world_of (signals_in (before_signals f held is_d k k< tables.each refl h change own_kept tables.observers held.speaks held.unobserved) (step_signals f.names (shadow_trees f.names f.trees tables.slots.hosts) (shadow_trees f.names (h f.trees) tables.slots.hosts) s None)) ≡ world_step (name_at f.names k).owner (world_from f.names f.trees tables) (t f.names)
+      → world_of (signals_in (before_signals f held is_d k k< tables.each refl h change own_kept tables.observers held.speaks held.unobserved tables.ranges ranges_kept) (step_signals f.names (shadow_trees f.names f.trees tables.slots.hosts) (shadow_trees f.names (h f.trees) tables.slots.hosts) s None)) ≡ world_step (name_at f.names k).owner (world_from f.names f.trees tables) (t f.names)
       → OnOk q (state_from g.names g.trees last ≡ stepped (owner_in d k) (t d.names) d)
   tree_state t e =
       settled_state m g (with_signals tables after) last (stepped (owner_in d k) (t d.names) d) r q settled.result settled.forest settled.tables
-      (on_three r names trees signals (λ ns us sig. signalled_state f held is_d k k< tables.each refl h change own_kept tables.observers held.speaks held.unobserved m ns us s None after sig t e))
+      (on_three r names trees signals (λ ns us sig. signalled_state f held is_d k k< tables.each refl h change own_kept tables.observers held.speaks held.unobserved tables.ranges ranges_kept m ns us s None after sig t e))
 
 -- ---- a removal
 
@@ -148,9 +163,10 @@ module _ (f : NamedTrees) {tables : AllTables} (held : IsHeld f.names f.trees ta
     (stay : Stays f) (once : StandOnce f) (only : StandAlone f) (apart : TellApart f.names) (parent : ℕ) (at_parent : parent < length f.names) (is_parent : Some (name_at f.names parent) ≡ parent_of f.trees (name_at f.names k))
     (t u : KeyedTables) (at : table_of tables.each (name_at f.names k).owner ≡ Some t) (iterators : AreLeft f k t.iterators u.iterators) (walkers : u.walkers ≡ t.walkers)
     (seen : Owner → TablesOf ℕ) (is_seen : (q : Owner) → seen q ≡ (if owner_eq (name_at f.names k).owner q then keyed_left nat_eq k (path_keys f parent) (tables.observers (name_at f.names k).owner) else tables.observers q))
+    (live : RangeLists) (is_live : (q : Owner) → ranges_of live q ≡ ends_by (after_removal nat_eq (is_inside f k) parent (index_of f.trees (name_at f.names k))) (ranges_of tables.ranges q))
     (place : ℕ) (is_place : place ≡ place_of (name_at f.names k).owner) (m g : NamedTrees) (after : SignalTables) (last : AllTables) {T E : Type 0} (r q : Result T E)
     (names : OnOk r (m.names ≡ f.names)) (trees : OnOk r (m.trees ≡ taken_out (name_at f.names k) f.trees)) (left : OnOk r (HasLeft f.names f.trees m.trees k (signals_of tables) after))
-    (settled : Settled m g (with_signals (with_observers (with_table_at tables place u) seen) after) last r q) where
+    (settled : Settled m g (with_signals (with_live (with_observers (with_table_at tables place u) seen) live) after) last r q) where
   o : Owner
   o = (name_at f.names k).owner
 
@@ -174,21 +190,45 @@ module _ (f : NamedTrees) {tables : AllTables} (held : IsHeld f.names f.trees ta
   off_then : (q : Owner) → is_there (world_from f.names f.trees tables) q ≡ false → seen q ≡ no_observers
   off_then = left_off f held stay once only apart k node (name_at f.names k).owner refl parent at_parent is_parent t u at iterators walkers seen is_seen
 
+  -- what is held then, before slots are signalled, with the live ranges as they were
+  abbrev gone_contents : Contents
+  gone_contents = record (contents f.names f.trees tables) { trees = taken_out (name_at f.names k) f.trees; tables = (contents f.names (taken_out (name_at f.names k) f.trees) (with_observers (with_table_at tables place u) seen)).tables }
+
+  changed : IsChangeOf (contents f.names f.trees tables) gone_contents (name_at f.names k).owner
+      (left_part f held stay once only apart k node (name_at f.names k).owner refl parent at_parent is_parent t u at iterators walkers seen is_seen)
+  changed =
+      subst (λ n. IsChangeOf (contents f.names f.trees tables) (record (contents f.names f.trees tables) { trees = taken_out (name_at f.names k) f.trees; tables = (contents f.names (taken_out (name_at f.names k) f.trees) (with_observers (with_table_at tables n u) seen)).tables })
+      (name_at f.names k).owner (left_part f held stay once only apart k node (name_at f.names k).owner refl parent at_parent is_parent t u at iterators walkers seen is_seen)) (sym is_place)
+      (left_change f held stay once only apart k node (name_at f.names k).owner refl parent at_parent is_parent t u at iterators walkers seen is_seen)
+
+  -- the index at which the node stood is a number of the code's
+  small : index_of f.trees (name_at f.names k) < 2 ^ 64
+  small =
+      let x = name_at f.names k in
+      let here = read_own f.trees held.owned x.owner x refl in
+      let below = index_few (part_in (contents f.names f.trees tables) x.owner) (own_part (contents f.names f.trees tables) held.owned once only held.numbered x.owner) x (name_at f.names parent) (sym here.parent ∙ sym is_parent) in
+      let few = held.limited x.owner in
+      let index = here.index in
+      omega (arith, below, few, index)
+
+  -- the live ranges have left the tree
+  live_then : AreRangesOf (contents f.names (taken_out (name_at f.names k) f.trees) (record tables { each = slice_set tables.each place u; observers = seen; ranges = live })) live
+  live_then =
+      let was = contents f.names f.trees tables in
+      ranges_stay (ranged live gone_contents) (contents f.names (taken_out (name_at f.names k) f.trees) (record tables { each = slice_set tables.each place u; observers = seen; ranges = live })) live
+      ((removal_ranged was tables.ranges live held.ranges apart (name_at f.names k).owner held.owned gone_contents refl k parent node at_parent refl (sym is_parent) is_live changed).1
+      (removal_fits was tables.ranges held.ranges (name_at f.names k).owner (is_inside f k) parent (index_of f.trees (name_at f.names k)) small))
+      refl (ap owners_up_to same_length) (λ p. refl)
+
   pub removal_held : IsHeld g.names g.trees last
   removal_held =
-      settled_held m g (with_signals (with_observers (with_table_at tables place u) seen) after) last r settled.forest settled.tables settled.empty settled.first
-      (on_three r names trees left (λ ns us l. signalled_held f held is_d k k< (slice_set tables.each place u) same_length (taken_out (name_at f.names k)) gone own_left seen speaks_then off_then m ns us (Removal k) l.left after l.signals))
+      settled_held m g (with_signals (with_live (with_observers (with_table_at tables place u) seen) live) after) last r settled.forest settled.tables settled.empty settled.first
+      (on_three r names trees left (λ ns us l. signalled_held f held is_d k k< (slice_set tables.each place u) same_length (taken_out (name_at f.names k)) gone own_left seen speaks_then off_then live live_then m ns us (Removal k) l.left after l.signals))
 
   pub removal_state : OnOk q (state_from g.names g.trees last ≡ stepped (owner_in d k) (take_out (name_in d k)) d)
   removal_state =
-      settled_state m g (with_signals (with_observers (with_table_at tables place u) seen) after) last (stepped (owner_in d k) (take_out (name_in d k)) d) r q settled.result settled.forest settled.tables
-      (on_three r names trees left (λ ns us l. signalled_state f held is_d k k< (slice_set tables.each place u) same_length (taken_out (name_at f.names k)) gone own_left seen speaks_then off_then m ns us (Removal k) l.left after l.signals (λ xs. take_out (name_at xs k))
+      settled_state m g (with_signals (with_live (with_observers (with_table_at tables place u) seen) live) after) last (stepped (owner_in d k) (take_out (name_in d k)) d) r q settled.result settled.forest settled.tables
+      (on_three r names trees left (λ ns us l. signalled_state f held is_d k k< (slice_set tables.each place u) same_length (taken_out (name_at f.names k)) gone own_left seen speaks_then off_then live live_then m ns us (Removal k) l.left after l.signals (λ xs. take_out (name_at xs k))
       (removal_hosted (contents f.names f.trees tables) tables.slots.hosts (are_hosts f.names f.trees tables held) (name_at f.names k).owner (owner_there f held is_d k k<) (taken_out (name_at f.names k) f.trees)
-      (contents f.names (taken_out (name_at f.names k) f.trees) (with_observers (with_table_at tables place u) seen)).tables gone.owned k l.left refl l.is_left changed)))
-    where
-      changed : IsChangeOf (contents f.names f.trees tables) (record (contents f.names f.trees tables) { trees = taken_out (name_at f.names k) f.trees; tables = (contents f.names (taken_out (name_at f.names k) f.trees) (with_observers (with_table_at tables place u) seen)).tables })
-          (name_at f.names k).owner (part_step (part_in (contents f.names f.trees tables) (name_at f.names k).owner) (take_out (name_at f.names k)))
-      changed =
-          subst (λ n. IsChangeOf (contents f.names f.trees tables) (record (contents f.names f.trees tables) { trees = taken_out (name_at f.names k) f.trees; tables = (contents f.names (taken_out (name_at f.names k) f.trees) (with_observers (with_table_at tables n u) seen)).tables })
-          (name_at f.names k).owner (part_step (part_in (contents f.names f.trees tables) (name_at f.names k).owner) (take_out (name_at f.names k)))) (sym is_place)
-          (left_change f held stay once only apart k node (name_at f.names k).owner refl parent at_parent is_parent t u at iterators walkers seen is_seen)
+      (ranged live gone_contents).tables gone.owned k l.left refl l.is_left
+      (removal_ranged (contents f.names f.trees tables) tables.ranges live held.ranges apart (name_at f.names k).owner held.owned gone_contents refl k parent node at_parent refl (sym is_parent) is_live changed).0)))

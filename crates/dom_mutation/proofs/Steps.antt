@@ -32,6 +32,8 @@ use Rattle.dom_observers.proofs.Ascending.{path_keys-named}
 use Rattle.dom_observers.proofs.Speaking.{speaks_left}
 use Rattle.dom_traversal.specs.Iterators.{iterator_view, with_taken_out}
 use Rattle.dom_traversal.specs.Walkers.{walker_view}
+use Rattle.dom_ranges.specs.Settings.{named_ranges}
+use Rattle.dom_ranges.specs.Tables.{ranges_of}
 use Rattle.dom_mutation.specs.Contents.{Contents, part_with, part_in, world_of}
 use Rattle.dom_mutation.specs.OwnTables.{KeyedTables, tables_with, place_of, table_of, AreTablesOf, AreLeft, AllTables, no_keyed_tables, with_table, with_observers}
 use Rattle.dom_mutation.specs.Doc.{named_trees, own_tables, attached_of, shown_tables, contents, world_from, IsHeld}
@@ -42,21 +44,6 @@ use Rattle.dom_mutation.proofs.HostedSteps.{plain_step, record_hosted}
 use Rattle.dom_mutation.proofs.Keeping.{Stays, views_left, tables_left, tables_apart}
 use Rattle.dom_mutation.proofs.Held.{are_hosts, there_table}
 use Rattle.dom_mutation.proofs.Observed.{seen_own, seen_other, seen_speaks, seen_off}
-
--- without ranges a removal changes the trees, the iterators and the registrations alone
-pub left_part : (p : Part) → p.ranges ≡ [] → (x parent : NodeName)
-    → leave p x parent ≡ record p { iterators = map (adjusted_iterator p.trees x) p.iterators; trees = taken_out x p.trees; registrations = p.registrations ++ transients_for name_eq x (inclusive_ancestors p.trees parent) p.registrations }
-left_part p no_ranges x parent =
-    let ends = map (option_map (map_ends (after_removal name_eq (is_inclusive_ancestor p.trees x) parent (index_of p.trees x)))) in
-    ap left_with (ap ends no_ranges ∙ sym no_ranges)
-  where
-    left_with : List (Option (Range NodeName)) → Part
-    left_with ranges = record p {
-      ranges = ranges;
-      iterators = map (adjusted_iterator p.trees x) p.iterators;
-      trees = taken_out x p.trees;
-      registrations = p.registrations ++ transients_for name_eq x (inclusive_ancestors p.trees parent) p.registrations;
-    }
 
 module _ (names : List NodeName) (ts : Trees) (tables : AllTables) (held : IsHeld names ts tables) (o : Owner) (there : is_there (world_from names ts tables) o ≡ true) where
   abbrev now : Contents
@@ -73,25 +60,10 @@ module _ (names : List NodeName) (ts : Trees) (tables : AllTables) (held : IsHel
     others = λ q other. ap (λ us. part_with q us (count_of q names) (now.tables q)) (change.others q other);
   }
 
-  pub data_world : (x : NodeName) (offset count : ℕ) (new : DomString) → IsOwnChange o (change_node (with_data_replaced offset count new) x) ts
-      → world_from names (change_node (with_data_replaced offset count new) x ts) tables ≡ world_step o (world_from names ts tables) (replace_data x offset count new)
-  data_world x offset count new change =
-      plain_step now tables.slots.hosts (are_hosts names ts tables held) o there (contents names (change_node (with_data_replaced offset count new) x ts) tables) (replace_data x offset count new) tt
-      (trees_change (replace_data x offset count new) (change_node (with_data_replaced offset count new) x) change refl)
-
-  -- ---- steps that change nothing so far
+  -- ---- steps that change nothing
 
   unchanged : (s : Step) → part_step (part_in (contents names ts tables) o) s ≡ part_in (contents names ts tables) o → IsChangeOf (contents names ts tables) (contents names ts tables) o (part_step (part_in (contents names ts tables) o) s)
   unchanged s is = record { owners = refl; signalled = refl; tasks = refl; own = sym is; others = λ q other. refl }
-
-  pub room_world : (parent : NodeName) (index count : ℕ) → world_from names ts tables ≡ world_step o (world_from names ts tables) (make_room parent index count)
-  room_world parent index count = plain_step now tables.slots.hosts (are_hosts names ts tables held) o there now (make_room parent index count) tt (unchanged (make_room parent index count) refl)
-
-  pub split_world : (x : NodeName) (offset : ℕ) (new parent : NodeName) (index : ℕ) → world_from names ts tables ≡ world_step o (world_from names ts tables) (split_at x offset new parent index)
-  split_world x offset new parent index = plain_step now tables.slots.hosts (are_hosts names ts tables held) o there now (split_at x offset new parent index) tt (unchanged (split_at x offset new parent index) refl)
-
-  pub join_world : (first : NodeName) (size : ℕ) (next parent : NodeName) (index : ℕ) → world_from names ts tables ≡ world_step o (world_from names ts tables) (join_at first size next parent index)
-  join_world first size next parent index = plain_step now tables.slots.hosts (are_hosts names ts tables held) o there now (join_at first size next parent index) tt (unchanged (join_at first size next parent index) refl)
 
   -- a record of an owner without registrations
   pub record_world : (tables.observers o).registrations ≡ [] → (c : Change NodeName) → world_from names ts tables ≡ world_step o (world_from names ts tables) (queue_record c)
@@ -160,33 +132,36 @@ module _ (f : NamedTrees) {tables : AllTables} (held : IsHeld f.names f.trees ta
   abbrev pub left_contents : Contents
   left_contents = record (contents f.names f.trees tables) { trees = taken_out (name_at f.names node) f.trees; tables = (contents f.names (taken_out (name_at f.names node) f.trees) (with_observers (with_table tables o u) seen)).tables }
 
-  pub left_change : IsChangeOf (contents f.names f.trees tables) left_contents o (part_step (part_in (contents f.names f.trees tables) o) (take_out (name_at f.names node)))
+  -- the owner's part then, but for its live ranges
+  abbrev pub left_part : Part
+  left_part =
+      let p = part_in (contents f.names f.trees tables) o in
+      let x = name_at f.names node in
+      record p { iterators = map (adjusted_iterator p.trees x) p.iterators; trees = taken_out x p.trees; registrations = p.registrations ++ transients_for name_eq x (inclusive_ancestors p.trees (name_at f.names parent)) p.registrations }
+
+  pub left_change : IsChangeOf (contents f.names f.trees tables) left_contents o left_part
   left_change =
-      let was = contents f.names f.trees tables in
       let now_tables : own_tables left_tables o ≡ u = own_table left_tables o u (table_set tables.each o t u at) in
       let iterators : map (iterator_view f.names) u.iterators ≡ map (adjusted_iterator (trees_of_owner o f.trees) (name_at f.names node)) (map (iterator_view f.names) (own_tables tables o).iterators) =
       views_left f held.owned stay node at_node o own t.iterators u.iterators (held.own o t at).iterators left
       ∙ ap (λ (v : KeyedTables). map (adjusted_iterator (trees_of_owner o f.trees) (name_at f.names node)) (map (iterator_view f.names) v.iterators)) (sym (own_table tables o t at)) in
       let same_walkers : map (walker_view f.names) u.walkers ≡ map (walker_view f.names) (own_tables tables o).walkers =
       ap (map (walker_view f.names)) (walkers ∙ ap (λ (v : KeyedTables). v.walkers) (sym (own_table tables o t at))) in
-      let own_parent : parent_of (trees_of_owner o f.trees) (name_at f.names node) ≡ Some (name_at f.names parent) = sym (read_own f.trees held.owned o (name_at f.names node) own).parent ∙ sym is_parent in
       record {
         owners = refl;
         signalled = refl;
         tasks = refl;
-        own = ap (λ us. part_with o us (count_of o f.names) (shown_tables f.names tables.slots.hosts o (own_tables left_tables o) (seen o))) change.own
-            ∙ ap (λ v. part_with o (taken_out (name_at f.names node) (trees_of_owner o f.trees)) (count_of o f.names) (shown_tables f.names tables.slots.hosts o v (seen o))) now_tables
+        own = ap (λ us. part_with o us (count_of o f.names) (shown_tables f.names tables.slots.hosts o (own_tables left_tables o) (seen o) (ranges_of tables.ranges o))) change.own
+            ∙ ap (λ v. part_with o (taken_out (name_at f.names node) (trees_of_owner o f.trees)) (count_of o f.names) (shown_tables f.names tables.slots.hosts o v (seen o) (ranges_of tables.ranges o))) now_tables
             ∙ ap (λ is. part_of_lists is (map (walker_view f.names) u.walkers) (named_tables (name_at f.names) (seen o))) iterators
             ∙ ap (λ ws. part_of_lists (map (adjusted_iterator (trees_of_owner o f.trees) (name_at f.names node)) (map (iterator_view f.names) (own_tables tables o).iterators)) ws (named_tables (name_at f.names) (seen o))) same_walkers
-            ∙ ap (part_of_lists (map (adjusted_iterator (trees_of_owner o f.trees) (name_at f.names node)) (map (iterator_view f.names) (own_tables tables o).iterators)) (map (walker_view f.names) (own_tables tables o).walkers)) named_left
-            ∙ sym (left_part (part_in was o) refl (name_at f.names node) (name_at f.names parent))
-            ∙ ap (λ m. option_map_or (leave (part_in was o) (name_at f.names node)) m (part_in was o)) (sym own_parent);
+            ∙ ap (part_of_lists (map (adjusted_iterator (trees_of_owner o f.trees) (name_at f.names node)) (map (iterator_view f.names) (own_tables tables o).iterators)) (map (walker_view f.names) (own_tables tables o).walkers)) named_left;
         others = λ q other.
-            ap (λ us. part_with q us (count_of q f.names) (shown_tables f.names tables.slots.hosts q (own_tables left_tables q) (seen q))) (change.others q other)
-            ∙ ap (λ m. part_with q (trees_of_owner q f.trees) (count_of q f.names) (shown_tables f.names tables.slots.hosts q (unwrap_or m no_keyed_tables) (seen q))) (table_set_other tables.each o t u at q other)
-            ∙ ap (λ r. part_with q (trees_of_owner q f.trees) (count_of q f.names) (shown_tables f.names tables.slots.hosts q (own_tables tables q) r))
+            ap (λ us. part_with q us (count_of q f.names) (shown_tables f.names tables.slots.hosts q (own_tables left_tables q) (seen q) (ranges_of tables.ranges q))) (change.others q other)
+            ∙ ap (λ m. part_with q (trees_of_owner q f.trees) (count_of q f.names) (shown_tables f.names tables.slots.hosts q (unwrap_or m no_keyed_tables) (seen q) (ranges_of tables.ranges q))) (table_set_other tables.each o t u at q other)
+            ∙ ap (λ r. part_with q (trees_of_owner q f.trees) (count_of q f.names) (shown_tables f.names tables.slots.hosts q (own_tables tables q) r (ranges_of tables.ranges q)))
             (seen_other f.names f.trees tables held o there (keyed_left nat_eq node (path_keys f parent) (tables.observers o)) seen is_seen q other);
       }
     where
       part_of_lists : List Iterator → List Walker → TablesOf NodeName → Part
-      part_of_lists is ws r = part_with o (taken_out (name_at f.names node) (trees_of_owner o f.trees)) (count_of o f.names) (record (tables_with is ws r) { attached = attached_of f.names tables.slots.hosts o })
+      part_of_lists is ws r = part_with o (taken_out (name_at f.names node) (trees_of_owner o f.trees)) (count_of o f.names) (record (tables_with is ws r) { attached = attached_of f.names tables.slots.hosts o; ranges = named_ranges f.names (ranges_of tables.ranges o) })

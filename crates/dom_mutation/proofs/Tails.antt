@@ -39,9 +39,9 @@ tail_may d counted parent node new next child there owner unlinked off children 
 pub tail_placed : (d f g : DocState) (parent node new : ℕ) (offset : ℕ) (next : Option ℕ) → IsAlone d.world (owner_in d node) → owner_in d node ≡ owner_in d parent → owner_in d new ≡ owner_in d parent
     → option_map (name_in d) next ≡ next_sibling (trees_in d node) (name_in d node)
     → f ≡ planned (owner_in d parent) (inserting observed (name_in d new) (name_in d parent) (option_map (name_in d) next)) d
-    → ((index : ℕ) → g ≡ stepped (owner_in f node) (split_at (name_in f node) offset (name_in f new) (name_in f parent) index) f)
+    → (index : ℕ) → index ≡ index_of (trees_in d node) (name_in d node) → g ≡ stepped (owner_in f node) (split_at (name_in f node) offset (name_in f new) (name_in f parent) index) f
     → g ≡ planned (owner_in d node) (placing_tail (name_in d node) offset (name_in d new) (Some (name_in d parent))) d
-tail_placed d f g parent node new offset next alone owner new_owner found inserted told =
+tail_placed d f g parent node new offset next alone owner new_owner found inserted index stood told =
     let o = owner_in d node in
     let x = name_in d node in
     let y = name_in d new in
@@ -49,6 +49,6 @@ tail_placed d f g parent node new offset next alone owner new_owner found insert
     let at = index_of (trees_in d node) x in
     let tell : DocState → DocState = λ s. stepped (owner_in s node) (split_at (name_in s node) offset (name_in s new) (name_in s parent) at) s in
     let split : Plan = doing (split_at x offset y p at) in
-    told at ∙ ap tell (inserted ∙ ap (λ w. planned w (inserting observed y p (option_map (name_in d) next)) d) (sym owner))
+    told ∙ ap (λ i. stepped (owner_in f node) (split_at (name_in f node) offset (name_in f new) (name_in f parent) i) f) stood ∙ ap tell (inserted ∙ ap (λ w. planned w (inserting observed y p (option_map (name_in d) next)) d) (sym owner))
     ∙ planned_then o (inserting observed y p (option_map (name_in d) next)) split d alone (plans_inserting o observed y p (option_map (name_in d) next) (new_owner ∙ sym owner))
     ∙ ap (λ r. planned o (inserting observed y p r and_then split) d) found

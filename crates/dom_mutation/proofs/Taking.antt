@@ -8,8 +8,9 @@ use Rattle.dom_model.specs.Turns.{is_owned_by, without_signals}
 use Rattle.dom_tree.specs.Forest.{NamedTrees, name_at}
 use Rattle.dom_mutation.specs.OwnTables.{AllTables}
 use Rattle.dom_mutation.specs.Signalled.{is_key_of, is_other_key}
-use Rattle.dom_mutation.specs.Doc.{DocState, IsHeld, world_from, state_from, name_in}
+use Rattle.dom_mutation.specs.Doc.{DocState, IsHeld, contents, world_from, state_from, name_in}
 use Rattle.dom_mutation.proofs.Held.{due_kept}
+use Rattle.dom_mutation.proofs.RangedKeeping.{ranges_stay}
 
 -- a filter by names is one by keys
 mapped_filter : {X Y : Type 0} (f : X → Y) (p : Y → Bool) (xs : List X) → map f (filter (λ x. p (f x)) xs) ≡ filter p (map f xs)
@@ -50,6 +51,8 @@ module _ (f : NamedTrees) {tables : AllTables} (held : IsHeld f.names f.trees ta
       speaks = held.speaks;
       unobserved = held.unobserved;
       due = due_kept (world_from f.names f.trees tables) (world_from f.names f.trees (record tables { signalled = rest })) (λ p on. on) tables.tasks held.due;
+      ranges = ranges_stay (contents f.names f.trees tables) (contents f.names f.trees (record tables { signalled = rest })) tables.ranges held.ranges refl refl (λ p. refl);
+      numbered = held.numbered;
     }
 
     pub rest_state : state_from f.names f.trees (record tables { signalled = rest }) ≡ record d { world = without_signals d.world o }

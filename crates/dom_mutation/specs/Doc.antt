@@ -11,7 +11,7 @@ use Rattle.dom_base.specs.declared.Refusal.{Refusal}
 use Rattle.dom_base.specs.declared.Refusal.TheVariants.{Hierarchy, NotSupported, IndexSize, Limit}
 use Rattle.dom_base.specs.declared.TheConstants.{MAX_COMPONENTS}
 use Rattle.dom_model.specs.Names.{DomString, name_eq, is_empty, is_in}
-use Rattle.dom_model.specs.Tree.{Trees, none, node_in, kind_of, is_document, has_data, children_of, parent_of, inclusive_ancestors, is_inclusive_ancestor}
+use Rattle.dom_model.specs.Tree.{Trees, none, node_in, kind_of, is_document, has_data, children_of, parent_of, length_of, inclusive_ancestors, is_inclusive_ancestor}
 use Rattle.dom_model.specs.Part.{Part, next_name, queue_of}
 use Rattle.dom_model.specs.Steps.{Step, queue_record}
 use Rattle.dom_model.specs.World.{World, Task, micro_task, notify_task, part_of, with_part, is_there}
@@ -26,16 +26,21 @@ use Rattle.dom_model.specs.Output.{Value, Said, Change, child_list}
 use Rattle.dom_mutation.specs.declared.doc.Doc.TheInside.{Inside}
 use Rattle.dom_mutation.specs.declared.doc.removing.Telling.{Telling}
 use Rattle.dom_mutation.specs.declared.doc.removing.Telling.TheVariants.{Observed, Suppressed}
+use Rattle.dom_isolation.specs.Bounds.{HasBounds}
 use Rattle.dom_mutation.specs.Contents.{Contents, Tables, world_of}
 use Rattle.dom_slots.specs.Hosts.{ShadowHost}
 use Rattle.dom_mutation.specs.Signalled.{AreSignals}
 use Rattle.dom_mutation.specs.Hosting.{host_names, AreMadeFrom}
+use Rattle.dom_mutation.specs.Ranging.{AreRangesOf}
+use Rattle.dom_mutation.specs.Numbering.{AreNumbered}
 use Rattle.dom_mutation.specs.OwnTables.{KeyedTables, AllTables, no_keyed_tables, tables_view, owners_up_to, table_of, AreTablesOf, tables_of, signals_of}
 use Rattle.dom_observers.specs.Tables.{TablesOf, no_tables as no_observers}
 use Rattle.dom_observers.specs.Owners.{tables_of as observers_of}
 use Rattle.dom_observers.specs.Naming.{IsKey, SpeaksOf, IsChangeAt, named_change}
 use Rattle.dom_observers.specs.Views.{change_of}
 use Rattle.dom_observers.specs.declared.change.Change.{Change as KeyedChange}
+use Rattle.dom_ranges.specs.Settings.{named_ranges}
+use Rattle.dom_ranges.specs.Tables.{RangeList, ranges_of}
 use Rattle.dom_tree.specs.Forest.{NamedTrees, name_at, count_of}
 use Rattle.dom_tree.specs.Owners.{trees_of_owner, AreOwned}
 
@@ -50,7 +55,7 @@ named_trees names ts = record { names = names; trees = ts }
 
 -- the tables that the code holds
 abbrev pub all_tables : Inside → AllTables
-all_tables d = tables_of d.tables.items (observers_of d.observers) d.queue d.slots d.signalled.items
+all_tables d = tables_of d.tables.items (observers_of d.observers) d.queue d.slots d.signalled.items d.ranges
 
 -- an owner's tables; one that is not there has none
 abbrev pub own_tables : AllTables → Owner → KeyedTables
@@ -61,9 +66,9 @@ abbrev pub attached_of : List NodeName → List ShadowHost → Owner → List No
 attached_of names hosts Page = host_names names hosts
 attached_of names hosts (Component k) = []
 
--- an owner's tables in names, with its hosts
-abbrev pub shown_tables : List NodeName → List ShadowHost → Owner → KeyedTables → TablesOf ℕ → Tables
-shown_tables names hosts o t r = record (tables_view names t r) { attached = attached_of names hosts o }
+-- an owner's tables in names, with its hosts and its live ranges
+abbrev pub shown_tables : List NodeName → List ShadowHost → Owner → KeyedTables → TablesOf ℕ → RangeList → Tables
+shown_tables names hosts o t r rs = record (tables_view names t r) { attached = attached_of names hosts o; ranges = named_ranges names rs }
 
 -- what is held
 abbrev pub contents : List NodeName → Trees → AllTables → Contents
@@ -71,7 +76,7 @@ contents names ts tables = record {
   owners = owners_up_to (length tables.each);
   names = names;
   trees = ts;
-  tables = λ o. shown_tables names tables.slots.hosts o (own_tables tables o) (tables.observers o);
+  tables = λ o. shown_tables names tables.slots.hosts o (own_tables tables o) (tables.observers o) (ranges_of tables.ranges o);
   signalled = map (name_at names) tables.signalled;
   tasks = tables.tasks;
 }
@@ -92,7 +97,7 @@ IsDue w (notify_task o) = is_there w o ≡ true
 -- nodes than it may make, each owner's tables are of its own nodes; the owners are the page and one component for each host,
 -- of which there are no more than there may be; the slots are those of the trees, no step is begun, and signalled slots are
 -- nodes; registrations and records name nodes alone, who is not there has no observers, and the notifications that are
--- queued are of owners that are there
+-- queued are of owners that are there; live ranges are at their owner's nodes, and nodes are numbered below their count
 pub record IsHeld (names : List NodeName) (ts : Trees) (tables : AllTables) : Type 0 where
   pub owned : AreOwned ts
   pub present : (k : ℕ) → k < length names → is_there (world_from names ts tables) (name_at names k).owner ≡ true
@@ -106,6 +111,8 @@ pub record IsHeld (names : List NodeName) (ts : Trees) (tables : AllTables) : Ty
   pub speaks : (o : Owner) → SpeaksOf (IsKey names) (tables.observers o)
   pub unobserved : (o : Owner) → is_there (world_from names ts tables) o ≡ false → tables.observers o ≡ no_observers
   pub due : AllByRecursion (IsDue (world_from names ts tables)) tables.tasks
+  pub ranges : AreRangesOf (contents names ts tables) tables.ranges
+  pub numbered : AreNumbered names
 
 -- the state with other tasks
 abbrev pub with_tasks : List Task → DocState → DocState
@@ -195,6 +202,16 @@ abbrev pub placed_all : Observing → List NodeName → NodeName → Option Node
 placed_all how moved parent before prev o d =
     planned o (steps_of (telling how (child_list parent moved [] prev before)))
     (planned o (in_turn (placing parent before) moved) (planned o (making_room parent before (length moved)) d))
+
+-- where data are to come into a node, it is a Text or a Comment, and its owner's live ranges do not end past their nodes' ends
+-- (own rule)
+abbrev pub MayCome : Part → NodeName → DomString → Type 0
+MayCome p x new = 0 < length new → HasBounds p × (has_data (kind_of p.trees x) ≡ true)
+
+-- each of some Texts may be joined to a first one, which has their data behind its own (own rule)
+abbrev pub JoinsFit : Trees → NodeName → ℕ → List NodeName → Type 0
+JoinsFit ts first size [] = Unit {0}
+JoinsFit ts first size (y ∷ ys) = (size + length_of ts y ≤ length_of ts first) × JoinsFit ts first (size + length_of ts y) ys
 
 -- nodes that are not above y
 abbrev pub NoneAbove : DocState → ℕ → NodeName → List ℕ → Type 0

@@ -11,6 +11,7 @@ use Rattle.dom_traversal.specs.Iterators.{KeyedIterator, iterator_view, IsIterat
 use Rattle.dom_traversal.specs.Walkers.{KeyedWalker, walker_view, IsWalkerOf}
 use Rattle.dom_observers.specs.Tables.{TablesOf, no_tables as no_observers}
 use Rattle.dom_observers.specs.Naming.{named_tables}
+use Rattle.dom_ranges.specs.Tables.{RangeLists, ranges_of}
 use Rattle.dom_mutation.specs.Contents.{Tables, no_tables}
 use Rattle.dom_mutation.specs.Signalled.{SignalTables, signal_tables}
 
@@ -60,17 +61,18 @@ table_of ts (Component (suc k)) = slice_get ts (suc k)
 -- ---- all tables
 
 -- what a `Doc` holds beside its trees: each owner's tables, at its place, what each owner has of observers, the tasks, the
--- hosts with what is assigned to slots, and the signalled slots of all owners (own rule)
+-- hosts with what is assigned to slots, the signalled slots of all owners, and each owner's live ranges (own rule)
 pub record AllTables : Type 0 where
   pub each : List KeyedTables
   pub observers : Owner → TablesOf ℕ
   pub tasks : List Task
   pub slots : SlotsNow
   pub signalled : List ℕ
+  pub ranges : RangeLists
 
 -- all of them
-abbrev pub tables_of : List KeyedTables → (Owner → TablesOf ℕ) → List Task → SlotsNow → List ℕ → AllTables
-tables_of each observers tasks slots signalled = record { each = each; observers = observers; tasks = tasks; slots = slots; signalled = signalled }
+abbrev pub tables_of : List KeyedTables → (Owner → TablesOf ℕ) → List Task → SlotsNow → List ℕ → RangeLists → AllTables
+tables_of each observers tasks slots signalled ranges = record { each = each; observers = observers; tasks = tasks; slots = slots; signalled = signalled; ranges = ranges }
 
 -- those with the tables at a place written
 abbrev pub with_table_at : AllTables → ℕ → KeyedTables → AllTables
@@ -88,6 +90,10 @@ with_observers tables observers = record tables { observers = observers }
 abbrev pub with_queue : AllTables → List Task → AllTables
 with_queue tables tasks = record tables { tasks = tasks }
 
+-- those with other live ranges
+abbrev pub with_live : AllTables → RangeLists → AllTables
+with_live tables ranges = record tables { ranges = ranges }
+
 -- what signals change of them, and those with it written
 abbrev pub signals_of : AllTables → SignalTables
 signals_of tables = signal_tables tables.slots tables.signalled tables.tasks
@@ -101,7 +107,12 @@ no_slots = record { hosts = []; table = []; begun = None }
 
 -- where the page alone is there, and has none
 abbrev pub first_tables : AllTables
-first_tables = record { each = no_keyed_tables ∷ []; observers = λ o. no_observers; tasks = []; slots = no_slots; signalled = [] }
+first_tables = record { each = no_keyed_tables ∷ []; observers = λ o. no_observers; tasks = []; slots = no_slots; signalled = []; ranges = [] }
+
+-- the page alone is there, and has none, in whatever lists its live ranges would stand
+pub record AreFirst (t : AllTables) : Type 0 where
+  pub all : t ≡ with_live first_tables t.ranges
+  pub no_ranges : (o : Owner) → ranges_of t.ranges o ≡ []
 
 -- ---- what holds of an owner's tables
 

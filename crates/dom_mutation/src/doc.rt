@@ -28,6 +28,7 @@ mod hosts;
 mod inserting;
 mod normalizing;
 mod observing;
+mod ranging;
 mod reads;
 mod records;
 mod removing;
@@ -43,6 +44,7 @@ pub use attributes::is_name;
 use dom_base::{Fault, Kind, Owner};
 use dom_microtasks::Queue;
 use dom_observers::Observers;
+use dom_ranges::RangeTable;
 use dom_slots::Slots;
 use dom_tree::{Forest, NodeData};
 use indexmap::IndexMap;
@@ -51,13 +53,14 @@ use std::alloc::{AllocError, Global};
 use std::marker::Model;
 
 /// The nodes of all owners, how they stand, each owner's tables, the page's first, and then those of the components by
-/// their numbers, the observers, the hosts with the slots of their shadow trees, the signalled slots of all owners in order,
-/// and the microtasks.
+/// their numbers, the observers, the live ranges, the hosts with the slots of their shadow trees, the signalled slots of all
+/// owners in order, and the microtasks.
 #[derive(Drop)]
 pub struct Doc {
     forest: Forest,
     tables: Vec<OwnTables>,
     observers: Observers,
+    ranges: RangeTable,
     slots: Slots,
     signalled: Vec<Key>,
     queue: Queue,
@@ -97,6 +100,7 @@ impl Doc {
             Err(_) => return Err(AllocError),
         }
         let observers = Observers::new(alloc);
+        let ranges = RangeTable::new(alloc);
         let slots = Slots::new(alloc);
         let signalled = Vec::new(alloc);
         let queue = Queue::new(alloc);
@@ -105,6 +109,7 @@ impl Doc {
                 forest,
                 tables,
                 observers,
+                ranges,
                 slots,
                 signalled,
                 queue,

@@ -58,6 +58,7 @@ impl Doc {
                     &mut self.forest,
                     &mut self.tables,
                     &mut self.observers,
+                    &mut self.ranges,
                     &mut self.slots,
                     &mut self.signalled,
                     &mut self.queue,

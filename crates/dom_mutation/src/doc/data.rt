@@ -6,7 +6,8 @@ ghost use Rattle.dom_model.specs.TreeChanges.{replaced};
 ghost use Rattle.dom_model.specs.TextChanges.{replacing_data, replacing_all_data};
 ghost use Rattle.dom_model.specs.World.{part_of};
 ghost use Rattle.dom_model.specs.CommandRefusals.{past_end};
-ghost use Rattle.dom_mutation.specs.Doc.{made, planned, name_in, owner_in, trees_in};
+ghost use Rattle.dom_isolation.specs.Bounds.{HasBounds};
+ghost use Rattle.dom_mutation.specs.Doc.{made, planned, name_in, owner_in, trees_in, MayCome};
 
 use crate::Doc;
 use dom_base::{DomStr, Fault, Refusal};
@@ -23,7 +24,9 @@ impl Doc {
         count: usize,
         data: DomStr,
     ) -> Result<(), Fault>
-        requires { node < length self.old.names }
+        requires node_is_node { node < length self.old.names }
+        requires has_data { has_data (kind_of (trees_in self.old node) (name_in self.old node)) ≡ true }
+        requires bounds { HasBounds (part_of self.old.world (owner_in self.old node)) }
         ensures refused { (result ≡ Err (Fault.Refused IndexSize)) ↔ (past_end (part_of self.old.world (owner_in self.old node)) (name_in self.old node) offset ≡ true) }
         ensures other { IfErr result (λ fault. (fault ≡ Fault.Refused IndexSize) ⊎ (fault ≡ Fault.Memory)) }
         ensures unchanged { past_end (part_of self.old.world (owner_in self.old node)) (name_in self.old node) offset ≡ true → self.new ≡ self.old }
@@ -41,6 +44,7 @@ impl Doc {
     pub fn set_data(&mut self, node: Key, data: DomStr) -> Result<(), AllocError>
         requires node_is_node { node < length self.old.names }
         requires has_data { has_data (kind_of (trees_in self.old node) (name_in self.old node)) ≡ true }
+        requires bounds { HasBounds (part_of self.old.world (owner_in self.old node)) }
         ensures names { OnOk result (self.new.names ≡ self.old.names) }
         ensures world { OnOk result (self.new.world ≡ made (owner_in self.old node) (replacing_all_data (name_in self.old node) «data».items) self.old.world) }
     {
@@ -56,7 +60,8 @@ impl Doc {
         count: usize,
         data: DomStr,
     ) -> Result<(), AllocError>
-        requires { node < length self.old.names }
+        requires node_is_node { node < length self.old.names }
+        requires may_come { MayCome (part_of self.old.world (owner_in self.old node)) (name_in self.old node) «data».items }
         ensures { OnOk result (self.new ≡ planned (owner_in self.old node) (replacing_data (name_in self.old node) offset count «data».items) self.old) }
     {
         self.laws();

@@ -1,5 +1,5 @@
 //! Insertion (DOM Standard, concepts: ensure pre-insert validity, pre-insert, insert).
-ghost use Rattle.std.specs.Prelude.{◌≡◌, ◌<◌, length, false, true, map, [], IfOk, OnOk, ◌↔◌, Some};
+ghost use Rattle.std.specs.Prelude.{◌≡◌, ◌<◌, ◌≤◌, length, false, true, map, [], IfOk, OnOk, ◌↔◌, Some};
 ghost use Rattle.std.specs.List.{AllByRecursion};
 ghost use Rattle.dom_base.specs.declared.NodeName.{NodeName as Name};
 ghost use Rattle.std.specs.Option.{option_map, ForSome};
@@ -8,6 +8,8 @@ ghost use Rattle.dom_model.specs.Tree.{kind_of, is_fragment, children_of, is_inc
 ghost use Rattle.dom_model.specs.Changes.{pre_inserting, reference_for, inserting, sibling_before, in_turn, making_room, steps_of, telling, placing, emptying, removing};
 ghost use Rattle.dom_base.specs.declared.Refusal.{Refusal as RefusalOf};
 ghost use Rattle.dom_model.specs.Validity.{insertion_refusal};
+ghost use Rattle.dom_model.specs.World.{part_of};
+ghost use Rattle.dom_isolation.specs.Bounds.{HasBounds};
 ghost use Rattle.dom_tree.specs.Forest.{err_of};
 ghost use Rattle.dom_model.specs.Output.{child_list};
 ghost use Rattle.dom_mutation.specs.Doc.{AreNodes, IsNodeIf, made, planned, placed_all, observing_of, name_in, owner_in, trees_in, MayMove, IsChild, KeepsPaths, NoneAbove};
@@ -27,6 +29,7 @@ impl Doc {
         requires child_is_node { ForSome child (λ c. c < length self.old.names) }
         requires node_owner { owner_in self.old node ≡ owner_in self.old parent }
         requires child_owner { ForSome child (λ c. owner_in self.old c ≡ owner_in self.old parent) }
+        requires bounds { HasBounds (part_of self.old.world (owner_in self.old parent)) }
         ensures names { OnOk result (self.new.names ≡ self.old.names) }
         ensures world { OnOk result (self.new.world ≡ made (owner_in self.old parent) (pre_inserting (name_in self.old node) (name_in self.old parent) (option_map (name_in self.old) child)) self.old.world) }
 
@@ -84,6 +87,7 @@ impl Doc {
         requires parent_is_node { parent < length self.old.names }
         requires may_move { MayMove self.old parent before node }
         requires before_is_child { ForSome before (IsChild self.old parent) }
+        requires bounds { HasBounds (part_of self.old.world (owner_in self.old parent)) }
         ensures { OnOk result (self.new ≡ planned (owner_in self.old parent) (inserting (observing_of how) (name_in self.old node) (name_in self.old parent) (option_map (name_in self.old) before)) self.old) }
     {
         let child = before;
@@ -122,6 +126,7 @@ impl Doc {
         requires are_children { map (name_in self.old) children.now ≡ children_of (trees_in self.old fragment) (name_in self.old fragment) }
         requires are_nodes { AllByRecursion (λ k. (k < length self.old.names) × (owner_in self.old k ≡ owner_in self.old fragment)) children.now }
         requires prev_is_node { IsNodeIf self.old prev }
+        requires bounds { HasBounds (part_of self.old.world (owner_in self.old parent)) }
         ensures { OnOk result (self.new ≡ planned (owner_in self.old parent) (inserting (observing_of how) (name_in self.old fragment) (name_in self.old parent) (option_map (name_in self.old) before)) self.old) }
     {
         self.laws();
@@ -175,6 +180,8 @@ impl Doc {
         requires may_move { AllByRecursion (MayMove self.old parent before) moved.now }
         requires before_is_child { ForSome before (IsChild self.old parent) }
         requires prev_is_node { IsNodeIf self.old prev }
+        requires bounds { HasBounds (part_of self.old.world (owner_in self.old parent)) }
+        requires few { length moved.now ≤ 1000000 }
         ensures { OnOk result (self.new ≡ placed_all (observing_of how) (map (name_in self.old) moved.now) (name_in self.old parent) (option_map (name_in self.old) before) (option_map (name_in self.old) prev) (owner_in self.old parent) self.old) }
     {
         let child = before;
@@ -188,6 +195,8 @@ impl Doc {
     fn room_before(&mut self, parent: Key, before: Option<Key>, count: usize)
         requires parent_is_node { parent < length self.old.names }
         requires before_is_child { ForSome before (IsChild self.old parent) }
+        requires bounds { HasBounds (part_of self.old.world (owner_in self.old parent)) }
+        requires few { count ≤ 1000000 }
         ensures state { self.new ≡ planned (owner_in self.old parent) (making_room (name_in self.old parent) (option_map (name_in self.old) before) count) self.old }
         ensures trees { trees_in self.new parent ≡ trees_in self.old parent }
     {

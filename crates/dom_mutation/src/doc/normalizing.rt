@@ -6,6 +6,8 @@ ghost use Rattle.dom_model.specs.Names.{first_of, items_after, name_eq};
 ghost use Rattle.dom_model.specs.Tree.{kind_of, is_text, node_in, parent_of, descendants, inclusive_descendants, is_inclusive_ancestor};
 ghost use Rattle.dom_model.specs.Changes.{in_turn};
 ghost use Rattle.dom_model.specs.TextChanges.{texts_after, joining, normalizing_text, normalizing};
+ghost use Rattle.dom_model.specs.World.{part_of};
+ghost use Rattle.dom_isolation.specs.Bounds.{HasBounds};
 ghost use Rattle.dom_mutation.specs.Doc.{made, planned, name_in, owner_in, trees_in, IsOwnNode};
 
 use super::removing::Telling;
@@ -18,7 +20,8 @@ impl Doc {
     /// Of the Texts below a node those without data leave, and each other one gets the data of the Texts directly after it,
     /// which leave (DOM Standard, normalize()). Nothing but memory stops it.
     pub fn normalize(&mut self, node: Key) -> Result<(), AllocError>
-        requires { node < length self.old.names }
+        requires node_is_node { node < length self.old.names }
+        requires bounds { HasBounds (part_of self.old.world (owner_in self.old node)) }
         ensures names { OnOk result (self.new.names ≡ self.old.names) }
         ensures world { OnOk result (self.new.world ≡ made (owner_in self.old node) (normalizing (name_in self.old node)) self.old.world) }
     {
@@ -30,6 +33,8 @@ impl Doc {
     fn normalize_each(&mut self, top: Key, texts: &[Key]) -> Result<(), AllocError>
         requires top_is_node { top < length self.old.names }
         requires texts_are_nodes { AllByRecursion (IsOwnNode self.old top) texts.now }
+        requires are_texts { AllByRecursion (λ k. is_text (kind_of (trees_in self.old top) (name_in self.old k)) ≡ true) texts.now }
+        requires bounds { HasBounds (part_of self.old.world (owner_in self.old top)) }
         ensures { OnOk result (self.new ≡ planned (owner_in self.old top) (in_turn normalizing_text (map (name_in self.old) texts.now)) self.old) }
     {
         self.laws();
@@ -41,7 +46,9 @@ impl Doc {
 
     /// A Text without data leaves, and another one is joined with those after it, if there are some.
     fn normalize_text(&mut self, node: Key) -> Result<(), AllocError>
-        requires { node < length self.old.names }
+        requires node_is_node { node < length self.old.names }
+        requires is_text { is_text (kind_of (trees_in self.old node) (name_in self.old node)) ≡ true }
+        requires bounds { HasBounds (part_of self.old.world (owner_in self.old node)) }
         ensures { OnOk result (self.new ≡ planned (owner_in self.old node) (normalizing_text (name_in self.old node)) self.old) }
     {
         if self.length(node) == 0 {
@@ -61,6 +68,12 @@ impl Doc {
     fn joining(&mut self, node: Key, parent: Key, nexts: &[Key]) -> Result<(), AllocError>
         requires node_is_node { node < length self.old.names }
         requires nexts_are_nodes { AllByRecursion (IsOwnNode self.old node) nexts.now }
+        requires is_text { is_text (kind_of (trees_in self.old node) (name_in self.old node)) ≡ true }
+        requires is_parent { parent_of (trees_in self.old node) (name_in self.old node) ≡ Some (name_in self.old parent) }
+        requires parent_is_node { parent < length self.old.names }
+        requires parent_owner { owner_in self.old parent ≡ owner_in self.old node }
+        requires are_nexts { map (name_in self.old) nexts.now ≡ texts_after (trees_in self.old node) (name_in self.old node) }
+        requires bounds { HasBounds (part_of self.old.world (owner_in self.old node)) }
         ensures { OnOk result (self.new ≡ planned (owner_in self.old node) (joining (name_in self.old node) (name_in self.old parent) (map (name_in self.old) nexts.now)) self.old) }
     {
         self.laws();

@@ -2,11 +2,12 @@
 ghost use Rattle.std.specs.Prelude.{◌≡◌, ℕ, ◌<◌, ◌≤◌, true, false, length, count_by, is_some};
 ghost use Rattle.std.specs.Option.{option_map, ForSome};
 ghost use Rattle.dom_model.specs.Names.{first_of, last_of, name_eq};
-ghost use Rattle.dom_model.specs.Tree.{nodes, node_in, attribute_value, kind_of, parent_of, children_of, next_sibling, previous_sibling, length_of, is_inclusive_ancestor, is_document};
+ghost use Rattle.dom_model.specs.Tree.{nodes, node_in, attribute_value, kind_of, parent_of, children_of, next_sibling, previous_sibling, length_of, index_of, has_node, is_inclusive_ancestor, is_document};
 ghost use Rattle.dom_base.specs.declared.NodeName.{NodeName as Name};
 ghost use Rattle.dom_base.specs.declared.Owner.{Owner as OwnerOf};
 ghost use Rattle.dom_model.specs.World.{part_of, is_there, is_connected};
 ghost use Rattle.dom_model.specs.CommandRefusals.{past_limit};
+ghost use Rattle.dom_isolation.specs.Worlds.{IsPart};
 ghost use Rattle.dom_mutation.specs.Doc.{name_in, owner_in, trees_in};
 ghost use Rattle.dom_mutation.specs.Hosting.{IsAlone};
 
@@ -16,13 +17,16 @@ use node_arena::Key;
 
 impl Doc {
     /// Holds of every document: names tell the nodes apart, each node stands once in its owner's trees, an owner's steps
-    /// do in its part what they do in a part alone, no owner has more nodes than it may, and each node's owner is there.
+    /// do in its part what they do in a part alone, no owner has more nodes than it may, each node's owner is there, and each
+    /// owner's part is one as every world has it that is reached.
     pub(super) fn laws(&self)
         ensures distinct { (j k : ℕ) → j < length self.now.names → k < length self.now.names → name_in self.now j ≡ name_in self.now k → j ≡ k }
         ensures once { (o : OwnerOf) (x : Name) → count_by (λ n. name_eq n.name x) (nodes (part_of self.now.world o).trees) ≤ 1 }
         ensures alone { (k : ℕ) → k < length self.now.names → IsAlone self.now.world (owner_in self.now k) }
         ensures limited { (o : OwnerOf) → past_limit (part_of self.now.world o).node_count 0 ≡ false }
         ensures present { (k : ℕ) → k < length self.now.names → is_there self.now.world (owner_in self.now k) ≡ true }
+        ensures parts { (o : OwnerOf) → IsPart (part_of self.now.world o) }
+        ensures stand { (k : ℕ) → k < length self.now.names → has_node (trees_in self.now k) (name_in self.now k) ≡ true }
     {
         self.forest.nodes_stand_once();
     }
@@ -65,6 +69,14 @@ impl Doc {
         ensures { result ≡ length_of (trees_in self.now node) (name_in self.now node) }
     {
         self.forest.length(node)
+    }
+
+    /// The place of a node among its parent's children (DOM Standard, concept: index).
+    pub(super) fn index(&self, node: Key) -> usize
+        requires { node < length self.now.names }
+        ensures { result ≡ index_of (trees_in self.now node) (name_in self.now node) }
+    {
+        self.forest.index(node)
     }
 
     /// Whether a node's shadow-including root is a document (DOM Standard, concept: connected). Hosts are the page's, so one

@@ -5,6 +5,8 @@ ghost use Rattle.dom_base.specs.declared.Refusal.{Refusal as RefusalOf};
 ghost use Rattle.dom_model.specs.Tree.{is_inclusive_ancestor};
 ghost use Rattle.dom_model.specs.Changes.{placed_nodes, replacing};
 ghost use Rattle.dom_model.specs.Validity.{replacement_refusal};
+ghost use Rattle.dom_model.specs.World.{part_of};
+ghost use Rattle.dom_isolation.specs.Bounds.{HasBounds};
 ghost use Rattle.dom_tree.specs.Forest.{err_of};
 ghost use Rattle.dom_mutation.specs.Doc.{AreNodes, made, planned, name_in, owner_in, trees_in, IsChild};
 
@@ -23,6 +25,7 @@ impl Doc {
         requires child_is_node { child < length self.old.names }
         requires node_owner { owner_in self.old node ≡ owner_in self.old parent }
         requires child_owner { owner_in self.old child ≡ owner_in self.old parent }
+        requires bounds { HasBounds (part_of self.old.world (owner_in self.old parent)) }
         ensures names { OnOk result (self.new.names ≡ self.old.names) }
         ensures world { OnOk result (self.new.world ≡ made (owner_in self.old parent) (replacing (name_in self.old parent) (name_in self.old node) (name_in self.old child)) self.old.world) }
 
@@ -57,6 +60,7 @@ impl Doc {
         requires node_owner { owner_in self.old node ≡ owner_in self.old parent }
         requires not_above { is_inclusive_ancestor (trees_in self.old parent) (name_in self.old node) (name_in self.old parent) ≡ false }
         requires child_is_child { IsChild self.old parent child }
+        requires bounds { HasBounds (part_of self.old.world (owner_in self.old parent)) }
         ensures names { OnOk result (self.new.names ≡ self.old.names) }
         ensures world { OnOk result (self.new ≡ planned (owner_in self.old parent) (replacing (name_in self.old parent) (name_in self.old node) (name_in self.old child)) self.old) }
     {

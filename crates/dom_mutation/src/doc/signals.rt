@@ -10,12 +10,13 @@ ghost use Rattle.dom_slots.specs.Kept.{BegunStep, IsEndOf};
 ghost use Rattle.dom_slots.specs.declared.step.Step.TheVariants.{Place, Removal, Attribute};
 ghost use Rattle.dom_mutation.specs.Signalled.{signal_tables, AreSignals, HasSignalled, HasLeft, is_key_of, is_other_key};
 ghost use Rattle.dom_observers.specs.Owners.{tables_of as observers_of};
-ghost use Rattle.dom_mutation.specs.OwnTables.{tables_of, first_tables};
+ghost use Rattle.dom_mutation.specs.OwnTables.{tables_of, AreFirst};
 
 use crate::tables::OwnTables;
 use dom_base::{DomStr, Owner};
 use dom_microtasks::Queue;
 use dom_observers::Observers;
+use dom_ranges::RangeTable;
 use dom_slots::{Slots, Step};
 use dom_tree::Forest;
 use node_arena::Key;
@@ -207,6 +208,7 @@ pub(super) fn settle(
     forest: &mut Forest,
     tables: &mut Vec<OwnTables>,
     observers: &mut Observers,
+    ranges: &mut RangeTable,
     slots: &mut Slots,
     signalled: &mut Vec<Key>,
     queue: &mut Queue,
@@ -215,15 +217,16 @@ pub(super) fn settle(
     requires { 0 < length tables.old.items }
     ensures result { result ≡ done }
     ensures forest { OnOk done (forest.new ≡ forest.old) }
-    ensures tables { OnOk done (tables_of tables.new.items (observers_of observers.new) queue.new slots.new signalled.new.items ≡ tables_of tables.old.items (observers_of observers.old) queue.old slots.old signalled.old.items) }
+    ensures tables { OnOk done (tables_of tables.new.items (observers_of observers.new) queue.new slots.new signalled.new.items ranges.new ≡ tables_of tables.old.items (observers_of observers.old) queue.old slots.old signalled.old.items ranges.old) }
     ensures empty { OnErr done (forest.new ≡ record { names = []; trees = none }) }
-    ensures first { OnErr done (tables_of tables.new.items (observers_of observers.new) queue.new slots.new signalled.new.items ≡ first_tables) }
+    ensures first { OnErr done (AreFirst (tables_of tables.new.items (observers_of observers.new) queue.new slots.new signalled.new.items ranges.new)) }
 {
     if done.is_err() {
         *forest = Forest::new(alloc);
         tables.truncate(1);
         tables[0] = OwnTables::new(alloc);
         *observers = Observers::new(alloc);
+        *ranges = RangeTable::new(alloc);
         *slots = Slots::new(alloc);
         *signalled = Vec::new(alloc);
         *queue = Queue::new(alloc);

@@ -10,6 +10,7 @@ ghost use Rattle.dom_model.specs.Changes.{doing};
 ghost use Rattle.dom_model.specs.TextChanges.{new_text_node, placing_tail, splitting};
 ghost use Rattle.dom_model.specs.World.{part_of};
 ghost use Rattle.dom_model.specs.CommandRefusals.{past_end, past_limit};
+ghost use Rattle.dom_isolation.specs.Bounds.{HasBounds};
 ghost use Rattle.dom_mutation.specs.Doc.{made, planned, name_in, owner_in, trees_in, IsChild, splitting_refusal, cutting_tail};
 
 use super::removing::Telling;
@@ -25,7 +26,8 @@ impl Doc {
     /// split a Text node). Refused with `IndexSize` where the offset is past the node's length, and with `Limit` where the
     /// owner has as many nodes as it may.
     pub fn split(&mut self, node: Key, offset: usize) -> Result<Key, Fault>
-        requires { node < length self.old.names }
+        requires node_is_node { node < length self.old.names }
+        requires bounds { HasBounds (part_of self.old.world (owner_in self.old node)) }
         ensures key { IfOk result (λ key. key ≡ length self.old.names) }
         ensures names { OnOk result (self.new.names ≡ self.old.names ++ next_name (part_of self.old.world (owner_in self.old node)) ∷ []) }
         ensures world { OnOk result (self.new.world ≡ made (owner_in self.old node) (splitting (name_in self.old node) offset) self.old.world) }
@@ -100,6 +102,7 @@ impl Doc {
         requires one_owner { owner_in self.old new ≡ owner_in self.old node }
         requires unlinked { parent_of (trees_in self.old node) (name_in self.old new) ≡ None }
         requires not_above { is_inclusive_ancestor (trees_in self.old node) (name_in self.old new) (name_in self.old node) ≡ false }
+        requires bounds { HasBounds (part_of self.old.world (owner_in self.old node)) }
         ensures { OnOk result (self.new ≡ planned (owner_in self.old node) (cutting_tail (name_in self.old node) offset count (name_in self.old new)) self.old) }
     {
         self.laws();
@@ -123,12 +126,14 @@ impl Doc {
         requires one_owner { owner_in self.old new ≡ owner_in self.old parent }
         requires unlinked { parent_of (trees_in self.old node) (name_in self.old new) ≡ None }
         requires not_above { is_inclusive_ancestor (trees_in self.old node) (name_in self.old new) (name_in self.old node) ≡ false }
+        requires bounds { HasBounds (part_of self.old.world (owner_in self.old node)) }
         ensures { OnOk result (self.new ≡ planned (owner_in self.old node) (placing_tail (name_in self.old node) offset (name_in self.old new) (Some (name_in self.old parent))) self.old) }
     {
         self.laws();
+        let index = self.index(node);
         let next = self.next(node);
         self.inserting(Telling::Observed, new, parent, next)?;
-        self.split_at(node, offset, new, parent);
+        self.split_at(node, offset, new, parent, index);
         Ok(())
     }
 }

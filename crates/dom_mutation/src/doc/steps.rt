@@ -1,12 +1,14 @@
 //! The elementary steps of which all changes consist.
-ghost use Rattle.std.specs.Prelude.{◌≡◌, ℕ, ◌<◌, ◌≤◌, length, true, false, is_some, map, IsOk, OnOk, OnErr, Some, None};
+ghost use Rattle.std.specs.Prelude.{◌≡◌, ◌<◌, ◌≤◌, ◌+◌, ◌-◌, length, true, false, is_some, map, IsOk, OnOk, OnErr, Some, None};
 ghost use Rattle.std.specs.Option.{option_map, ForSome};
-ghost use Rattle.dom_model.specs.Tree.{parent_of, is_inclusive_ancestor, index_of, node_in};
-ghost use Rattle.dom_model.specs.Steps.{make_room, place, take_out, set_attribute, replace_data, split_at};
+ghost use Rattle.std.specs.List.{AllByRecursion};
+ghost use Rattle.dom_model.specs.Tree.{parent_of, is_inclusive_ancestor, index_of, node_in, length_of};
+ghost use Rattle.dom_model.specs.Steps.{make_room, place, take_out, set_attribute, replace_data, split_at, join_at};
 ghost use Rattle.dom_model.specs.Changes.{steps_of};
 ghost use Rattle.dom_model.specs.TextChanges.{joins};
-ghost use Rattle.dom_model.specs.Tree.{Trees as TreesOf};
-ghost use Rattle.dom_mutation.specs.Doc.{name_in, owner_in, trees_in, stepped, planned};
+ghost use Rattle.dom_model.specs.World.{part_of};
+ghost use Rattle.dom_isolation.specs.Bounds.{HasBounds};
+ghost use Rattle.dom_mutation.specs.Doc.{name_in, owner_in, trees_in, stepped, planned, IsChild, IsOwnNode, MayCome, JoinsFit};
 
 use super::data::spliced;
 use super::place_of;
@@ -19,8 +21,8 @@ use node_arena::Key;
 use std::alloc::AllocError;
 
 impl Doc {
-    /// A node leaves its parent, after it got its transient registrations and its owner's iterators left its tree; slots are
-    /// signalled.
+    /// A node leaves its parent, after it got its transient registrations, and its owner's iterators and live ranges left its
+    /// tree; slots are signalled.
     pub(super) fn take_out(&mut self, node: Key) -> Result<(), AllocError>
         requires node_is_node { node < length self.old.names }
         requires has_parent { is_some (parent_of (trees_in self.old node) (name_in self.old node)) ≡ true }
@@ -38,6 +40,7 @@ impl Doc {
         let owner = self.forest.name(node).owner;
         let tables = &mut self.tables[place_of(owner)];
         tables.leave(&self.forest, node);
+        self.ranges.on_remove(&self.forest, node);
         let done = unlink(
             &mut self.forest,
             &mut self.slots,
@@ -50,6 +53,7 @@ impl Doc {
             &mut self.forest,
             &mut self.tables,
             &mut self.observers,
+            &mut self.ranges,
             &mut self.slots,
             &mut self.signalled,
             &mut self.queue,
@@ -88,6 +92,7 @@ impl Doc {
             &mut self.forest,
             &mut self.tables,
             &mut self.observers,
+            &mut self.ranges,
             &mut self.slots,
             &mut self.signalled,
             &mut self.queue,
@@ -119,6 +124,7 @@ impl Doc {
             &mut self.forest,
             &mut self.tables,
             &mut self.observers,
+            &mut self.ranges,
             &mut self.slots,
             &mut self.signalled,
             &mut self.queue,
@@ -144,6 +150,7 @@ impl Doc {
             &mut self.forest,
             &mut self.tables,
             &mut self.observers,
+            &mut self.ranges,
             &mut self.slots,
             &mut self.signalled,
             &mut self.queue,
@@ -151,7 +158,7 @@ impl Doc {
         )
     }
 
-    /// Code units of a Text or a Comment give way to others. There are no ranges whose ends this moves. All of them give
+    /// Code units of a Text or a Comment give way to others, after the ends of live ranges moved with them. All of them give
     /// way without taking memory.
     pub(super) fn change_data(
         &mut self,
@@ -160,40 +167,86 @@ impl Doc {
         count: usize,
         data: DomStr,
     ) -> Result<(), AllocError>
-        requires { node < length self.old.names }
+        requires node_is_node { node < length self.old.names }
+        requires may_come { MayCome (part_of self.old.world (owner_in self.old node)) (name_in self.old node) «data».items }
+        requires there { count ≤ length (node_in (trees_in self.old node) (name_in self.old node)).text - offset }
         ensures ok { OnOk result (self.new ≡ stepped (owner_in self.old node) (replace_data (name_in self.old node) offset count «data».items) self.old) }
         ensures whole { offset ≡ 0 → length (node_in (trees_in self.old node) (name_in self.old node)).text ≤ count → IsOk result }
         ensures err { OnErr result (self.new ≡ self.old) }
     {
         self.forest.nodes_stand_once();
+        let size = data.len();
         let text = spliced(self.alloc, self.forest.text(node), offset, count, data)?;
+        self.ranges.on_replace_data(node, offset, count, size);
         self.forest.set_data(node, text);
         Ok(())
     }
 
-    /// So many nodes are to come into a parent before a child. There are no ranges whose ends this moves.
+    /// So many nodes are to come into a parent before a child: the ends of live ranges make room.
     pub(super) fn make_room(&mut self, parent: Key, child: Key, count: usize)
-        requires { parent < length self.old.names }
+        requires parent_is_node { parent < length self.old.names }
+        requires is_child { IsChild self.old parent child }
+        requires bounds { HasBounds (part_of self.old.world (owner_in self.old parent)) }
+        requires few { count ≤ 1000000 }
         ensures { self.new ≡ stepped (owner_in self.old parent) (make_room (name_in self.old parent) (index_of (trees_in self.old child) (name_in self.old child)) count) self.old }
     {
-        let _ = &self.forest;
+        self.forest.nodes_stand_once();
+        let index = self.forest.index(child);
+        self.ranges.on_insert(parent, index, count);
     }
 
-    /// A Text was split at an offset, and its tail is in a new Text. There are no ranges whose ends this moves, whatever the
-    /// index at which the Text stood below its parent.
-    pub(super) fn split_at(&mut self, node: Key, offset: usize, new: Key, parent: Key)
-        requires { node < length self.old.names }
-        ensures { (index : ℕ) → self.new ≡ stepped (owner_in self.old node) (split_at (name_in self.old node) offset (name_in self.old new) (name_in self.old parent) index) self.old }
+    /// A Text, the child of a parent at an index, was split at an offset, and its tail is in a new Text: the ends of live
+    /// ranges go with it.
+    pub(super) fn split_at(&mut self, node: Key, offset: usize, new: Key, parent: Key, index: usize)
+        requires node_is_node { node < length self.old.names }
+        requires new_is_node { new < length self.old.names }
+        requires parent_is_node { parent < length self.old.names }
+        requires new_owner { owner_in self.old new ≡ owner_in self.old node }
+        requires parent_owner { owner_in self.old parent ≡ owner_in self.old node }
+        requires few { index < 1000000 }
+        ensures { self.new ≡ stepped (owner_in self.old node) (split_at (name_in self.old node) offset (name_in self.old new) (name_in self.old parent) index) self.old }
     {
-        let _ = &self.forest;
+        self.forest.nodes_stand_once();
+        self.ranges
+            .on_split(node, offset, new, Some((parent, index)));
     }
 
-    /// A first Text got the data of others, the children of its parent. There are no ranges whose ends this moves, whatever
-    /// the trees were.
+    /// A first Text got the data of others, the children of its parent, from a size on: the ends of live ranges go with them.
     pub(super) fn join_each(&mut self, first: Key, size: usize, nexts: &[Key], parent: Key)
-        requires { first < length self.old.names }
-        ensures { (ts : TreesOf) → self.new ≡ planned (owner_in self.old first) (steps_of (joins ts (name_in self.old first) (name_in self.old parent) size (map (name_in self.old) nexts.now))) self.old }
+        requires first_is_node { first < length self.old.names }
+        requires parent_is_node { parent < length self.old.names }
+        requires parent_owner { owner_in self.old parent ≡ owner_in self.old first }
+        requires nexts_are_nodes { AllByRecursion (IsOwnNode self.old first) nexts.now }
+        requires bounds { HasBounds (part_of self.old.world (owner_in self.old first)) }
+        requires fit { JoinsFit (trees_in self.old first) (name_in self.old first) size (map (name_in self.old) nexts.now) }
+        ensures { self.new ≡ planned (owner_in self.old first) (steps_of (joins (trees_in self.old first) (name_in self.old first) (name_in self.old parent) size (map (name_in self.old) nexts.now))) self.old }
     {
-        let _ = &self.forest;
+        self.laws();
+        let mut length = size;
+        for next in nexts {
+            length = self.join_at(first, length, *next, parent);
+        }
+    }
+
+    /// A first Text got the data of the next one, a child of its parent, from a size on: the ends of live ranges go with
+    /// them. The answer is the size up to which they are joined then.
+    fn join_at(&mut self, first: Key, size: usize, next: Key, parent: Key) -> usize
+        requires first_is_node { first < length self.old.names }
+        requires next_is_node { next < length self.old.names }
+        requires parent_is_node { parent < length self.old.names }
+        requires next_owner { owner_in self.old next ≡ owner_in self.old first }
+        requires parent_owner { owner_in self.old parent ≡ owner_in self.old first }
+        requires bounds { HasBounds (part_of self.old.world (owner_in self.old first)) }
+        requires fits { size + length_of (trees_in self.old first) (name_in self.old next) ≤ length_of (trees_in self.old first) (name_in self.old first) }
+        ensures joined { result ≡ size + length_of (trees_in self.old first) (name_in self.old next) }
+        ensures state { self.new ≡ stepped (owner_in self.old first) (join_at (name_in self.old first) size (name_in self.old next) (name_in self.old parent) (index_of (trees_in self.old first) (name_in self.old next))) self.old }
+    {
+        self.forest.nodes_stand_once();
+        // What is joined is within the first Text, whose length is a number of the code's.
+        let _whole = self.forest.length(first);
+        let joined = size + self.forest.length(next);
+        let index = self.forest.index(next);
+        self.ranges.on_join(first, size, next, parent, index);
+        joined
     }
 }

@@ -6,6 +6,7 @@ ghost use Rattle.dom_model.specs.Tree.{is_inclusive_ancestor};
 ghost use Rattle.dom_model.specs.TextChanges.{setting_text, replacing_children};
 ghost use Rattle.dom_model.specs.World.{part_of};
 ghost use Rattle.dom_model.specs.CommandRefusals.{past_limit, made_by_text};
+ghost use Rattle.dom_isolation.specs.Bounds.{HasBounds};
 ghost use Rattle.dom_mutation.specs.Doc.{made, name_in, owner_in, trees_in, planned, texts_made, children_texts, putting_text};
 
 use super::removing::Telling;
@@ -19,7 +20,8 @@ impl Doc {
     /// Text with these data, or to none where these are none (DOM Standard, textContent). Refused with `Limit` where a Text
     /// is made and the owner has as many nodes as it may.
     pub fn set_text(&mut self, node: Key, data: DomStr) -> Result<(), Fault>
-        requires { node < length self.old.names }
+        requires node_is_node { node < length self.old.names }
+        requires bounds { HasBounds (part_of self.old.world (owner_in self.old node)) }
         ensures names { OnOk result (self.new.names ≡ self.old.names ++ texts_made (part_of self.old.world (owner_in self.old node)) (name_in self.old node) «data».items) }
         ensures world { OnOk result (self.new.world ≡ made (owner_in self.old node) (setting_text (name_in self.old node) «data».items) self.old.world) }
 
@@ -40,7 +42,8 @@ impl Doc {
     }
     /// The children of a node give way to one new Text with these data, or to none where these are none.
     fn replace_children(&mut self, node: Key, units: DomStr) -> Result<(), Fault>
-        requires { node < length self.old.names }
+        requires node_is_node { node < length self.old.names }
+        requires bounds { HasBounds (part_of self.old.world (owner_in self.old node)) }
         ensures names { OnOk result (self.new.names ≡ self.old.names ++ children_texts (part_of self.old.world (owner_in self.old node)) units.items) }
         ensures world { OnOk result (self.new.world ≡ made (owner_in self.old node) (replacing_children (name_in self.old node) units.items) self.old.world) }
         ensures limit { (result ≡ Err (Fault.Refused Limit)) ↔ (past_limit (part_of self.old.world (owner_in self.old node)).node_count (if is_empty units.items then 0 else 1) ≡ true) }
@@ -79,6 +82,7 @@ impl Doc {
         requires text_is_node { text < length self.old.names }
         requires one_owner { owner_in self.old text ≡ owner_in self.old node }
         requires not_above { is_inclusive_ancestor (trees_in self.old node) (name_in self.old text) (name_in self.old node) ≡ false }
+        requires bounds { HasBounds (part_of self.old.world (owner_in self.old node)) }
         ensures { OnOk result (self.new ≡ planned (owner_in self.old node) (putting_text (name_in self.old node) (name_in self.old text)) self.old) }
     {
         self.laws();

@@ -6,9 +6,11 @@ use Rattle.dom_model.specs.CommandNames.{named}
 use Rattle.dom_model.specs.Output.{nothing}
 use Rattle.dom_model.specs.Validity.{insertion_refusal}
 use Rattle.dom_model.specs.World.{part_of}
+use Rattle.dom_mutation.specs.Doc.{owner_in}
 use Rattle.dom_tree.specs.Forest.{name_at}
 use Rattle.dom_reader.specs.Views.{spelled_view}
 use Rattle.dom_commands.specs.declared.admission.Named.TheVariants.{Any}
+use Rattle.dom_commands.proofs.Bounded.{bounded-inside}
 use Rattle.dom_commands.proofs.Handling.{refused, plans, faults, accepted_none}
 use Rattle.dom_commands.proofs.Namings.{naming-append}
 use Rattle.dom_commands.proofs.CommandPlans.{IsKey, append-refused, append-made}
@@ -36,3 +38,6 @@ returns-clause-handled c =
     plans c.self.inside.turn d c.args.self.now c.self.view_is c.args.owner (Command.append (spelled_view c.args.parent) (spelled_view c.args.node)) (Any c.args.parent ∷ Any c.args.node ∷ []) (naming-append c.args.parent c.args.node) (sym c.admit.ensures ∙ c.in_ok-admit.was) c.insert.new.self.world c.accept.new.self.world (λ p. pre_inserting (named p (spelled_view c.args.node)) (named p (spelled_view c.args.parent)) None p) (λ p. nothing) nothing c.args.out.now.items c.accept.new.out.items c.accept.result refl
     (sym (append-refused d.names d.world c.args.owner (spelled_view c.args.parent) (spelled_view c.args.node) c.key-parent.result c.key-node.result parent_is node_is) ∙ accepted_none tt (insertion_refusal (part_of d.world (name_at d.names c.key-parent.result).owner).trees (name_at d.names c.key-parent.result) (name_at d.names c.key-node.result) None) (λ r. (c.in_ok-insert.ensures.refused r).1))
     (append-made d.names d.world c.args.owner (spelled_view c.args.parent) (spelled_view c.args.node) c.key-parent.result c.key-node.result parent_is node_is c.insert.new.self.world c.in_ok-insert.ensures.world) refl c.accept.ensures.done
+
+pub insert-requires-clause-bounds : goal.insert-requires-clause-bounds
+insert-requires-clause-bounds c = bounded-inside c.self.inside.turn c.self.inside.doc c.args.self.now c.self.view_is c.requires.bounds (owner_in c.self.inside.doc c.key-parent.result)

@@ -4,8 +4,10 @@ use Rattle.dom_model.specs.TextChanges.{normalizing}
 use Rattle.dom_model.specs.Command.{Command}
 use Rattle.dom_model.specs.CommandNames.{named}
 use Rattle.dom_model.specs.Output.{nothing}
+use Rattle.dom_mutation.specs.Doc.{owner_in}
 use Rattle.dom_reader.specs.Views.{spelled_view}
 use Rattle.dom_commands.specs.declared.admission.Named.TheVariants.{Any}
+use Rattle.dom_commands.proofs.Bounded.{bounded-inside}
 use Rattle.dom_commands.proofs.Handling.{refused, plans}
 use Rattle.dom_commands.proofs.Namings.{naming-normalize}
 use Rattle.dom_commands.proofs.CommandPlans.{IsKey, node-made}
@@ -23,3 +25,6 @@ returns-clause-handled c =
     plans c.self.inside.turn d c.args.self.now c.self.view_is c.args.owner (Command.normalize (spelled_view c.args.node)) (Any c.args.node ∷ []) (naming-normalize c.args.node) (sym c.admit.ensures ∙ c.in_ok-admit.was) c.normalize.new.self.world c.accept.new.self.world (λ p. normalizing (named p (spelled_view c.args.node)) p) (λ p. nothing) nothing c.args.out.now.items c.accept.new.out.items c.accept.result refl
     (refl)
     (node-made d.names d.world c.args.owner normalizing (spelled_view c.args.node) c.key-node.result node_is c.normalize.new.self.world c.in_ok-normalize.ensures.world) refl c.accept.ensures.done
+
+pub normalize-requires-clause-bounds : goal.normalize-requires-clause-bounds
+normalize-requires-clause-bounds c = bounded-inside c.self.inside.turn c.self.inside.doc c.args.self.now c.self.view_is c.requires.bounds (owner_in c.self.inside.doc c.key-node.result)

@@ -4,8 +4,10 @@ use Rattle.dom_model.specs.TextChanges.{replacing_all_data}
 use Rattle.dom_model.specs.Command.{Command}
 use Rattle.dom_model.specs.CommandNames.{named}
 use Rattle.dom_model.specs.Output.{nothing}
+use Rattle.dom_mutation.specs.Doc.{owner_in}
 use Rattle.dom_reader.specs.Views.{spelled_view}
 use Rattle.dom_commands.specs.declared.admission.Named.TheVariants.{Data}
+use Rattle.dom_commands.proofs.Bounded.{bounded-inside}
 use Rattle.dom_commands.proofs.Handling.{refused, plans, fitting}
 use Rattle.dom_commands.proofs.Namings.{naming-set_data}
 use Rattle.dom_commands.proofs.CommandPlans.{IsKey, node-made, has_data-key}
@@ -30,3 +32,6 @@ set_data-requires-clause-has_data c =
     let node_is : IsKey d.names d.world c.args.owner c.key-node.result (spelled_view c.args.node) = rw (← c.self.view_is) at c.key-node.ensures.name in
     has_data-key d.names d.world c.args.owner (spelled_view c.args.node) c.key-node.result node_is
     ∙ (rw (← c.self.view_is) at (fitting c.args.self.now.world c.args.owner (Data c.args.node) (sym c.admit.ensures ∙ c.in_ok-admit.was)))
+
+pub set_data-requires-clause-bounds : goal.set_data-requires-clause-bounds
+set_data-requires-clause-bounds c = bounded-inside c.self.inside.turn c.self.inside.doc c.args.self.now c.self.view_is c.requires.bounds (owner_in c.self.inside.doc c.key-node.result)

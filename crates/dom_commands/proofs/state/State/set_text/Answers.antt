@@ -6,8 +6,10 @@ use Rattle.dom_model.specs.TextChanges.{setting_text}
 use Rattle.dom_model.specs.Command.{Command}
 use Rattle.dom_model.specs.CommandNames.{named}
 use Rattle.dom_model.specs.Output.{nothing}
+use Rattle.dom_mutation.specs.Doc.{owner_in}
 use Rattle.dom_reader.specs.Views.{spelled_view}
 use Rattle.dom_commands.specs.declared.admission.Named.TheVariants.{Any}
+use Rattle.dom_commands.proofs.Bounded.{bounded-inside}
 use Rattle.dom_commands.proofs.Handling.{refused, plans, faults}
 use Rattle.dom_commands.proofs.Namings.{naming-set_text}
 use Rattle.dom_commands.proofs.CommandPlans.{IsKey, node-made, text-limit, lone_holds, lone_fails, only_refusal, accepted_not}
@@ -33,3 +35,6 @@ returns-clause-handled c =
     plans c.self.inside.turn d c.args.self.now c.self.view_is c.args.owner (Command.set_text (spelled_view c.args.node) c.args.text.items) (Any c.args.node ∷ []) (naming-set_text c.args.node c.args.text.items) (sym c.admit.ensures ∙ c.in_ok-admit.was) c.set_text.new.self.world c.accept.new.self.world (λ p. setting_text (named p (spelled_view c.args.node)) c.args.text.items p) (λ p. nothing) nothing c.args.out.now.items c.accept.new.out.items c.accept.result refl
     (lone_fails _ Limit (λ h. accepted_not Limit (c.in_ok-set_text.ensures.refused.1 ((text-limit d.names d.world c.args.owner (spelled_view c.args.node) c.key-node.result c.args.text.items node_is) ∙ h))))
     (node-made d.names d.world c.args.owner (λ x. setting_text x c.args.text.items) (spelled_view c.args.node) c.key-node.result node_is c.set_text.new.self.world c.in_ok-set_text.ensures.world) refl c.accept.ensures.done
+
+pub set_text-requires-clause-bounds : goal.set_text-requires-clause-bounds
+set_text-requires-clause-bounds c = bounded-inside c.self.inside.turn c.self.inside.doc c.args.self.now c.self.view_is c.requires.bounds (owner_in c.self.inside.doc c.key-node.result)

@@ -1,4 +1,4 @@
-use Rattle.std.proofs.Common.{◌≡◌, [], option_map, ap, sym, ◌∙◌}
+use Rattle.std.proofs.Common.{◌≡◌, ℕ, length, arith, [], option_map, ap, sym, ◌∙◌}
 use Rattle.std.proofs.lemmas.Result.{on_ok_weaker}
 use Rattle.dom_model.specs.Tree.{parent_of}
 use Rattle.dom_model.specs.TextChanges.{placing_tail, replacing_data}
@@ -25,3 +25,6 @@ returns c =
     ∙ planned_then o place_it (replacing_data x c.args.offset c.args.count []) d (c.laws.ensures.alone c.args.node c.requires.node_is_node)
     (plans_tail o x c.args.offset y (parent_of (trees_in d c.args.node) x) c.requires.one_owner))
     c.replacing_data-2.ensures
+
+pub replacing_data-requires-clause-may_come : goal.replacing_data-requires-clause-may_come
+replacing_data-requires-clause-may_come c some = let none = ap (length {A = ℕ}) c.new.ensures.items in absurd (omega (arith, none, some))

@@ -1,8 +1,13 @@
-use Rattle.std.proofs.Common.{map}
+use Rattle.std.proofs.Common.{map, length, ap, ◌∙◌, arith}
+use Rattle.std.proofs.lemmas.List.{length-map}
+use Rattle.dom_base.specs.declared.NodeName.{NodeName}
 use Rattle.std.proofs.lemmas.Result.{on_ok_weaker}
-use Rattle.dom_mutation.specs.Doc.{name_in, observing_of}
 use Rattle.dom_mutation.proofs.Turns.{all_may_now, child_now}
 use Rattle.dom_mutation.proofs.Inserted.{are_inside, all_may, stays_emptied, inserted_fragment, some_left}
+use Rattle.dom_model.specs.Changes.{emptying}
+use Rattle.dom_model.specs.World.{part_of}
+use Rattle.dom_mutation.specs.Doc.{DocState, name_in, owner_in, planned, observing_of}
+use Rattle.dom_mutation.proofs.BoundedDocs.{bounds_emptied, bounds_at, children_limited}
 use Rattle.dom_mutation.proofs.doc.Doc.insert_children.Goals as goal
 
 pub place_all-requires-clause-may_move : goal.place_all-requires-clause-may_move
@@ -29,3 +34,21 @@ pub returns : goal.returns
 returns c =
     on_ok_weaker c.place_all.result (inserted_fragment c.args.self.now c.empty.new.self c.place_all.new.self c.laws.ensures.alone (observing_of c.args.how) c.args.parent c.args.fragment c.args.before c.args.prev c.args.children.now
     c.requires.parent_is_node c.requires.may_move c.requires.is_fragment c.requires.prev_is_before c.requires.are_children (some_left c.args.children.now c.if-is_empty.ensures) c.in_ok-empty.ensures.state) c.place_all.ensures
+
+pub place_all-requires-clause-bounds : goal.place_all-requires-clause-bounds
+place_all-requires-clause-bounds c =
+    let d = c.args.self.now in
+    let e = c.empty.new.self in
+    let is = c.in_ok-empty.ensures.state in
+    bounds_at d e c.args.parent (ap (λ (s : DocState). s.names) is)
+    (bounds_emptied (owner_in d c.args.parent) d (c.laws.ensures.alone c.args.parent c.requires.parent_is_node) (c.laws.ensures.parts _) c.requires.bounds (name_in d c.args.fragment) (map (name_in d) c.args.children.now) e
+    (is ∙ ap (λ o. planned o (emptying (name_in d c.args.fragment) (map (name_in d) c.args.children.now)) d) c.requires.may_move.owner))
+
+pub place_all-requires-clause-few : goal.place_all-requires-clause-few
+place_all-requires-clause-few c =
+    let d = c.args.self.now in
+    let o = owner_in d c.args.fragment in
+    let few = children_limited (part_of d.world o) (c.laws.ensures.parts o) (c.laws.ensures.limited o) (name_in d c.args.fragment) in
+    let same = ap (length {A = NodeName}) c.requires.are_children in
+    let mapped = length-map c.args.children.now (name_in d) in
+    omega (arith, few, same, mapped)

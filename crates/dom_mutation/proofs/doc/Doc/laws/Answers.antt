@@ -1,7 +1,8 @@
-use Rattle.std.proofs.Common.{◌≡◌, ◌≤◌, true, false, arith, subst}
+use Rattle.std.proofs.Common.{◌≡◌, ◌<◌, ◌≤◌, length, true, false, arith, subst, sym}
 use Rattle.std.specs.Prelude.{count_by}
 use Rattle.dom_model.specs.Names.{name_eq}
-use Rattle.dom_model.specs.Tree.{Node, Trees, nodes}
+use Rattle.dom_isolation.specs.Worlds.{IsPart}
+use Rattle.dom_model.specs.Tree.{Node, Trees, nodes, has_node}
 use Rattle.dom_model.specs.World.{part_of, is_there}
 use Rattle.dom_tree.specs.Owners.{trees_of_owner}
 use Rattle.dom_mutation.proofs.Once.{once_forest, once_own, times_count}
@@ -13,7 +14,8 @@ use Rattle.dom_tree.proofs.Owned.{AreOf-own}
 use Rattle.dom_model.specs.CommandRefusals.{past_limit}
 use Rattle.dom_mutation.proofs.Held.{are_hosts, within_limit}
 use Rattle.dom_mutation.proofs.OwnSteps.{hosted_alone}
-use Rattle.dom_mutation.proofs.Shown.{own_in_part, owner_there}
+use Rattle.dom_mutation.proofs.RangedStates.{part_everywhere}
+use Rattle.dom_mutation.proofs.Shown.{known, shown, own_in_part, owner_there}
 use Rattle.dom_mutation.proofs.doc.Doc.laws.Goals as goal
 
 pub returns-clause-once : goal.returns-clause-once
@@ -44,3 +46,13 @@ pub returns-clause-limited : goal.returns-clause-limited
 returns-clause-limited c o =
     let f = c.self.inside.forest in
     subst (λ e. past_limit (part_of e.world o).node_count 0 ≡ false) c.self.view_is (within_limit f.names f.trees c.self.invariant o)
+
+pub returns-clause-parts : goal.returns-clause-parts
+returns-clause-parts c o =
+    let f = c.self.inside.forest in
+    subst (λ (e : DocState). IsPart (part_of e.world o)) c.self.view_is (part_everywhere f c.self.invariant c.nodes_stand_once.ensures.once c.nodes_stand_once.ensures.only o)
+
+pub returns-clause-stand : goal.returns-clause-stand
+returns-clause-stand c k k< =
+    let f = c.self.inside.forest in
+    sym (shown f c.self.invariant c.self.view_is has_node (λ ns. true) k (sym (c.nodes_stand_once.ensures.present k (known f c.self.invariant c.self.view_is (λ e. k < length e.names) k<))) (λ r. r.presence))

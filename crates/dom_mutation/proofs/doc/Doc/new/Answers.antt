@@ -1,4 +1,4 @@
-use Rattle.std.proofs.Common.{List, [], ◌∷◌, ◌++◌, None, refl, ap, ◌∙◌}
+use Rattle.std.proofs.Common.{ℕ, List, [], ◌∷◌, ◌++◌, None, refl, ap, ◌∙◌}
 use Rattle.dom_base.specs.declared.Kind.TheVariants.{Document}
 use Rattle.dom_base.specs.declared.Owner.TheVariants.{Page}
 use Rattle.dom_model.specs.Names.{node_of}
@@ -20,10 +20,14 @@ invariant_of-result c =
     let tasks = c.new-queue.result in
     let slots = c.new-slots.result in
     let signalled = c.new-signalled.result.items in
-    first_held c.add.new.self (tables_of c.push.new.self.items seen tasks slots signalled) (node_from [] (node_of Page 0) first) refl
-    (ap (λ (ts : List KeyedTables). tables_of ts seen tasks slots signalled) (c.in-Ok.ensures.items ∙ ap (λ (ts : List KeyedTables). ts ++ c.new-4.result ∷ []) c.new-tables.ensures.items ∙ ap (λ (t : KeyedTables). t ∷ []) c.new-4.ensures)
-    ∙ (λ j. tables_of (no_keyed_tables ∷ []) (λ o. c.new-observers.ensures o j) tasks slots signalled)
-    ∙ ap (λ (ts : List Task). tables_of (no_keyed_tables ∷ []) (λ o. no_observers) ts slots signalled) c.new-queue.ensures
-    ∙ ap (λ (s : SlotsNow). tables_of (no_keyed_tables ∷ []) (λ o. no_observers) [] s signalled) c.new-slots.ensures.value ∙ ap (tables_of (no_keyed_tables ∷ []) (λ o. no_observers) [] no_slots) c.new-signalled.ensures.items)
+    let ranges = c.new-ranges.result in
+    first_held c.add.new.self (tables_of c.push.new.self.items seen tasks slots signalled ranges) (node_from [] (node_of Page 0) first) refl record {
+      all = ap (λ (ts : List KeyedTables). tables_of ts seen tasks slots signalled ranges) (c.in-Ok.ensures.items ∙ ap (λ (ts : List KeyedTables). ts ++ c.new-4.result ∷ []) c.new-tables.ensures.items ∙ ap (λ (t : KeyedTables). t ∷ []) c.new-4.ensures)
+          ∙ (λ j. tables_of (no_keyed_tables ∷ []) (λ o. c.new-observers.ensures o j) tasks slots signalled ranges)
+          ∙ ap (λ (ts : List Task). tables_of (no_keyed_tables ∷ []) (λ o. no_observers) ts slots signalled ranges) c.new-queue.ensures
+          ∙ ap (λ (s : SlotsNow). tables_of (no_keyed_tables ∷ []) (λ o. no_observers) [] s signalled ranges) c.new-slots.ensures.value
+          ∙ ap (λ (ks : List ℕ). tables_of (no_keyed_tables ∷ []) (λ o. no_observers) [] no_slots ks ranges) c.new-signalled.ensures.items;
+      no_ranges = c.new-ranges.ensures;
+    }
     (c.in-Ok-add.ensures.names ∙ ap (λ (g : NamedTrees). g.names ++ next_name Page g.names ∷ []) c.new-forest.ensures)
     (c.in-Ok-add.ensures.trees ∙ ap (λ (g : NamedTrees). with_node (node_from g.names (next_name Page g.names) first) g.trees) c.new-forest.ensures)

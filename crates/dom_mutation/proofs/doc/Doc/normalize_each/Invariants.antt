@@ -1,5 +1,5 @@
 use Rattle.std.proofs.Common.{drop}
-use Rattle.dom_mutation.proofs.Joined.{Normalizes}
+use Rattle.dom_mutation.proofs.JoinedEach.{Normalizes}
 use Rattle.dom_mutation.proofs.doc.Doc.normalize_each.Given as goal
 
 abbrev pub invariant-loop-text : goal.invariant-loop-text

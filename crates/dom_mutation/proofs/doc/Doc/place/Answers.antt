@@ -54,7 +54,7 @@ invariant_of-self c =
     ∙ known f c.self.invariant c.self.view_is (λ e. is_inclusive_ancestor (trees_in e c.args.parent) (name_in e c.args.node) (name_in e c.args.parent) ≡ false) c.requires.not_above) (once_forest f.names f.trees c.nodes_stand_once.ensures.once c.nodes_stand_once.ensures.only))
     (Place c.args.node c.args.parent c.args.before)
     c.link-done.new.forest c.settle.new.forest (signal_tables c.link-done.new.slots c.link-done.new.signalled.items c.link-done.new.queue)
-    (tables_of c.settle.new.tables.items (observers_of c.settle.new.observers) c.settle.new.queue c.settle.new.slots c.settle.new.signalled.items) c.link-done.result c.settle.result c.link-done.ensures.names c.link-done.ensures.trees c.link-done.ensures.signals
+    (tables_of c.settle.new.tables.items (observers_of c.settle.new.observers) c.settle.new.queue c.settle.new.slots c.settle.new.signalled.items c.settle.new.ranges) c.link-done.result c.settle.result c.link-done.ensures.names c.link-done.ensures.trees c.link-done.ensures.signals
     record { result = c.settle.ensures.result; forest = c.settle.ensures.forest; tables = c.settle.ensures.tables; empty = c.settle.ensures.empty; first = c.settle.ensures.first }
 
 pub returns : goal.returns
@@ -74,7 +74,7 @@ returns c =
     ∙ known f c.self.invariant c.self.view_is (λ e. is_inclusive_ancestor (trees_in e c.args.parent) (name_in e c.args.node) (name_in e c.args.parent) ≡ false) c.requires.not_above) (once_forest f.names f.trees c.nodes_stand_once.ensures.once c.nodes_stand_once.ensures.only))
     (Place c.args.node c.args.parent c.args.before)
     c.link-done.new.forest c.settle.new.forest (signal_tables c.link-done.new.slots c.link-done.new.signalled.items c.link-done.new.queue)
-    (tables_of c.settle.new.tables.items (observers_of c.settle.new.observers) c.settle.new.queue c.settle.new.slots c.settle.new.signalled.items) c.link-done.result c.settle.result c.link-done.ensures.names c.link-done.ensures.trees c.link-done.ensures.signals
+    (tables_of c.settle.new.tables.items (observers_of c.settle.new.observers) c.settle.new.queue c.settle.new.slots c.settle.new.signalled.items c.settle.new.ranges) c.link-done.result c.settle.result c.link-done.ensures.names c.link-done.ensures.trees c.link-done.ensures.signals
     record { result = c.settle.ensures.result; forest = c.settle.ensures.forest; tables = c.settle.ensures.tables; empty = c.settle.ensures.empty; first = c.settle.ensures.first }
     (λ ns. place (name_at ns c.args.node) (name_at ns c.args.parent) (option_map (name_at ns) c.args.before))
     (place_hosted (contents f.names f.trees all) c.self.inside.slots.hosts (are_hosts f.names f.trees all c.self.invariant) p.owner there (placed x p b f.trees) (contents f.names (placed x p b f.trees) all).tables change.owned

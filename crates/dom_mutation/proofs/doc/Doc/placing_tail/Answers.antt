@@ -1,5 +1,11 @@
+use Rattle.std.proofs.Common.{◌<◌, ap, subst, ◌∙◌, arith}
+use Rattle.dom_isolation.specs.Bounds.{HasBounds}
+use Rattle.dom_model.specs.Tree.{index_of}
+use Rattle.dom_model.specs.World.{part_of}
+use Rattle.dom_mutation.specs.Doc.{name_in, owner_in}
 use Rattle.dom_mutation.proofs.Replaced.{next_is_near}
 use Rattle.dom_mutation.proofs.Tails.{tail_may, tail_placed}
+use Rattle.dom_mutation.proofs.BoundedDocs.{index_limited}
 use Rattle.dom_mutation.proofs.doc.Doc.placing_tail.Goals as goal
 
 pub inserting-requires-clause-may_move : goal.inserting-requires-clause-may_move
@@ -14,4 +20,15 @@ inserting-requires-clause-before_is_child c =
 pub returns : goal.returns
 returns c =
     tail_placed c.args.self.now c.inserting.new.self c.split_at.new.self c.args.parent c.args.node c.args.new c.args.offset c.next-next.result (c.laws.ensures.alone c.args.node c.requires.node_is_child.node)
-    c.requires.node_is_child.owner c.requires.one_owner c.next-next.ensures.value c.in_ok-inserting.ensures c.split_at.ensures
+    c.requires.node_is_child.owner c.requires.one_owner c.next-next.ensures.value c.in_ok-inserting.ensures c.index-index.result c.index-index.ensures c.split_at.ensures
+
+pub inserting-requires-clause-bounds : goal.inserting-requires-clause-bounds
+inserting-requires-clause-bounds c = subst (λ o. HasBounds (part_of c.args.self.now.world o)) c.requires.node_is_child.owner c.requires.bounds
+
+pub split_at-requires-clause-few : goal.split_at-requires-clause-few
+split_at-requires-clause-few c =
+    let d = c.args.self.now in
+    let o = owner_in d c.args.parent in
+    let few = index_limited (part_of d.world o) (c.laws.ensures.parts o) (c.laws.ensures.limited o) (name_in d c.args.node) (name_in d c.args.parent) c.requires.node_is_child.child in
+    let same = c.index-index.ensures ∙ ap (λ o. index_of (part_of d.world o).trees (name_in d c.args.node)) c.requires.node_is_child.owner in
+    omega (arith, few, same)

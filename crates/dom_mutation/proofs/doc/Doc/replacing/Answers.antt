@@ -2,10 +2,12 @@ use Rattle.std.proofs.Common.{◌≡◌, ◌∷◌, [], ℕ, List, map, option_m
 use Rattle.std.proofs.lemmas.Result.{on_ok_weaker}
 use Rattle.dom_model.specs.Output.{child_list}
 use Rattle.dom_model.specs.Steps.{queue_record}
-use Rattle.dom_mutation.specs.Doc.{DocState, AreNodes, name_in, owner_in, stepped}
+use Rattle.dom_mutation.specs.Doc.{DocState, AreNodes, name_in, owner_in, planned, stepped}
 use Rattle.dom_mutation.proofs.Nodes.{nodes_kept}
 use Rattle.dom_mutation.proofs.Turns.{may_now, child_now}
 use Rattle.dom_mutation.proofs.Replaced.{next_is_near, stays_removed, replaced_whole}
+use Rattle.dom_model.specs.Changes.{removing, suppressed}
+use Rattle.dom_mutation.proofs.BoundedDocs.{bounds_removed, bounds_at}
 use Rattle.dom_mutation.proofs.doc.Doc.replacing.Goals as goal
 
 pub reference_for-reference-requires-clause-child_is_child : goal.reference_for-reference-requires-clause-child_is_child
@@ -40,3 +42,11 @@ pub tell_children-requires-clause-added_are_nodes : goal.tell_children-requires-
 tell_children-requires-clause-added_are_nodes c =
     let same : c.inserting.new.self.names ≡ c.args.self.now.names = ap (λ (s : DocState). s.names) c.in_ok-inserting.ensures ∙ ap (λ (s : DocState). s.names) c.in_ok-removing.ensures in
     subst (AreNodes c.inserting.new.self) (sym c.as_slice.ensures.value) (nodes_kept c.args.self.now c.inserting.new.self same c.in_ok-added.added.items c.in_ok-added.ensures.nodes)
+
+pub inserting-requires-clause-bounds : goal.inserting-requires-clause-bounds
+inserting-requires-clause-bounds c =
+    let d = c.args.self.now in
+    let e = c.removing.new.self in
+    bounds_at d e c.args.parent (ap (λ (s : DocState). s.names) c.in_ok-removing.ensures)
+    (bounds_removed (owner_in d c.args.parent) d (c.laws.ensures.alone c.args.parent c.requires.parent_is_node) (c.laws.ensures.parts _) c.requires.bounds suppressed (name_in d c.args.child) e
+    (c.in_ok-removing.ensures ∙ ap (λ o. planned o (removing suppressed (name_in d c.args.child)) d) c.requires.child_is_child.owner))

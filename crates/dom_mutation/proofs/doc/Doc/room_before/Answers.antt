@@ -20,3 +20,6 @@ returns-in-Some-clause-trees c =
     let d = c.args.self.now in
     ap (λ e. trees_in e c.args.parent) c.make_room.ensures
     ∙ ap (λ (p : Part). p.trees) ((c.laws.ensures.alone c.args.parent c.requires.parent_is_node).steps (make_room (name_in d c.args.parent) (index_of (trees_in d c.in-Some.child) (name_in d c.in-Some.child)) c.args.count ∷ []) (tt, tt))
+
+pub make_room-requires-clause-is_child : goal.make_room-requires-clause-is_child
+make_room-requires-clause-is_child c = c.requires.before_is_child c.in-Some.child c.in-Some.is

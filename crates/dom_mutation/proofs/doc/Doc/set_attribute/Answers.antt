@@ -26,7 +26,7 @@ invariant_of-self c =
     let h = with_attribute c.args.name.now (Some c.args.value.items) in
     tree_held f c.self.invariant c.self.view_is c.args.node c.requires (change_node h x) (changed_node f.trees c.self.invariant.owned x.owner h x (λ n. refl) refl) (keeps_changed h (λ n. refl) x f.trees) (Attribute c.args.node)
     c.set_attr-done.new.forest c.settle.new.forest (signal_tables c.set_attr-done.new.slots c.set_attr-done.new.signalled.items c.set_attr-done.new.queue)
-    (tables_of c.settle.new.tables.items (observers_of c.settle.new.observers) c.settle.new.queue c.settle.new.slots c.settle.new.signalled.items) c.set_attr-done.result c.settle.result c.set_attr-done.ensures.names c.set_attr-done.ensures.trees c.set_attr-done.ensures.signals
+    (tables_of c.settle.new.tables.items (observers_of c.settle.new.observers) c.settle.new.queue c.settle.new.slots c.settle.new.signalled.items c.settle.new.ranges) c.set_attr-done.result c.settle.result c.set_attr-done.ensures.names c.set_attr-done.ensures.trees c.set_attr-done.ensures.signals
     record { result = c.settle.ensures.result; forest = c.settle.ensures.forest; tables = c.settle.ensures.tables; empty = c.settle.ensures.empty; first = c.settle.ensures.first }
 
 pub returns : goal.returns
@@ -39,7 +39,7 @@ returns c =
     let all = all_tables c.self.inside in
     tree_state f c.self.invariant c.self.view_is c.args.node c.requires (change_node h x) change (keeps_changed h (λ n. refl) x f.trees) (Attribute c.args.node)
     c.set_attr-done.new.forest c.settle.new.forest (signal_tables c.set_attr-done.new.slots c.set_attr-done.new.signalled.items c.set_attr-done.new.queue)
-    (tables_of c.settle.new.tables.items (observers_of c.settle.new.observers) c.settle.new.queue c.settle.new.slots c.settle.new.signalled.items) c.set_attr-done.result c.settle.result c.set_attr-done.ensures.names c.set_attr-done.ensures.trees c.set_attr-done.ensures.signals
+    (tables_of c.settle.new.tables.items (observers_of c.settle.new.observers) c.settle.new.queue c.settle.new.slots c.settle.new.signalled.items c.settle.new.ranges) c.set_attr-done.result c.settle.result c.set_attr-done.ensures.names c.set_attr-done.ensures.trees c.set_attr-done.ensures.signals
     record { result = c.settle.ensures.result; forest = c.settle.ensures.forest; tables = c.settle.ensures.tables; empty = c.settle.ensures.empty; first = c.settle.ensures.first }
     (λ ns. set_attribute (name_at ns c.args.node) c.args.name.now (Some c.args.value.items))
     (attribute_hosted (contents f.names f.trees all) c.self.inside.slots.hosts (are_hosts f.names f.trees all c.self.invariant) x.owner there (change_node h x f.trees) (contents f.names (change_node h x f.trees) all).tables change.owned

@@ -9,6 +9,7 @@ use Rattle.dom_mutation.specs.OwnTables.{place_of, tables_of}
 use Rattle.dom_mutation.specs.Doc.{all_tables, name_in, trees_in}
 use Rattle.dom_mutation.proofs.Held.{table_there}
 use Rattle.dom_mutation.proofs.Observing.{none_held}
+use Rattle.dom_mutation.proofs.RangedLists.{own_at_nodes}
 use Rattle.dom_mutation.proofs.Shown.{known, read_there, owner_there, table_read}
 use Rattle.dom_mutation.proofs.Signalling.{removal_held, removal_state}
 use Rattle.dom_mutation.proofs.doc.Doc.take_out.Goals as goal
@@ -36,6 +37,9 @@ leave-requires-clause-iterators c k i e =
     let at = table_read f c.self.invariant c.self.view_is c.args.node c.requires.node_is_node c.place_of.result c.index_mut-tables.result.now (c.place_of.ensures ∙ ap (λ n. place_of n.owner) (sym c.name-owner.ensures.at)) c.index_mut-tables.ensures.value in
     ((c.self.invariant.own (name_at f.names c.args.node).owner c.index_mut-tables.result.now at).iterators k i e).stands
 
+pub on_remove-requires-clause-ends : goal.on_remove-requires-clause-ends
+on_remove-requires-clause-ends c = own_at_nodes c.self.inside.forest.names c.self.inside.ranges c.self.invariant.ranges.own
+
 pub index_mut-tables-requires : goal.index_mut-tables-requires
 index_mut-tables-requires c =
     let f = c.self.inside.forest in
@@ -57,9 +61,10 @@ invariant_of-self-2 c =
     removal_held f c.self.invariant c.self.view_is c.args.node c.requires.node_is_node c.iterators_stay.ensures c.nodes_stand_once.ensures.once c.nodes_stand_once.ensures.only c.nodes_stand_once.ensures.distinct
     c.in-Some.parent (c.parent.ensures.node c.in-Some.parent c.in-Some.is) c.in-Some.ensures.value
     c.index_mut-tables.result.now c.leave.new.self at c.leave.ensures.iterators c.leave.ensures.walkers
-    (observers_of c.transient.new.self) (on_ok c.transient.result c.in_default-transient.not-Err c.transient.ensures) c.place_of.result place
+    (observers_of c.transient.new.self) (on_ok c.transient.result c.in_default-transient.not-Err c.transient.ensures) c.on_remove.new.self
+    (c.on_remove.ensures.child c.in-Some.parent (c.parent.ensures.node c.in-Some.parent c.in-Some.is) (sym c.in-Some.ensures.value)) c.place_of.result place
     c.unlink-done.new.forest c.settle.new.forest (signal_tables c.unlink-done.new.slots c.unlink-done.new.signalled.items c.unlink-done.new.queue)
-    (tables_of c.settle.new.tables.items (observers_of c.settle.new.observers) c.settle.new.queue c.settle.new.slots c.settle.new.signalled.items) c.unlink-done.result c.settle.result c.unlink-done.ensures.names c.unlink-done.ensures.trees c.unlink-done.ensures.signals
+    (tables_of c.settle.new.tables.items (observers_of c.settle.new.observers) c.settle.new.queue c.settle.new.slots c.settle.new.signalled.items c.settle.new.ranges) c.unlink-done.result c.settle.result c.unlink-done.ensures.names c.unlink-done.ensures.trees c.unlink-done.ensures.signals
     record { result = c.settle.ensures.result; forest = c.settle.ensures.forest; tables = c.settle.ensures.tables; empty = c.settle.ensures.empty; first = c.settle.ensures.first }
 
 pub returns : goal.returns
@@ -70,7 +75,8 @@ returns c =
     removal_state f c.self.invariant c.self.view_is c.args.node c.requires.node_is_node c.iterators_stay.ensures c.nodes_stand_once.ensures.once c.nodes_stand_once.ensures.only c.nodes_stand_once.ensures.distinct
     c.in-Some.parent (c.parent.ensures.node c.in-Some.parent c.in-Some.is) c.in-Some.ensures.value
     c.index_mut-tables.result.now c.leave.new.self at c.leave.ensures.iterators c.leave.ensures.walkers
-    (observers_of c.transient.new.self) (on_ok c.transient.result c.in_default-transient.not-Err c.transient.ensures) c.place_of.result place
+    (observers_of c.transient.new.self) (on_ok c.transient.result c.in_default-transient.not-Err c.transient.ensures) c.on_remove.new.self
+    (c.on_remove.ensures.child c.in-Some.parent (c.parent.ensures.node c.in-Some.parent c.in-Some.is) (sym c.in-Some.ensures.value)) c.place_of.result place
     c.unlink-done.new.forest c.settle.new.forest (signal_tables c.unlink-done.new.slots c.unlink-done.new.signalled.items c.unlink-done.new.queue)
-    (tables_of c.settle.new.tables.items (observers_of c.settle.new.observers) c.settle.new.queue c.settle.new.slots c.settle.new.signalled.items) c.unlink-done.result c.settle.result c.unlink-done.ensures.names c.unlink-done.ensures.trees c.unlink-done.ensures.signals
+    (tables_of c.settle.new.tables.items (observers_of c.settle.new.observers) c.settle.new.queue c.settle.new.slots c.settle.new.signalled.items c.settle.new.ranges) c.unlink-done.result c.settle.result c.unlink-done.ensures.names c.unlink-done.ensures.trees c.unlink-done.ensures.signals
     record { result = c.settle.ensures.result; forest = c.settle.ensures.forest; tables = c.settle.ensures.tables; empty = c.settle.ensures.empty; first = c.settle.ensures.first }

@@ -23,14 +23,17 @@ returns-then-is_err-clause-empty c = if_err c.args.done c.new.ensures
 pub returns-then-is_err-clause-first : goal.returns-then-is_err-clause-first
 returns-then-is_err-clause-first c =
     let seen = observers_of c.new-then-is_err-2.result in
-    let slots = c.new-then-is_err-3.result in
-    let signalled = c.new-then-is_err-4.result.items in
-    let tasks = c.new-then-is_err-5.result in
-    if_err c.args.done
-    (ap (λ (ts : List KeyedTables). tables_of (slice_set ts 0 c.new-then-is_err.result) seen tasks slots signalled) c.truncate.ensures.items
-    ∙ (ap (λ (ts : List KeyedTables). tables_of ts seen tasks slots signalled) (first_written c.args.tables.now.items c.new-then-is_err.result c.requires)
-    ∙ (ap (λ (t : KeyedTables). tables_of (t ∷ []) seen tasks slots signalled) c.new-then-is_err.ensures
-    ∙ ((λ j. tables_of (no_keyed_tables ∷ []) (λ o. c.new-then-is_err-2.ensures o j) tasks slots signalled)
-    ∙ (ap (λ (ts : List Task). tables_of (no_keyed_tables ∷ []) (λ o. no_observers) ts slots signalled) c.new-then-is_err-5.ensures
-    ∙ (ap (λ (s : SlotsNow). tables_of (no_keyed_tables ∷ []) (λ o. no_observers) [] s signalled) c.new-then-is_err-3.ensures.value
-    ∙ ap (λ (ks : List ℕ). tables_of (no_keyed_tables ∷ []) (λ o. no_observers) [] no_slots ks) c.new-then-is_err-4.ensures.items))))))
+    let ranges = c.new-then-is_err-3.result in
+    let slots = c.new-then-is_err-4.result in
+    let signalled = c.new-then-is_err-5.result.items in
+    let tasks = c.new-then-is_err-6.result in
+    if_err c.args.done record {
+      all = ap (λ (ts : List KeyedTables). tables_of (slice_set ts 0 c.new-then-is_err.result) seen tasks slots signalled ranges) c.truncate.ensures.items
+          ∙ (ap (λ (ts : List KeyedTables). tables_of ts seen tasks slots signalled ranges) (first_written c.args.tables.now.items c.new-then-is_err.result c.requires)
+          ∙ (ap (λ (t : KeyedTables). tables_of (t ∷ []) seen tasks slots signalled ranges) c.new-then-is_err.ensures
+          ∙ ((λ j. tables_of (no_keyed_tables ∷ []) (λ o. c.new-then-is_err-2.ensures o j) tasks slots signalled ranges)
+          ∙ (ap (λ (ts : List Task). tables_of (no_keyed_tables ∷ []) (λ o. no_observers) ts slots signalled ranges) c.new-then-is_err-6.ensures
+          ∙ (ap (λ (s : SlotsNow). tables_of (no_keyed_tables ∷ []) (λ o. no_observers) [] s signalled ranges) c.new-then-is_err-4.ensures.value
+          ∙ ap (λ (ks : List ℕ). tables_of (no_keyed_tables ∷ []) (λ o. no_observers) [] no_slots ks ranges) c.new-then-is_err-5.ensures.items)))));
+      no_ranges = c.new-then-is_err-3.ensures;
+    }

@@ -1,0 +1,55 @@
+-- The ends of ranges are within their nodes also in the worlds on the way through a line, and in a world without its listeners.
+use Rattle.std.proofs.Common.{◌≡◌, List, [], ◌∷◌, fold, Option, Some, sym, subst}
+use Rattle.std.specs.Prelude.{is_some}
+use Rattle.dom_base.specs.declared.NodeName.{NodeName}
+use Rattle.dom_base.specs.declared.Owner.{Owner}
+use Rattle.dom_model.specs.Command.{EventWords}
+use Rattle.dom_model.specs.Dispatch.{dispatch_in, world_visit, visits_of}
+use Rattle.dom_model.specs.Listeners.{Listener, Visit, Dispatching, begun, visited}
+use Rattle.dom_model.specs.Names.{name_eq}
+use Rattle.dom_model.specs.Part.{Part}
+use Rattle.dom_model.specs.Paths.{views}
+use Rattle.dom_model.specs.Turns.{opening_turn, notified, without_signals}
+use Rattle.dom_model.specs.World.{World, part_of, with_part}
+use Rattle.dom_model.proofs.PartLaws.{owner-part_of}
+use Rattle.dom_isolation.specs.Bounds.{HasBounds, IsBounded}
+use Rattle.dom_isolation.proofs.TableWorlds.{each-part}
+use Rattle.dom_isolation.proofs.Tests.{either_way}
+use Rattle.dom_mutation.specs.Doc.{DocState}
+use Rattle.dom_commands.specs.Heard.{hearing, heard}
+use Rattle.dom_commands.specs.Turned.{turned}
+use Rattle.dom_commands.proofs.Heard.{FitsIn, part-heard}
+
+-- a part is written
+bounded-with_part : (w : World) (p : Part) (o : Owner) → p.owner ≡ o → HasBounds p → IsBounded w → IsBounded (with_part w p)
+bounded-with_part w p o e h b = each-part (λ x q. HasBounds q) w p o e h b
+
+-- visits change listeners alone
+bounded-visits : (e : EventWords) (vs : List (Visit NodeName)) (w : World) (d : Dispatching NodeName) → IsBounded w → IsBounded (fold (world_visit e) (w, d) vs).0
+bounded-visits e [] w d b = b
+bounded-visits e (v ∷ vs) w d b =
+    let o = v.current.owner in
+    let p = part_of w o in
+    let done = visited name_eq e (record d { listeners = p.listeners }) v in
+    let q : Part = record p { listeners = done.listeners } in
+    bounded-visits e vs (with_part w q) done (bounded-with_part w q o (owner-part_of w o) (record { ranges = (b o).ranges; leaves = (b o).leaves }) b)
+
+-- an event is dispatched
+pub bounded-dispatch : (w : World) (x : NodeName) (related : Option NodeName) (e : EventWords) → IsBounded w → IsBounded (dispatch_in w x related e).run.0
+bounded-dispatch w x related e b = bounded-visits e (visits_of name_eq e.bubbles (views w x related e.composed)) w (begun []) b
+
+-- an owner's signals are taken, and its observers notified
+pub bounded-told : (w : World) (o : Owner) → IsBounded w → IsBounded (with_part (without_signals w o) (notified (part_of w o)))
+bounded-told w o b = bounded-with_part (without_signals w o) (notified (part_of w o)) o (owner-part_of w o) (record { ranges = (b o).ranges; leaves = (b o).leaves }) b
+
+-- a turn is opened
+pub bounded-opening : (w : World) (o : Owner) → IsBounded w → IsBounded (opening_turn w o)
+bounded-opening w o b = either_way IsBounded (is_some w.turn) w (record w { turn = Some o }) b b
+
+-- the listeners are left out
+pub bounded-unheard : (of : Owner → List (Listener NodeName)) (w : World) → FitsIn of w → IsBounded (heard of w) → IsBounded w
+bounded-unheard of w fits b o = let h : HasBounds (hearing of (part_of w o)) = subst HasBounds (part-heard of w fits o) (b o) in record { ranges = h.ranges; leaves = h.leaves }
+
+-- the turn is left out
+pub bounded-inside : (t : Option Owner) (d s : DocState) → turned t d ≡ s → IsBounded s.world → IsBounded d.world
+bounded-inside t d s seen b = subst (λ (u : DocState). IsBounded u.world) (sym seen) b
