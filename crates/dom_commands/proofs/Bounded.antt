@@ -1,5 +1,6 @@
--- The ends of ranges are within their nodes also in the worlds on the way through a line, and in a world without its listeners.
-use Rattle.std.proofs.Common.{◌≡◌, List, [], ◌∷◌, fold, Option, Some, sym, subst}
+-- The ends of ranges are within their nodes also in the worlds on the way through a line, and in a world without its listeners;
+-- there too each owner has its first node.
+use Rattle.std.proofs.Common.{◌≡◌, List, [], ◌∷◌, fold, Option, Some, sym, ◌∙◌, subst}
 use Rattle.std.specs.Prelude.{is_some}
 use Rattle.dom_base.specs.declared.NodeName.{NodeName}
 use Rattle.dom_base.specs.declared.Owner.{Owner}
@@ -7,18 +8,20 @@ use Rattle.dom_model.specs.Command.{EventWords}
 use Rattle.dom_model.specs.Dispatch.{dispatch_in, world_visit, visits_of}
 use Rattle.dom_model.specs.Listeners.{Listener, Visit, Dispatching, begun, visited}
 use Rattle.dom_model.specs.Names.{name_eq}
-use Rattle.dom_model.specs.Part.{Part}
+use Rattle.dom_model.specs.Part.{Part, first_node}
 use Rattle.dom_model.specs.Paths.{views}
 use Rattle.dom_model.specs.Turns.{opening_turn, notified, without_signals}
 use Rattle.dom_model.specs.World.{World, part_of, with_part}
 use Rattle.dom_model.proofs.PartLaws.{owner-part_of}
 use Rattle.dom_isolation.specs.Bounds.{HasBounds, IsBounded}
+use Rattle.dom_isolation.specs.Tables.{IsNodeIn}
 use Rattle.dom_isolation.proofs.TableWorlds.{each-part}
 use Rattle.dom_isolation.proofs.Tests.{either_way}
 use Rattle.dom_mutation.specs.Doc.{DocState}
 use Rattle.dom_commands.specs.Heard.{hearing, heard}
+use Rattle.dom_commands.specs.Machine.{HasFirstNodes}
 use Rattle.dom_commands.specs.Turned.{turned}
-use Rattle.dom_commands.proofs.Heard.{FitsIn, part-heard}
+use Rattle.dom_commands.proofs.Heard.{FitsIn, there-heard, part-heard}
 
 -- a part is written
 bounded-with_part : (w : World) (p : Part) (o : Owner) → p.owner ≡ o → HasBounds p → IsBounded w → IsBounded (with_part w p)
@@ -49,6 +52,9 @@ bounded-opening w o b = either_way IsBounded (is_some w.turn) w (record w { turn
 -- the listeners are left out
 pub bounded-unheard : (of : Owner → List (Listener NodeName)) (w : World) → FitsIn of w → IsBounded (heard of w) → IsBounded w
 bounded-unheard of w fits b o = let h : HasBounds (hearing of (part_of w o)) = subst HasBounds (part-heard of w fits o) (b o) in record { ranges = h.ranges; leaves = h.leaves }
+
+pub first_nodes-unheard : (of : Owner → List (Listener NodeName)) (w : World) → FitsIn of w → HasFirstNodes (heard of w) → HasFirstNodes w
+first_nodes-unheard of w fits h o there = subst (λ (p : Part). IsNodeIn p.trees (first_node p)) (part-heard of w fits o) (h o (there-heard of w o ∙ there))
 
 -- the turn is left out
 pub bounded-inside : (t : Option Owner) (d s : DocState) → turned t d ≡ s → IsBounded s.world → IsBounded d.world

@@ -28,9 +28,9 @@ use Rattle.dom_mutation.specs.Doc.{DocState}
 use Rattle.dom_dispatch.specs.Named.{IsListenerAt}
 use Rattle.dom_commands.specs.Handled.{IsHandled}
 use Rattle.dom_commands.specs.Heard.{heard, own_listeners}
-use Rattle.dom_commands.specs.Machine.{MachineNow, machine_now, IsSound, AreAtNodes, BeginsWith, KeepsNames, KeepsListeners}
+use Rattle.dom_commands.specs.Machine.{MachineNow, machine_now, IsSound, HasFirstNodes, AreAtNodes, BeginsWith, KeepsNames, KeepsListeners}
 use Rattle.dom_commands.specs.Offered.{is_silent, is_plain}
-use Rattle.dom_commands.proofs.Bounded.{bounded-unheard}
+use Rattle.dom_commands.proofs.Bounded.{bounded-unheard, first_nodes-unheard}
 use Rattle.dom_commands.proofs.Handling.{opened-part}
 use Rattle.dom_commands.proofs.Heard.{FitsIn, there-heard, part-heard}
 use Rattle.dom_commands.proofs.HeardCommands.{IsNew, handled-heard}
@@ -102,6 +102,11 @@ seen_reached s ls m seen sound = (subst IsSound (sym seen) sound).reached
 pub seen_bounds : (s : DocState) (ls : List (Listener ℕ)) (m : MachineNow) → machine_now s ls ≡ m → IsSound m → OwnersAreThere s.names s.world → IsBounded s.world
 seen_bounds s ls m seen sound there =
     bounded-unheard (own_listeners s.names ls) s.world (fits-own s.names s.world there ls (seen_at s ls m seen sound)) (subst IsSound (sym seen) sound).bounds
+
+-- and each owner that is there has its first node
+pub seen_first_nodes : (s : DocState) (ls : List (Listener ℕ)) (m : MachineNow) → machine_now s ls ≡ m → IsSound m → OwnersAreThere s.names s.world → HasFirstNodes s.world
+seen_first_nodes s ls m seen sound there =
+    first_nodes-unheard (own_listeners s.names ls) s.world (fits-own s.names s.world there ls (seen_at s ls m seen sound)) (subst IsSound (sym seen) sound).whole.first
 
 -- ---- lines
 

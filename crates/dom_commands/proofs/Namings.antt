@@ -8,7 +8,7 @@ use Rattle.dom_model.specs.Command.{Command, EventWords, Filter, ListenerWords, 
 use Rattle.dom_model.specs.Trace.{is_page}
 use Rattle.dom_reader.specs.declared.line.Spelled.{Spelled}
 use Rattle.dom_reader.specs.Views.{spelled_view}
-use Rattle.dom_commands.specs.declared.admission.Named.TheVariants.{Any, Element, Text, Document, Data, Child, Parent, Slottable, Slot, Iterator, Walker, Observer}
+use Rattle.dom_commands.specs.declared.admission.Named.TheVariants.{Any, Element, Text, Document, Data, Child, Parent, Slottable, Slot, Range, Iterator, Walker, Observer}
 use Rattle.dom_commands.proofs.Refusing.{IsNaming, IsNamingOf, by_owner, and_true, and_last}
 
 pub naming-new_element : (a : Word) → IsNaming (Command.new_element a) []
@@ -83,6 +83,24 @@ naming-children x = record { offered = by_owner _ refl (λ k. refl); foreign = r
 
 pub naming-contains : (x y : Spelled) → IsNaming (Command.contains (spelled_view x) (spelled_view y)) (Any x ∷ Any y ∷ [])
 naming-contains x y = record { offered = by_owner _ refl (λ k. refl); foreign = refl; exist = λ p. and_true _; fit = λ p. refl }
+
+pub naming-range_new : IsNaming Command.range_new []
+naming-range_new = record { offered = by_owner _ refl (λ k. refl); foreign = refl; exist = λ p. refl; fit = λ p. refl }
+
+pub naming-range_start : (k : ℕ) (x : Spelled) (i : ℕ) → IsNaming (Command.range_start k (spelled_view x) i) (Any x ∷ Range k ∷ [])
+naming-range_start k x i = record { offered = by_owner _ refl (λ k. refl); foreign = refl; exist = λ p. and_last _ _; fit = λ p. refl }
+
+pub naming-range_end : (k : ℕ) (x : Spelled) (i : ℕ) → IsNaming (Command.range_end k (spelled_view x) i) (Any x ∷ Range k ∷ [])
+naming-range_end k x i = record { offered = by_owner _ refl (λ k. refl); foreign = refl; exist = λ p. and_last _ _; fit = λ p. refl }
+
+pub naming-range_collapse : (k : ℕ) (to_start : Bool) → IsNaming (Command.range_collapse k to_start) (Range k ∷ [])
+naming-range_collapse k to_start = record { offered = by_owner _ refl (λ k. refl); foreign = refl; exist = λ p. sym (and_true _); fit = λ p. refl }
+
+pub naming-range_drop : (k : ℕ) → IsNaming (Command.range_drop k) (Range k ∷ [])
+naming-range_drop k = record { offered = by_owner _ refl (λ k. refl); foreign = refl; exist = λ p. sym (and_true _); fit = λ p. refl }
+
+pub naming-range_get : (k : ℕ) → IsNaming (Command.range_get k) (Range k ∷ [])
+naming-range_get k = record { offered = by_owner _ refl (λ k. refl); foreign = refl; exist = λ p. sym (and_true _); fit = λ p. refl }
 
 pub naming-iterator_new : (x : Spelled) (f : Filter) → IsNaming (Command.iterator_new (spelled_view x) f) (Any x ∷ [])
 naming-iterator_new x f = record { offered = by_owner _ refl (λ k. refl); foreign = refl; exist = λ p. and_true _; fit = λ p. refl }

@@ -15,7 +15,7 @@ use Rattle.dom_model.specs.DocumentMachine.{is_busy, refusal}
 use Rattle.dom_commands.specs.declared.admission.Named.{Named}
 use Rattle.dom_commands.specs.Refusals.{has_foreign, are_there, are_fitting, early_refusal}
 
--- a command of all owners that names these nodes, iterators, walkers and observers, and nothing else
+-- a command of all owners that names these nodes, ranges, iterators, walkers and observers, and nothing else
 pub record IsNaming (c : Command) (names : List Named) : Type 0 where
   pub offered : (o : Owner) → is_command_of o c ≡ true
   pub foreign : names_foreign c ≡ has_foreign names

@@ -5,13 +5,15 @@ use Rattle.std.specs.List.{AllByRecursion}
 use Rattle.dom_base.specs.declared.Fault.{Fault}
 use Rattle.dom_base.specs.declared.Fault.TheVariants.{Refused, Memory}
 use Rattle.dom_base.specs.declared.NodeName.{NodeName}
+use Rattle.dom_base.specs.declared.Owner.{Owner}
 use Rattle.dom_model.specs.Dispatch.{event_output}
 use Rattle.dom_model.specs.Listeners.{Listener}
 use Rattle.dom_model.specs.Output.{Output, EventLine}
-use Rattle.dom_model.specs.World.{World, Task}
+use Rattle.dom_model.specs.Part.{first_node}
+use Rattle.dom_model.specs.World.{World, Task, part_of}
 use Rattle.dom_isolation.specs.Bounds.{IsBounded}
 use Rattle.dom_isolation.specs.Laws.{IsReached}
-use Rattle.dom_isolation.specs.Tables.{IsWhole}
+use Rattle.dom_isolation.specs.Tables.{IsNodeIn, IsWhole}
 use Rattle.dom_isolation.specs.Worlds.{IsThere, task_owner}
 use Rattle.dom_mutation.specs.Doc.{DocState}
 use Rattle.dom_dispatch.specs.declared.event.LogLine.{LogLine}
@@ -40,6 +42,10 @@ pub record IsSound (m : MachineNow) : Type 0 where
   pub reached : IsReached false m.world
   pub whole : IsWhole m.world
   pub bounds : IsBounded m.world
+
+-- each owner that is there has its first node (own rule)
+abbrev pub HasFirstNodes : World → Type 0
+HasFirstNodes w = (o : Owner) → IsThere w o → IsNodeIn (part_of w o).trees (first_node (part_of w o))
 
 -- the owners of tasks are there
 abbrev pub AreThere : World → List Task → Type 0

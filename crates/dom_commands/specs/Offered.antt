@@ -54,9 +54,19 @@ is_question (Command.disconnect k) = true
 is_question (Command.take k) = true
 is_question _ = false
 
+-- the commands offered so far on live ranges
+abbrev pub is_range : Command → Bool
+is_range Command.range_new = true
+is_range (Command.range_start k x i) = true
+is_range (Command.range_end k x i) = true
+is_range (Command.range_collapse k to_start) = true
+is_range (Command.range_drop k) = true
+is_range (Command.range_get k) = true
+is_range _ = false
+
 -- the commands offered so far that call no listener and change none
 abbrev pub is_silent : Command → Bool
-is_silent c = is_change c || is_question c
+is_silent c = is_change c || (is_question c || is_range c)
 
 -- the commands offered so far on listeners and events, and the end of a turn
 abbrev pub is_event : Command → Bool

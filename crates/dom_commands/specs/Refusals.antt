@@ -10,7 +10,7 @@ use Rattle.dom_model.specs.Names.{Word, text_eq}
 use Rattle.dom_model.specs.Tree.{Node, node_in, has_node, is_element, is_text, is_document, has_data}
 use Rattle.dom_model.specs.Command.{Spelled, own, foreign}
 use Rattle.dom_model.specs.CommandNames.{named, is_foreign}
-use Rattle.dom_model.specs.Part.{Part}
+use Rattle.dom_model.specs.Part.{Part, range_at}
 use Rattle.dom_model.specs.Validity.{first_refusal}
 use Rattle.dom_model.specs.World.{World, part_of, is_there}
 use Rattle.dom_model.specs.DocumentMachine.{is_busy}
@@ -35,6 +35,7 @@ node_named (names.Child x) = Some x
 node_named (names.Parent x) = Some x
 node_named (names.Slottable x) = Some x
 node_named (names.Slot x) = Some x
+node_named (names.Range k) = None
 node_named (names.Iterator k) = None
 node_named (names.Walker k) = None
 node_named (names.Observer k) = None
@@ -50,6 +51,7 @@ accepts (names.Child x) kind name = is_element kind || has_data kind
 accepts (names.Parent x) kind name = not (has_data kind)
 accepts (names.Slottable x) kind name = is_element kind || is_text kind
 accepts (names.Slot x) kind name = is_element kind && text_eq name (codes "slot")
+accepts (names.Range k) kind name = true
 accepts (names.Iterator k) kind name = true
 accepts (names.Walker k) kind name = true
 accepts (names.Observer k) kind name = true
@@ -62,7 +64,7 @@ accepts_node n node = accepts n node.kind node.element
 abbrev pub is_others : Named → Bool
 is_others n = option_map_or (λ x. is_foreign (spelled_view x)) (node_named n) false
 
--- whether an owner's node, iterator, walker or observer is there
+-- whether an owner's node, range, iterator, walker or observer is there
 abbrev pub is_there_as : Part → Named → Bool
 is_there_as p (names.Any x) = has_node p.trees (named p (spelled_view x))
 is_there_as p (names.Element x) = has_node p.trees (named p (spelled_view x))
@@ -73,11 +75,12 @@ is_there_as p (names.Child x) = has_node p.trees (named p (spelled_view x))
 is_there_as p (names.Parent x) = has_node p.trees (named p (spelled_view x))
 is_there_as p (names.Slottable x) = has_node p.trees (named p (spelled_view x))
 is_there_as p (names.Slot x) = has_node p.trees (named p (spelled_view x))
+is_there_as p (names.Range k) = is_some (range_at p k)
 is_there_as p (names.Iterator k) = is_some (slice_get p.iterators k)
 is_there_as p (names.Walker k) = is_some (slice_get p.walkers k)
 is_there_as p (names.Observer k) = is_some (slice_get p.record_queues k)
 
--- whether a node is of the kind that is asked for; an iterator, a walker or an observer always is
+-- whether a node is of the kind that is asked for; a range, an iterator, a walker or an observer always is
 abbrev pub is_fit : Part → Named → Bool
 is_fit p n = option_map_or (λ x. accepts_node n (node_in p.trees (named p (spelled_view x)))) (node_named n) true
 

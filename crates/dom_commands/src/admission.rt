@@ -11,7 +11,7 @@ use crate::state::State;
 use dom_base::{Fault, Kind, Owner, Refusal};
 use dom_reader::Spelled;
 
-/// What a line names: a node with what is asked of its kind, or an iterator, a walker or an observer by its number.
+/// What a line names: a node with what is asked of its kind, or a range, an iterator, a walker or an observer by its number.
 #[derive(Clone, Copy)]
 pub(crate) enum Named {
     Any(Spelled),
@@ -28,6 +28,7 @@ pub(crate) enum Named {
     Slottable(Spelled),
     /// An element named `slot`.
     Slot(Spelled),
+    Range(u32),
     Iterator(u32),
     Walker(u32),
     Observer(u32),
@@ -48,7 +49,7 @@ impl Named {
             | Named::Parent(node)
             | Named::Slottable(node)
             | Named::Slot(node) => Some(node),
-            Named::Iterator(_) | Named::Walker(_) | Named::Observer(_) => None,
+            Named::Range(_) | Named::Iterator(_) | Named::Walker(_) | Named::Observer(_) => None,
         }
     }
 
@@ -57,7 +58,11 @@ impl Named {
         ensures { result ≡ accepts self kind name.now }
     {
         match self {
-            Named::Any(_) | Named::Iterator(_) | Named::Walker(_) | Named::Observer(_) => true,
+            Named::Any(_)
+            | Named::Range(_)
+            | Named::Iterator(_)
+            | Named::Walker(_)
+            | Named::Observer(_) => true,
             Named::Element(_) => matches!(kind, Kind::Element),
             Named::Text(_) => matches!(kind, Kind::Text),
             Named::Document(_) => matches!(kind, Kind::Document),
@@ -102,11 +107,12 @@ impl State {
         named.iter().all(|n| self.is_there_as(owner, *n))
     }
 
-    /// Whether an owner's node, iterator, walker or observer is there.
+    /// Whether an owner's node, range, iterator, walker or observer is there.
     fn is_there_as(&self, owner: Owner, named: Named) -> bool
         ensures { result ≡ is_there_as (part_of self.now.world owner) named }
     {
         match named {
+            Named::Range(number) => self.doc.has_range(owner, number),
             Named::Iterator(number) => self.doc.has_iter(owner, number),
             Named::Walker(number) => self.doc.has_walker(owner, number),
             Named::Observer(number) => self.doc.has_observer(owner, number),
@@ -129,7 +135,7 @@ impl State {
         named.iter().all(|n| self.is_fit(owner, *n))
     }
 
-    /// Whether a node is of the kind that is asked for; an iterator, a walker or an observer always is.
+    /// Whether a node is of the kind that is asked for; a range, an iterator, a walker or an observer always is.
     fn is_fit(&self, owner: Owner, named: Named) -> bool
         ensures { result ≡ is_fit (part_of self.now.world owner) named }
     {

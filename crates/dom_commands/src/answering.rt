@@ -7,7 +7,7 @@ ghost use Rattle.dom_isolation.specs.Offering.{offered_line};
 ghost use Rattle.dom_reader.specs.Views.{command_view, line_view, refused_view};
 ghost use Rattle.dom_commands.specs.Handled.{IsHandled};
 ghost use Rattle.dom_commands.specs.Machine.{AreAtNodes, IsSound, KeepsListeners};
-ghost use Rattle.dom_commands.specs.Offered.{is_change, is_question, is_silent, is_event, is_offered};
+ghost use Rattle.dom_commands.specs.Offered.{is_change, is_question, is_range, is_silent, is_event, is_offered};
 
 use crate::machine::Machine;
 use dom_base::{Fault, Owner, Refusal};
@@ -122,7 +122,7 @@ impl Machine {
 fn is_offered(command: &Command) -> bool
     ensures { result ≡ is_offered (command_view command.now) }
 {
-    is_change(command) || is_question(command) || is_event(command)
+    is_change(command) || is_question(command) || is_range(command) || is_event(command)
 }
 
 /// Whether a command is one of those on listeners and events, or the end of a turn.
@@ -163,6 +163,21 @@ fn is_change(command: &Command) -> bool
             | Command::SetText(_, _)
             | Command::Normalize(_)
             | Command::Micro(_)
+    )
+}
+
+/// Whether a command is one of those offered on live ranges.
+fn is_range(command: &Command) -> bool
+    ensures { result ≡ is_range (command_view command.now) }
+{
+    matches!(
+        command,
+        Command::RangeNew
+            | Command::RangeStart(_, _, _)
+            | Command::RangeEnd(_, _, _)
+            | Command::RangeCollapse(_, _)
+            | Command::RangeDrop(_)
+            | Command::RangeGet(_)
     )
 }
 

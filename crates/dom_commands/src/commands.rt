@@ -1,14 +1,14 @@
 //! What each command does, a function for each, by subject. Each first lets the line pass, with the tests that all commands
 //! share, then makes its own tests and its change, and last opens the owner's turn and replies.
-ghost use Rattle.std.specs.Prelude.{◌≡◌, ◌∷◌, [], true, None};
+ghost use Rattle.std.specs.Prelude.{◌≡◌, ◌||◌, ◌∷◌, [], true, None};
 ghost use Rattle.dom_model.specs.Output.{says, replied};
 ghost use Rattle.dom_model.specs.Turns.{opening_turn};
 ghost use Rattle.dom_isolation.specs.Bounds.{IsBounded};
 ghost use Rattle.dom_printer.specs.Replies.{value_view};
 ghost use Rattle.dom_reader.specs.Views.{command_view};
 ghost use Rattle.dom_commands.specs.Handled.{IsDone, IsHandled};
-ghost use Rattle.dom_commands.specs.Machine.{KeepsNames};
-ghost use Rattle.dom_commands.specs.Offered.{is_silent, is_question};
+ghost use Rattle.dom_commands.specs.Machine.{HasFirstNodes, KeepsNames};
+ghost use Rattle.dom_commands.specs.Offered.{is_silent, is_question, is_range};
 
 mod attributes;
 mod cursors;
@@ -16,6 +16,7 @@ mod data;
 mod making;
 mod moving;
 mod observing;
+mod ranging;
 mod reads;
 mod selecting;
 mod shadows;
@@ -52,6 +53,7 @@ impl State {
     ) -> Result<(), Fault>
         requires silent { is_silent (command_view command) ≡ true }
         requires bounds { IsBounded self.old.world }
+        requires first { HasFirstNodes self.old.world }
         ensures handled { IsHandled owner (command_view command) self.old.world self.new.world out.old.items out.new.items result }
         ensures names { KeepsNames self.old.names self.new.names result }
     {
@@ -87,7 +89,8 @@ impl State {
 
     /// A command that is offered and changes no tree, by its handler.
     fn ask(&mut self, owner: Owner, command: Command, out: &mut Vec<u8>) -> Result<(), Fault>
-        requires { is_question (command_view command) ≡ true }
+        requires question { (is_question (command_view command) || is_range (command_view command)) ≡ true }
+        requires first { HasFirstNodes self.old.world }
         ensures handled { IsHandled owner (command_view command) self.old.world self.new.world out.old.items out.new.items result }
         ensures names { KeepsNames self.old.names self.new.names result }
     {
@@ -116,7 +119,7 @@ impl State {
             Command::Observe(number, node, words) => self.observe(owner, number, node, words, out),
             Command::Disconnect(number) => self.disconnect(owner, number, out),
             Command::Take(number) => self.take_records(owner, number, out),
-            _ => unreachable!(),
+            other => self.perform_on_range(owner, other, out),
         }
     }
 }

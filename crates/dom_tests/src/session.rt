@@ -9,6 +9,7 @@ mod lines;
 mod making;
 mod moving;
 mod observing;
+mod ranging;
 mod reads;
 mod refusals;
 mod selecting;
