@@ -19,6 +19,7 @@ use Rattle.dom_model.specs.Part.{next_name}
 use Rattle.dom_base.specs.declared.Owner.TheVariants.{Page}
 use Rattle.std.proofs.Math.Seq.{get_or-append_seam}
 use Rattle.dom_model.specs.World.{World, part_of}
+use Rattle.dom_isolation.specs.Bounds.{HasBounds}
 use Rattle.dom_tree.specs.Forest.{name_at}
 use Rattle.dom_mutation.specs.Doc.{made, adoption_refusal, splitting_refusal}
 use Rattle.dom_commands.proofs.Finding.{owner-named}
@@ -80,6 +81,10 @@ module _ (names : List NodeName) (w : World) (o : Owner) where
 
   pub has_data-key : (x : Spelled) (node : ℕ) → IsKey node x → has_data (kind_of (part_of w (name_at names node).owner).trees (name_at names node)) ≡ has_data (kind_of (part_of w o).trees (named (part_of w o) x))
   has_data-key x node node_is = rw (node_is, owner-named w o x) refl
+
+  -- its owner's live ranges are within their nodes
+  pub bounds-key : (x : Spelled) (node : ℕ) → IsKey node x → HasBounds (part_of w o) → HasBounds (part_of w (name_at names node).owner)
+  bounds-key x node node_is h = rw (node_is, owner-named w o x) h
 
   pub past_end-key : (x : Spelled) (node offset : ℕ) → IsKey node x → past_end (part_of w (name_at names node).owner) (name_at names node) offset ≡ past_end (part_of w o) (named (part_of w o) x) offset
   past_end-key x node offset node_is = rw (node_is, owner-named w o x) refl

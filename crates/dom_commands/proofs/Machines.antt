@@ -16,17 +16,20 @@ use Rattle.dom_model.specs.DocumentMachine.{first_world, step, finish}
 use Rattle.dom_model.specs.Names.{node_of}
 use Rattle.dom_model.specs.Runs.{quiet}
 use Rattle.dom_model.specs.Turns.{opening_turn, ending_turn, has_other_turn, ending_other_turn}
-use Rattle.dom_model.specs.World.{World}
+use Rattle.dom_model.specs.World.{World, part_of}
+use Rattle.dom_isolation.specs.Bounds.{HasBounds, IsBounded}
 use Rattle.dom_isolation.specs.Laws.{IsReached}
 use Rattle.dom_isolation.specs.Tables.{IsWhole}
+use Rattle.dom_isolation.proofs.BoundWorlds.{first-is_bounded, step-keeps_bounds, finish-keeps_bounds}
 use Rattle.dom_isolation.proofs.Reached.{first-is_reached, step-keeps_reached, ending-keeps_reached, finish-keeps_reached}
 use Rattle.dom_isolation.proofs.TableLines.{first-is_whole, step-keeps_whole, ending-keeps_whole, finish-keeps_whole}
 use Rattle.dom_mutation.specs.Doc.{DocState}
 use Rattle.dom_dispatch.specs.Named.{IsListenerAt}
 use Rattle.dom_commands.specs.Handled.{IsHandled}
-use Rattle.dom_commands.specs.Heard.{heard, own_listeners}
-use Rattle.dom_commands.specs.Machine.{MachineNow, machine_now, IsSound, AreAtNodes, BeginsWith, KeepsNames, KeepsListeners}
+use Rattle.dom_commands.specs.Heard.{hearing, heard, own_listeners}
+use Rattle.dom_commands.specs.Machine.{MachineNow, machine_now, IsSound, IsReady, AreAtNodes, BeginsWith, KeepsNames, KeepsListeners}
 use Rattle.dom_commands.specs.Offered.{is_silent, is_plain}
+use Rattle.dom_commands.proofs.Heard.{part-heard}
 use Rattle.dom_commands.proofs.HeardCommands.{IsNew, handled-heard}
 use Rattle.dom_commands.proofs.Listening.{OwnersAreThere, fits-own, at-kept, own-kept}
 
@@ -86,12 +89,31 @@ line_sound m n l sound is at =
       whole = subst IsWhole (sym is) (step-keeps_whole false m.world l sound.reached sound.whole);
     }
 
+-- and its live ranges stay within their nodes
+pub line_ready : (m n : MachineNow) (l : Line) → IsReady m → n.world ≡ (step m.world l).0 → AreAtNodes n → IsReady n
+line_ready m n l ready is at = record { sound = line_sound m n l ready.sound is at; bounded = subst IsBounded (sym is) (step-keeps_bounds false m.world l ready.sound.reached ready.sound.whole ready.bounded) }
+
 -- the first machine
-pub first_sound : (s : DocState) → s ≡ record { names = node_of Page 0 ∷ []; world = first_world } → IsSound (machine_now s [])
-first_sound s is = subst (λ (t : DocState). IsSound (machine_now t [])) (sym is) (record { listeners = tt; reached = first-is_reached false; whole = first-is_whole })
+pub first_ready : (s : DocState) → s ≡ record { names = node_of Page 0 ∷ []; world = first_world } → IsReady (machine_now s [])
+first_ready s is =
+    subst (λ (t : DocState). IsReady (machine_now t [])) (sym is) (record { sound = record { listeners = tt; reached = first-is_reached false; whole = first-is_whole }; bounded = first-is_bounded })
+
+-- a state's live ranges are within their nodes where a machine's are
+pub bounds_inside : (s : DocState) (ls : List (Listener ℕ)) (m : MachineNow) → machine_now s ls ≡ m → IsReady m → OwnersAreThere s.names s.world → (o : Owner) → HasBounds (part_of s.world o)
+bounds_inside s ls m seen ready there o =
+    let of = own_listeners s.names ls in
+    let h : HasBounds (hearing of (part_of s.world o)) =
+    subst HasBounds (part-heard of s.world (fits-own s.names s.world there ls (seen_at s ls m seen ready.sound)) o) ((subst IsReady (sym seen) ready).bounded o) in
+    record { ranges = h.ranges; leaves = h.leaves }
 
 -- listeners that are at nodes are so however a command ends
 pub always_at : (m : MachineNow) (r : Result (Unit {0}) Fault) → AreAtNodes m → KeepsListeners m r
 always_at m (Ok x) at = at
 always_at m (Err (Refused q)) at = at
 always_at m (Err Memory) at = tt
+
+-- a machine whose turn was ended
+pub ended_ready : (m n : MachineNow) → is_some m.world.turn ≡ true → IsReady m → {T E : Type 0} (r : Result T E) → OnOk r (n.world ≡ (ending_turn m.world).0) → OnOk r (IsSound n) → OnOk r (IsReady n)
+ended_ready m n begun ready (Ok x) is sound =
+    record { sound = sound; bounded = subst IsBounded (ap (λ (b : Bool). (if b then ending_turn m.world else quiet m.world).0) begun ∙ sym is) (finish-keeps_bounds false m.world ready.sound.reached ready.bounded) }
+ended_ready m n begun ready (Err e) is sound = tt

@@ -9,6 +9,7 @@ use Rattle.dom_model.specs.Dispatch.{event_output}
 use Rattle.dom_model.specs.Listeners.{Listener}
 use Rattle.dom_model.specs.Output.{Output, EventLine}
 use Rattle.dom_model.specs.World.{World, Task}
+use Rattle.dom_isolation.specs.Bounds.{IsBounded}
 use Rattle.dom_isolation.specs.Laws.{IsReached}
 use Rattle.dom_isolation.specs.Tables.{IsWhole}
 use Rattle.dom_isolation.specs.Worlds.{IsThere, task_owner}
@@ -38,6 +39,11 @@ pub record IsSound (m : MachineNow) : Type 0 where
   pub listeners : AreAtNodes m
   pub reached : IsReached false m.world
   pub whole : IsWhole m.world
+
+-- what holds of it before each line: it is sound, and no live range ends past its nodes' ends
+pub record IsReady (m : MachineNow) : Type 0 where
+  pub sound : IsSound m
+  pub bounded : IsBounded m.world
 
 -- the owners of tasks are there
 abbrev pub AreThere : World → List Task → Type 0

@@ -6,7 +6,7 @@ ghost use Rattle.dom_text.specs.Text.{output_text};
 ghost use Rattle.dom_isolation.specs.Offering.{offered_line};
 ghost use Rattle.dom_reader.specs.Views.{command_view, line_view, refused_view};
 ghost use Rattle.dom_commands.specs.Handled.{IsHandled};
-ghost use Rattle.dom_commands.specs.Machine.{AreAtNodes, IsSound, KeepsListeners};
+ghost use Rattle.dom_commands.specs.Machine.{AreAtNodes, IsSound, IsReady, KeepsListeners};
 ghost use Rattle.dom_commands.specs.Offered.{is_change, is_question, is_silent, is_event, is_offered};
 
 use crate::machine::Machine;
@@ -21,10 +21,10 @@ impl Machine {
         &mut self,
         read: Result<Line, (Option<Owner>, Refusal)>,
     ) -> Result<Vec<u8>, AllocError>
-        requires { IsSound self.old }
+        requires { IsReady self.old }
         ensures text { IfOk result (λ text. text.items ≡ output_text (step self.old.world (offered_line is_offered (line_view read))).1) }
         ensures world { OnOk result (self.new.world ≡ (step self.old.world (offered_line is_offered (line_view read))).0) }
-        ensures sound { OnOk result (IsSound self.new) }
+        ensures ready { OnOk result (IsReady self.new) }
     {
         let mut out = Vec::new(self.alloc);
         match read {
@@ -54,7 +54,7 @@ impl Machine {
         command: Command,
         out: &mut Vec<u8>,
     ) -> Result<(), AllocError>
-        requires { IsSound self.old }
+        requires { IsReady self.old }
         ensures text { OnOk result (out.new.items ≡ out.old.items ++ output_text (step self.old.world (offered_line is_offered (model_command owner (command_view command)))).1) }
         ensures world { OnOk result (self.new.world ≡ (step self.old.world (offered_line is_offered (model_command owner (command_view command)))).0) }
         ensures listeners { OnOk result (AreAtNodes self.new) }
@@ -69,7 +69,7 @@ impl Machine {
     /// A command that is offered: what it does, or its refusal.
     fn run(&mut self, owner: Owner, command: Command, out: &mut Vec<u8>) -> Result<(), AllocError>
         requires offered { is_offered (command_view command) ≡ true }
-        requires sound { IsSound self.old }
+        requires ready { IsReady self.old }
         ensures text { OnOk result (out.new.items ≡ out.old.items ++ output_text (run_command owner (command_view command) self.old.world).1) }
         ensures world { OnOk result (self.new.world ≡ (run_command owner (command_view command) self.old.world).0) }
         ensures listeners { OnOk result (AreAtNodes self.new) }
@@ -84,7 +84,7 @@ impl Machine {
     /// A command that is offered, by its handler.
     fn perform(&mut self, owner: Owner, command: Command, out: &mut Vec<u8>) -> Result<(), Fault>
         requires offered { is_offered (command_view command) ≡ true }
-        requires sound { IsSound self.old }
+        requires ready { IsReady self.old }
         ensures handled { IsHandled owner (command_view command) self.old.world self.new.world out.old.items out.new.items result }
         ensures listeners { KeepsListeners self.new result }
     {
@@ -109,7 +109,7 @@ impl Machine {
         out: &mut Vec<u8>,
     ) -> Result<(), Fault>
         requires silent { is_silent (command_view command) ≡ true }
-        requires sound { IsSound self.old }
+        requires ready { IsReady self.old }
         ensures handled { IsHandled owner (command_view command) self.old.world self.new.world out.old.items out.new.items result }
         ensures listeners { KeepsListeners self.new result }
     {

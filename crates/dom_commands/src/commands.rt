@@ -3,6 +3,8 @@
 ghost use Rattle.std.specs.Prelude.{◌≡◌, ◌∷◌, [], true, None};
 ghost use Rattle.dom_model.specs.Output.{says, replied};
 ghost use Rattle.dom_model.specs.Turns.{opening_turn};
+ghost use Rattle.dom_model.specs.World.{part_of};
+ghost use Rattle.dom_isolation.specs.Bounds.{HasBounds};
 ghost use Rattle.dom_printer.specs.Replies.{value_view};
 ghost use Rattle.dom_reader.specs.Views.{command_view};
 ghost use Rattle.dom_commands.specs.Handled.{IsDone, IsHandled};
@@ -47,7 +49,8 @@ impl State {
         command: Command,
         out: &mut Vec<u8>,
     ) -> Result<(), Fault>
-        requires { is_silent (command_view command) ≡ true }
+        requires silent { is_silent (command_view command) ≡ true }
+        requires bounds { HasBounds (part_of self.old.world owner) }
         ensures handled { IsHandled owner (command_view command) self.old.world self.new.world out.old.items out.new.items result }
         ensures names { KeepsNames self.old.names self.new.names result }
     {

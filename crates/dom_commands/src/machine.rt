@@ -1,7 +1,7 @@
 //! The document machine: what a run holds between its lines.
 ghost use Rattle.std.specs.Prelude.{◌≡◌, IfOk};
 ghost use Rattle.dom_model.specs.DocumentMachine.{first_world};
-ghost use Rattle.dom_commands.specs.Machine.{IsSound};
+ghost use Rattle.dom_commands.specs.Machine.{IsReady};
 
 use crate::state::State;
 use dom_dispatch::Listeners;
@@ -32,7 +32,7 @@ impl Machine {
     /// The machine before the first line: the page has its first document, and there is no more.
     pub fn new(alloc: Global) -> Result<Machine, AllocError>
         ensures world { IfOk result (λ machine. machine.world ≡ first_world) }
-        ensures sound { IfOk result (λ machine. IsSound machine) }
+        ensures ready { IfOk result (λ machine. IsReady machine) }
     {
         let state = State::new(alloc)?;
         Ok(Machine {

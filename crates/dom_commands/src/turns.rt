@@ -5,7 +5,7 @@ ghost use Rattle.dom_model.specs.Command.{end_turn};
 ghost use Rattle.dom_model.specs.Turns.{has_other_turn, ending_turn, ending_other_turn, ending_any_turn};
 ghost use Rattle.dom_text.specs.Text.{output_text};
 ghost use Rattle.dom_commands.specs.Handled.{IsHandled};
-ghost use Rattle.dom_commands.specs.Machine.{IsSound, KeepsListeners};
+ghost use Rattle.dom_commands.specs.Machine.{IsSound, IsReady, KeepsListeners};
 
 use crate::machine::Machine;
 use crate::state::State;
@@ -74,10 +74,10 @@ impl Machine {
 
     /// Ends any open turn, at the end of input.
     pub fn close_any_turn(&mut self, out: &mut Vec<u8>) -> Result<(), AllocError>
-        requires { IsSound self.old }
+        requires { IsReady self.old }
         ensures text { OnOk result (out.new.items ≡ out.old.items ++ output_text (ending_any_turn self.old.world).1) }
         ensures world { OnOk result (self.new.world ≡ (ending_any_turn self.old.world).0) }
-        ensures sound { OnOk result (IsSound self.new) }
+        ensures ready { OnOk result (IsReady self.new) }
     {
         if self.state.has_turn() {
             return self.close_turn(out);

@@ -1,7 +1,9 @@
-ghost use Rattle.std.specs.Prelude.{◌≡◌, ◌<◌, length, false, true};
+ghost use Rattle.std.specs.Prelude.{◌≡◌, ◌<◌, ◌≢◌, length, false, true, IfOk, IfErr};
+ghost use Rattle.std.specs.Option.{ForSome};
 ghost use Rattle.dom_base.specs.declared.Owner.TheVariants.{Page};
 ghost use Rattle.dom_model.specs.Tree.{is_shadow};
-ghost use Rattle.dom_model.specs.World.{is_there};
+ghost use Rattle.dom_model.specs.World.{part_of, is_there};
+ghost use Rattle.dom_isolation.specs.Bounds.{HasBounds};
 ghost use Rattle.dom_mutation.specs.Doc.{owner_in};
 
 mod cursors;
@@ -33,9 +35,12 @@ pub(crate) fn key_of(rt: &impl Abort, doc: &Doc, number: u32) -> Key
 
 // Makes a node of the page.
 pub(crate) fn add(rt: &impl Abort, alloc: Global, doc: &mut Doc, kind: Kind)
-    requires { is_shadow kind ≡ false }
+    requires no_shadow { is_shadow kind ≡ false }
+    requires bounds { HasBounds (part_of doc.old.world Page) }
+    ensures { HasBounds (part_of doc.new.world Page) }
 {
     let _root = key_of(rt, doc, 0);
+    doc.laws();
     let node = NodeData {
         kind,
         element: String::new(alloc),
@@ -43,25 +48,48 @@ pub(crate) fn add(rt: &impl Abort, alloc: Global, doc: &mut Doc, kind: Kind)
         text: Vec::new(alloc),
         document: None,
     };
-    assert!(rt; doc.add(Owner::Page, node).is_ok());
+    let _key = doc
+        .add(Owner::Page, node)
+        .expect(rt, "no node is made");
 }
 
-// Puts a node of the page among the children of another one.
+// The node of the page with this number, if a number is given.
+fn key_if(rt: &impl Abort, doc: &Doc, number: Option<u32>) -> Option<Key>
+    ensures node { ForSome result (λ k. k < length doc.now.names) }
+    ensures owner { ForSome result (λ k. owner_in doc.now k ≡ Page) }
+{
+    match number {
+        Some(number) => Some(key_of(rt, doc, number)),
+        None => None,
+    }
+}
+
+// Puts a node of the page among the children of another one; memory must not be refused.
 pub(crate) fn insert(
     rt: &impl Abort,
     doc: &mut Doc,
     parent: u32,
     node: u32,
     child: Option<u32>,
-) -> Result<(), Fault> {
+) -> Result<(), Fault>
+    requires { HasBounds (part_of doc.old.world Page) }
+    ensures { HasBounds (part_of doc.new.world Page) }
+{
     let into = key_of(rt, doc, parent);
     let moved = key_of(rt, doc, node);
-    match child {
-        Some(number) => {
-            let before = key_of(rt, doc, number);
-            doc.insert(into, moved, Some(before))
-        }
-        None => doc.insert(into, moved, None),
+    let before = key_if(rt, doc, child);
+    doc.laws();
+    let answer = doc.insert(into, moved, before);
+    check_memory(rt, &answer);
+    answer
+}
+
+// Checks that memory was not refused.
+pub(crate) fn check_memory(rt: &impl Abort, answer: &Result<(), Fault>)
+    ensures { IfErr answer.now (λ fault. fault ≢ Fault.Memory) }
+{
+    if let Err(Fault::Memory) = answer {
+        panic!(rt; "memory was refused");
     }
 }
 
@@ -88,11 +116,13 @@ pub(crate) fn check_children(rt: &impl Abort, doc: &Doc, parent: u32, wanted: &[
 }
 
 // The page with an element 1 in its document, elements 2 and 3 and Texts 4 and 5 in that one, and a fragment 6.
-pub(crate) fn small_page(rt: &impl Abort, alloc: Global) -> Result<Doc, AllocError> {
+pub(crate) fn small_page(rt: &impl Abort, alloc: Global) -> Result<Doc, AllocError>
+    ensures { IfOk result (λ doc. HasBounds (part_of doc.world Page)) }
+{
     let mut doc = Doc::new(alloc)?;
-    for _ in 0..3 {
-        add(rt, alloc, &mut doc, Kind::Element);
-    }
+    add(rt, alloc, &mut doc, Kind::Element);
+    add(rt, alloc, &mut doc, Kind::Element);
+    add(rt, alloc, &mut doc, Kind::Element);
     add(rt, alloc, &mut doc, Kind::Text);
     add(rt, alloc, &mut doc, Kind::Text);
     add(rt, alloc, &mut doc, Kind::Fragment);
@@ -159,7 +189,7 @@ fn fragments_give_their_children(rt: HostRuntime) -> Result<(), AllocError> {
 #[test]
 fn a_large_fragment_is_moved(rt: HostRuntime) -> Result<(), AllocError> {
     let mut doc = small_page(&rt, rt.alloc())?;
-    for _ in 0..100_000 {
+    for _number in 0..100_000 {
         add(&rt, rt.alloc(), &mut doc, Kind::Comment);
     }
     for number in 7..100_007 {
@@ -177,14 +207,13 @@ fn a_large_fragment_is_moved(rt: HostRuntime) -> Result<(), AllocError> {
 #[test]
 fn removals_and_adoptions(rt: HostRuntime) -> Result<(), AllocError> {
     let mut doc = small_page(&rt, rt.alloc())?;
-    let (root, third) = (key_of(&rt, &doc, 0), key_of(&rt, &doc, 3));
-    assert!(rt; doc.remove(third).is_ok());
-    check_children(&rt, &doc, 1, &[2, 4, 5]);
     add(&rt, rt.alloc(), &mut doc, Kind::Document);
-    let (page, other) = (key_of(&rt, &doc, 0), key_of(&rt, &doc, 7));
-    let (second, fourth) = (key_of(&rt, &doc, 2), key_of(&rt, &doc, 4));
-    assert!(rt; is_refused(doc.adopt(other, page), Refusal::NotSupported));
     assert!(rt; insert(&rt, &mut doc, 2, 4, None).is_ok());
+    let third = key_of(&rt, &doc, 3);
+    assert!(rt; doc.remove(third).is_ok());
+    check_children(&rt, &doc, 1, &[2, 5]);
+    let (page, other) = (key_of(&rt, &doc, 0), key_of(&rt, &doc, 7));
+    assert!(rt; is_refused(doc.adopt(other, page), Refusal::NotSupported));
     let (other, second) = (key_of(&rt, &doc, 7), key_of(&rt, &doc, 2));
     assert!(rt; doc.adopt(other, second).is_ok());
     check_children(&rt, &doc, 1, &[5]);

@@ -1,5 +1,7 @@
 //! The commands on the data of Texts and Comments, and on the text below a node.
 ghost use Rattle.dom_model.specs.Command.{set_data, replace_data, split, set_text, normalize};
+ghost use Rattle.dom_model.specs.World.{part_of};
+ghost use Rattle.dom_isolation.specs.Bounds.{HasBounds};
 ghost use Rattle.dom_reader.specs.Views.{spelled_view};
 ghost use Rattle.dom_commands.specs.Machine.{KeepsNames};
 ghost use Rattle.dom_commands.specs.Handled.{IsHandled};
@@ -19,6 +21,7 @@ impl State {
         text: DomStr,
         out: &mut Vec<u8>,
     ) -> Result<(), Fault>
+        requires { HasBounds (part_of self.old.world owner) }
         ensures handled { IsHandled owner (set_data (spelled_view node) text.items) self.old.world self.new.world out.old.items out.new.items result }
         ensures names { KeepsNames self.old.names self.new.names result }
     {
@@ -38,6 +41,7 @@ impl State {
         text: DomStr,
         out: &mut Vec<u8>,
     ) -> Result<(), Fault>
+        requires { HasBounds (part_of self.old.world owner) }
         ensures handled { IsHandled owner (replace_data (spelled_view node) offset count text.items) self.old.world self.new.world out.old.items out.new.items result }
         ensures names { KeepsNames self.old.names self.new.names result }
     {
@@ -56,6 +60,7 @@ impl State {
         offset: u32,
         out: &mut Vec<u8>,
     ) -> Result<(), Fault>
+        requires { HasBounds (part_of self.old.world owner) }
         ensures handled { IsHandled owner (split (spelled_view node) offset) self.old.world self.new.world out.old.items out.new.items result }
         ensures names { KeepsNames self.old.names self.new.names result }
     {
@@ -75,6 +80,7 @@ impl State {
         text: DomStr,
         out: &mut Vec<u8>,
     ) -> Result<(), Fault>
+        requires { HasBounds (part_of self.old.world owner) }
         ensures handled { IsHandled owner (set_text (spelled_view node) text.items) self.old.world self.new.world out.old.items out.new.items result }
         ensures names { KeepsNames self.old.names self.new.names result }
     {
@@ -91,6 +97,7 @@ impl State {
         node: Spelled,
         out: &mut Vec<u8>,
     ) -> Result<(), Fault>
+        requires { HasBounds (part_of self.old.world owner) }
         ensures handled { IsHandled owner (normalize (spelled_view node)) self.old.world self.new.world out.old.items out.new.items result }
         ensures names { KeepsNames self.old.names self.new.names result }
     {

@@ -1,5 +1,7 @@
 //! The commands that move nodes.
 ghost use Rattle.dom_model.specs.Command.{append, insert, replace, remove, adopt};
+ghost use Rattle.dom_model.specs.World.{part_of};
+ghost use Rattle.dom_isolation.specs.Bounds.{HasBounds};
 ghost use Rattle.dom_reader.specs.Views.{spelled_view};
 ghost use Rattle.dom_commands.specs.Machine.{KeepsNames};
 ghost use Rattle.dom_commands.specs.Handled.{IsHandled};
@@ -19,6 +21,7 @@ impl State {
         node: Spelled,
         out: &mut Vec<u8>,
     ) -> Result<(), Fault>
+        requires { HasBounds (part_of self.old.world owner) }
         ensures handled { IsHandled owner (append (spelled_view parent) (spelled_view node)) self.old.world self.new.world out.old.items out.new.items result }
         ensures names { KeepsNames self.old.names self.new.names result }
     {
@@ -37,6 +40,7 @@ impl State {
         child: Spelled,
         out: &mut Vec<u8>,
     ) -> Result<(), Fault>
+        requires { HasBounds (part_of self.old.world owner) }
         ensures handled { IsHandled owner (insert (spelled_view parent) (spelled_view node) (spelled_view child)) self.old.world self.new.world out.old.items out.new.items result }
         ensures names { KeepsNames self.old.names self.new.names result }
     {
@@ -57,6 +61,7 @@ impl State {
         child: Spelled,
         out: &mut Vec<u8>,
     ) -> Result<(), Fault>
+        requires { HasBounds (part_of self.old.world owner) }
         ensures handled { IsHandled owner (replace (spelled_view parent) (spelled_view node) (spelled_view child)) self.old.world self.new.world out.old.items out.new.items result }
         ensures names { KeepsNames self.old.names self.new.names result }
     {

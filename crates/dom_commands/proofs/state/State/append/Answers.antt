@@ -11,7 +11,7 @@ use Rattle.dom_reader.specs.Views.{spelled_view}
 use Rattle.dom_commands.specs.declared.admission.Named.TheVariants.{Any}
 use Rattle.dom_commands.proofs.Handling.{refused, plans, faults, accepted_none}
 use Rattle.dom_commands.proofs.Namings.{naming-append}
-use Rattle.dom_commands.proofs.CommandPlans.{IsKey, append-refused, append-made}
+use Rattle.dom_commands.proofs.CommandPlans.{IsKey, bounds-key, append-refused, append-made}
 use Rattle.dom_commands.proofs.state.State.append.Goals as goal
 
 pub returns-in_err-admit-clause-handled : goal.returns-in_err-admit-clause-handled
@@ -36,3 +36,9 @@ returns-clause-handled c =
     plans c.self.inside.turn d c.args.self.now c.self.view_is c.args.owner (Command.append (spelled_view c.args.parent) (spelled_view c.args.node)) (Any c.args.parent ∷ Any c.args.node ∷ []) (naming-append c.args.parent c.args.node) (sym c.admit.ensures ∙ c.in_ok-admit.was) c.insert.new.self.world c.accept.new.self.world (λ p. pre_inserting (named p (spelled_view c.args.node)) (named p (spelled_view c.args.parent)) None p) (λ p. nothing) nothing c.args.out.now.items c.accept.new.out.items c.accept.result refl
     (sym (append-refused d.names d.world c.args.owner (spelled_view c.args.parent) (spelled_view c.args.node) c.key-parent.result c.key-node.result parent_is node_is) ∙ accepted_none tt (insertion_refusal (part_of d.world (name_at d.names c.key-parent.result).owner).trees (name_at d.names c.key-parent.result) (name_at d.names c.key-node.result) None) (λ r. (c.in_ok-insert.ensures.refused r).1))
     (append-made d.names d.world c.args.owner (spelled_view c.args.parent) (spelled_view c.args.node) c.key-parent.result c.key-node.result parent_is node_is c.insert.new.self.world c.in_ok-insert.ensures.world) refl c.accept.ensures.done
+
+pub insert-requires-clause-bounds : goal.insert-requires-clause-bounds
+insert-requires-clause-bounds c =
+    let d = c.self.inside.doc in
+    let key_is : IsKey d.names d.world c.args.owner c.key-parent.result (spelled_view c.args.parent) = rw (← c.self.view_is) at c.key-parent.ensures.name in
+    bounds-key d.names d.world c.args.owner (spelled_view c.args.parent) c.key-parent.result key_is (rw (← c.self.view_is) at c.requires)

@@ -8,7 +8,7 @@ use Rattle.dom_reader.specs.Views.{spelled_view}
 use Rattle.dom_commands.specs.declared.admission.Named.TheVariants.{Any}
 use Rattle.dom_commands.proofs.Handling.{refused, plans}
 use Rattle.dom_commands.proofs.Namings.{naming-normalize}
-use Rattle.dom_commands.proofs.CommandPlans.{IsKey, node-made}
+use Rattle.dom_commands.proofs.CommandPlans.{IsKey, bounds-key, node-made}
 use Rattle.dom_commands.proofs.state.State.normalize.Goals as goal
 
 pub returns-in_err-admit-clause-handled : goal.returns-in_err-admit-clause-handled
@@ -23,3 +23,9 @@ returns-clause-handled c =
     plans c.self.inside.turn d c.args.self.now c.self.view_is c.args.owner (Command.normalize (spelled_view c.args.node)) (Any c.args.node ∷ []) (naming-normalize c.args.node) (sym c.admit.ensures ∙ c.in_ok-admit.was) c.normalize.new.self.world c.accept.new.self.world (λ p. normalizing (named p (spelled_view c.args.node)) p) (λ p. nothing) nothing c.args.out.now.items c.accept.new.out.items c.accept.result refl
     (refl)
     (node-made d.names d.world c.args.owner normalizing (spelled_view c.args.node) c.key-node.result node_is c.normalize.new.self.world c.in_ok-normalize.ensures.world) refl c.accept.ensures.done
+
+pub normalize-requires-clause-bounds : goal.normalize-requires-clause-bounds
+normalize-requires-clause-bounds c =
+    let d = c.self.inside.doc in
+    let key_is : IsKey d.names d.world c.args.owner c.key-node.result (spelled_view c.args.node) = rw (← c.self.view_is) at c.key-node.ensures.name in
+    bounds-key d.names d.world c.args.owner (spelled_view c.args.node) c.key-node.result key_is (rw (← c.self.view_is) at c.requires)

@@ -11,7 +11,7 @@ use Rattle.dom_reader.specs.Views.{spelled_view}
 use Rattle.dom_commands.specs.declared.admission.Named.TheVariants.{Any}
 use Rattle.dom_commands.proofs.Handling.{refused, plans, faults, accepted_none}
 use Rattle.dom_commands.proofs.Namings.{naming-replace}
-use Rattle.dom_commands.proofs.CommandPlans.{IsKey, replace-refused, replace-made}
+use Rattle.dom_commands.proofs.CommandPlans.{IsKey, bounds-key, replace-refused, replace-made}
 use Rattle.dom_commands.proofs.state.State.replace.Goals as goal
 
 pub returns-in_err-admit-clause-handled : goal.returns-in_err-admit-clause-handled
@@ -38,3 +38,9 @@ returns-clause-handled c =
     plans c.self.inside.turn d c.args.self.now c.self.view_is c.args.owner (Command.replace (spelled_view c.args.parent) (spelled_view c.args.node) (spelled_view c.args.child)) (Any c.args.parent ∷ Any c.args.node ∷ Any c.args.child ∷ []) (naming-replace c.args.parent c.args.node c.args.child) (sym c.admit.ensures ∙ c.in_ok-admit.was) c.replace.new.self.world c.accept.new.self.world (λ p. replacing (named p (spelled_view c.args.parent)) (named p (spelled_view c.args.node)) (named p (spelled_view c.args.child)) p) (λ p. nothing) nothing c.args.out.now.items c.accept.new.out.items c.accept.result refl
     (sym (replace-refused d.names d.world c.args.owner (spelled_view c.args.parent) (spelled_view c.args.node) (spelled_view c.args.child) c.key-parent.result c.key-node.result c.key-child.result parent_is node_is child_is) ∙ accepted_none tt (replacement_refusal (part_of d.world (name_at d.names c.key-parent.result).owner).trees (name_at d.names c.key-parent.result) (name_at d.names c.key-node.result) (name_at d.names c.key-child.result)) (λ r. (c.in_ok-replace.ensures.refused r).1))
     (replace-made d.names d.world c.args.owner (spelled_view c.args.parent) (spelled_view c.args.node) (spelled_view c.args.child) c.key-parent.result c.key-node.result c.key-child.result parent_is node_is child_is c.replace.new.self.world c.in_ok-replace.ensures.world) refl c.accept.ensures.done
+
+pub replace-requires-clause-bounds : goal.replace-requires-clause-bounds
+replace-requires-clause-bounds c =
+    let d = c.self.inside.doc in
+    let key_is : IsKey d.names d.world c.args.owner c.key-parent.result (spelled_view c.args.parent) = rw (← c.self.view_is) at c.key-parent.ensures.name in
+    bounds-key d.names d.world c.args.owner (spelled_view c.args.parent) c.key-parent.result key_is (rw (← c.self.view_is) at c.requires)

@@ -8,9 +8,9 @@ use Rattle.dom_model.specs.CommandNames.{named}
 use Rattle.dom_model.specs.Output.{nothing}
 use Rattle.dom_reader.specs.Views.{spelled_view}
 use Rattle.dom_commands.specs.declared.admission.Named.TheVariants.{Data}
-use Rattle.dom_commands.proofs.Handling.{refused, plans, faults}
+use Rattle.dom_commands.proofs.Handling.{refused, plans, faults, fitting}
 use Rattle.dom_commands.proofs.Namings.{naming-replace_data}
-use Rattle.dom_commands.proofs.CommandPlans.{IsKey, node-made, lone_holds, lone_fails, only_refusal, accepted_not, past_end-key}
+use Rattle.dom_commands.proofs.CommandPlans.{IsKey, bounds-key, has_data-key, node-made, lone_holds, lone_fails, only_refusal, accepted_not, past_end-key}
 use Rattle.dom_commands.proofs.state.State.replace_data.Goals as goal
 
 pub returns-in_err-admit-clause-handled : goal.returns-in_err-admit-clause-handled
@@ -33,3 +33,16 @@ returns-clause-handled c =
     plans c.self.inside.turn d c.args.self.now c.self.view_is c.args.owner (Command.replace_data (spelled_view c.args.node) c.args.offset c.args.count c.args.text.items) (Data c.args.node ∷ []) (naming-replace_data c.args.node c.args.offset c.args.count c.args.text.items) (sym c.admit.ensures ∙ c.in_ok-admit.was) c.replace_data.new.self.world c.accept.new.self.world (λ p. replacing_data (named p (spelled_view c.args.node)) c.args.offset c.args.count c.args.text.items p) (λ p. nothing) nothing c.args.out.now.items c.accept.new.out.items c.accept.result refl
     (lone_fails _ IndexSize (λ h. accepted_not IndexSize (c.in_ok-replace_data.ensures.refused.1 ((past_end-key d.names d.world c.args.owner (spelled_view c.args.node) c.key-node.result c.args.offset node_is) ∙ h))))
     (node-made d.names d.world c.args.owner (λ x. replacing_data x c.args.offset c.args.count c.args.text.items) (spelled_view c.args.node) c.key-node.result node_is c.replace_data.new.self.world c.in_ok-replace_data.ensures.world) refl c.accept.ensures.done
+
+pub replace_data-requires-clause-bounds : goal.replace_data-requires-clause-bounds
+replace_data-requires-clause-bounds c =
+    let d = c.self.inside.doc in
+    let key_is : IsKey d.names d.world c.args.owner c.key-node.result (spelled_view c.args.node) = rw (← c.self.view_is) at c.key-node.ensures.name in
+    bounds-key d.names d.world c.args.owner (spelled_view c.args.node) c.key-node.result key_is (rw (← c.self.view_is) at c.requires)
+
+pub replace_data-requires-clause-has_data : goal.replace_data-requires-clause-has_data
+replace_data-requires-clause-has_data c =
+    let d = c.self.inside.doc in
+    let node_is : IsKey d.names d.world c.args.owner c.key-node.result (spelled_view c.args.node) = rw (← c.self.view_is) at c.key-node.ensures.name in
+    has_data-key d.names d.world c.args.owner (spelled_view c.args.node) c.key-node.result node_is
+    ∙ (rw (← c.self.view_is) at (fitting c.args.self.now.world c.args.owner (Data c.args.node) (sym c.admit.ensures ∙ c.in_ok-admit.was)))

@@ -8,7 +8,7 @@ use Rattle.dom_reader.specs.Views.{spelled_view}
 use Rattle.dom_commands.specs.declared.admission.Named.TheVariants.{Data}
 use Rattle.dom_commands.proofs.Handling.{refused, plans, fitting}
 use Rattle.dom_commands.proofs.Namings.{naming-set_data}
-use Rattle.dom_commands.proofs.CommandPlans.{IsKey, node-made, has_data-key}
+use Rattle.dom_commands.proofs.CommandPlans.{IsKey, bounds-key, node-made, has_data-key}
 use Rattle.dom_commands.proofs.state.State.set_data.Goals as goal
 
 pub returns-in_err-admit-clause-handled : goal.returns-in_err-admit-clause-handled
@@ -30,3 +30,9 @@ set_data-requires-clause-has_data c =
     let node_is : IsKey d.names d.world c.args.owner c.key-node.result (spelled_view c.args.node) = rw (← c.self.view_is) at c.key-node.ensures.name in
     has_data-key d.names d.world c.args.owner (spelled_view c.args.node) c.key-node.result node_is
     ∙ (rw (← c.self.view_is) at (fitting c.args.self.now.world c.args.owner (Data c.args.node) (sym c.admit.ensures ∙ c.in_ok-admit.was)))
+
+pub set_data-requires-clause-bounds : goal.set_data-requires-clause-bounds
+set_data-requires-clause-bounds c =
+    let d = c.self.inside.doc in
+    let key_is : IsKey d.names d.world c.args.owner c.key-node.result (spelled_view c.args.node) = rw (← c.self.view_is) at c.key-node.ensures.name in
+    bounds-key d.names d.world c.args.owner (spelled_view c.args.node) c.key-node.result key_is (rw (← c.self.view_is) at c.requires)

@@ -10,7 +10,7 @@ use Rattle.dom_reader.specs.Views.{spelled_view}
 use Rattle.dom_commands.specs.declared.admission.Named.TheVariants.{Any}
 use Rattle.dom_commands.proofs.Handling.{refused, plans, faults}
 use Rattle.dom_commands.proofs.Namings.{naming-set_text}
-use Rattle.dom_commands.proofs.CommandPlans.{IsKey, node-made, text-limit, lone_holds, lone_fails, only_refusal, accepted_not}
+use Rattle.dom_commands.proofs.CommandPlans.{IsKey, bounds-key, node-made, text-limit, lone_holds, lone_fails, only_refusal, accepted_not}
 use Rattle.dom_commands.proofs.state.State.set_text.Goals as goal
 
 pub returns-in_err-admit-clause-handled : goal.returns-in_err-admit-clause-handled
@@ -33,3 +33,9 @@ returns-clause-handled c =
     plans c.self.inside.turn d c.args.self.now c.self.view_is c.args.owner (Command.set_text (spelled_view c.args.node) c.args.text.items) (Any c.args.node ∷ []) (naming-set_text c.args.node c.args.text.items) (sym c.admit.ensures ∙ c.in_ok-admit.was) c.set_text.new.self.world c.accept.new.self.world (λ p. setting_text (named p (spelled_view c.args.node)) c.args.text.items p) (λ p. nothing) nothing c.args.out.now.items c.accept.new.out.items c.accept.result refl
     (lone_fails _ Limit (λ h. accepted_not Limit (c.in_ok-set_text.ensures.refused.1 ((text-limit d.names d.world c.args.owner (spelled_view c.args.node) c.key-node.result c.args.text.items node_is) ∙ h))))
     (node-made d.names d.world c.args.owner (λ x. setting_text x c.args.text.items) (spelled_view c.args.node) c.key-node.result node_is c.set_text.new.self.world c.in_ok-set_text.ensures.world) refl c.accept.ensures.done
+
+pub set_text-requires-clause-bounds : goal.set_text-requires-clause-bounds
+set_text-requires-clause-bounds c =
+    let d = c.self.inside.doc in
+    let key_is : IsKey d.names d.world c.args.owner c.key-node.result (spelled_view c.args.node) = rw (← c.self.view_is) at c.key-node.ensures.name in
+    bounds-key d.names d.world c.args.owner (spelled_view c.args.node) c.key-node.result key_is (rw (← c.self.view_is) at c.requires)

@@ -11,7 +11,7 @@ use Rattle.dom_reader.specs.Views.{spelled_view}
 use Rattle.dom_commands.specs.declared.admission.Named.TheVariants.{Text}
 use Rattle.dom_commands.proofs.Handling.{refused, plans, faults}
 use Rattle.dom_commands.proofs.Namings.{naming-split}
-use Rattle.dom_commands.proofs.CommandPlans.{IsKey, node-made, split-refused, none_stopped, name-last, next-key}
+use Rattle.dom_commands.proofs.CommandPlans.{IsKey, bounds-key, node-made, split-refused, none_stopped, name-last, next-key}
 use Rattle.dom_commands.proofs.state.State.split.Goals as goal
 
 pub returns-in_err-admit-clause-handled : goal.returns-in_err-admit-clause-handled
@@ -34,3 +34,9 @@ returns-clause-handled c =
     plans c.self.inside.turn d c.args.self.now c.self.view_is c.args.owner (Command.split (spelled_view c.args.node) c.args.offset) (Text c.args.node ∷ []) (naming-split c.args.node c.args.offset) (sym c.admit.ensures ∙ c.in_ok-admit.was) c.split.new.self.world c.accept.new.self.world (λ p. splitting (named p (spelled_view c.args.node)) c.args.offset p) (λ p. a_node (next_name p)) (a_node c.name-made.result) c.args.out.now.items c.accept.new.out.items c.accept.result refl
     (sym (split-refused d.names d.world c.args.owner (spelled_view c.args.node) c.key-node.result c.args.offset node_is) ∙ none_stopped c.in_ok-tail.tail _ c.in_ok-tail.ensures.stopped)
     (node-made d.names d.world c.args.owner (λ x. splitting x c.args.offset) (spelled_view c.args.node) c.key-node.result node_is c.split.new.self.world c.in_ok-tail.ensures.world) (ap a_node (name-last d.names c.forest.result.now.names (next_name (part_of d.world (name_at d.names c.key-node.result).owner)) c.name-made.result c.in_ok-tail.tail (c.forest.ensures.names ∙ c.in_ok-tail.ensures.names) c.in_ok-tail.ensures.key c.name-made.ensures.at ∙ next-key d.names d.world c.args.owner (spelled_view c.args.node) c.key-node.result node_is)) c.accept.ensures.done
+
+pub split-requires-clause-bounds : goal.split-requires-clause-bounds
+split-requires-clause-bounds c =
+    let d = c.self.inside.doc in
+    let key_is : IsKey d.names d.world c.args.owner c.key-node.result (spelled_view c.args.node) = rw (← c.self.view_is) at c.key-node.ensures.name in
+    bounds-key d.names d.world c.args.owner (spelled_view c.args.node) c.key-node.result key_is (rw (← c.self.view_is) at c.requires)
