@@ -1,6 +1,7 @@
 -- Steps of a `Doc` that move boundary points: what they ask for, what holds after them, and the state then.
-use Rattle.std.proofs.Common.{◌≡◌, ℕ, ◌+◌, ◌-◌, ◌<◌, ◌≤◌, ◌^◌, ◌⊎◌, inl, inr, true, false, true≢false, List, length, Some, refl, sym, ap, subst, ◌∙◌, arith}
+use Rattle.std.proofs.Common.{◌≡◌, ℕ, ◌+◌, ◌-◌, ◌<◌, ◌≤◌, ◌^◌, ◌⊎◌, inl, inr, true, false, true≢false, List, [], ◌∷◌, map, length, Some, None, refl, sym, ap, subst, ◌∙◌, arith}
 use Rattle.std.specs.Prelude.{nat_eq, min}
+use Rattle.std.specs.List.{AllByRecursion}
 use Rattle.std.proofs.lemmas.Bool.{cases_Bool, cond-true}
 use Rattle.std.proofs.Math.Nat.{eq-or-lt_of_le}
 use Rattle.dom_base.specs.declared.NodeName.{NodeName}
@@ -12,20 +13,23 @@ use Rattle.dom_model.specs.Steps.{Step, replace_data}
 use Rattle.dom_model.specs.Tree.{Trees, node_in, kind_of, has_data, children_of, parent_of, index_of, length_of}
 use Rattle.dom_model.specs.TreeChanges.{change_node, with_data_replaced, replaced}
 use Rattle.dom_model.specs.World.{part_of, is_there}
-use Rattle.dom_model.specs.WorldSteps.{world_step}
+use Rattle.dom_model.specs.WorldSteps.{world_step, world_after}
+use Rattle.dom_model.specs.Changes.{steps_of}
+use Rattle.dom_model.specs.TextChanges.{joins}
 use Rattle.dom_isolation.specs.Bounds.{HasBounds}
 use Rattle.dom_isolation.specs.Worlds.{IsPart}
 use Rattle.dom_isolation.proofs.Bounds.{length-replaced}
 use Rattle.dom_isolation.proofs.Kids.{index-below, length-children}
 use Rattle.dom_ranges.specs.Rules.{Fits}
-use Rattle.dom_ranges.specs.Tables.{RangeLists, EachRange, BothEnds, ends_by, ranges_of}
+use Rattle.dom_ranges.specs.Tables.{RangeLists, EachRange, BothEnds, ends_by, ranges_of, range_in}
+use Rattle.dom_ranges.proofs.Vacant.{ends-none}
 use Rattle.dom_traversal.proofs.Counts.{StandOnce, StandAlone}
 use Rattle.dom_tree.specs.Forest.{NamedTrees, name_at, count_of}
 use Rattle.dom_tree.specs.Owners.{IsOwnChange}
 use Rattle.dom_tree.proofs.OwnChanges.{changed_node}
 use Rattle.dom_slots.specs.Kept.{AreSlotsOf}
 use Rattle.dom_mutation.specs.Contents.{part_in, part_with}
-use Rattle.dom_mutation.specs.Doc.{DocState, named_trees, contents, state_from, world_from, IsHeld, name_in, owner_in, trees_in, stepped, IsChild, MayCome}
+use Rattle.dom_mutation.specs.Doc.{DocState, named_trees, contents, state_from, world_from, IsHeld, name_in, owner_in, trees_in, stepped, planned, IsChild, IsOwnNode, MayCome}
 use Rattle.dom_mutation.specs.OwnTables.{AllTables, with_live}
 use Rattle.dom_mutation.specs.Ranging.{AreRangesOf}
 use Rattle.dom_mutation.proofs.BoundedPlans.{length_few}
@@ -33,7 +37,7 @@ use Rattle.dom_mutation.proofs.Held.{are_hosts, held_changed, due_kept, TellApar
 use Rattle.dom_mutation.proofs.OwnParts.{own_part}
 use Rattle.dom_mutation.proofs.RangedFits.{room_fits, data_fits, data_fits_shorter, join_fits}
 use Rattle.dom_mutation.proofs.RangedSteps.{data_ranged}
-use Rattle.dom_mutation.proofs.RangedWorlds.{data_told}
+use Rattle.dom_mutation.proofs.RangedWorlds.{data_told, join_told}
 use Rattle.dom_mutation.proofs.Standing.{keeps_changed}
 use Rattle.dom_mutation.proofs.Shown.{state_with, known, owner_there}
 use Rattle.dom_mutation.proofs.Worlds.{part_at, part_off, there_same}
@@ -83,6 +87,27 @@ module _ (f : NamedTrees) {tables : AllTables} (held : IsHeld f.names f.trees ta
       let here : size + length_of (part_in (contents f.names f.trees tables) o).trees (name_at f.names next) < 2 ^ 64 = part_known (λ p ns. size + length_of p.trees (name_at ns next) < 2 ^ 64) first first< small in
       join_fits (contents f.names f.trees tables) tables.ranges held.ranges o (part_known (λ p ns. HasBounds p) first first< bounds) first size next parent index
       (known f held is_d (λ e. owner_in e next ≡ owner_in e first) own) (omega (arith, here))
+
+  -- without live ranges nothing is carried
+  module _ (apart : TellApart f.names) (none : (o : Owner) (k : ℕ) → range_in (ranges_of tables.ranges o) k ≡ None) (first parent : ℕ) (first< : first < length d.names) (parent< : parent < length d.names)
+      (own_parent : owner_in d parent ≡ owner_in d first) where
+    joined : (ts : Trees) (size : ℕ) (ks : List ℕ) → AllByRecursion (λ k. (k < length f.names) × ((name_at f.names k).owner ≡ (name_at f.names first).owner)) ks
+        → world_from f.names f.trees tables ≡ world_after (name_at f.names first).owner (world_from f.names f.trees tables) (joins ts (name_at f.names first) (name_at f.names parent) size (map (name_at f.names) ks))
+    joined ts size [] nodes = refl
+    joined ts size (k ∷ ks) nodes =
+        let y = name_at f.names k in
+        let o = (name_at f.names first).owner in
+        joined ts (size + length_of ts y) ks nodes.1
+        ∙ ap (λ w. world_after o w (joins ts (name_at f.names first) (name_at f.names parent) (size + length_of ts y) (map (name_at f.names) ks)))
+        (join_told (contents f.names f.trees tables) tables.slots.hosts (are_hosts f.names f.trees tables held) tables.ranges tables.ranges held.ranges apart o (owner_there f held is_d first first<) first size k parent (index_of ts y)
+        (known f held is_d (λ e. first < length e.names) first<) nodes.0.0 (known f held is_d (λ e. parent < length e.names) parent<) refl nodes.0.1 (known f held is_d (λ e. owner_in e parent ≡ owner_in e first) own_parent)
+        (λ q. sym (ends-none (after_join nat_eq first size k parent (index_of ts y)) (ranges_of tables.ranges q) (none q))))
+
+    pub joins_vacant : (size : ℕ) (ks : List ℕ) → AllByRecursion (IsOwnNode d first) ks
+        → d ≡ planned (owner_in d first) (steps_of (joins (trees_in d first) (name_in d first) (name_in d parent) size (map (name_in d) ks))) d
+    joins_vacant size ks nodes =
+        subst (λ (e : DocState). e ≡ planned (owner_in e first) (steps_of (joins (trees_in d first) (name_in e first) (name_in e parent) size (map (name_in e) ks))) e) is_d
+        (ap (λ w. state_with f.names w) (joined (trees_in d first) size ks (known f held is_d (λ e. AllByRecursion (IsOwnNode e first) ks) nodes)))
 
   module _ (once : StandOnce f) (only : StandAlone f) where
     -- each owner's part

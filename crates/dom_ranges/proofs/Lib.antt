@@ -7,3 +7,4 @@ pub mod Before
 pub mod Climbing
 pub mod Naming
 pub mod Standing
+pub mod Vacant

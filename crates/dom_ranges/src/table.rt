@@ -223,6 +223,13 @@ impl RangeTable {
         }
     }
 
+    /// Whether no owner has a live range. Where it is so, no step of a change has to be told to the table.
+    pub fn is_empty(&self) -> bool
+        ensures { result ≡ true → (o : Owners) (k : ℕ) → range_in (ranges_of self.now o) k ≡ None }
+    {
+        self.live.is_empty()
+    }
+
     /// Tells the table that `count` nodes are to come into `parent` before its child at `index` (DOM Standard, concept:
     /// insert): offsets in the parent that are greater than the index grow by the count.
     pub fn on_insert(&mut self, parent: Key, index: usize, count: usize)
@@ -247,6 +254,10 @@ impl RangeTable {
         ensures named { (o : Owners) → named_ranges forest.now.names (ranges_of self.new o) ≡ without_named forest.now (name_at forest.now.names node) (named_ranges forest.now.names (ranges_of self.old o)) }
     {
         forest.nodes_stand_once();
+        // An index is found by going through the siblings, so nobody pays for that without ranges.
+        if self.is_empty() {
+            return;
+        }
         if let Some(parent) = forest.parent(node) {
             let index = forest.index(node);
             self.apply(&Removal {

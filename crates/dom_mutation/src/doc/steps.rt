@@ -191,6 +191,10 @@ impl Doc {
         ensures { self.new ≡ stepped (owner_in self.old parent) (make_room (name_in self.old parent) (index_of (trees_in self.old child) (name_in self.old child)) count) self.old }
     {
         self.forest.nodes_stand_once();
+        // An index is found by going through the siblings, so nobody pays for that without ranges.
+        if self.ranges.is_empty() {
+            return;
+        }
         let index = self.forest.index(child);
         self.ranges.on_insert(parent, index, count);
     }
@@ -222,6 +226,10 @@ impl Doc {
         ensures { self.new ≡ planned (owner_in self.old first) (steps_of (joins (trees_in self.old first) (name_in self.old first) (name_in self.old parent) size (map (name_in self.old) nexts.now))) self.old }
     {
         self.laws();
+        self.forest.nodes_stand_once();
+        if self.ranges.is_empty() {
+            return;
+        }
         let mut length = size;
         for next in nexts {
             length = self.join_at(first, length, *next, parent);

@@ -1,7 +1,11 @@
-use Rattle.std.proofs.Common.{◌≡◌, ◌<◌, ℕ, length, ap, ◌∙◌}
+use Rattle.std.proofs.Common.{◌≡◌, ◌<◌, ℕ, length, sym, ap, ◌∙◌}
+use Rattle.std.specs.Prelude.{nat_eq}
 use Rattle.dom_base.specs.declared.Owner.{Owner}
+use Rattle.dom_model.specs.Ranges.{after_insert}
 use Rattle.dom_model.specs.Steps.{make_room}
 use Rattle.dom_model.specs.Tree.{index_of}
+use Rattle.dom_ranges.specs.Tables.{ranges_of}
+use Rattle.dom_ranges.proofs.Vacant.{ends-none}
 use Rattle.dom_tree.specs.Forest.{name_at}
 use Rattle.dom_mutation.specs.Doc.{name_in, owner_in, stepped, contents, all_tables}
 use Rattle.dom_mutation.proofs.Held.{are_hosts}
@@ -37,3 +41,18 @@ returns c =
     (owner_there f c.self.invariant c.self.view_is c.args.parent c.requires.parent_is_node) c.args.parent c.index-index.result c.args.count
     (known f c.self.invariant c.self.view_is (λ e. c.args.parent < length e.names) c.requires.parent_is_node) (λ j. o) c.on_insert.ensures)
     ∙ ap (λ (i : ℕ). stepped (owner_in d c.args.parent) (make_room (name_in d c.args.parent) i c.args.count) d) index
+
+pub returns-then-is_empty : goal.returns-then-is_empty
+returns-then-is_empty c =
+    let f = c.self.inside.forest in
+    let all = all_tables c.self.inside in
+    let d = c.args.self.now in
+    let o = (name_at f.names c.args.parent).owner in
+    let index = index_of f.trees (name_at f.names c.args.child) in
+    sym c.self.view_is
+    ∙ live_done f c.self.invariant c.self.view_is c.args.parent all.ranges (λ ns. make_room (name_at ns c.args.parent) index c.args.count)
+    (room_told (contents f.names f.trees all) c.self.inside.slots.hosts (are_hosts f.names f.trees all c.self.invariant) all.ranges all.ranges c.self.invariant.ranges c.nodes_stand_once.ensures.distinct o
+    (owner_there f c.self.invariant c.self.view_is c.args.parent c.requires.parent_is_node) c.args.parent index c.args.count
+    (known f c.self.invariant c.self.view_is (λ e. c.args.parent < length e.names) c.requires.parent_is_node) (λ j. o)
+    (λ q. sym (ends-none (after_insert nat_eq c.args.parent index c.args.count) (ranges_of all.ranges q) (c.is_empty.ensures c.if-is_empty.true q))))
+    ∙ ap (λ (i : ℕ). stepped (owner_in d c.args.parent) (make_room (name_in d c.args.parent) i c.args.count) d) (shown f c.self.invariant c.self.view_is index_of (λ ns. index) c.args.child (λ j. index) (λ r. r.index))
