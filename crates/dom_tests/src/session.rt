@@ -1,19 +1,7 @@
-//! Lines and their answers on a session.
-mod attributes;
-mod components;
-mod cursors;
-mod data;
-mod events;
+//! Lines and their answers on a session, where a script alone does not show them: many lines, long ones, and the end of input.
 mod large;
+mod limits;
 mod lines;
-mod making;
-mod moving;
-mod observing;
-mod ranging;
-mod reads;
-mod refusals;
-mod selecting;
-mod tasks;
 
 use dom_engine::Session;
 use std::alloc::Global;
@@ -48,10 +36,4 @@ fn check_row(rt: &impl Abort, alloc: Global, session: &mut Session, row: &str) -
     let text = session.line(line.as_bytes())?;
     assert_eq!(rt; text.as_slice(), answer.as_bytes());
     Ok(())
-}
-
-// Runs a script on a session of its own.
-fn check_alone(rt: &impl Abort, alloc: Global, script: &str) -> Result<(), Fail> {
-    let mut session = Session::new(alloc)?;
-    check_script(rt, alloc, &mut session, script)
 }

@@ -1,4 +1,4 @@
-//! The order of the refusals that all commands share, turns, and the lengths of lines.
+//! The lengths of lines, and the end of input.
 use super::*;
 
 // A line of this many letters `a` behind some bytes, and these before its end.
@@ -10,64 +10,6 @@ fn long_line(alloc: Global, front: &[u8], letters: usize, back: &[u8]) -> Result
     }
     line.extend_from_slice(back)?;
     Ok(line)
-}
-
-#[test]
-fn an_element_is_appended_and_removed(rt: HostRuntime) -> Result<(), Fail> {
-    let mut session = Session::new(rt.alloc())?;
-    check_script(
-        &rt,
-        rt.alloc(),
-        &mut session,
-        "p new element div => p ok n1
-p append n0 n1
-p tree n0 => p ok (n0 document (n1 element div))
-p remove n1
-p tree n0 => p ok (n0 document)",
-    )?;
-    assert_eq!(rt; session.finish()?.as_slice(), b"".as_slice());
-    Ok(())
-}
-
-#[test]
-fn refusals_come_in_their_order(rt: HostRuntime) -> Result<(), Fail> {
-    check_alone(
-        &rt,
-        rt.alloc(),
-        "p append n0 n0 => p ! hierarchy
-p tree n1 => p ! unknown
-c1 new element b => c1 ! unknown
-p new element 1a => p ! invalid-character
-p new element a => p ok n1
-c1 . => c1 ! busy
-p  tree n0 => p ! syntax
-q tree n0 => ! owner
-p .
-c1 . => c1 ! unknown",
-    )
-}
-
-#[test]
-fn a_refused_command_takes_no_name_and_opens_no_turn(rt: HostRuntime) -> Result<(), Fail> {
-    check_alone(
-        &rt,
-        rt.alloc(),
-        "p new element 1a => p ! invalid-character
-c1 tree m0 => c1 ! unknown
-p remove n7 => p ! unknown
-p remove n0 => p ! wrong-kind
-p tree m0 => p ! foreign
-c1 tree n0 => c1 ! foreign
-p new element a => p ok n1
-p new element b => p ok n2
-p append n1 n2
-p append n2 n1 => p ! hierarchy
-p append n0 n2
-p append n0 n1 => p ! hierarchy
-p tree n1 => p ok (n1 element a)
-c1 tree m0 => c1 ! busy
-p observer x => p ! syntax",
-    )
 }
 
 #[test]
@@ -100,5 +42,14 @@ fn a_long_string_is_read_to_the_limit(rt: HostRuntime) -> Result<(), Fail> {
         session.line(&longer)?.as_slice(),
         b"p ! syntax\n".as_slice()
     );
+    Ok(())
+}
+
+#[test]
+fn the_end_of_input_prints_labels(rt: HostRuntime) -> Result<(), Fail> {
+    let mut session = Session::new(rt.alloc())?;
+    assert_eq!(rt; session.line(b"p micro z")?.as_slice(), b"p ok\n".as_slice());
+    assert_eq!(rt; session.finish()?.as_slice(), b"p micro z\n".as_slice());
+    assert_eq!(rt; session.finish()?.as_slice(), b"".as_slice());
     Ok(())
 }
