@@ -48,7 +48,10 @@ fn a_long_string_is_read_to_the_limit(rt: HostRuntime) -> Result<(), Fail> {
 #[test]
 fn the_end_of_input_prints_labels(rt: HostRuntime) -> Result<(), Fail> {
     let mut session = Session::new(rt.alloc())?;
-    assert_eq!(rt; session.line(b"p micro z")?.as_slice(), b"p ok\n".as_slice());
+    assert_eq!(rt;
+        session.line(b"p micro z")?.as_slice(),
+        b"p ok\n".as_slice()
+    );
     assert_eq!(rt; session.finish()?.as_slice(), b"p micro z\n".as_slice());
     assert_eq!(rt; session.finish()?.as_slice(), b"".as_slice());
     Ok(())
