@@ -1,0 +1,4 @@
+-- What the callers' contracts name beside the words of the crates called.
+pub mod Focus
+pub mod Labels
+pub mod Words
