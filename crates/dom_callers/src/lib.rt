@@ -10,10 +10,10 @@ mod selecting;
 mod traversal;
 mod tree;
 
-pub use arena::next_in_ring;
+pub use arena::move_to_front;
 pub use observing::watch_attributes;
 pub use path::count_visits;
-pub use ranges::caret_to_end;
+pub use ranges::select_contents;
 pub use selecting::has_match;
 pub use traversal::next_focus;
 pub use tree::label;
