@@ -1,0 +1,19 @@
+//! Callers of the crates that serve alone, one a crate: each is a call that the author of a toolkit makes, with its
+//! exact result in the words of the crate called. `docs/CRATES.md` shows them.
+#![tactic(auto)]
+
+mod arena;
+mod observing;
+mod path;
+mod ranges;
+mod selecting;
+mod traversal;
+mod tree;
+
+pub use arena::move_to_front;
+pub use observing::watch_attributes;
+pub use path::count_visits;
+pub use ranges::select_contents;
+pub use selecting::has_match;
+pub use traversal::next_focus;
+pub use tree::label;
