@@ -7,8 +7,6 @@ mod event;
 mod laws;
 mod listeners;
 mod progress;
-#[cfg(test)]
-mod tests;
 mod visit;
 
 pub use event::{EventInit, LogLine, Outcome};

@@ -8,8 +8,6 @@ mod laws;
 mod slots;
 mod step;
 mod table;
-#[cfg(test)]
-mod tests;
 
 pub use laws::{new_nodes_are_free, slots_are_of_worlds, slots_stay, steps_end};
 pub use slots::Slots;

@@ -10,6 +10,3 @@ mod walker;
 pub use filter::Filter;
 pub use iter::{Iter, iterators_stay};
 pub use walker::Walker;
-
-#[cfg(test)]
-mod tests;

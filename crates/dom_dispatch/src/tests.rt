@@ -1,3 +1,0 @@
-mod dispatch;
-mod scene;
-mod table;
