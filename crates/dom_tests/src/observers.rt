@@ -5,8 +5,8 @@ ghost use Rattle.std.specs.Prelude.{◌≡◌, ◌<◌, length, None};
 mod notices;
 mod transients;
 
-use dom_observers::{Change, Observers, Options, Record};
 use dom_base::{Fault, Kind, NodeName, Owner, Refusal};
+use dom_observers::{Change, Observers, Options, Record};
 use dom_tree::{Forest, NodeData};
 use indexmap::IndexMap;
 use node_arena::Key;

@@ -1,5 +1,8 @@
-use dom_printer::{Attribute, Boundary, Change, Event, Opening, TreeStep, Value, Words, put_event, put_micro, put_record, put_refusal, put_reply, put_string, put_tree};
 use dom_base::{Kind, NodeName, Owner, Refusal};
+use dom_printer::{
+    Attribute, Boundary, Change, Event, Opening, TreeStep, Value, Words, put_event, put_micro,
+    put_record, put_refusal, put_reply, put_string, put_tree,
+};
 use std::alloc::{AllocError, Global};
 use std::test::Fail;
 

@@ -5,9 +5,9 @@ mod said;
 
 use dom_base::Owner;
 use dom_reader::{Command, Line, Splitter, parse_line};
-use std::alloc::{AllocError, Global};
 use refused::{NO_OWNER, REFUSED};
 use said::{COMMANDS, OPTIONAL_WORDS};
+use std::alloc::{AllocError, Global};
 use std::process::Abort;
 use std::test::Fail;
 

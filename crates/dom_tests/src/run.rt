@@ -1,7 +1,7 @@
 //! Runs over memory, with readers and writers that fail as a script says.
 
-use dom_engine::{FromReader, IntoWriter, RunFault, run};
 use dom_base::Owner;
+use dom_engine::{FromReader, IntoWriter, RunFault, run};
 use std::alloc::Global;
 use std::io;
 use std::io::{ErrorKind, Read, Write};
