@@ -67,3 +67,4 @@ pub mod Attachable
 pub mod RangedStates
 pub mod JoinedEach
 pub mod Joining
+pub mod RangedPassing

@@ -28,6 +28,7 @@ mod hosts;
 mod inserting;
 mod normalizing;
 mod observing;
+mod ranging;
 mod reads;
 mod records;
 mod removing;
