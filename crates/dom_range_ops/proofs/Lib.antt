@@ -2,3 +2,9 @@
 pub mod OneTree
 pub mod OwnTexts
 pub mod DocTexts
+pub mod Parting
+pub mod Sides
+pub mod Between
+pub mod Kids
+pub mod AfterPoint
+pub mod KeyedWalks

@@ -1,16 +1,17 @@
 //! The text of a live range (DOM Standard, Range, stringification behavior).
-ghost use Rattle.std.specs.Prelude.{◌≡◌, ◌<◌, ◌++◌, length, true, is_some, slice_range, IfOk, OnOk};
+ghost use Rattle.std.specs.Prelude.{◌≡◌, ◌<◌, ◌++◌, length, true, false, is_some, slice_range, IfOk, OnOk};
 ghost use Rattle.std.specs.Option.{ForSome};
+ghost use Rattle.dom_isolation.specs.Bounds.{HasBounds};
 ghost use Rattle.dom_isolation.specs.Tables.{HasEnds};
 ghost use Rattle.dom_model.specs.Part.{range_at};
-ghost use Rattle.dom_model.specs.Place.{same_root};
+ghost use Rattle.dom_model.specs.Place.{is_before};
 ghost use Rattle.dom_model.specs.RangeOps.{range_text_of, text_part as spec_text_part};
-ghost use Rattle.dom_model.specs.Ranges.{is_contained as spec_is_contained};
 ghost use Rattle.dom_model.specs.Tree.{kind_of, is_text};
 ghost use Rattle.dom_model.specs.World.{part_of};
-ghost use Rattle.dom_range_ops.specs.Texts.{range_at_points, AreEnds, contained_text, text_among, nodes_around};
+ghost use Rattle.dom_range_ops.specs.Texts.{range_at_points, AreEnds, AreBounded, contained_text, text_among, nodes_around};
 ghost use Rattle.dom_tree.specs.Forest.{name_at};
 
+use crate::points::{is_node, node_after};
 use dom_base::{DomStr, Kind, Owner};
 use dom_mutation::Doc;
 use dom_ranges::{Points, is_before};
@@ -19,11 +20,12 @@ use node_arena::Key;
 use std::alloc::{AllocError, Global};
 
 /// The text of an owner's live range, in code units: the part of its start node, the contained Texts in tree order and the
-/// part of its end node, of which nodes but Texts have none (DOM Standard, Range, stringification behavior). The tree is
-/// walked once, by its links. It is refused where memory for the answer is refused.
+/// part of its end node, of which nodes but Texts have none (DOM Standard, Range, stringification behavior). The nodes from
+/// the start to the end are walked once, by their links. It is refused where memory for the answer is refused.
 pub fn range_text(alloc: Global, doc: &Doc, owner: Owner, number: u32) -> Result<DomStr, AllocError>
     requires there { is_some (range_at (part_of doc.now.world owner) number) ≡ true }
     requires ends { ForSome (range_at (part_of doc.now.world owner) number) (HasEnds (part_of doc.now.world owner).trees) }
+    requires bounds { HasBounds (part_of doc.now.world owner) }
     ensures { IfOk result (λ text. ForSome (range_at (part_of doc.now.world owner) number) (λ r. text.items ≡ range_text_of (part_of doc.now.world owner).trees r)) }
 {
     let points = doc.range_points(owner, number);
@@ -34,7 +36,7 @@ pub fn range_text(alloc: Global, doc: &Doc, owner: Owner, number: u32) -> Result
 
 /// The text between two points of one tree.
 fn text_between(alloc: Global, forest: &Forest, points: &Points) -> Result<DomStr, AllocError>
-    requires { AreEnds forest.now points.now }
+    requires { AreBounded forest.now points.now }
     ensures { IfOk result (λ text. text.items ≡ text_among forest.now.trees (range_at_points forest.now.names points.now) (nodes_around forest.now.trees (range_at_points forest.now.names points.now))) }
 {
     forest.nodes_stand_once();
@@ -51,31 +53,38 @@ fn text_between(alloc: Global, forest: &Forest, points: &Points) -> Result<DomSt
 
 /// The text of the nodes that are contained between two points of one tree is put behind a text.
 fn push_contained(text: &mut DomStr, forest: &Forest, points: &Points) -> Result<(), AllocError>
-    requires { AreEnds forest.now points.now }
+    requires { AreBounded forest.now points.now }
     ensures { OnOk result (text.new.items ≡ text.old.items ++ contained_text forest.now.trees (range_at_points forest.now.names points.now) (nodes_around forest.now.trees (range_at_points forest.now.names points.now))) }
 {
     forest.nodes_stand_once();
-    let first = points.start.0;
-    let top = forest.root(first);
-    let mut at = Some(top);
+    if is_before(forest, points.end, points.start) {
+        return Ok(());
+    }
+    push_between(text, forest, points)
+}
+
+/// The same where the second point does not come before the first: the nodes are walked from the first one on.
+fn push_between(text: &mut DomStr, forest: &Forest, points: &Points) -> Result<(), AllocError>
+    requires bounded { AreBounded forest.now points.now }
+    requires ordered { is_before forest.now.trees (range_at_points forest.now.names points.now).end (range_at_points forest.now.names points.now).start ≡ false }
+    ensures { OnOk result (text.new.items ≡ text.old.items ++ contained_text forest.now.trees (range_at_points forest.now.names points.now) (nodes_around forest.now.trees (range_at_points forest.now.names points.now))) }
+{
+    forest.nodes_stand_once();
+    let last = points.end.0;
+    let top = forest.root(points.start.0);
+    let stop = node_after(forest, points.end, top);
+    let mut at = node_after(forest, points.start, top);
     while let Some(key) = at {
-        if is_contained(forest, points, key) {
+        let found = stop;
+        if is_node(found, key) {
+            break;
+        }
+        if key != last {
             text.extend_from_slice(text_part(forest, points, key))?;
         }
         at = forest.following(key, top);
     }
     Ok(())
-}
-
-/// Whether a node is contained between two points of its tree (DOM Standard, concept: contained).
-fn is_contained(forest: &Forest, points: &Points, key: Key) -> bool
-    requires node { key < length forest.now.names }
-    requires ends { AreEnds forest.now points.now }
-    requires one_root { same_root forest.now.trees (name_at forest.now.names points.now.start.0) (name_at forest.now.names key) ≡ true }
-    ensures { result ≡ spec_is_contained forest.now.trees (range_at_points forest.now.names points.now) (name_at forest.now.names key) }
-{
-    is_before(forest, points.start, (key, 0))
-        && is_before(forest, (key, forest.length(key)), points.end)
 }
 
 /// The part of a Text between two points, where the points in other nodes are no limits; other nodes have none.
