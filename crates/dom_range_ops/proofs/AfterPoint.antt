@@ -3,7 +3,7 @@ use Rattle.std.proofs.Common.{◌≡◌, inl, ◌∷◌, ◌++◌, drop, take, O
 use Rattle.std.proofs.lemmas.List.{take-append-drop}
 use Rattle.std.proofs.lemmas.List.Concat.{flat_map-cons}
 use Rattle.dom_base.specs.declared.NodeName.{NodeName}
-use Rattle.dom_model.specs.Names.{name_eq, first_of}
+use Rattle.dom_model.specs.Names.{name_eq, first_of, items_after}
 use Rattle.dom_model.specs.Place.{Boundary}
 use Rattle.dom_model.specs.Tree.{Trees, children_of, inclusive_descendants}
 use Rattle.dom_traversal.proofs.Lists.{In, In-right, Single, Single-apart, first_split, no_first, after-split}
@@ -38,4 +38,4 @@ module _ (ts : Trees) (top : NodeName) (b : Boundary NodeName) (w : IsWithin ts 
       let front = nodes_before ts top b w in
       let whole : inclusive_descendants ts top ≡ front ++ x ∷ s.0 = point-splits ts top b w ∙ ap (λ xs. front ++ xs) s.1 in
       let apart : In x front → ⊥ = λ i. Single-apart x front (x ∷ s.0) (subst Single whole (all_single ts top b.node w)) i (inl refl) in
-      s.1 ∙ ap (λ xs. x ∷ xs) (sym (ap (Rattle.dom_model.specs.Names.items_after name_eq x) whole ∙ after-split x front s.0 apart))
+      s.1 ∙ ap (λ xs. x ∷ xs) (sym (ap (items_after name_eq x) whole ∙ after-split x front s.0 apart))

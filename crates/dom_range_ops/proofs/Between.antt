@@ -1,6 +1,6 @@
 -- The text between two points of a tree, from node to node.
 use Rattle.std.proofs.Common.{◌≡◌, ◌⊎◌, inl, inr, ◌≤◌, true, false, ◌&&◌, List, [], ◌∷◌, ◌++◌, refl, sym, ap, subst, ◌∙◌, arith, true≢false}
-use Rattle.std.specs.Prelude.{filter, flat_map, if◌then◌else◌}
+use Rattle.std.specs.Prelude.{filter, flat_map, slice_range, if◌then◌else◌}
 use Rattle.std.specs.List.{AllByRecursion}
 use Rattle.std.proofs.lemmas.Bool.{cases_Bool, and_parts, false_from_ne_true, le-ltb, lt-ltb, leb-false, cond-true, cond-false}
 use Rattle.std.proofs.lemmas.List.Concat.{flat_map-cons}
@@ -11,12 +11,12 @@ use Rattle.dom_model.specs.Place.{boundary_place, is_before}
 use Rattle.dom_model.specs.Ranges.{Range, at, is_contained}
 use Rattle.dom_model.specs.RangeOps.{text_part}
 use Rattle.dom_model.specs.Extract.{cut_start, cut_end}
-use Rattle.dom_model.specs.Tree.{Trees, node_in, kind_of, is_text, children_of, inclusive_descendants, root_of, length_of}
+use Rattle.dom_model.specs.Tree.{Trees, node_in, kind_of, is_text, children_of, inclusive_descendants, root_of, length_of, inclusive_ancestors}
 use Rattle.dom_ranges.proofs.Before.{before-same, before-up, before-down, before-beside}
-use Rattle.dom_traversal.proofs.Children.{Has-names}
+use Rattle.dom_traversal.proofs.Children.{In-names, Has-names}
 use Rattle.dom_traversal.proofs.Lists.{In, In-left, In-right, In-parts, filter-none, filter-yes, filter-no, name_eq-true, name_eq-from}
 use Rattle.dom_traversal.proofs.Order.{IsWithin, joined, here, splits}
-use Rattle.dom_traversal.proofs.Shapes.{Has-above, below-from_above}
+use Rattle.dom_traversal.proofs.Shapes.{Has, Has-above, below-from_above}
 use Rattle.dom_traversal.specs.Within.{ahead_of, beyond}
 use Rattle.dom_range_ops.specs.Points.{nodes_after}
 use Rattle.dom_range_ops.specs.Texts.{contained_text, nodes_around}
@@ -60,9 +60,9 @@ module _ (ts : Trees) (r : Range NodeName) (bounded : IsBounded ts r) where
   top = root_of ts r.start.node
 
   -- both ends stand in the tree
-  top-within : (x : NodeName) → Rattle.dom_traversal.proofs.Shapes.Has ts x → root_of ts x ≡ root_of ts r.start.node → IsWithin ts top x
+  top-within : (x : NodeName) → Has ts x → root_of ts x ≡ root_of ts r.start.node → IsWithin ts top x
   top-within x h e =
-      let above = subst (λ a. In a (Rattle.dom_model.specs.Tree.inclusive_ancestors ts x)) e (root-above ts x h) in
+      let above = subst (λ a. In a (inclusive_ancestors ts x)) e (root-above ts x h) in
       record { once = bounded.ends.once; top_stands = Has-above ts top x bounded.ends.once h above; stands = below-from_above ts top x bounded.ends.once h above }
 
   pub start-within : IsWithin ts top r.start.node
@@ -102,7 +102,7 @@ module _ (ts : Trees) (r : Range NodeName) (bounded : IsBounded ts r) where
       let w = member-within x m.around in
       let alone : inclusive_descendants ts x ≡ x ∷ [] = here ts top x w ∙ ap (λ kids. x ∷ joined ts kids) (bounded.leaves x m.around k) in
       let whole : inclusive_descendants ts top ≡ ahead_of ts top x ++ (x ∷ beyond ts top x) = splits ts top x w ∙ ap (λ xs. ahead_of ts top x ++ (xs ++ beyond ts top x)) alone in
-      let i : In r.end.node (ahead_of ts top x ++ (x ∷ beyond ts top x)) = subst (In r.end.node) whole (Rattle.dom_traversal.proofs.Children.In-names _ r.end.node end-within.stands) in
+      let i : In r.end.node (ahead_of ts top x ++ (x ∷ beyond ts top x)) = subst (In r.end.node) whole (In-names _ r.end.node end-within.stands) in
       ap (λ b. b && is_before ts (at x (length_of ts x)) r.end) m.start
       ∙ elim (In-parts r.end.node (ahead_of ts top x) (x ∷ beyond ts top x) i) [
         | inl j ↦ elim (ahead-apart ts bounded.ends.once top x r.end.node w j) [
@@ -162,7 +162,7 @@ module _ (ts : Trees) (r : Range NodeName) (bounded : IsBounded ts r) where
             elim (cases_Bool (is_text (kind_of ts x))) [
               | inl k ↦ yes (text-in x m k (λ same. true≢false (sym (name_eq-from x r.end.node same) ∙ e)))
               | inr k ↦
-                  let empty : part x ≡ [] = cond-false (is_text (kind_of ts x)) (Rattle.std.specs.Prelude.slice_range (node_in ts x).text (cut_start r x) (cut_end ts r x)) [] k in
+                  let empty : part x ≡ [] = cond-false (is_text (kind_of ts x)) (slice_range (node_in ts x).text (cut_start r x) (cut_end ts r x)) [] k in
                   let gone : contained_text ts r xs ≡ part x ++ contained_text ts r xs = ap (λ zs. zs ++ contained_text ts r xs) (sym empty) in
                   elim (cases_Bool (p x)) [ inl c ↦ yes c | inr c ↦ no c ∙ gone ]
             ]

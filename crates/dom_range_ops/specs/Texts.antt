@@ -35,7 +35,7 @@ text_among ts r xs =
 abbrev pub nodes_around : Trees → Range NodeName → List NodeName
 nodes_around ts r = inclusive_descendants ts (root_of ts r.start.node)
 
--- and the second is within its node, and no Text of their tree has children
+-- they are, the second one is within its node, and no Text of their tree has children
 pub record AreBounded (f : NamedTrees) (points : Points) : Type 0 where
   pub ends : AreEnds f points
   pub within : points.end.1 ≤ length_of f.trees (name_at f.names points.end.0)
