@@ -49,13 +49,13 @@ ways_same (Some m) (Some n) e = cc
 
 -- ---- which nodes stand in an owner's trees
 
-has_owner : (p : Owner) (ts : Trees) → AreOf p ts → (x : NodeName) → Has ts x → x.owner ≡ p
+pub has_owner : (p : Owner) (ts : Trees) → AreOf p ts → (x : NodeName) → Has ts x → x.owner ≡ p
 has_owner p none of x h = absurd h
 has_owner p (tree n c r) of x (inl e) = ap (λ (y : NodeName). y.owner) (sym e) ∙ of.0
 has_owner p (tree n c r) of x (inr (inl h)) = has_owner p c of.1 x h
 has_owner p (tree n c r) of x (inr (inr h)) = has_owner p r of.2 x h
 
-has_own : (o : Owner) (ts : Trees) → HaveOwners ts → (x : NodeName) → x.owner ≡ o → Has ts x → Has (trees_of_owner o ts) x
+pub has_own : (o : Owner) (ts : Trees) → HaveOwners ts → (x : NodeName) → x.owner ≡ o → Has ts x → Has (trees_of_owner o ts) x
 has_own o none have x own h = h
 has_own o (tree n c r) have x own h = elim (cases_Bool (owner_eq n.name.owner o)) [
   | inl e ↦ rw e (kept (has_own o r have.1 x own) h)
@@ -72,7 +72,7 @@ has_own o (tree n c r) have x own h = elim (cases_Bool (owner_eq n.name.owner o)
     behind rest other (inr (inl h)) = absurd (owner_eq-false n.name.owner o other (sym (has_owner n.name.owner c have.0 x h) ∙ own))
     behind rest other (inr (inr h)) = rest h
 
-has_all : (o : Owner) (ts : Trees) (x : NodeName) → Has (trees_of_owner o ts) x → Has ts x
+pub has_all : (o : Owner) (ts : Trees) (x : NodeName) → Has (trees_of_owner o ts) x → Has ts x
 has_all o none x h = h
 has_all o (tree n c r) x h = by (has_all o r x) (owner_eq n.name.owner o) h
   where
@@ -82,7 +82,7 @@ has_all o (tree n c r) x h = by (has_all o r x) (owner_eq n.name.owner o) h
     by rest true (inr (inr h)) = inr (inr (rest h))
     by rest false h = inr (inr (rest h))
 
-once_trees : (o : Owner) (ts : Trees) → Once ts → Once (trees_of_owner o ts)
+pub once_trees : (o : Owner) (ts : Trees) → Once ts → Once (trees_of_owner o ts)
 once_trees o none once = tt
 once_trees o (tree n c r) once = by (owner_eq n.name.owner o) (once_trees o r once.4)
   where

@@ -1,0 +1,10 @@
+-- Lemmas of the operations on live ranges.
+pub mod OneTree
+pub mod OwnTexts
+pub mod DocTexts
+pub mod Parting
+pub mod Sides
+pub mod Between
+pub mod Kids
+pub mod AfterPoint
+pub mod KeyedWalks

@@ -1,0 +1,110 @@
+-- The text of an owner's range is the same among all trees and among the owner's own.
+use Rattle.std.proofs.Common.{◌≡◌, inl, inr, ℕ, Bool, true, false, ◌&&◌, List, [], ◌∷◌, ◌++◌, refl, sym, ap, ◌∙◌}
+use Rattle.std.specs.Prelude.{filter, slice_range, if◌then◌else◌}
+use Rattle.std.specs.List.{flat_map}
+use Rattle.std.proofs.lemmas.List.Concat.{flat_map-cons}
+use Rattle.dom_base.specs.declared.NodeName.{NodeName}
+use Rattle.dom_base.specs.declared.Owner.{Owner}
+use Rattle.dom_model.specs.Names.{name_eq}
+use Rattle.dom_model.specs.Place.{is_before, same_root}
+use Rattle.dom_model.specs.Ranges.{Range, at, is_contained}
+use Rattle.dom_model.specs.Extract.{cut_start, cut_end}
+use Rattle.dom_model.specs.RangeOps.{range_text_of, text_part}
+use Rattle.dom_model.specs.Tree.{Trees, Node, node_in, kind_of, is_text, inclusive_descendants, root_of, length_of}
+use Rattle.dom_mutation.proofs.OwnOrder.{IsOwnIn, is_before-own, same_root-own, has_own, once_trees}
+use Rattle.dom_tree.proofs.Owned.{read_own, stays_own}
+use Rattle.dom_tree.specs.Owners.{AreOwned, trees_of_owner}
+use Rattle.dom_traversal.proofs.Children.{Has-names}
+use Rattle.dom_traversal.proofs.Lists.{In, is_in-from, filter-same, name_eq-from}
+use Rattle.dom_traversal.proofs.Shapes.{Has, Has-subtree, Has-above, above-from_below}
+use Rattle.dom_range_ops.specs.Texts.{text_among, contained_text, nodes_around}
+use Rattle.dom_range_ops.proofs.OneTree.{HasOneTree, text-tree, root-above, root-path, root-root}
+
+-- parts that are the same, one by one
+parts-same : (f g : NodeName → List ℕ) (xs : List NodeName) → ((y : NodeName) → In y xs → f y ≡ g y) → flat_map f xs ≡ flat_map g xs
+parts-same f g [] h = refl
+parts-same f g (x ∷ xs) h = flat_map-cons f x xs ∙ (ap (λ ys. ys ++ flat_map f xs) (h x (inl refl)) ∙ (ap (λ ys. g x ++ ys) (parts-same f g xs (λ y i. h y (inr i))) ∙ sym (flat_map-cons g x xs)))
+
+-- a filter leaves members
+among-filtered : (p : NodeName → Bool) (xs : List NodeName) (y : NodeName) → In y (filter p xs) → In y xs
+among-filtered p [] y h = h
+among-filtered p (x ∷ xs) y h = by (among-filtered p xs y) (p x) h
+  where
+    by : (In y (filter p xs) → In y xs) → (b : Bool) → In y (if b then x ∷ filter p xs else filter p xs) → In y (x ∷ xs)
+    by rest true (inl e) = inl e
+    by rest true (inr i) = inr (rest i)
+    by rest false i = inr (rest i)
+
+-- the nodes of a range's tree have its root
+pub around-root : (ts : Trees) (r : Range NodeName) → HasOneTree ts r → (y : NodeName) → In y (nodes_around ts r) → Has ts y × (root_of ts y ≡ root_of ts r.start.node)
+around-root ts r ends y i =
+    let top = root_of ts r.start.node in
+    let up = Has-above ts top r.start.node ends.once ends.start (root-above ts r.start.node ends.start) in
+    let inside = Has-names _ y i in
+    let h = Has-subtree ts top y ends.once inside in
+    (h, sym (root-path ts top y ends.once h (above-from_below ts top y ends.once up inside)) ∙ root-root ts r.start.node ends.once ends.start)
+
+module _ (ts : Trees) (owned : AreOwned ts) (o : Owner) (r : Range NodeName) (ends : HasOneTree ts r) (start : r.start.node.owner ≡ o) (end : r.end.node.owner ≡ o) where
+  abbrev own : Trees
+  own = trees_of_owner o ts
+
+  -- the part of a node
+  part-own : (y : NodeName) → y.owner ≡ o → text_part ts r y ≡ text_part own r y
+  part-own y e =
+      let is = read_own ts owned o y e in
+      ap (λ (n : Node). if is_text n.kind then slice_range n.text (cut_start r y) (cut_end ts r y) else []) is.node
+      ∙ ap (λ k. if is_text (kind_of own y) then slice_range (node_in own y).text (cut_start r y) (if name_eq y r.end.node then r.end.offset else k) else []) is.size
+
+  -- whether a node of the tree is contained
+  contained-own : (y : NodeName) → Has ts y → root_of ts y ≡ root_of ts r.start.node → y.owner ≡ o → is_contained ts r y ≡ is_contained own r y
+  contained-own y h root e =
+      let mine : IsOwnIn ts owned ends.once o y = record { owner = e; there = h } in
+      let at_start : IsOwnIn ts owned ends.once o r.start.node = record { owner = start; there = ends.start } in
+      let at_end : IsOwnIn ts owned ends.once o r.end.node = record { owner = end; there = ends.end } in
+      let is = read_own ts owned o y e in
+      let same_end : same_root ts y r.end.node ≡ true = ap (λ z. name_eq z (root_of ts r.end.node)) root ∙ ends.one_root in
+      ap (λ b. b && is_before ts (at y (length_of ts y)) r.end) (is_before-own ts owned ends.once o r.start (at y 0) at_start mine (name_eq-from (root_of ts r.start.node) (root_of ts y) (sym root)))
+      ∙ (ap (λ b. is_before own r.start (at y 0) && b) (is_before-own ts owned ends.once o (at y (length_of ts y)) r.end mine at_end same_end)
+      ∙ ap (λ k. is_before own r.start (at y 0) && is_before own (at y k) r.end) is.size)
+
+  -- the nodes of the tree
+  around-own : nodes_around ts r ≡ nodes_around own r
+  around-own =
+      let top = root_of ts r.start.node in
+      (read_own ts owned o top (stays_own ts owned o r.start.node start).root).inside ∙ ap (inclusive_descendants own) (read_own ts owned o r.start.node start).root
+
+  -- are the owner's
+  around-owner : (y : NodeName) → In y (nodes_around ts r) → y.owner ≡ o
+  around-owner y i =
+      let top = root_of ts r.start.node in
+      (stays_own ts owned o top (stays_own ts owned o r.start.node start).root).inside y (is_in-from y _ i)
+
+  -- the whole
+  pub text-own : text_among ts r (nodes_around ts r) ≡ text_among own r (nodes_around own r)
+  text-own =
+      let xs = nodes_around ts r in
+      let middle : contained_text ts r xs ≡ contained_text own r (nodes_around own r) =
+      parts-same (text_part ts r) (text_part own r) (filter (is_contained ts r) xs) (λ y i. part-own y (around-owner y (among-filtered (is_contained ts r) xs y i)))
+      ∙ (ap (flat_map (text_part own r)) (filter-same (is_contained ts r) (is_contained own r) xs (λ y i. let w = around-root ts r ends y i in contained-own y w.0 w.1 (around-owner y i)))
+      ∙ ap (contained_text own r) around-own) in
+      ap (λ m. if m then text_part ts r r.start.node else text_part ts r r.start.node ++ contained_text ts r xs ++ text_part ts r r.end.node)
+      (ap (λ (n : Node). name_eq r.start.node r.end.node && is_text n.kind) (read_own ts owned o r.start.node start).node)
+      ∙ (ap (λ m. whole m (contained_text ts r xs) (text_part ts r r.end.node)) (part-own r.start.node start)
+      ∙ (ap (λ m. whole (text_part own r r.start.node) m (text_part ts r r.end.node)) middle
+      ∙ ap (whole (text_part own r r.start.node) (contained_text own r (nodes_around own r))) (part-own r.end.node end)))
+    where
+      whole : List ℕ → List ℕ → List ℕ → List ℕ
+      whole a b c = if name_eq r.start.node r.end.node && is_text (kind_of own r.start.node) then a else a ++ b ++ c
+
+  -- both ends are nodes of one tree there too
+  ends-own : HasOneTree own r
+  ends-own = record {
+    once = once_trees o ts ends.once;
+    start = has_own o ts owned.owners r.start.node start ends.start;
+    end = has_own o ts owned.owners r.end.node end ends.end;
+    one_root = sym (same_root-own ts owned ends.once o r.start.node r.end.node (record { owner = start; there = ends.start }) (record { owner = end; there = ends.end })) ∙ ends.one_root;
+  }
+
+  -- so it is the text of the range
+  pub text-is : text_among ts r (nodes_around ts r) ≡ range_text_of own r
+  text-is = text-own ∙ sym (text-tree own r ends-own)

@@ -1,0 +1,133 @@
+-- Which nodes of a tree stand before a boundary point of it, and which behind.
+use Rattle.std.proofs.Common.{◌≡◌, ◌⊎◌, inl, inr, ℕ, ◌<◌, true, false, List, [], ◌∷◌, ◌++◌, length, take, drop, refl, sym, ap, ◌∙◌, arith, append_assoc, length-append, length-take, length-drop, true≢false, ltb, eqb}
+use Rattle.std.specs.Prelude.{◌&&◌}
+use Rattle.std.proofs.lemmas.Bool.{cases_Bool, or_cases, or_left, or_right, or_parts, and_parts, false_from_ne_true, lt-ltb, le-ltb, le-leb, lt-leb, ltb-true, ltb-false, eqb-true, eq-eqb}
+use Rattle.std.proofs.lemmas.Grind.{flat_map-append}
+use Rattle.std.proofs.lemmas.List.{take-append-drop}
+use Rattle.dom_base.specs.declared.NodeName.{NodeName}
+use Rattle.dom_model.specs.Names.{name_eq, items_before, items_after}
+use Rattle.dom_model.specs.Place.{Boundary, list_before, is_before}
+use Rattle.dom_model.specs.Ranges.{at}
+use Rattle.dom_model.specs.Tree.{Trees, children_of, inclusive_descendants}
+use Rattle.dom_ranges.proofs.Before.{before-same, before-up, before-down, before-beside}
+use Rattle.dom_traversal.proofs.Lists.{In, In-parts, split_at}
+use Rattle.dom_traversal.proofs.Order.{IsWithin, stands_in, joined, here, splits}
+use Rattle.dom_traversal.specs.Within.{ahead_of, beyond}
+use Rattle.dom_range_ops.specs.Points.{nodes_after}
+use Rattle.dom_range_ops.proofs.Parting.{joined-in, under-kid, behind-apart, ahead-apart}
+
+-- ---- the order of lists of numbers
+
+-- lists are in order by their first items, or by those behind
+front-less : (x y : ℕ) (xs ys : List ℕ) → list_before (x ∷ xs) (y ∷ ys) ≡ true → (x < y) ⊎ ((x ≡ y) × (list_before xs ys ≡ true))
+front-less x y xs ys e = elim (or_cases (ltb x y) (eqb x y && list_before xs ys) e) [
+  | inl l ↦ inl (ltb-true x y l)
+  | inr h ↦ let parts = and_parts (eqb x y) (list_before xs ys) h in inr (eqb-true x y parts.0, parts.1)
+]
+
+less-front : (x y : ℕ) (xs ys : List ℕ) → (x < y) ⊎ ((x ≡ y) × (list_before xs ys ≡ true)) → list_before (x ∷ xs) (y ∷ ys) ≡ true
+less-front x y xs ys (inl l) = or_left (ltb x y) (eqb x y && list_before xs ys) (lt-ltb x y l)
+less-front x y xs ys (inr h) = or_right (ltb x y) (eqb x y && list_before xs ys) (ap (λ b. b && list_before xs ys) (eq-eqb x y h.0) ∙ h.1)
+
+-- or not
+front-not : (x y : ℕ) (xs ys : List ℕ) → list_before (x ∷ xs) (y ∷ ys) ≡ false → (y < x) ⊎ ((x ≡ y) × (list_before xs ys ≡ false))
+front-not x y xs ys e =
+    let parts = or_parts (ltb x y) (eqb x y && list_before xs ys) e in
+    elim (cases_Bool (eqb x y)) [
+      | inl same ↦ inr (eqb-true x y same, ap (λ b. b && list_before xs ys) (sym same) ∙ parts.1)
+      | inr other ↦ inl (let l = ltb-false x y parts.0 in let off : x ≡ y → ⊥ = λ same. true≢false (sym (eq-eqb x y same) ∙ other) in omega (arith, l, off))
+    ]
+
+-- what comes before another one comes before all that do not come before that
+pub before-less : (a b c : List ℕ) → list_before a b ≡ true → list_before c b ≡ false → list_before a c ≡ true
+before-less [] [] c e f = absurd (true≢false (sym e))
+before-less [] (y ∷ ys) [] e f = absurd (true≢false f)
+before-less [] (y ∷ ys) (z ∷ zs) e f = refl
+before-less (x ∷ xs) [] c e f = absurd (true≢false (sym e))
+before-less (x ∷ xs) (y ∷ ys) [] e f = absurd (true≢false f)
+before-less (x ∷ xs) (y ∷ ys) (z ∷ zs) e f = less-front x z xs zs (by (before-less xs ys zs) (front-less x y xs ys e) (front-not z y zs ys f))
+  where
+    by : (list_before xs ys ≡ true → list_before zs ys ≡ false → list_before xs zs ≡ true) → (x < y) ⊎ ((x ≡ y) × (list_before xs ys ≡ true)) → (y < z) ⊎ ((z ≡ y) × (list_before zs ys ≡ false)) → (x < z) ⊎ ((x ≡ z) × (list_before xs zs ≡ true))
+    by rest (inl l) (inl m) = inl (omega (arith, l, m))
+    by rest (inl l) (inr h) = let same = h.0 in inl (omega (arith, l, same))
+    by rest (inr g) (inl m) = let same = g.0 in inl (omega (arith, m, same))
+    by rest (inr g) (inr h) = inr (g.0 ∙ sym h.0, rest g.1 h.1)
+
+-- two lists do not come before each other
+pub before-turned : (a b : List ℕ) → list_before a b ≡ true → list_before b a ≡ false
+before-turned [] [] e = refl
+before-turned [] (y ∷ ys) e = refl
+before-turned (x ∷ xs) [] e = absurd (true≢false (sym e))
+before-turned (x ∷ xs) (y ∷ ys) e = false_from_ne_true (list_before (y ∷ ys) (x ∷ xs)) (λ f. by (before-turned xs ys) (front-less x y xs ys e) (front-less y x ys xs f))
+  where
+    by : (list_before xs ys ≡ true → list_before ys xs ≡ false) → (x < y) ⊎ ((x ≡ y) × (list_before xs ys ≡ true)) → (y < x) ⊎ ((y ≡ x) × (list_before ys xs ≡ true)) → ⊥
+    by rest (inl l) (inl m) = omega (arith, l, m)
+    by rest (inl l) (inr h) = let same = h.0 in omega (arith, l, same)
+    by rest (inr g) (inl m) = let same = g.0 in omega (arith, m, same)
+    by rest (inr g) (inr h) = true≢false (sym h.1 ∙ rest g.1)
+
+-- ---- a point of a tree
+
+module _ (ts : Trees) (top : NodeName) (b : Boundary NodeName) (w : IsWithin ts top b.node) where
+  -- the nodes that do not stand behind it
+  abbrev pub nodes_before : List NodeName
+  nodes_before = ahead_of ts top b.node ++ b.node ∷ joined ts (take b.offset (children_of ts b.node))
+
+  -- they are all
+  pub point-splits : inclusive_descendants ts top ≡ nodes_before ++ nodes_after ts top b
+  point-splits =
+      let kids = children_of ts b.node in
+      let front = joined ts (take b.offset kids) in
+      let back = joined ts (drop b.offset kids) in
+      let parts : joined ts kids ≡ front ++ back = ap (joined ts) (sym (take-append-drop b.offset kids)) ∙ flat_map-append (inclusive_descendants ts) (take b.offset kids) (drop b.offset kids) in
+      splits ts top b.node w
+      ∙ (ap (λ xs. ahead_of ts top b.node ++ (xs ++ beyond ts top b.node)) (here ts top b.node w ∙ ap (λ xs. b.node ∷ xs) parts)
+      ∙ (ap (λ xs. ahead_of ts top b.node ++ b.node ∷ xs) (append_assoc front back (beyond ts top b.node))
+      ∙ sym (append_assoc (ahead_of ts top b.node) (b.node ∷ front) (back ++ beyond ts top b.node))))
+
+  -- before which the point does not come
+  pub before-no : (y : NodeName) → In y nodes_before → is_before ts b (at y 0) ≡ false
+  before-no y i = elim (In-parts y (ahead_of ts top b.node) (b.node ∷ joined ts (take b.offset (children_of ts b.node))) i) [
+    | inl j ↦ elim (ahead-apart ts w.once top b.node y w j) [
+      | inl k ↦
+          before-beside ts b.node y b.offset 0 k.common k.second k.first k.second_rest k.first_rest k.second_place k.first_place (λ same. let l = k.less in omega (arith, l, same))
+          ∙ le-ltb k.second k.first (let l = k.less in omega (arith, l))
+      | inr k ↦ before-up ts b.node y b.offset 0 k.child k.rest k.place ∙ le-ltb k.child 0 (omega arith)
+    ]
+    | inr j ↦ elim j [
+      | inl same ↦ before-same ts b.node y b.offset 0 (sym same) ∙ le-ltb b.offset 0 (omega arith)
+      | inr g ↦
+          let kids = children_of ts b.node in
+          let s = joined-in ts (take b.offset kids) y g in
+          let first = items_before name_eq s.0 (take b.offset kids) in
+          let later = items_after name_eq s.0 (take b.offset kids) in
+          let parts = split_at s.0 (take b.offset kids) s.1 in
+          let whole : kids ≡ first ++ s.0 ∷ (later ++ drop b.offset kids) = sym (take-append-drop b.offset kids) ∙ (ap (λ xs. xs ++ drop b.offset kids) parts ∙ append_assoc first (s.0 ∷ later) (drop b.offset kids)) in
+          let r = under-kid ts w.once b.node s.0 y (stands_in ts top b.node w) first (later ++ drop b.offset kids) whole s.2 in
+          let longer = ap (length {A = NodeName}) parts ∙ length-append first (s.0 ∷ later) in
+          let few = length-take b.offset kids in
+          before-down ts b.node y b.offset 0 (length first) r.0 r.1 ∙ lt-leb b.offset (length first) (omega (arith, longer, few))
+    ]
+  ]
+
+  -- and before the others it comes
+  pub after-yes : (y : NodeName) → In y (nodes_after ts top b) → is_before ts b (at y 0) ≡ true
+  after-yes y i = elim (In-parts y (joined ts (drop b.offset (children_of ts b.node))) (beyond ts top b.node) i) [
+    | inl g ↦
+        let kids = children_of ts b.node in
+        let s = joined-in ts (drop b.offset kids) y g in
+        let first = items_before name_eq s.0 (drop b.offset kids) in
+        let later = items_after name_eq s.0 (drop b.offset kids) in
+        let parts = split_at s.0 (drop b.offset kids) s.1 in
+        let front = take b.offset kids ++ first in
+        let whole : kids ≡ front ++ s.0 ∷ later = sym (take-append-drop b.offset kids) ∙ (ap (λ xs. take b.offset kids ++ xs) parts ∙ sym (append_assoc (take b.offset kids) first (s.0 ∷ later))) in
+        let r = under-kid ts w.once b.node s.0 y (stands_in ts top b.node w) front later whole s.2 in
+        let longer = ap (length {A = NodeName}) parts ∙ length-append first (s.0 ∷ later) in
+        let left = length-drop b.offset kids in
+        let few = length-take b.offset kids in
+        let both = length-append (take b.offset kids) first in
+        before-down ts b.node y b.offset 0 (length front) r.0 r.1 ∙ le-leb b.offset (length front) (omega (arith, longer, left, few, both))
+    | inr j ↦
+        let k = behind-apart ts w.once top b.node y w j in
+        before-beside ts b.node y b.offset 0 k.common k.first k.second k.first_rest k.second_rest k.first_place k.second_place (λ same. let l = k.less in omega (arith, l, same)) ∙ lt-ltb k.first k.second k.less
+  ]

@@ -1,0 +1,14 @@
+use Rattle.std.proofs.Common.{◌≡◌, length}
+use Rattle.dom_model.specs.Tree.{inclusive_ancestors}
+use Rattle.dom_tree.specs.Forest.{name_at}
+use Rattle.dom_traversal.specs.Within.{beyond, StandsIn}
+use Rattle.dom_range_ops.proofs.points.beyond.Given as goal
+
+abbrev pub invariant-loop-top : goal.invariant-loop-top
+invariant-loop-top l = record {
+  stands : StandsIn l.forest l.top l.at;
+  left : beyond l.forest.trees (name_at l.forest.names l.top) (name_at l.forest.names l.at) ≡ beyond l.forest.trees (name_at l.forest.names l.top) (name_at l.forest.names l.fn.key);
+}
+
+abbrev pub decreases-loop-top : goal.decreases-loop-top
+decreases-loop-top l = length (inclusive_ancestors l.forest.trees (name_at l.forest.names l.at))

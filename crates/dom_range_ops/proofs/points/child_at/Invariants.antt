@@ -1,0 +1,14 @@
+use Rattle.std.proofs.Common.{◌<◌, length}
+use Rattle.std.specs.Option.{option_map, ForSome}
+use Rattle.dom_tree.specs.Forest.{name_at}
+use Rattle.dom_range_ops.proofs.Kids.{IsAtKid}
+use Rattle.dom_range_ops.proofs.points.child_at.Given as goal
+
+abbrev pub invariant-loop-left : goal.invariant-loop-left
+invariant-loop-left l = record {
+  node : ForSome l.at (λ k. k < length l.forest.names);
+  kid : IsAtKid l.forest.trees (name_at l.forest.names l.fn.node) l.index l.left (option_map (name_at l.forest.names) l.at);
+}
+
+abbrev pub decreases-loop-left : goal.decreases-loop-left
+decreases-loop-left l = l.left

@@ -1,0 +1,7 @@
+//! The operations on a live range: its text (DOM Standard, 5.5 Interface Range).
+#![tactic(auto)]
+
+mod points;
+mod text;
+
+pub use text::range_text;
