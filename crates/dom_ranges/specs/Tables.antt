@@ -52,3 +52,7 @@ BothEnds P r = P r.start × P r.end
 abbrev pub collapsed_range : {N : Type 0} → Bool → Range N → Range N
 collapsed_range true r = from_to r.start r.start
 collapsed_range false r = from_to r.end r.end
+
+-- a range with another end (own rule)
+abbrev pub extended_range : {N : Type 0} → Boundary N → Range N → Range N
+extended_range b r = from_to r.start b

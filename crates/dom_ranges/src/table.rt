@@ -10,7 +10,7 @@ ghost use Rattle.dom_tree.specs.Forest.{name_at};
 ghost use Rattle.slab.specs.Slab.{get, Updates};
 ghost use Rattle.dom_ranges.specs.Rules.{Fits, IsAtNode, is_inside};
 ghost use Rattle.dom_ranges.specs.Settings.{start_set, end_set, named_ranges, with_named, without_named};
-ghost use Rattle.dom_ranges.specs.Tables.{ranges_of, range_in, with_ranges, range_from, ends_by, EachRange, BothEnds, collapsed_range};
+ghost use Rattle.dom_ranges.specs.Tables.{ranges_of, range_in, with_ranges, range_from, ends_by, EachRange, BothEnds, collapsed_range, extended_range};
 
 use crate::change::{Change, Insertion, Join, Removal, Replacement, Split};
 use crate::numbers::Numbers;
@@ -207,6 +207,25 @@ impl RangeTable {
             number,
             Points {
                 start: (node, offset),
+                end: (node, offset),
+            },
+        );
+        true
+    }
+
+    /// Gives a range another end and leaves its start, whichever comes first (own rule). Answers whether it is there.
+    pub fn extend(&mut self, owner: Owner, number: u32, node: Key, offset: usize) -> bool
+        ensures there { result ≡ is_some (range_in (ranges_of self.old owner) number) }
+        ensures table { (o : Owners) → ranges_of self.new o ≡ with_ranges self.old owner (slice_set (ranges_of self.old owner) number (option_map (extended_range (at node offset)) (range_in (ranges_of self.old owner) number))) o }
+    {
+        let Some(points) = self.points(owner, number) else {
+            return false;
+        };
+        self.write(
+            owner,
+            number,
+            Points {
+                start: points.start,
                 end: (node, offset),
             },
         );

@@ -1,5 +1,6 @@
 //! Live ranges of each owner, by their numbers (DOM Standard, 5 Ranges).
 ghost use Rattle.std.specs.Prelude.{◌≡◌, ◌<◌, ◌↔◌, ◌⊎◌, length, true, is_some, IfOk, IfErr, OnOk, OnErr};
+ghost use Rattle.std.specs.Option.{ForSome};
 ghost use Rattle.dom_base.specs.declared.Refusal.{Refusal as RefusalOf};
 ghost use Rattle.dom_base.specs.declared.Refusal.TheVariants.{Limit};
 ghost use Rattle.dom_model.specs.Command.{Command, own};
@@ -7,9 +8,10 @@ ghost use Rattle.dom_model.specs.CommandRefusals.{past_limit, past_end};
 ghost use Rattle.dom_model.specs.Names.{node_of};
 ghost use Rattle.dom_model.specs.Output.{nothing, a_range, boundaries};
 ghost use Rattle.dom_model.specs.Part.{range_at};
-ghost use Rattle.dom_model.specs.Ranges.{at};
+ghost use Rattle.dom_model.specs.Ranges.{at, from_to};
+ghost use Rattle.dom_model.specs.Steps.{set_range};
 ghost use Rattle.dom_model.specs.World.{part_of};
-ghost use Rattle.dom_mutation.specs.Doc.{name_in, owner_in, Makes};
+ghost use Rattle.dom_mutation.specs.Doc.{name_in, owner_in, stepped, Makes};
 
 use crate::Doc;
 use dom_base::{Fault, Owner, Refusal};
@@ -94,6 +96,17 @@ impl Doc {
         ensures world { Makes owner (Command.range_collapse number to_start) nothing self.old.world self.new.world }
     {
         let _ = self.ranges.collapse(owner, number, to_start);
+    }
+
+    /// Gives a live range another end, at an offset in a node of its owner, and leaves its start, whichever comes first: the
+    /// elementary step by which an operation on a range sets its end (own rule).
+    pub fn range_extend(&mut self, owner: Owner, number: u32, node: Key, offset: usize)
+        requires there { is_some (range_at (part_of self.old.world owner) number) ≡ true }
+        requires node_is_node { node < length self.old.names }
+        requires own { owner_in self.old node ≡ owner }
+        ensures { ForSome (range_at (part_of self.old.world owner) number) (λ r. self.new ≡ stepped owner (set_range number (from_to r.start (at (name_in self.old node) offset))) self.old) }
+    {
+        let _ = self.ranges.extend(owner, number, node, offset);
     }
 
     /// Drops a live range, whose number is not given again (own rule).

@@ -1,0 +1,12 @@
+use Rattle.std.proofs.Common.{Option, ap, sym, ◌∙◌, ℕ}
+use Rattle.std.specs.Prelude.{slice_set}
+use Rattle.std.specs.Option.{option_map}
+use Rattle.dom_model.specs.Ranges.{Range, at}
+use Rattle.dom_ranges.specs.Tables.{ranges_of, with_ranges, extended_range}
+use Rattle.dom_ranges.proofs.Writing.{not_there}
+use Rattle.dom_ranges.proofs.table.RangeTable.extend.Goals as goal
+
+pub returns-in_default-clause-table : goal.returns-in_default-clause-table
+returns-in_default-clause-table c =
+    λ o. not_there c.args.self.now c.args.owner c.args.number (sym c.in_default.ensures) o
+    ∙ ap (λ (r : Option (Range ℕ)). with_ranges c.args.self.now c.args.owner (slice_set (ranges_of c.args.self.now c.args.owner) c.args.number (option_map (extended_range (at c.args.node c.args.offset)) r)) o) c.in_default.ensures
