@@ -7,6 +7,8 @@ mod observing;
 mod path;
 mod ranges;
 mod selecting;
+#[cfg(test)]
+mod tests;
 mod traversal;
 mod tree;
 
