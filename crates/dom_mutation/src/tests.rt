@@ -48,9 +48,7 @@ pub(crate) fn add(rt: &impl Abort, alloc: Global, doc: &mut Doc, kind: Kind)
         text: Vec::new(alloc),
         document: None,
     };
-    let _key = doc
-        .add(Owner::Page, node)
-        .expect(rt, "no node is made");
+    let _key = doc.add(Owner::Page, node).expect(rt, "no node is made");
 }
 
 // The node of the page with this number, if a number is given.

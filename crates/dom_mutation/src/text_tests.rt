@@ -29,13 +29,7 @@ fn check_data(rt: &impl Abort, doc: &Doc, node: Key)
 }
 
 // Puts a node of the page in the place of a child.
-fn replace(
-    rt: &impl Abort,
-    doc: &mut Doc,
-    parent: u32,
-    node: u32,
-    child: u32,
-) -> Result<(), Fault>
+fn replace(rt: &impl Abort, doc: &mut Doc, parent: u32, node: u32, child: u32) -> Result<(), Fault>
     requires { HasBounds (part_of doc.old.world Page) }
 {
     let into = key_of(rt, doc, parent);
@@ -99,12 +93,7 @@ fn split(rt: &impl Abort, doc: &mut Doc, node: u32, offset: usize) -> bool
 }
 
 // Replaces a child of node 1 of a small page, and gives the page.
-fn replaced(
-    rt: &impl Abort,
-    alloc: Global,
-    node: u32,
-    child: u32,
-) -> Result<Doc, AllocError> {
+fn replaced(rt: &impl Abort, alloc: Global, node: u32, child: u32) -> Result<Doc, AllocError> {
     let mut doc = small_page(rt, alloc)?;
     assert!(rt; replace(rt, &mut doc, 1, node, child).is_ok());
     Ok(doc)
