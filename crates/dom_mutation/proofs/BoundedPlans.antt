@@ -55,20 +55,6 @@ emptying-keeps node moved p i h =
     let told = queue_record (child_list node [] moved None None) in
     subst HasBounds (sym (after-append p gone (told ∷ []))) (queue_record-keeps (after p gone) (child_list node [] moved None None) (removals-part suppressed moved p i) (removals-keep suppressed moved p i h))
 
--- ---- room
-
--- room is made where a child is given
-pub making_room-keeps : (p : Part) (parent : NodeName) (before : Option NodeName) (count : ℕ) → IsPart p → HasBounds p → HasRoomFor parent count (after p (making_room parent before count p))
-making_room-keeps p parent (Some child) count i h = make_room-keeps p parent (index_of p.trees child) count i h
-making_room-keeps p parent None count i h = record {
-  ranges = all-then (EndsWithin p.trees) (EndsWithinRoom parent count p.trees) wider p.ranges h.ranges;
-  leaves = h.leaves;
-}
-  where
-    wider : (r : Option (Range NodeName)) → EndsWithin p.trees r → EndsWithinRoom parent count p.trees r
-    wider None g = tt
-    wider (Some r) g = let a = g.0 in let b = g.1 in (omega arith, omega arith)
-
 -- ---- texts
 
 -- a Text is normalized: so the next one may be
@@ -100,8 +86,3 @@ joining-joins_fit x parent p i there text up =
     let q = after p (replacing_data x (length_of p.trees x) 0 (flat_map (λ y. (node_in p.trees y).text) nexts) p) in
     let fits = joining-fits x parent p i (has_node-times p.trees x there) (text-data (kind_of p.trees x) text) up in
     joins-fit p.trees q.trees x (length_of p.trees x) nexts fits.0 fits.1
-
--- one join after another
-pub joined-keeps : (q : Part) (first : NodeName) (size : ℕ) (next : NodeName) (rest : List NodeName) (parent : NodeName) (index : ℕ) → IsPart q → JoinsFit q.trees first size (next ∷ rest) → HasBounds q
-    → HasBounds (part_step q (join_at first size next parent index)) × JoinsFit (part_step q (join_at first size next parent index)).trees first (size + length_of q.trees next) rest
-joined-keeps q first size next rest parent index i fits h = (join_at-keeps q first size next parent index i fits.0 h, fits.1)

@@ -145,21 +145,6 @@ module _ (first parent : ℕ) (all : List ℕ) (size : ℕ) (d : DocState) where
     same_owner : owner_in e first ≡ owner_in d first
     same_owner = ap (λ (ns : List NodeName). (name_at ns first).owner) joining.names
 
-    -- the Text is one of the state's
-    pub next_node : k < Rattle.std.proofs.Common.length e.names
-    next_node = subst (λ (ns : List NodeName). k < Rattle.std.proofs.Common.length ns) (sym joining.names) own.0
-
-    pub next_own : owner_in e k ≡ owner_in e first
-    next_own = subst (λ (ns : List NodeName). (name_at ns k).owner ≡ (name_at ns first).owner) (sym joining.names) own.1
-
-    pub bounds_now : HasBounds (part_of e.world (owner_in e first))
-    bounds_now = subst (λ p. HasBounds (part_of e.world p)) (sym same_owner) joining.bounds
-
-    pub fits_now : length + length_of (trees_in e first) (name_in e k) ≤ length_of (trees_in e first) (name_in e first)
-    fits_now =
-        subst (λ ts. length + length_of ts (name_in e k) ≤ length_of ts (name_in e first)) (sym joining.trees)
-        (subst (λ (ns : List NodeName). length + length_of (trees_in d first) (name_at ns k) ≤ length_of (trees_in d first) (name_at ns first)) (sym joining.names) fits.0)
-
     pub joins_on : (n : ℕ) → n ≡ length + length_of (trees_in e first) (name_in e k)
         → f ≡ stepped (owner_in e first) (join_at (name_in e first) length (name_in e k) (name_in e parent) (index_of (trees_in e first) (name_in e k))) e
         → Joins first parent all size d (drop (i + 1) all) n f

@@ -26,10 +26,6 @@ ranges_none c t empty shown = record {
   absent = λ o off. empty o;
 }
 
--- slots are signalled
-pub ranges_signalled : (c : Contents) (t : RangeLists) (ss : List NodeName) → AreRangesOf c t → AreRangesOf (signals_in c ss) t
-ranges_signalled c t ss held = subst (λ d. AreRangesOf d t) (sym (signalled_fields c ss)) record { shown = held.shown; own = held.own; few = held.few; absent = held.absent }
-
 -- an owner that is one of some is one of more
 in_more : (o c : Owner) (os : List Owner) → In o os → In o (os ++ c ∷ [])
 in_more o c [] h = absurd h

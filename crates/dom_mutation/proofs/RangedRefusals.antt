@@ -27,17 +27,6 @@ module _ (c : Contents) (t : RangeLists) (ranges : AreRangesOf c t) (o : Owner) 
   pub limit_read : past_limit (length (ranges_of t o)) 1 ≡ past_limit (length (part_in c o).ranges) 1
   limit_read = ap (λ n. past_limit n 1) (sym ranges_counted)
 
-  -- a range that is not there
-  pub unknown_read : (k : ℕ) → (range_in (ranges_of t o) k ≡ None) ↔ (range_at (part_in c o) k ≡ None)
-  unknown_read k = (
-    λ e. range_read c t ranges o k ∙ ap (option_map (named_range c.names)) e,
-    λ e. none (range_in (ranges_of t o) k) (sym (range_read c t ranges o k) ∙ e),
-  )
-    where
-      none : (m : Option (Range ℕ)) → option_map (named_range c.names) m ≡ None → m ≡ None
-      none None e = refl
-      none (Some r) e = cc
-
   -- an offset past a node's length
   pub end_read : AreOwned c.trees → (x offset : ℕ) → (name_at c.names x).owner ≡ o → (length_of c.trees (name_at c.names x) < offset) ↔ (past_end (part_in c o) (name_at c.names x) offset ≡ true)
   end_read owned x offset is =

@@ -1,5 +1,5 @@
--- Steps that move boundary points, in the world of what is held with hosts: where the table of ranges was told, the world is the
--- one after the step.
+-- Steps that move boundary points and signal no slots, in the world of what is held with hosts: where the table of ranges was told,
+-- the world is the one after the step.
 use Rattle.std.proofs.Common.{◌≡◌, ℕ, ◌<◌, true, List, length, Some, refl, sym, ap}
 use Rattle.std.specs.Prelude.{nat_eq}
 use Rattle.dom_base.specs.declared.Owner.{Owner}
@@ -63,15 +63,3 @@ module _ (c : Contents) (hosts : List ShadowHost) (held : AreHostsOf c hosts) (t
   join_told first size next parent index node after above own own_next own_parent moved =
       plain_step c hosts held o there (ranged u c) (join_at (name_at c.names first) size (name_at c.names next) (name_at c.names parent) index) tt
       (join_ranged c t u ranges apart o first size next parent index node after above own own_next own_parent moved).0
-
-  -- a node leaves its parent, after the owner's iterators, and the slots are signalled
-  pub removal_told : (tables : Owner → Tables) (owned : AreOwned c.trees) → (x parent : ℕ) (node : x < length c.names) (above : parent < length c.names) (own : (name_at c.names x).owner ≡ o)
-      (up : parent_of c.trees (name_at c.names x) ≡ Some (name_at c.names parent)) (change : IsOwnChange o (taken_out (name_at c.names x)) c.trees)
-      → let b = record c { trees = taken_out (name_at c.names x) c.trees; tables = tables } in
-      ((q : Owner) → ranges_of u q ≡ ends_by (removal_by_keys c t u ranges apart o owned b refl x parent node above own up) (ranges_of t q))
-      → IsChangeOf c b o (left_part c t u ranges apart o (name_at c.names x) (name_at c.names parent))
-      → world_of (signals_in (ranged u b) (step_signals c.names (shadows_in c hosts) (shadows_in (ranged u b) hosts) (Removal x) (Some parent))) ≡ world_step o (world_of c) (take_out (name_at c.names x))
-  removal_told tables owned x parent node above own up change moved left =
-      let b = record c { trees = taken_out (name_at c.names x) c.trees; tables = tables } in
-      removal_hosted c hosts held o there (ranged u b).trees (ranged u b).tables change.owned x (Some parent) own (sym up)
-      (removal_ranged c t u ranges apart o owned b refl x parent node above own up moved left).0
