@@ -18,6 +18,3 @@ mod values;
 
 pub use grammar::texts_say_one_selector;
 pub use selector::Selector;
-
-#[cfg(test)]
-mod tests;
