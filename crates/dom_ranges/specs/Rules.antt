@@ -16,7 +16,3 @@ IsAtNode names b = b.node < length names
 -- whether a key's node is an inclusive descendant of another key's
 abbrev pub is_inside : NamedTrees → ℕ → ℕ → Bool
 is_inside f above k = is_inclusive_ancestor f.trees (name_at f.names above) (name_at f.names k)
-
--- its node is one of those with these names, and its offset is below 1000
-abbrev pub IsSmallAt : List NodeName → Boundary ℕ → Type 0
-IsSmallAt names b = IsAtNode names b × (b.offset < 1000)

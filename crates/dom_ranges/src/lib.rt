@@ -9,6 +9,3 @@ mod table;
 
 pub use order::is_before;
 pub use table::{Points, RangeTable};
-
-#[cfg(test)]
-mod tests;
