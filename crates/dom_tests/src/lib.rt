@@ -10,5 +10,3 @@ mod printer;
 mod reader;
 #[cfg(test)]
 mod run;
-#[cfg(test)]
-mod session;
