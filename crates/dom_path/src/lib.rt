@@ -6,6 +6,8 @@ mod event;
 mod item;
 mod path;
 mod stand;
+#[cfg(test)]
+mod tests;
 
 pub use item::Item;
 pub use path::Path;

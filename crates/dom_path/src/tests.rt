@@ -1,0 +1,46 @@
+//! What no line of a script reaches, since it refuses related nodes of other owners: each tree of a path sees a related node of its
+//! own, and a path is empty where the target would see itself as the related node.
+mod scene;
+
+use scene::Line::{Append, Attach};
+use scene::{Line, Row, run};
+use std::test::Fail;
+
+// The page's `span` is a child of a host, whose shadow tree has a slot and another element.
+const SLOTTED: [Line<'static>; 5] = [
+    Append("n0", "n1"),
+    Attach("n1", "m0"),
+    Append("n1", "n2"),
+    Append("m0", "m1"),
+    Append("m0", "m2"),
+];
+
+// The same, where the `span` is a host itself.
+const NESTED: [Line<'static>; 7] = [
+    Append("n0", "n1"),
+    Attach("n1", "m0"),
+    Append("n1", "n2"),
+    Attach("n2", "k0"),
+    Append("m0", "m1"),
+    Append("m0", "m2"),
+    Append("k0", "k1"),
+];
+
+#[test]
+fn no_path_where_the_target_sees_itself_as_related(rt: HostRuntime) -> Result<(), Fail> {
+    run(&rt, rt.alloc(), &SLOTTED, ("n1", "m2", true), &[])
+}
+
+#[test]
+fn each_tree_sees_another_related_node(rt: HostRuntime) -> Result<(), Fail> {
+    let rows = [
+        Row("k1", "k1", "k1", "n1", "", "k1 k0 n2 n1 n0"),
+        Row("k0", "", "k1", "n1", "root", "k1 k0 n2 n1 n0"),
+        Row("n2", "n2", "n2", "n1", "", "n2 n1 n0"),
+        Row("m1", "", "n2", "m2", "slot", "n2 m1 m0 n1 n0"),
+        Row("m0", "", "n2", "m2", "root", "n2 m1 m0 n1 n0"),
+        Row("n1", "", "n2", "n1", "", "n2 n1 n0"),
+        Row("n0", "", "n2", "n1", "", "n2 n1 n0"),
+    ];
+    run(&rt, rt.alloc(), &NESTED, ("k1", "m2", true), &rows)
+}
