@@ -6,9 +6,8 @@ use Rattle.dom_text.specs.Lines.{cut_of, last_line, lines_of, page_lines, text_o
 use Rattle.dom_text.specs.Text.{output_line, output_text}
 use Rattle.dom_text.proofs.LineLaws.{lines_of-cut}
 use Rattle.dom_isolation.proofs.PlainTexts.{picked_lines-agree}
-use Rattle.dom_isolation.proofs.PlainLines.{offering-reads_plain_words}
-use Rattle.dom_commands.specs.Offered.{is_offered}
-use Rattle.dom_engine.specs.Session.{read_line}
+use Rattle.dom_isolation.proofs.PlainLines.{decode-reads_plain_words}
+use Rattle.dom_text.specs.Decode.{decode}
 use Rattle.dom_engine.specs.Run.{answers_to_end}
 use Rattle.dom_engine.specs.PageLaws.{PageTextIsThePageMachines, SamePageText}
 use Rattle.dom_engine.proofs.RunLaws.{text-ended}
@@ -22,8 +21,8 @@ lines_of-ended lines =
 pub page_text-agrees : PageTextIsThePageMachines
 unfolding answers_to_end
 page_text-agrees bytes h =
-    let outputs = outputs_of (map read_line (lines_of bytes)) in
-    ap (λ (lines : List (List ℕ)). text_of_lines (page_lines lines)) (lines_of-ended (map output_line outputs)) ∙ ap text_of_lines (picked_lines-agree read_line (offering-reads_plain_words is_offered) bytes h)
+    let outputs = outputs_of (map decode (lines_of bytes)) in
+    ap (λ (lines : List (List ℕ)). text_of_lines (page_lines lines)) (lines_of-ended (map output_line outputs)) ∙ ap text_of_lines (picked_lines-agree decode decode-reads_plain_words bytes h)
 
 pub page_text-same : SamePageText
-page_text-same first second h g e = page_text-agrees first h ∙ ap (λ items. output_text (page_outputs_of read_line items)) e ∙ sym (page_text-agrees second g)
+page_text-same first second h g e = page_text-agrees first h ∙ ap (λ items. output_text (page_outputs_of decode items)) e ∙ sym (page_text-agrees second g)

@@ -15,10 +15,8 @@ use Rattle.dom_text.specs.Text.{output_line, output_text}
 use Rattle.dom_text.proofs.LineLaws.{cut_of-pieces}
 use Rattle.dom_text.proofs.DecodeLaws.{decode-kept}
 use Rattle.dom_reader.proofs.StreamLaws.{cut_of-front, rest-one_line}
-use Rattle.dom_isolation.specs.Offering.{offered_line}
-use Rattle.dom_commands.specs.Offered.{is_offered}
 use Rattle.dom_commands.proofs.TextLaws.{text_of_lines-append, output_text-append}
-use Rattle.dom_engine.specs.Session.{read_line}
+use Rattle.dom_text.specs.Decode.{decode}
 use Rattle.dom_engine.specs.Run.{world_after, answers, answers_to_end, ending, viewed, shown, WritesSome}
 
 -- ---- runs
@@ -42,8 +40,8 @@ pub world_after-none : (w : World) → world_after w [] ≡ w
 unfolding world_after
 world_after-none w = refl
 
-run_more : (w : World) (xs ys : List (List ℕ)) → run_lines w (map read_line (xs ++ ys)) ≡ run_then (run_lines w (map read_line xs)) (λ v. run_lines v (map read_line ys))
-run_more w xs ys = ap (run_each step w) (map-append read_line xs ys) ∙ run_each-append step w (map read_line xs) (map read_line ys)
+run_more : (w : World) (xs ys : List (List ℕ)) → run_lines w (map decode (xs ++ ys)) ≡ run_then (run_lines w (map decode xs)) (λ v. run_lines v (map decode ys))
+run_more w xs ys = ap (run_each step w) (map-append decode xs ys) ∙ run_each-append step w (map decode xs) (map decode ys)
 
 -- the world behind more lines
 pub world_after-append : (w : World) (xs ys : List (List ℕ)) → world_after w (xs ++ ys) ≡ world_after (world_after w xs) ys
@@ -55,30 +53,30 @@ pub answers-append : (w : World) (xs ys : List (List ℕ)) → answers w (xs ++ 
 unfolding world_after answers
 answers-append w xs ys =
     ap (λ (r : Run World). output_text r.1) (run_more w xs ys)
-    ∙ output_text-append (run_lines w (map read_line xs)).1 (run_lines (run_lines w (map read_line xs)).0 (map read_line ys)).1
+    ∙ output_text-append (run_lines w (map decode xs)).1 (run_lines (run_lines w (map decode xs)).0 (map decode ys)).1
 
 -- one line
-pub world_after-one : (w : World) (line : List ℕ) → world_after w (line ∷ []) ≡ (step w (read_line line)).0
+pub world_after-one : (w : World) (line : List ℕ) → world_after w (line ∷ []) ≡ (step w (decode line)).0
 unfolding world_after
 world_after-one w line = refl
 
-pub answers-one : (w : World) (line : List ℕ) → answers w (line ∷ []) ≡ output_text (step w (read_line line)).1
+pub answers-one : (w : World) (line : List ℕ) → answers w (line ∷ []) ≡ output_text (step w (decode line)).1
 unfolding answers
-answers-one w line = ap output_text (append-nil (step w (read_line line)).1)
+answers-one w line = ap output_text (append-nil (step w (decode line)).1)
 
 -- the answers to the lines and the ending
 pub answers_to_end-split : (lines : List (List ℕ)) → answers_to_end lines ≡ answers first_world lines ++ ending (world_after first_world lines)
 unfolding answers answers_to_end ending world_after
-answers_to_end-split lines = output_text-append (run_lines first_world (map read_line lines)).1 (finish (run_lines first_world (map read_line lines)).0).1
+answers_to_end-split lines = output_text-append (run_lines first_world (map decode lines)).1 (finish (run_lines first_world (map decode lines)).0).1
 
 pub ending-is : (w : World) → ending w ≡ output_text (finish w).1
 unfolding ending
 ending-is w = refl
 
 -- lines say what is kept of them
-read_kept : (lines : List (List ℕ)) → map read_line (map kept_line lines) ≡ map read_line lines
+read_kept : (lines : List (List ℕ)) → map decode (map kept_line lines) ≡ map decode lines
 read_kept [] = refl
-read_kept (line ∷ lines) = ap (λ (l : Line). l ∷ map read_line (map kept_line lines)) (ap (offered_line is_offered) (decode-kept line)) ∙ ap (λ (ls : List Line). read_line line ∷ ls) (read_kept lines)
+read_kept (line ∷ lines) = ap (λ (l : Line). l ∷ map decode (map kept_line lines)) (decode-kept line) ∙ ap (λ (ls : List Line). decode line ∷ ls) (read_kept lines)
 
 pub answers-kept : (w : World) (lines : List (List ℕ)) → answers w (map kept_line lines) ≡ answers w lines
 unfolding answers
@@ -107,7 +105,7 @@ text-ended (line ∷ lines) =
 
 pub answers-ended : (w : World) (lines : List (List ℕ)) → (cut_of (answers w lines)).rest ≡ []
 unfolding answers
-answers-ended w lines = text-ended (map output_line (run_lines w (map read_line lines)).1)
+answers-ended w lines = text-ended (map output_line (run_lines w (map decode lines)).1)
 
 -- what a view keeps of two texts
 pub viewed-append : (view : Option Owner) (x y : List ℕ) → (cut_of x).rest ≡ [] → viewed view (x ++ y) ≡ viewed view x ++ viewed view y

@@ -6,21 +6,21 @@ use Rattle.dom_model.specs.World.{World}
 use Rattle.dom_model.specs.DocumentMachine.{first_world, run_lines, finish, run_to_end}
 use Rattle.dom_text.specs.Lines.{cut_of, lines_of, owner_prefix, written}
 use Rattle.dom_text.specs.Text.{output_text}
-use Rattle.dom_engine.specs.Session.{read_line}
+use Rattle.dom_text.specs.Decode.{decode}
 use Rattle.dom_engine.specs.declared.fault.RunFault.{RunFault}
 use Rattle.dom_engine.specs.declared.fault.RunFault.TheVariants.{Read, Write, Memory, InputLimit}
 
 -- the world after the lines
 unfoldable pub world_after : World → List (List ℕ) → World
-world_after w lines = (run_lines w (map read_line lines)).0
+world_after w lines = (run_lines w (map decode lines)).0
 
 -- the text of what the lines answer
 unfoldable pub answers : World → List (List ℕ) → List ℕ
-answers w lines = output_text (run_lines w (map read_line lines)).1
+answers w lines = output_text (run_lines w (map decode lines)).1
 
 -- the text of what the lines answer, and of the ending behind them
 unfoldable pub answers_to_end : List (List ℕ) → List ℕ
-answers_to_end lines = output_text (run_to_end first_world (map read_line lines)).1
+answers_to_end lines = output_text (run_to_end first_world (map decode lines)).1
 
 -- the text of the ending
 unfoldable pub ending : World → List ℕ

@@ -3,7 +3,7 @@ ghost use Rattle.std.specs.Prelude.{◌≡◌, true, false, IfOk, OnOk, OnErr};
 ghost use Rattle.dom_model.specs.DocumentMachine.{first_world, step, finish};
 ghost use Rattle.dom_text.specs.Text.{output_text};
 ghost use Rattle.dom_commands.specs.Machine.{IsSound};
-ghost use Rattle.dom_engine.specs.Session.{read_line};
+ghost use Rattle.dom_text.specs.Decode.{decode};
 
 use dom_commands::Machine;
 use dom_reader::parse_line;
@@ -53,8 +53,8 @@ impl Session {
     /// Takes a line, without its 0x0A, and gives the lines that answer it, each with its 0x0A.
     pub fn line(&mut self, line: &[u8]) -> Result<Vec<u8>, AllocError>
         ensures was { OnOk result (self.old.has_failed ≡ false) }
-        ensures text { IfOk result (λ text. text.items ≡ output_text (step self.old.world (read_line line.now)).1) }
-        ensures world { OnOk result (self.new ≡ record { world = (step self.old.world (read_line line.now)).0; has_failed = false }) }
+        ensures text { IfOk result (λ text. text.items ≡ output_text (step self.old.world (decode line.now)).1) }
+        ensures world { OnOk result (self.new ≡ record { world = (step self.old.world (decode line.now)).0; has_failed = false }) }
         ensures err { OnErr result (self.new.has_failed ≡ true) }
     {
         if self.has_failed {
@@ -96,8 +96,8 @@ fn end(machine: &mut Machine, alloc: Global) -> Result<Vec<u8>, AllocError>
 /// What a line does, and the lines that answer it.
 fn answer(machine: &mut Machine, alloc: Global, line: &[u8]) -> Result<Vec<u8>, AllocError>
     requires { IsSound machine.old }
-    ensures text { IfOk result (λ text. text.items ≡ output_text (step machine.old.world (read_line line.now)).1) }
-    ensures world { OnOk result (machine.new.world ≡ (step machine.old.world (read_line line.now)).0) }
+    ensures text { IfOk result (λ text. text.items ≡ output_text (step machine.old.world (decode line.now)).1) }
+    ensures world { OnOk result (machine.new.world ≡ (step machine.old.world (decode line.now)).0) }
     ensures sound { OnOk result (IsSound machine.new) }
 {
     let read = parse_line(alloc, line)?;

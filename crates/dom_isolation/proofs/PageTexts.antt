@@ -17,8 +17,7 @@ use Rattle.dom_text.specs.Decode.{decode}
 use Rattle.dom_text.specs.Text.{output_line}
 use Rattle.dom_text.proofs.DecodeLaws.{decode_says}
 use Rattle.dom_text.proofs.TextLaws.{IsSaidBy, begins-says, says-begins}
-use Rattle.dom_isolation.specs.Offering.{offered_line}
-use Rattle.dom_isolation.specs.Texts.{ReadsPrefix, OfferingReadsPrefix, lines_in, OutputHasPageLines, PageViewIsItsOutput, TraceHasPageLines, PageLinesAgree, PageLinesAgreeSoFar, PageTextAgrees, SamePageText, ForeignLineIsRefused}
+use Rattle.dom_isolation.specs.Texts.{ReadsPrefix, lines_in, OutputHasPageLines, PageViewIsItsOutput, TraceHasPageLines, PageLinesAgree, PageLinesAgreeSoFar, PageTextAgrees, SamePageText, ForeignLineIsRefused}
 use Rattle.dom_isolation.proofs.Tests.{by_cases}
 use Rattle.dom_isolation.proofs.PageRuns.{page_run-agrees, page-sees_its_trace}
 use Rattle.dom_isolation.proofs.ForeignNames.{foreign-is_refused}
@@ -42,20 +41,6 @@ pub decode-reads_prefix : ReadsPrefix decode
 decode-reads_prefix bytes =
     by_cases (begins_with (owner_prefix Page) bytes) (λ h. said-page (decode bytes) (begins-says bytes Page tt h) ∙ sym h)
     (λ h. false_from_ne_true (is_of is_page (owner_of_line (decode bytes))) (λ g. true≢false (sym (says-begins bytes Page (page-said (decode bytes) g)) ∙ h)) ∙ sym h)
-
--- a line has its owner also where its command isn't offered
-owner-offered : (is_offered : Command → Bool) (l : Line) → owner_of_line (offered_line is_offered l) ≡ owner_of_line l
-owner-offered is_offered no_owner = refl
-owner-offered is_offered (no_command o) = refl
-owner-offered is_offered (command o c) = from (is_offered c)
-  where
-    from : (b : Bool) → owner_of_line (if b then command o c else no_command o) ≡ Some o
-    from true = refl
-    from false = refl
-
--- so does the reading with fewer commands
-pub offering-reads_prefix : OfferingReadsPrefix
-offering-reads_prefix is_offered bytes = ap (is_of is_page) (owner-offered is_offered (decode bytes)) ∙ decode-reads_prefix bytes
 
 -- The lines in a trace.
 lines_in-append : {L : Type 0} (xs ys : List (TraceItem L)) → lines_in (xs ++ ys) ≡ lines_in xs ++ lines_in ys

@@ -26,8 +26,7 @@ use Rattle.dom_text.specs.Tokens.{IsWord, IsWordByte, IsLabel, is_label_byte}
 use Rattle.dom_text.specs.Words.{owner_word, kind_word}
 use Rattle.dom_text.proofs.DecodeLaws.{decode_says}
 use Rattle.dom_text.proofs.LineLaws.{lines_of-text_of_lines}
-use Rattle.dom_isolation.specs.Offering.{offered_line}
-use Rattle.dom_isolation.specs.Words.{HasNoFeed, HasPlainWords, IsPlainLine, ReadsPlainWords, OfferingReadsPlainWords}
+use Rattle.dom_isolation.specs.Words.{HasNoFeed, HasPlainWords, IsPlainLine, ReadsPlainWords}
 use Rattle.dom_isolation.specs.Worlds.{AllNodes}
 use Rattle.dom_isolation.proofs.Lists.{all-append, all-flat_map, all-map, all-from, all-then}
 use Rattle.dom_isolation.proofs.Tests.{by_cases, either_way}
@@ -297,13 +296,3 @@ plain-line bytes (command o c) h = plain-spelled o c h.said h.spelled
 -- the protocol's reading
 pub decode-reads_plain_words : ReadsPlainWords decode
 decode-reads_plain_words bytes = plain-line bytes (decode bytes) (decode_says bytes)
-
--- with fewer commands
-plain-offered : (is_offered : Command → Bool) (l : Line) → IsPlainLine l → IsPlainLine (offered_line is_offered l)
-plain-offered is_offered no_owner h = tt
-plain-offered is_offered (no_command o) h = tt
-plain-offered is_offered (command o c) h = either_way IsPlainLine (is_offered c) (command o c) (no_command o) h tt
-
--- that reading
-pub offering-reads_plain_words : OfferingReadsPlainWords
-offering-reads_plain_words is_offered bytes = plain-offered is_offered (decode bytes) (decode-reads_plain_words bytes)

@@ -6,6 +6,5 @@ pub mod Wholes
 pub mod Follows
 pub mod Sights
 pub mod Bounds
-pub mod Offering
 pub mod Texts
 pub mod Words

@@ -13,19 +13,14 @@ use Rattle.dom_model.specs.World.{World}
 use Rattle.dom_text.specs.Lines.{lines_of, owner_prefix, begins_with, page_lines, written}
 use Rattle.dom_text.specs.Decode.{decode}
 use Rattle.dom_text.specs.Text.{output_line, output_text}
-use Rattle.dom_isolation.specs.Offering.{offering}
 
 -- By a reading of lines of bytes just those lines are the page's that begin with `p `.
 abbrev pub ReadsPrefix : (List ℕ → Line) → Type 0
 ReadsPrefix read = (bytes : List ℕ) → is_of is_page (owner_of_line (read bytes)) ≡ begins_with (owner_prefix Page) bytes
 
--- The protocol's reading does, and so it does where only some commands are offered.
+-- The protocol's reading does.
 abbrev pub DecodeReadsPrefix : Type 0
 DecodeReadsPrefix = ReadsPrefix decode
-
--- of the protocol's reading with fewer commands
-abbrev pub OfferingReadsPrefix : Type 0
-OfferingReadsPrefix = (is_offered : Command → Bool) → ReadsPrefix (offering is_offered decode)
 
 -- the lines of input in a trace
 abbrev pub lines_in : {L : Type 0} → List (TraceItem L) → List L

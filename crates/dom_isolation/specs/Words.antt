@@ -9,7 +9,6 @@ use Rattle.dom_model.specs.Trace.{trace_of, no_component_stops}
 use Rattle.dom_text.specs.Decode.{decode}
 use Rattle.dom_text.specs.Lines.{line_feed, lines_of, page_lines}
 use Rattle.dom_text.specs.Text.{output_line, output_text}
-use Rattle.dom_isolation.specs.Offering.{offering}
 use Rattle.dom_isolation.specs.Texts.{output_lines}
 
 -- no byte is a line feed
@@ -31,17 +30,13 @@ IsPlainLine no_owner = ⊤
 IsPlainLine (no_command o) = ⊤
 IsPlainLine (command o c) = HasPlainWords c
 
--- A reading gives commands with such words alone. The protocol's does, and so it does where only some commands are offered.
+-- A reading gives commands with such words alone. The protocol's does.
 abbrev pub ReadsPlainWords : (List ℕ → Line) → Type 0
 ReadsPlainWords read = (bytes : List ℕ) → IsPlainLine (read bytes)
 
 -- of the protocol's reading
 abbrev pub DecodeReadsPlainWords : Type 0
 DecodeReadsPlainWords = ReadsPlainWords decode
-
--- of the protocol's reading with fewer commands
-abbrev pub OfferingReadsPlainWords : Type 0
-OfferingReadsPlainWords = (is_offered : Command → Bool) → ReadsPlainWords (offering is_offered decode)
 
 module _ (read : List ℕ → Line) where
   -- The text of a script's output is cut into the lines that were written.

@@ -2,8 +2,8 @@
 //! code but functions whose contracts are the laws.
 #![tactic(auto)]
 
-ghost use Rattle.std.specs.Prelude.{List, ℕ, Bool, true};
-ghost use Rattle.dom_model.specs.Command.{Command, Line};
+ghost use Rattle.std.specs.Prelude.{List, ℕ, true};
+ghost use Rattle.dom_model.specs.Command.{Line};
 ghost use Rattle.dom_model.specs.World.{World};
 ghost use Rattle.dom_model.specs.Isolation.{ForeignIsRefused, PagePartAgrees, PageSeesItsTrace, SamePage};
 ghost use Rattle.dom_isolation.specs.Laws.{VisitIsUnseen, FoldSkipsComponents, PageVisitsAgree, OutwardVisitsAgree, PageDispatchAgrees, ComponentDispatchAgrees, NotificationIsUnseen, TurnEndingAgrees, OtherEndingIsUnseen, PageLineAgrees, OtherLineAgrees, FinishAgrees, PageRunAgrees, TraceGoesOn, IsReached, IsQuiet, FirstIsReached, StepKeepsReached, EndingKeepsReached, FinishKeepsReached, ScriptsReach, QuietScriptsReach, ShadowRootsAreRoots, NoOtherShadowRoots, AttachedAreThere, HostsAreTheirs, AssignedArePage};
@@ -11,10 +11,8 @@ ghost use Rattle.dom_isolation.specs.Wholes.{FirstIsWhole, StepKeepsWhole, Endin
 ghost use Rattle.dom_isolation.specs.Follows.{PathFollowsParents};
 ghost use Rattle.dom_isolation.specs.Sights.{HiddenByRoots, RetargetedByRoots};
 ghost use Rattle.dom_isolation.specs.Bounds.{FirstIsBounded, StepKeepsBounds, EndingKeepsBounds, FinishKeepsBounds, ScriptsStayBounded};
-ghost use Rattle.dom_isolation.specs.Offering.{offering};
-ghost use Rattle.dom_isolation.specs.Texts.{ReadsPrefix, DecodeReadsPrefix, OfferingReadsPrefix, TraceHasPageLines, OutputHasPageLines, PageViewIsItsOutput, PageLinesAgree, PageLinesAgreeSoFar, PageTextAgrees, SamePageText, ForeignLineIsRefused};
-ghost use Rattle.dom_isolation.specs.Words.{ReadsPlainWords, DecodeReadsPlainWords, OfferingReadsPlainWords, OutputHasItsLines, PickedLinesAgree};
-ghost use Rattle.dom_text.specs.Decode.{decode};
+ghost use Rattle.dom_isolation.specs.Texts.{ReadsPrefix, DecodeReadsPrefix, TraceHasPageLines, OutputHasPageLines, PageViewIsItsOutput, PageLinesAgree, PageLinesAgreeSoFar, PageTextAgrees, SamePageText, ForeignLineIsRefused};
+ghost use Rattle.dom_isolation.specs.Words.{ReadsPlainWords, DecodeReadsPlainWords, OutputHasItsLines, PickedLinesAgree};
 
 /// A visit at a component's node, whose listeners neither stop nor cancel, is unseen by the page.
 pub fn one_visit()
@@ -117,11 +115,10 @@ pub fn same_page()
     ensures { (read : List ℕ → Line) → SamePage read }
 {}
 
-/// Of input and of output the page's lines are those that begin with `p `: by the protocol's reading, whichever commands are
-/// offered, and so in a trace; and so of the lines of output, of which a view of the page writes just these.
+/// Of input and of output the page's lines are those that begin with `p `: by the protocol's reading, and so in a trace; and so
+/// of the lines of output, of which a view of the page writes just these.
 pub fn page_lines_have_their_prefix()
     ensures input { DecodeReadsPrefix }
-    ensures offered { OfferingReadsPrefix }
     ensures trace { (read : List ℕ → Line) → ReadsPrefix read → TraceHasPageLines read }
     ensures output { OutputHasPageLines }
     ensures view { PageViewIsItsOutput }
@@ -142,26 +139,11 @@ pub fn same_page_text()
 
 /// No line of output has a line feed, so the text of a script's output is cut into the lines that were written: who picks those
 /// that begin with `p ` has the page's output. This is so for each reading whose words have no line feed, as the
-/// protocol's has none, whichever commands are offered.
+/// protocol's has none.
 pub fn output_has_its_lines()
     ensures input { DecodeReadsPlainWords }
-    ensures offered { OfferingReadsPlainWords }
     ensures lines { (read : List ℕ → Line) → ReadsPlainWords read → OutputHasItsLines read }
     ensures picked { (read : List ℕ → Line) → ReadsPlainWords read → PickedLinesAgree read }
-{}
-
-/// All this holds at each stage of the protocol, where a line whose command isn't offered yet has no command.
-pub fn offered_commands()
-    ensures run { (is_offered : Command → Bool) → PageRunAgrees (offering is_offered decode) }
-    ensures part { (is_offered : Command → Bool) → PagePartAgrees (offering is_offered decode) }
-    ensures output { (is_offered : Command → Bool) → PageSeesItsTrace (offering is_offered decode) }
-    ensures same { (is_offered : Command → Bool) → SamePage (offering is_offered decode) }
-    ensures trace { (is_offered : Command → Bool) → TraceHasPageLines (offering is_offered decode) }
-    ensures lines { (is_offered : Command → Bool) → PageLinesAgree (offering is_offered decode) }
-    ensures so_far { (is_offered : Command → Bool) → PageLinesAgreeSoFar (offering is_offered decode) }
-    ensures text { (is_offered : Command → Bool) → PageTextAgrees (offering is_offered decode) }
-    ensures picked { (is_offered : Command → Bool) → PickedLinesAgree (offering is_offered decode) }
-    ensures same_text { (is_offered : Command → Bool) → SamePageText (offering is_offered decode) }
 {}
 
 /// A component's command that names another owner's node is refused and changes nothing; so too a line of bytes that says

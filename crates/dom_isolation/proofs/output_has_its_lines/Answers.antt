@@ -1,12 +1,9 @@
-use Rattle.dom_isolation.proofs.PlainLines.{decode-reads_plain_words, offering-reads_plain_words}
+use Rattle.dom_isolation.proofs.PlainLines.{decode-reads_plain_words}
 use Rattle.dom_isolation.proofs.PlainTexts.{output-has_its_lines, picked_lines-agree}
 use Rattle.dom_isolation.proofs.output_has_its_lines.Goals as goal
 
 pub returns-clause-input : goal.returns-clause-input
 returns-clause-input c = decode-reads_plain_words
-
-pub returns-clause-offered : goal.returns-clause-offered
-returns-clause-offered c = offering-reads_plain_words
 
 pub returns-clause-lines : goal.returns-clause-lines
 returns-clause-lines c = λ read. output-has_its_lines read

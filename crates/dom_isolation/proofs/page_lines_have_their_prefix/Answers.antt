@@ -1,11 +1,8 @@
-use Rattle.dom_isolation.proofs.PageTexts.{decode-reads_prefix, offering-reads_prefix, trace-has_page_lines, output-has_page_lines, page_view-is_its_output}
+use Rattle.dom_isolation.proofs.PageTexts.{decode-reads_prefix, trace-has_page_lines, output-has_page_lines, page_view-is_its_output}
 use Rattle.dom_isolation.proofs.page_lines_have_their_prefix.Goals as goal
 
 pub returns-clause-input : goal.returns-clause-input
 returns-clause-input c = decode-reads_prefix
-
-pub returns-clause-offered : goal.returns-clause-offered
-returns-clause-offered c = offering-reads_prefix
 
 pub returns-clause-trace : goal.returns-clause-trace
 returns-clause-trace c = λ read. trace-has_page_lines read
