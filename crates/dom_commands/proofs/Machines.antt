@@ -29,7 +29,7 @@ use Rattle.dom_dispatch.specs.Named.{IsListenerAt}
 use Rattle.dom_commands.specs.Handled.{IsHandled}
 use Rattle.dom_commands.specs.Heard.{heard, own_listeners}
 use Rattle.dom_commands.specs.Machine.{MachineNow, machine_now, IsSound, HasFirstNodes, HasRangeEnds, AreAtNodes, BeginsWith, KeepsNames, KeepsListeners}
-use Rattle.dom_commands.specs.Offered.{is_silent, is_plain}
+use Rattle.dom_commands.specs.Sorts.{is_plain}
 use Rattle.dom_commands.proofs.Bounded.{bounded-unheard, first_nodes-unheard}
 use Rattle.dom_commands.proofs.Handling.{opened-part}
 use Rattle.dom_commands.proofs.Heard.{FitsIn, there-heard, part-heard}
@@ -40,14 +40,6 @@ use Rattle.dom_commands.proofs.Ranging.{range_ends-unheard}
 -- the same names
 pub begins_same : (names : List NodeName) → BeginsWith names names
 begins_same names = take-length names
-
--- a command that calls no listener
-pub silent_plain : (c : Command) → is_silent c ≡ true → is_plain c ≡ true
-silent_plain (Command.listen x words) h = absurd (true≢false (sym h))
-silent_plain (Command.unlisten x event label capture) h = absurd (true≢false (sym h))
-silent_plain (Command.dispatch x e related) h = absurd (true≢false (sym h))
-silent_plain Command.end_turn h = absurd (true≢false (sym h))
-silent_plain c h = refl
 
 -- The component that the page's next attach makes was not there.
 next_absent : (of : Owner → List (Listener NodeName)) (w : World) → FitsIn of w → IsReached false (heard of w) → is_there w (component_made Page (length (part_of w Page).attached)) ≡ false
@@ -70,9 +62,9 @@ module _ (s t : DocState) (ls : List (Listener ℕ)) (there : OwnersAreThere s.n
   heard_kept kept = ap (λ of. heard of t.world) (sym (own-kept s.names t.names kept ls at))
 
   -- such a command
-  pub silent_handled : IsReached false (machine_now s ls).world → (o : Owner) (c : Command) → is_silent c ≡ true → (before after : List ℕ) (r : Result (Unit {0}) Fault) → KeepsNames s.names t.names r → IsHandled o c s.world t.world before after r →
+  pub plain_handled : IsReached false (machine_now s ls).world → (o : Owner) (c : Command) → is_plain c ≡ true → (before after : List ℕ) (r : Result (Unit {0}) Fault) → KeepsNames s.names t.names r → IsHandled o c s.world t.world before after r →
       IsHandled o c (machine_now s ls).world (machine_now t ls).world before after r
-  silent_handled reached o c silent before after r kept h = by r kept (handled-heard of s.world t.world fits o c (silent_plain c silent) (λ e. made_new of s.world fits reached o c e) before after r h)
+  plain_handled reached o c plain before after r kept h = by r kept (handled-heard of s.world t.world fits o c plain (λ e. made_new of s.world fits reached o c e) before after r h)
     where
       of : Owner → List (Listener NodeName)
       of = own_listeners s.names ls

@@ -105,6 +105,15 @@ naming-range_get k = record { offered = by_owner _ refl (λ k. refl); foreign = 
 pub naming-range_text : (k : ℕ) → IsNaming (Command.range_text k) (Range k ∷ [])
 naming-range_text k = record { offered = by_owner _ refl (λ k. refl); foreign = refl; exist = λ p. sym (and_true _); fit = λ p. refl }
 
+pub naming-extract : (k : ℕ) → IsNaming (Command.extract k) (Range k ∷ [])
+naming-extract k = record { offered = by_owner _ refl (λ k. refl); foreign = refl; exist = λ p. sym (and_true _); fit = λ p. refl }
+
+pub naming-delete : (k : ℕ) → IsNaming (Command.delete k) (Range k ∷ [])
+naming-delete k = record { offered = by_owner _ refl (λ k. refl); foreign = refl; exist = λ p. sym (and_true _); fit = λ p. refl }
+
+pub naming-insert_node : (k : ℕ) (x : Spelled) → IsNaming (Command.insert_node k (spelled_view x)) (Any x ∷ Range k ∷ [])
+naming-insert_node k x = record { offered = by_owner _ refl (λ k. refl); foreign = refl; exist = λ p. and_last _ _; fit = λ p. refl }
+
 pub naming-iterator_new : (x : Spelled) (f : Filter) → IsNaming (Command.iterator_new (spelled_view x) f) (Any x ∷ [])
 naming-iterator_new x f = record { offered = by_owner _ refl (λ k. refl); foreign = refl; exist = λ p. and_true _; fit = λ p. refl }
 

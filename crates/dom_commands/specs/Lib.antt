@@ -1,4 +1,4 @@
-pub mod Offered
+pub mod Sorts
 pub mod Turned
 pub mod Refusals
 pub mod Making

@@ -3,11 +3,10 @@ ghost use Rattle.std.specs.Prelude.{◌≡◌, ◌++◌, true, IfOk, OnOk};
 ghost use Rattle.dom_model.specs.Command.{command as model_command};
 ghost use Rattle.dom_model.specs.DocumentMachine.{step, run_command};
 ghost use Rattle.dom_text.specs.Text.{output_text};
-ghost use Rattle.dom_isolation.specs.Offering.{offered_line};
 ghost use Rattle.dom_reader.specs.Views.{command_view, line_view, refused_view};
 ghost use Rattle.dom_commands.specs.Handled.{IsHandled};
 ghost use Rattle.dom_commands.specs.Machine.{AreAtNodes, IsSound, KeepsListeners};
-ghost use Rattle.dom_commands.specs.Offered.{is_change, is_question, is_range, is_silent, is_event, is_offered};
+ghost use Rattle.dom_commands.specs.Sorts.{is_plain};
 
 use crate::machine::Machine;
 use dom_base::{Fault, Owner, Refusal};
@@ -22,8 +21,8 @@ impl Machine {
         read: Result<Line, (Option<Owner>, Refusal)>,
     ) -> Result<Vec<u8>, AllocError>
         requires { IsSound self.old }
-        ensures text { IfOk result (λ text. text.items ≡ output_text (step self.old.world (offered_line is_offered (line_view read))).1) }
-        ensures world { OnOk result (self.new.world ≡ (step self.old.world (offered_line is_offered (line_view read))).0) }
+        ensures text { IfOk result (λ text. text.items ≡ output_text (step self.old.world (line_view read)).1) }
+        ensures world { OnOk result (self.new.world ≡ (step self.old.world (line_view read)).0) }
         ensures sound { OnOk result (IsSound self.new) }
     {
         let mut out = Vec::new(self.alloc);
@@ -55,20 +54,16 @@ impl Machine {
         out: &mut Vec<u8>,
     ) -> Result<(), AllocError>
         requires { IsSound self.old }
-        ensures text { OnOk result (out.new.items ≡ out.old.items ++ output_text (step self.old.world (offered_line is_offered (model_command owner (command_view command)))).1) }
-        ensures world { OnOk result (self.new.world ≡ (step self.old.world (offered_line is_offered (model_command owner (command_view command)))).0) }
+        ensures text { OnOk result (out.new.items ≡ out.old.items ++ output_text (step self.old.world (model_command owner (command_view command))).1) }
+        ensures world { OnOk result (self.new.world ≡ (step self.old.world (model_command owner (command_view command))).0) }
         ensures listeners { OnOk result (AreAtNodes self.new) }
     {
-        if !is_offered(&command) {
-            return self.no_command(Some(owner), out);
-        }
         self.close_other_turn(owner, out)?;
         self.run(owner, command, out)
     }
 
-    /// A command that is offered: what it does, or its refusal.
+    /// A command that may be made now: what it does, or its refusal.
     fn run(&mut self, owner: Owner, command: Command, out: &mut Vec<u8>) -> Result<(), AllocError>
-        requires offered { is_offered (command_view command) ≡ true }
         requires sound { IsSound self.old }
         ensures text { OnOk result (out.new.items ≡ out.old.items ++ output_text (run_command owner (command_view command) self.old.world).1) }
         ensures world { OnOk result (self.new.world ≡ (run_command owner (command_view command) self.old.world).0) }
@@ -81,9 +76,8 @@ impl Machine {
         }
     }
 
-    /// A command that is offered, by its handler.
+    /// A command, by its handler.
     fn perform(&mut self, owner: Owner, command: Command, out: &mut Vec<u8>) -> Result<(), Fault>
-        requires offered { is_offered (command_view command) ≡ true }
         requires sound { IsSound self.old }
         ensures handled { IsHandled owner (command_view command) self.old.world self.new.world out.old.items out.new.items result }
         ensures listeners { KeepsListeners self.new result }
@@ -97,18 +91,18 @@ impl Machine {
                 self.dispatch(owner, target, event, related, out)
             }
             Command::EndTurn => self.end_turn(owner, out),
-            other => self.perform_silent(owner, other, out),
+            other => self.perform_plain(owner, other, out),
         }
     }
 
-    /// A command that is offered and calls no listener: the listeners stay as they are.
-    fn perform_silent(
+    /// A command that neither reads listeners nor changes them: they stay as they are.
+    fn perform_plain(
         &mut self,
         owner: Owner,
         command: Command,
         out: &mut Vec<u8>,
     ) -> Result<(), Fault>
-        requires silent { is_silent (command_view command) ≡ true }
+        requires plain { is_plain (command_view command) ≡ true }
         requires sound { IsSound self.old }
         ensures handled { IsHandled owner (command_view command) self.old.world self.new.world out.old.items out.new.items result }
         ensures listeners { KeepsListeners self.new result }
@@ -116,101 +110,4 @@ impl Machine {
         self.state.names_tell_nodes();
         self.state.perform(owner, command, out)
     }
-}
-
-/// Whether the engine offers a command so far.
-fn is_offered(command: &Command) -> bool
-    ensures { result ≡ is_offered (command_view command.now) }
-{
-    is_change(command) || is_question(command) || is_range(command) || is_event(command)
-}
-
-/// Whether a command is one of those on listeners and events, or the end of a turn.
-fn is_event(command: &Command) -> bool
-    ensures { result ≡ is_event (command_view command.now) }
-{
-    matches!(
-        command,
-        Command::Listen(_, _)
-            | Command::Unlisten(_, _, _, _)
-            | Command::Dispatch(_, _, _)
-            | Command::EndTurn
-    )
-}
-
-/// Whether a command is one of those that make, move and change nodes, one that makes a component, or a microtask.
-fn is_change(command: &Command) -> bool
-    ensures { result ≡ is_change (command_view command.now) }
-{
-    matches!(
-        command,
-        Command::NewElement(_)
-            | Command::NewText(_)
-            | Command::NewComment(_)
-            | Command::NewFragment
-            | Command::NewDocument
-            | Command::Attach(_)
-            | Command::Append(_, _)
-            | Command::Insert(_, _, _)
-            | Command::Replace(_, _, _)
-            | Command::Remove(_)
-            | Command::Adopt(_, _)
-            | Command::SetAttribute(_, _, _)
-            | Command::UnsetAttribute(_, _)
-            | Command::SetData(_, _)
-            | Command::ReplaceData(_, _, _, _)
-            | Command::Split(_, _)
-            | Command::SetText(_, _)
-            | Command::Normalize(_)
-            | Command::Micro(_)
-    )
-}
-
-/// Whether a command is one of those offered on live ranges.
-fn is_range(command: &Command) -> bool
-    ensures { result ≡ is_range (command_view command.now) }
-{
-    matches!(
-        command,
-        Command::RangeNew
-            | Command::RangeStart(_, _, _)
-            | Command::RangeEnd(_, _, _)
-            | Command::RangeCollapse(_, _)
-            | Command::RangeDrop(_)
-            | Command::RangeGet(_)
-            | Command::RangeText(_)
-    )
-}
-
-/// Whether a command is one of those offered that change no tree.
-fn is_question(command: &Command) -> bool
-    ensures { result ≡ is_question (command_view command.now) }
-{
-    matches!(
-        command,
-        Command::Tree(_)
-            | Command::Attribute(_, _)
-            | Command::Parent(_)
-            | Command::DocumentOf(_)
-            | Command::Children(_)
-            | Command::Contains(_, _)
-            | Command::Connected(_)
-            | Command::ShadowRoot(_)
-            | Command::SlotOf(_)
-            | Command::Assigned(_)
-            | Command::IteratorNew(_, _)
-            | Command::IteratorNext(_)
-            | Command::IteratorPrevious(_)
-            | Command::IteratorAt(_)
-            | Command::WalkerNew(_, _)
-            | Command::Walk(_, _)
-            | Command::WalkerAt(_)
-            | Command::WalkerSet(_, _)
-            | Command::Query(_, _)
-            | Command::Matches(_, _)
-            | Command::Observer
-            | Command::Observe(_, _, _)
-            | Command::Disconnect(_)
-            | Command::Take(_)
-    )
 }

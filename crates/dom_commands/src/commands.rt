@@ -8,7 +8,7 @@ ghost use Rattle.dom_printer.specs.Replies.{value_view};
 ghost use Rattle.dom_reader.specs.Views.{command_view};
 ghost use Rattle.dom_commands.specs.Handled.{IsDone, IsHandled};
 ghost use Rattle.dom_commands.specs.Machine.{HasFirstNodes, HasRangeEnds, KeepsNames};
-ghost use Rattle.dom_commands.specs.Offered.{is_silent, is_question, is_range};
+ghost use Rattle.dom_commands.specs.Sorts.{is_plain, is_question, is_range};
 
 mod attributes;
 mod cursors;
@@ -44,14 +44,14 @@ impl State {
         Ok(())
     }
 
-    /// A command that is offered and calls no listener, by its handler.
+    /// A command that neither reads listeners nor changes them, by its handler.
     pub(crate) fn perform(
         &mut self,
         owner: Owner,
         command: Command,
         out: &mut Vec<u8>,
     ) -> Result<(), Fault>
-        requires silent { is_silent (command_view command) ≡ true }
+        requires plain { is_plain (command_view command) ≡ true }
         requires bounds { IsBounded self.old.world }
         requires first { HasFirstNodes self.old.world }
         requires ends { HasRangeEnds self.old.world }
@@ -88,7 +88,7 @@ impl State {
         }
     }
 
-    /// A command that is offered and changes no tree, by its handler.
+    /// A command that asks or is on live ranges, by its handler.
     fn ask(&mut self, owner: Owner, command: Command, out: &mut Vec<u8>) -> Result<(), Fault>
         requires question { (is_question (command_view command) || is_range (command_view command)) ≡ true }
         requires bounds { IsBounded self.old.world }

@@ -1,6 +1,6 @@
 //! The commands on live ranges.
 ghost use Rattle.std.specs.Prelude.{◌≡◌, ◌<◌, ◌||◌, length, true};
-ghost use Rattle.dom_model.specs.Command.{range_new, range_start, range_end, range_collapse, range_drop, range_get, range_text};
+ghost use Rattle.dom_model.specs.Command.{range_new, range_start, range_end, range_collapse, range_drop, range_get, range_text, extract as extract_command, delete as delete_command, insert_node as insert_node_command};
 ghost use Rattle.dom_model.specs.Ranges.{at};
 ghost use Rattle.dom_isolation.specs.Bounds.{IsBounded};
 ghost use Rattle.dom_tree.specs.Forest.{name_at};
@@ -8,18 +8,18 @@ ghost use Rattle.dom_printer.specs.Replies.{boundary_view};
 ghost use Rattle.dom_reader.specs.Views.{command_view, spelled_view};
 ghost use Rattle.dom_commands.specs.Machine.{HasFirstNodes, HasRangeEnds, KeepsNames};
 ghost use Rattle.dom_commands.specs.Handled.{IsHandled};
-ghost use Rattle.dom_commands.specs.Offered.{is_range};
+ghost use Rattle.dom_commands.specs.Sorts.{is_range};
 
 use crate::admission::Named;
 use crate::state::State;
 use dom_base::{Fault, Owner};
 use dom_printer::{Boundary, Value};
-use dom_range_ops::range_text;
+use dom_range_ops::{delete, extract, insert_node, range_text};
 use dom_reader::{Command, Spelled};
 use node_arena::Key;
 
 impl State {
-    /// A command on live ranges that is offered, by its handler.
+    /// A command on live ranges, by its handler.
     pub(super) fn perform_on_range(
         &mut self,
         owner: Owner,
@@ -47,6 +47,9 @@ impl State {
             Command::RangeDrop(number) => self.drop_range(owner, number, out),
             Command::RangeGet(number) => self.ends_of_range(owner, number, out),
             Command::RangeText(number) => self.text_of_range(owner, number, out),
+            Command::Extract(number) => self.extract(owner, number, out),
+            Command::Delete(number) => self.delete(owner, number, out),
+            Command::InsertNode(number, node) => self.insert_node(owner, number, node, out),
             _ => unreachable!(),
         }
     }
@@ -159,6 +162,50 @@ impl State {
         self.admit(owner, &[Named::Range(number)])?;
         let text = range_text(self.alloc, &self.doc, owner, number)?;
         self.accept(owner, &Value::Str(&text), out)
+    }
+
+    /// `extract R`: what a range contains goes into a new fragment, with clones of the nodes that it contains in part.
+    fn extract(&mut self, owner: Owner, number: u32, out: &mut Vec<u8>) -> Result<(), Fault>
+        requires bounds { IsBounded self.old.world }
+        requires ends { HasRangeEnds self.old.world }
+        ensures handled { IsHandled owner (extract_command number) self.old.world self.new.world out.old.items out.new.items result }
+        ensures names { KeepsNames self.old.names self.new.names result }
+    {
+        self.admit(owner, &[Named::Range(number)])?;
+        let fragment = extract(self.alloc, &mut self.doc, owner, number)?;
+        let made = self.doc.forest().name(fragment);
+        self.accept(owner, &Value::Node(made), out)
+    }
+
+    /// `delete R`: what a range contains goes.
+    fn delete(&mut self, owner: Owner, number: u32, out: &mut Vec<u8>) -> Result<(), Fault>
+        requires bounds { IsBounded self.old.world }
+        requires ends { HasRangeEnds self.old.world }
+        ensures handled { IsHandled owner (delete_command number) self.old.world self.new.world out.old.items out.new.items result }
+        ensures names { KeepsNames self.old.names self.new.names result }
+    {
+        self.admit(owner, &[Named::Range(number)])?;
+        delete(self.alloc, &mut self.doc, owner, number)?;
+        self.accept(owner, &Value::Nothing, out)
+    }
+
+    /// `insert-node R N`: a node is inserted at the start of a range, which then contains it.
+    fn insert_node(
+        &mut self,
+        owner: Owner,
+        number: u32,
+        node: Spelled,
+        out: &mut Vec<u8>,
+    ) -> Result<(), Fault>
+        requires bounds { IsBounded self.old.world }
+        requires ends { HasRangeEnds self.old.world }
+        ensures handled { IsHandled owner (insert_node_command number (spelled_view node)) self.old.world self.new.world out.old.items out.new.items result }
+        ensures names { KeepsNames self.old.names self.new.names result }
+    {
+        self.admit(owner, &[Named::Any(node), Named::Range(number)])?;
+        let node = self.key(owner, node);
+        insert_node(&mut self.doc, owner, number, node)?;
+        self.accept(owner, &Value::Nothing, out)
     }
 
     /// A boundary point with the name of its node.
