@@ -1,5 +1,6 @@
 pub mod Finding
 pub mod Turned
+pub mod Ranging
 pub mod Refusing
 pub mod Handling
 pub mod Namings

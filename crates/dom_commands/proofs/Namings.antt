@@ -102,6 +102,9 @@ naming-range_drop k = record { offered = by_owner _ refl (λ k. refl); foreign =
 pub naming-range_get : (k : ℕ) → IsNaming (Command.range_get k) (Range k ∷ [])
 naming-range_get k = record { offered = by_owner _ refl (λ k. refl); foreign = refl; exist = λ p. sym (and_true _); fit = λ p. refl }
 
+pub naming-range_text : (k : ℕ) → IsNaming (Command.range_text k) (Range k ∷ [])
+naming-range_text k = record { offered = by_owner _ refl (λ k. refl); foreign = refl; exist = λ p. sym (and_true _); fit = λ p. refl }
+
 pub naming-iterator_new : (x : Spelled) (f : Filter) → IsNaming (Command.iterator_new (spelled_view x) f) (Any x ∷ [])
 naming-iterator_new x f = record { offered = by_owner _ refl (λ k. refl); foreign = refl; exist = λ p. and_true _; fit = λ p. refl }
 

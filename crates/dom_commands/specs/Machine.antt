@@ -13,7 +13,7 @@ use Rattle.dom_model.specs.Part.{first_node}
 use Rattle.dom_model.specs.World.{World, Task, part_of}
 use Rattle.dom_isolation.specs.Bounds.{IsBounded}
 use Rattle.dom_isolation.specs.Laws.{IsReached}
-use Rattle.dom_isolation.specs.Tables.{IsNodeIn, IsWhole}
+use Rattle.dom_isolation.specs.Tables.{IsNodeIn, EndsIn, IsWhole}
 use Rattle.dom_isolation.specs.Worlds.{IsThere, task_owner}
 use Rattle.dom_mutation.specs.Doc.{DocState}
 use Rattle.dom_dispatch.specs.declared.event.LogLine.{LogLine}
@@ -46,6 +46,10 @@ pub record IsSound (m : MachineNow) : Type 0 where
 -- each owner that is there has its first node (own rule)
 abbrev pub HasFirstNodes : World → Type 0
 HasFirstNodes w = (o : Owner) → IsThere w o → IsNodeIn (part_of w o).trees (first_node (part_of w o))
+
+-- both ends of each live range are at nodes of its owner, which have one root (DOM Standard, 5.3: range's root)
+abbrev pub HasRangeEnds : World → Type 0
+HasRangeEnds w = (o : Owner) → AllByRecursion (EndsIn (part_of w o).trees) (part_of w o).ranges
 
 -- the owners of tasks are there
 abbrev pub AreThere : World → List Task → Type 0

@@ -62,6 +62,7 @@ is_range (Command.range_end k x i) = true
 is_range (Command.range_collapse k to_start) = true
 is_range (Command.range_drop k) = true
 is_range (Command.range_get k) = true
+is_range (Command.range_text k) = true
 is_range _ = false
 
 -- the commands offered so far that call no listener and change none

@@ -178,6 +178,7 @@ fn is_range(command: &Command) -> bool
             | Command::RangeCollapse(_, _)
             | Command::RangeDrop(_)
             | Command::RangeGet(_)
+            | Command::RangeText(_)
     )
 }
 

@@ -7,7 +7,7 @@ ghost use Rattle.dom_isolation.specs.Bounds.{IsBounded};
 ghost use Rattle.dom_printer.specs.Replies.{value_view};
 ghost use Rattle.dom_reader.specs.Views.{command_view};
 ghost use Rattle.dom_commands.specs.Handled.{IsDone, IsHandled};
-ghost use Rattle.dom_commands.specs.Machine.{HasFirstNodes, KeepsNames};
+ghost use Rattle.dom_commands.specs.Machine.{HasFirstNodes, HasRangeEnds, KeepsNames};
 ghost use Rattle.dom_commands.specs.Offered.{is_silent, is_question, is_range};
 
 mod attributes;
@@ -54,6 +54,7 @@ impl State {
         requires silent { is_silent (command_view command) ≡ true }
         requires bounds { IsBounded self.old.world }
         requires first { HasFirstNodes self.old.world }
+        requires ends { HasRangeEnds self.old.world }
         ensures handled { IsHandled owner (command_view command) self.old.world self.new.world out.old.items out.new.items result }
         ensures names { KeepsNames self.old.names self.new.names result }
     {
@@ -90,7 +91,9 @@ impl State {
     /// A command that is offered and changes no tree, by its handler.
     fn ask(&mut self, owner: Owner, command: Command, out: &mut Vec<u8>) -> Result<(), Fault>
         requires question { (is_question (command_view command) || is_range (command_view command)) ≡ true }
+        requires bounds { IsBounded self.old.world }
         requires first { HasFirstNodes self.old.world }
+        requires ends { HasRangeEnds self.old.world }
         ensures handled { IsHandled owner (command_view command) self.old.world self.new.world out.old.items out.new.items result }
         ensures names { KeepsNames self.old.names self.new.names result }
     {

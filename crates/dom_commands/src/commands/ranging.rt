@@ -1,11 +1,12 @@
 //! The commands on live ranges.
 ghost use Rattle.std.specs.Prelude.{◌≡◌, ◌<◌, ◌||◌, length, true};
-ghost use Rattle.dom_model.specs.Command.{range_new, range_start, range_end, range_collapse, range_drop, range_get};
+ghost use Rattle.dom_model.specs.Command.{range_new, range_start, range_end, range_collapse, range_drop, range_get, range_text};
 ghost use Rattle.dom_model.specs.Ranges.{at};
+ghost use Rattle.dom_isolation.specs.Bounds.{IsBounded};
 ghost use Rattle.dom_tree.specs.Forest.{name_at};
 ghost use Rattle.dom_printer.specs.Replies.{boundary_view};
 ghost use Rattle.dom_reader.specs.Views.{command_view, spelled_view};
-ghost use Rattle.dom_commands.specs.Machine.{HasFirstNodes, KeepsNames};
+ghost use Rattle.dom_commands.specs.Machine.{HasFirstNodes, HasRangeEnds, KeepsNames};
 ghost use Rattle.dom_commands.specs.Handled.{IsHandled};
 ghost use Rattle.dom_commands.specs.Offered.{is_range};
 
@@ -13,6 +14,7 @@ use crate::admission::Named;
 use crate::state::State;
 use dom_base::{Fault, Owner};
 use dom_printer::{Boundary, Value};
+use dom_range_ops::range_text;
 use dom_reader::{Command, Spelled};
 use node_arena::Key;
 
@@ -25,7 +27,9 @@ impl State {
         out: &mut Vec<u8>,
     ) -> Result<(), Fault>
         requires range { is_range (command_view command) ≡ true }
+        requires bounds { IsBounded self.old.world }
         requires first { HasFirstNodes self.old.world }
+        requires ends { HasRangeEnds self.old.world }
         ensures handled { IsHandled owner (command_view command) self.old.world self.new.world out.old.items out.new.items result }
         ensures names { KeepsNames self.old.names self.new.names result }
     {
@@ -42,6 +46,7 @@ impl State {
             }
             Command::RangeDrop(number) => self.drop_range(owner, number, out),
             Command::RangeGet(number) => self.ends_of_range(owner, number, out),
+            Command::RangeText(number) => self.text_of_range(owner, number, out),
             _ => unreachable!(),
         }
     }
@@ -142,6 +147,18 @@ impl State {
             end: self.boundary(end, end_offset),
         };
         self.accept(owner, &value, out)
+    }
+
+    /// `range-text R`: the text of a range.
+    fn text_of_range(&mut self, owner: Owner, number: u32, out: &mut Vec<u8>) -> Result<(), Fault>
+        requires bounds { IsBounded self.old.world }
+        requires ends { HasRangeEnds self.old.world }
+        ensures handled { IsHandled owner (range_text number) self.old.world self.new.world out.old.items out.new.items result }
+        ensures names { KeepsNames self.old.names self.new.names result }
+    {
+        self.admit(owner, &[Named::Range(number)])?;
+        let text = range_text(self.alloc, &self.doc, owner, number)?;
+        self.accept(owner, &Value::Str(&text), out)
     }
 
     /// A boundary point with the name of its node.

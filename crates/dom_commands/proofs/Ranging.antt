@@ -1,0 +1,38 @@
+-- What is asked for of live ranges where their text is taken, and what that answers.
+use Rattle.std.proofs.Common.{◌≡◌, ℕ, true, List, Option, Some, None, is_some, refl, sym, ap, subst, ◌∙◌}
+use Rattle.std.specs.List.{AllByRecursion}
+use Rattle.std.specs.Option.{ForSome, option_map_or}
+use Rattle.dom_base.specs.declared.NodeName.{NodeName}
+use Rattle.dom_base.specs.declared.Owner.{Owner}
+use Rattle.dom_model.specs.Command.{Command}
+use Rattle.dom_model.specs.Effects.{Effect, effect, answers}
+use Rattle.dom_model.specs.Listeners.{Listener}
+use Rattle.dom_model.specs.Names.{DomString}
+use Rattle.dom_model.specs.Output.{nothing, a_string}
+use Rattle.dom_model.specs.Part.{Part, range_at}
+use Rattle.dom_model.specs.RangeOps.{range_text_of}
+use Rattle.dom_model.specs.Ranges.{Range}
+use Rattle.dom_model.specs.World.{World, part_of, is_there}
+use Rattle.dom_isolation.specs.Tables.{EndsIn}
+use Rattle.dom_mutation.specs.Doc.{Makes}
+use Rattle.dom_commands.specs.Heard.{heard}
+use Rattle.dom_commands.specs.Machine.{HasRangeEnds}
+use Rattle.dom_commands.proofs.Handling.{with_part-same}
+use Rattle.dom_commands.proofs.Heard.{FitsIn, part-heard}
+
+-- the listeners are left out
+pub range_ends-unheard : (of : Owner → List (Listener NodeName)) (w : World) → FitsIn of w → HasRangeEnds (heard of w) → HasRangeEnds w
+range_ends-unheard of w fits h o = subst (λ (p : Part). AllByRecursion (EndsIn p.trees) p.ranges) (part-heard of w fits o) (h o)
+
+-- the text of a range is answered, and nothing is changed
+pub text_told : (w : World) (o : Owner) (k : ℕ) (text : DomString) → is_there w o ≡ true → is_some (range_at (part_of w o) k) ≡ true →
+    ForSome (range_at (part_of w o) k) (λ r. text ≡ range_text_of (part_of w o).trees r) → Makes o (Command.range_text k) (a_string text) w w
+text_told w o k text there known is = by (range_at (part_of w o) k) refl known is
+  where
+    p : Part
+    p = part_of w o
+
+    by : (m : Option (Range NodeName)) → range_at p k ≡ m → is_some m ≡ true → ForSome m (λ r. text ≡ range_text_of p.trees r) → Makes o (Command.range_text k) (a_string text) w w
+    by None e known is = absurd cc
+    by (Some r) e known is =
+        (ap (λ m. option_map_or (λ (range : Range NodeName). answers p (a_string (range_text_of p.trees range))) m (answers p nothing)) e ∙ ap (λ s. answers p (a_string s)) (sym (is r refl)), sym (with_part-same w o there))
