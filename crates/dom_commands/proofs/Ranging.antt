@@ -1,8 +1,7 @@
 -- What is asked for of live ranges where their text is taken, and what that answers.
-use Rattle.std.proofs.Common.{◌≡◌, ℕ, zero, suc, true, List, [], ◌∷◌, Option, Some, None, is_some, sym, ap, subst, ◌∙◌}
-use Rattle.std.specs.Prelude.{slice_get}
+use Rattle.std.proofs.Common.{◌≡◌, ℕ, true, List, Option, Some, None, is_some, refl, sym, ap, subst, ◌∙◌}
 use Rattle.std.specs.List.{AllByRecursion}
-use Rattle.std.specs.Option.{ForSome, option_flatten, option_map_or}
+use Rattle.std.specs.Option.{ForSome, option_map_or}
 use Rattle.dom_base.specs.declared.NodeName.{NodeName}
 use Rattle.dom_base.specs.declared.Owner.{Owner}
 use Rattle.dom_model.specs.Command.{Command}
@@ -14,35 +13,16 @@ use Rattle.dom_model.specs.Part.{Part, range_at}
 use Rattle.dom_model.specs.RangeOps.{range_text_of}
 use Rattle.dom_model.specs.Ranges.{Range}
 use Rattle.dom_model.specs.World.{World, part_of, is_there}
-use Rattle.dom_isolation.specs.Tables.{HasEnds, EndsIn}
-use Rattle.dom_mutation.specs.Doc.{DocState, Makes}
+use Rattle.dom_isolation.specs.Tables.{EndsIn}
+use Rattle.dom_mutation.specs.Doc.{Makes}
 use Rattle.dom_commands.specs.Heard.{heard}
 use Rattle.dom_commands.specs.Machine.{HasRangeEnds}
-use Rattle.dom_commands.specs.Turned.{turned}
 use Rattle.dom_commands.proofs.Handling.{with_part-same}
 use Rattle.dom_commands.proofs.Heard.{FitsIn, part-heard}
 
 -- the listeners are left out
 pub range_ends-unheard : (of : Owner → List (Listener NodeName)) (w : World) → FitsIn of w → HasRangeEnds (heard of w) → HasRangeEnds w
 range_ends-unheard of w fits h o = subst (λ (p : Part). AllByRecursion (EndsIn p.trees) p.ranges) (part-heard of w fits o) (h o)
-
--- the turn is left out
-pub range_ends-inside : (t : Option Owner) (d s : DocState) → turned t d ≡ s → HasRangeEnds s.world → HasRangeEnds d.world
-range_ends-inside t d s seen h = subst (λ (u : DocState). HasRangeEnds u.world) (sym seen) h
-
--- the ends of one range
-pub range_ends-of : (p : Part) (k : ℕ) → AllByRecursion (EndsIn p.trees) p.ranges → ForSome (range_at p k) (HasEnds p.trees)
-range_ends-of p k h = some (range_at p k) (each p.ranges k h)
-  where
-    each : (rs : List (Option (Range NodeName))) (k : ℕ) → AllByRecursion (EndsIn p.trees) rs → EndsIn p.trees (option_flatten (slice_get rs k))
-    each [] k g = tt
-    each (None ∷ rs) zero g = tt
-    each (Some r ∷ rs) zero g = g.0
-    each (r ∷ rs) (suc k) g = each rs k g.1
-
-    some : (m : Option (Range NodeName)) → EndsIn p.trees m → ForSome m (HasEnds p.trees)
-    some None g = tt
-    some (Some r) g = g
 
 -- the text of a range is answered, and nothing is changed
 pub text_told : (w : World) (o : Owner) (k : ℕ) (text : DomString) → is_there w o ≡ true → is_some (range_at (part_of w o) k) ≡ true →
@@ -55,4 +35,4 @@ text_told w o k text there known is = by (range_at (part_of w o) k) refl known i
     by : (m : Option (Range NodeName)) → range_at p k ≡ m → is_some m ≡ true → ForSome m (λ r. text ≡ range_text_of p.trees r) → Makes o (Command.range_text k) (a_string text) w w
     by None e known is = absurd cc
     by (Some r) e known is =
-        (ap (λ m. option_map_or (λ (range : Range NodeName). answers p (a_string (range_text_of p.trees range))) m (answers p nothing)) e ∙ ap (λ s. answers p (a_string s)) (sym is), sym (with_part-same w o there))
+        (ap (λ m. option_map_or (λ (range : Range NodeName). answers p (a_string (range_text_of p.trees range))) m (answers p nothing)) e ∙ ap (λ s. answers p (a_string s)) (sym (is r refl)), sym (with_part-same w o there))
