@@ -1,6 +1,5 @@
 -- The worlds on the way through the ending of a turn: each is one that is reached, and its tables are whole.
-use Rattle.std.proofs.Common.{◌≡◌, false, [], List, Option, None, not, refl}
-use Rattle.std.specs.List.{AllByRecursion}
+use Rattle.std.proofs.Common.{false, [], Option, None, not, refl}
 use Rattle.dom_base.specs.declared.Owner.{Owner}
 use Rattle.dom_base.specs.declared.NodeName.{NodeName}
 use Rattle.dom_model.specs.Command.{EventWords}

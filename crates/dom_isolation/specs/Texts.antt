@@ -1,5 +1,5 @@
 -- The isolation laws for texts: bytes cut into lines, of which the page's are those that begin with `p `.
-use Rattle.std.specs.Prelude.{◌≡◌, ℕ, Bool, IsTrue, List, [], ◌∷◌, ◌++◌, map, Some, if◌then◌else◌}
+use Rattle.std.specs.Prelude.{◌≡◌, ℕ, IsTrue, List, [], ◌∷◌, ◌++◌, map, Some, if◌then◌else◌}
 use Rattle.dom_base.specs.declared.Owner.TheVariants.{Page, Component}
 use Rattle.dom_base.specs.declared.Refusal.TheVariants.{Busy, Foreign}
 use Rattle.dom_model.specs.Command.{Command, Line, command}

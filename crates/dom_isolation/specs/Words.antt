@@ -1,6 +1,6 @@
 -- Words without line feeds: readings whose commands have no others, and texts of output, which then are cut into the lines
 -- that were written.
-use Rattle.std.specs.Prelude.{◌≡◌, ℕ, Bool, IsTrue, false, ◌==◌, List, map, ⊤}
+use Rattle.std.specs.Prelude.{◌≡◌, ℕ, IsTrue, false, ◌==◌, List, map, ⊤}
 use Rattle.std.specs.List.{AllByRecursion}
 use Rattle.dom_model.specs.Command.{Command, Line, no_owner, no_command, command}
 use Rattle.dom_model.specs.DocumentMachine.{outputs_of}
