@@ -1,10 +1,12 @@
--- What is asked for of live ranges where their text is taken, and what that answers.
+-- What is asked for of live ranges by the operations on them, and what these do, from the keys of the nodes that they name.
 use Rattle.std.proofs.Common.{◌≡◌, ℕ, true, List, Option, Some, None, is_some, refl, sym, ap, subst, ◌∙◌}
 use Rattle.std.specs.List.{AllByRecursion}
 use Rattle.std.specs.Option.{ForSome, option_map_or}
 use Rattle.dom_base.specs.declared.NodeName.{NodeName}
 use Rattle.dom_base.specs.declared.Owner.{Owner}
-use Rattle.dom_model.specs.Command.{Command}
+use Rattle.dom_model.specs.Command.{Command, Spelled}
+use Rattle.dom_model.specs.CommandNames.{named}
+use Rattle.dom_model.specs.CommandRefusals.{own_refusal}
 use Rattle.dom_model.specs.Effects.{Effect, effect, answers}
 use Rattle.dom_model.specs.Listeners.{Listener}
 use Rattle.dom_model.specs.Names.{DomString}
@@ -14,9 +16,13 @@ use Rattle.dom_model.specs.RangeOps.{range_text_of}
 use Rattle.dom_model.specs.Ranges.{Range}
 use Rattle.dom_model.specs.World.{World, part_of, is_there}
 use Rattle.dom_isolation.specs.Tables.{EndsIn}
-use Rattle.dom_mutation.specs.Doc.{Makes}
+use Rattle.dom_mutation.specs.Doc.{made, Makes}
+use Rattle.dom_range_ops.specs.Insertions.{inserting_node, inserting_refusal}
+use Rattle.dom_tree.specs.Forest.{name_at}
 use Rattle.dom_commands.specs.Heard.{heard}
 use Rattle.dom_commands.specs.Machine.{HasRangeEnds}
+use Rattle.dom_commands.proofs.CommandPlans.{IsKey}
+use Rattle.dom_commands.proofs.Finding.{owner-named}
 use Rattle.dom_commands.proofs.Handling.{with_part-same}
 use Rattle.dom_commands.proofs.Heard.{FitsIn, part-heard}
 
@@ -36,3 +42,15 @@ text_told w o k text there known is = by (range_at (part_of w o) k) refl known i
     by None e known is = absurd cc
     by (Some r) e known is =
         (ap (λ m. option_map_or (λ (range : Range NodeName). answers p (a_string (range_text_of p.trees range))) m (answers p nothing)) e ∙ ap (λ s. answers p (a_string s)) (sym (is r refl)), sym (with_part-same w o there))
+
+module _ (names : List NodeName) (w : World) (o : Owner) (k : ℕ) (x : Spelled) (node : ℕ) (node_is : IsKey names w o node x) where
+  -- the node that is inserted is the owner's
+  pub inserted-own : (name_at names node).owner ≡ o
+  inserted-own = ap (λ (y : NodeName). y.owner) node_is ∙ owner-named w o x
+
+  -- the refusal of its insertion, and what that does
+  pub inserted-refused : inserting_refusal (part_of w o) k (name_at names node) ≡ own_refusal (part_of w o) (Command.insert_node k x)
+  inserted-refused = rw node_is refl
+
+  pub inserted-made : (new : World) → new ≡ made o (inserting_node k (name_at names node)) w → new ≡ made o (λ p. inserting_node k (named p x) p) w
+  inserted-made new e = rw node_is at e

@@ -1,0 +1,26 @@
+use Rattle.std.proofs.Common.{◌≡◌, Err, [], ◌∷◌, refl, sym, ap, ◌∙◌}
+use Rattle.std.proofs.lemmas.Result.{err_from_is_err_and}
+use Rattle.dom_model.specs.Command.{Command}
+use Rattle.dom_model.specs.Effects.{plan_of_range}
+use Rattle.dom_model.specs.Extract.{extracting}
+use Rattle.dom_model.specs.Output.{a_node}
+use Rattle.dom_model.specs.Part.{next_name}
+use Rattle.dom_tree.specs.Forest.{name_at}
+use Rattle.dom_commands.specs.declared.admission.Named.TheVariants.{Range}
+use Rattle.dom_commands.proofs.Bounded.{bounded-inside}
+use Rattle.dom_commands.proofs.CommandPlans.{none_stopped}
+use Rattle.dom_commands.proofs.Handling.{refused, plans, faults}
+use Rattle.dom_commands.proofs.Namings.{naming-extract}
+use Rattle.dom_commands.proofs.state.State.extract.Goals as goal
+
+pub returns-in_err-admit-clause-handled : goal.returns-in_err-admit-clause-handled
+returns-in_err-admit-clause-handled c =
+    let p = err_from_is_err_and c.from_residual.result c.from_residual.ensures.1 in
+    rw (p.1, p.2) (refused c.args.self.now.world c.args.owner (Command.extract c.args.number) (Range c.args.number ∷ []) c.args.out.now.items c.in_err-admit.field-0.0 (naming-extract c.args.number) (sym c.admit.ensures ∙ c.in_err-admit.was))
+
+pub returns-clause-handled : goal.returns-clause-handled
+returns-clause-handled c =
+    plans c.self.inside.turn c.self.inside.doc c.args.self.now c.self.view_is c.args.owner (Command.extract c.args.number) (Range c.args.number ∷ []) (naming-extract c.args.number) (sym c.admit.ensures ∙ c.in_ok-admit.was) c.extract.new.doc.world c.accept.new.self.world
+    (λ p. plan_of_range p c.args.number (extracting c.args.number)) (λ p. a_node (next_name p)) (a_node c.name-made.result) c.args.out.now.items c.accept.new.out.items c.accept.result refl
+    (none_stopped c.in_ok-fragment.fragment _ c.in_ok-fragment.ensures.stopped) c.in_ok-fragment.ensures.world
+    (ap a_node (sym c.name-made.ensures.at ∙ ap (λ names. name_at names c.in_ok-fragment.fragment) c.forest.ensures.names ∙ c.in_ok-fragment.ensures.name)) c.accept.ensures.done
