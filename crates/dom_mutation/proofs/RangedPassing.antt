@@ -171,6 +171,12 @@ module _ (f : NamedTrees) {tables : AllTables} (held : IsHeld f.names f.trees ta
         let h = stand-at (IsOwnPoint f.names o) own k r (held.ranges.own o) is in
         subst (λ (e : DocState). (r.start.node < length e.names) × (r.end.node < length e.names)) is_d (h.0.node, h.1.node)
 
+    -- they are the owner's
+    pub points_owner : (r : Range ℕ) → range_in own k ≡ Some r → (owner_in d r.start.node ≡ o) × (owner_in d r.end.node ≡ o)
+    points_owner r is =
+        let h = stand-at (IsOwnPoint f.names o) own k r (held.ranges.own o) is in
+        subst (λ (e : DocState). (owner_in e r.start.node ≡ o) × (owner_in e r.end.node ≡ o)) is_d (h.0.owner, h.1.owner)
+
     -- ---- an end is set
 
     module _ (once : StandOnce f) (only : StandAlone f) (node offset : ℕ) (at_node : node < length d.names) (own_node : owner_in d node ≡ o) (small : offset < 2 ^ 64) (u : RangeLists) where

@@ -64,8 +64,9 @@ impl Doc {
         self.inserting(Telling::Observed, node, parent, child)
     }
 
-    /// Tests whether a node may be put among the children of a parent, before the child given or last.
-    fn check_insert(&self, parent: Key, node: Key, child: Option<Key>) -> Result<(), Refusal>
+    /// Tests whether a node may be put among the children of a parent, before the child given or last: `Hierarchy` or `NotFound`
+    /// where not (DOM Standard, ensure pre-insert validity).
+    pub fn check_insert(&self, parent: Key, node: Key, child: Option<Key>) -> Result<(), Refusal>
         requires parent_is_node { parent < length self.now.names }
         requires node_is_node { node < length self.now.names }
         requires child_is_node { ForSome child (λ c. c < length self.now.names) }
@@ -76,8 +77,9 @@ impl Doc {
         self.forest.check_insert(parent, node, child)
     }
 
-    /// The child before which a node is put: the one given, or the node's next sibling where that is the node itself.
-    pub(super) fn reference_for(&self, parent: Key, node: Key, child: Option<Key>) -> Option<Key>
+    /// The child before which a node is put: the one given, or the node's next sibling where that is the node itself (DOM
+    /// Standard, pre-insert).
+    pub fn reference_for(&self, parent: Key, node: Key, child: Option<Key>) -> Option<Key>
         requires parent_is_node { parent < length self.now.names }
         requires node_is_node { node < length self.now.names }
         requires child_is_child { ForSome child (IsChild self.now parent) }

@@ -119,11 +119,13 @@ impl Doc {
         let _ = self.ranges.remove(owner, number);
     }
 
-    /// The ends of a live range, each a node and an offset (DOM Standard, interface AbstractRange).
+    /// The ends of a live range, each a node of its owner and an offset (DOM Standard, interface AbstractRange).
     pub fn range_points(&self, owner: Owner, number: u32) -> Points
         requires { is_some (range_at (part_of self.now.world owner) number) ≡ true }
         ensures start_is_node { result.start.0 < length self.now.names }
         ensures end_is_node { result.end.0 < length self.now.names }
+        ensures own_start { owner_in self.now result.start.0 ≡ owner }
+        ensures own_end { owner_in self.now result.end.0 ≡ owner }
         ensures value { Makes owner (Command.range_get number) (boundaries (at (name_in self.now result.start.0) result.start.1) (at (name_in self.now result.end.0) result.end.1)) self.now.world self.now.world }
     {
         let Some(points) = self.ranges.points(owner, number) else {

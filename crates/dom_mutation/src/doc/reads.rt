@@ -47,8 +47,8 @@ impl Doc {
         self.forest.name(node).owner
     }
 
-    /// The kind of a node.
-    pub(crate) fn kind(&self, node: Key) -> Kind
+    /// The kind of a node (DOM Standard, interface Node; own rule for a shadow root).
+    pub fn kind(&self, node: Key) -> Kind
         requires { node < length self.now.names }
         ensures { result ≡ kind_of (trees_in self.now node) (name_in self.now node) }
     {
@@ -63,8 +63,9 @@ impl Doc {
         self.forest.text(node)
     }
 
-    /// The number of code units of a Text or a Comment, and of another node that of its children, which are counted.
-    pub(super) fn length(&self, node: Key) -> usize
+    /// The number of code units of a Text or a Comment, and of another node that of its children, which are counted (DOM
+    /// Standard, concept: length).
+    pub fn length(&self, node: Key) -> usize
         requires { node < length self.now.names }
         ensures { result ≡ length_of (trees_in self.now node) (name_in self.now node) }
     {
@@ -72,7 +73,7 @@ impl Doc {
     }
 
     /// The place of a node among its parent's children (DOM Standard, concept: index).
-    pub(super) fn index(&self, node: Key) -> usize
+    pub fn index(&self, node: Key) -> usize
         requires { node < length self.now.names }
         ensures { result ≡ index_of (trees_in self.now node) (name_in self.now node) }
     {
@@ -104,8 +105,8 @@ impl Doc {
         self.forest.attr(node, name).is_some()
     }
 
-    /// The parent of a node.
-    pub(super) fn parent(&self, node: Key) -> Option<Key>
+    /// The parent of a node, which a root has not (DOM Standard, concept: parent).
+    pub fn parent(&self, node: Key) -> Option<Key>
         requires { node < length self.now.names }
         ensures value { option_map (name_in self.now) result ≡ parent_of (trees_in self.now node) (name_in self.now node) }
         ensures node { ForSome result (λ k. k < length self.now.names) }
