@@ -1,5 +1,5 @@
 -- The child of a node at an index, in the trees of its owner.
-use Rattle.std.proofs.Common.{◌≡◌, ◌<◌, ℕ, zero, suc, List, [], ◌∷◌, drop, length, Option, Some, option_map, refl, sym, ap, subst, ◌∙◌}
+use Rattle.std.proofs.Common.{◌≡◌, ◌<◌, ℕ, zero, suc, List, [], ◌∷◌, drop, length, Option, option_map, refl, sym, ap, subst, ◌∙◌}
 use Rattle.std.specs.Prelude.{slice_get}
 use Rattle.std.specs.Option.{ForSome}
 use Rattle.dom_base.specs.declared.NodeName.{NodeName}
@@ -10,7 +10,7 @@ use Rattle.dom_isolation.proofs.PlanChildren.{IsChild as IsBelow, child-parent}
 use Rattle.dom_isolation.proofs.RangeBounds.{child-there_in}
 use Rattle.dom_isolation.proofs.TableRecords.{IfSome, all-get}
 use Rattle.dom_model.specs.Names.{first_of}
-use Rattle.dom_model.specs.Tree.{Trees, children_of}
+use Rattle.dom_model.specs.Tree.{children_of}
 use Rattle.dom_model.specs.World.{part_of}
 use Rattle.dom_model.proofs.PartLaws.{owner-part_of}
 use Rattle.dom_mutation.specs.Doc.{DocState, name_in, owner_in, trees_in, IsChild}

@@ -1,11 +1,11 @@
-use Rattle.std.proofs.Common.{◌≡◌, ℕ, List, option_map, sym, ap, subst, ◌∙◌}
+use Rattle.std.proofs.Common.{List, sym, ap, subst, ◌∙◌}
 use Rattle.std.proofs.lemmas.Result.{on_ok_weaker}
 use Rattle.dom_base.specs.declared.NodeName.{NodeName}
 use Rattle.dom_isolation.proofs.PlanPlaces.{leads-removing}
 use Rattle.dom_model.specs.Changes.{observed, removing}
 use Rattle.dom_model.specs.Tree.{has_node, has_data, kind_of}
 use Rattle.dom_model.specs.World.{part_of}
-use Rattle.dom_mutation.specs.Doc.{DocState, made, planned, name_in, owner_in, trees_in}
+use Rattle.dom_mutation.specs.Doc.{made, name_in, owner_in}
 use Rattle.dom_mutation.specs.Hosting.{IsAlone}
 use Rattle.dom_mutation.proofs.BoundedDocs.{bounds_removed}
 use Rattle.dom_mutation.proofs.OwnPlans.{plans_removing}

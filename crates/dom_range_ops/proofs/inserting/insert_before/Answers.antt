@@ -1,6 +1,6 @@
-use Rattle.std.proofs.Common.{◌≡◌, option_map, sym, ap, subst, ◌∙◌}
+use Rattle.std.proofs.Common.{option_map, ap, subst, ◌∙◌}
 use Rattle.dom_model.specs.Changes.{observed, inserting}
-use Rattle.dom_mutation.specs.Doc.{DocState, made, planned, name_in, owner_in}
+use Rattle.dom_mutation.specs.Doc.{DocState, made, name_in}
 use Rattle.dom_mutation.specs.Hosting.{IsAlone}
 use Rattle.dom_mutation.proofs.OwnPlans.{plans_inserting}
 use Rattle.dom_range_ops.proofs.InsertedPlans.{inserted-before}

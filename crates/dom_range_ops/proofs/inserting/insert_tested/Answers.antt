@@ -1,6 +1,5 @@
-use Rattle.std.proofs.Common.{◌≡◌, ◌++◌, ◌∷◌, [], List, Some, option_map, sym, ap, subst, ◌∙◌, true, false}
-use Rattle.std.proofs.lemmas.Bool.{cond-true, cond-false}
-use Rattle.std.proofs.lemmas.List.{append-nil}
+use Rattle.std.proofs.Common.{◌≡◌, ◌++◌, ◌∷◌, [], List, Some, option_map, sym, ap, ◌∙◌}
+use Rattle.std.proofs.lemmas.Bool.{cond-true}
 use Rattle.std.proofs.lemmas.Result.{on_ok_weaker}
 use Rattle.dom_base.specs.declared.NodeName.{NodeName}
 use Rattle.dom_isolation.proofs.BoundLines.{insertion-open}
