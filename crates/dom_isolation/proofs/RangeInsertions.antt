@@ -190,7 +190,7 @@ room-inserting_at k node parent child p i m o c h =
     (room-removing nowhere observed node p i h))
 
 -- The tail of a split Text is a child of its parent.
-tail-child : (x : NodeName) (offset : ℕ) (p : Part) (y : NodeName) → IsPart p → parent_of p.trees x ≡ Some y → IsChild (next_name p) y (after p (splitting x offset p))
+pub tail-child : (x : NodeName) (offset : ℕ) (p : Part) (y : NodeName) → IsPart p → parent_of p.trees x ≡ Some y → IsChild (next_name p) y (after p (splitting x offset p))
 tail-child x offset p y i e =
     let one = make tail ∷ placing_tail x offset (next_name p) (Some y) q in
     let count = length (node_in p.trees x).text - offset in

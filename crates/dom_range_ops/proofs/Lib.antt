@@ -8,3 +8,9 @@ pub mod Between
 pub mod Kids
 pub mod AfterPoint
 pub mod KeyedWalks
+pub mod InsertedRanges
+pub mod InsertedPlans
+pub mod InsertedChildren
+pub mod InsertedParts
+pub mod InsertedTails
+pub mod InsertedTests

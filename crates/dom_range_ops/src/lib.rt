@@ -1,8 +1,10 @@
-//! The operations on a live range: its text (DOM Standard, 5.5 Interface Range).
+//! The operations on a live range: the insertion of a node, its text (DOM Standard, 5.5 Interface Range).
 #![tactic(auto)]
 
+mod inserting;
 mod pieces;
 mod points;
 mod text;
 
+pub use inserting::insert_node;
 pub use text::range_text;

@@ -19,7 +19,7 @@ impl Doc {
     /// Holds of every document: names tell the nodes apart, each node stands once in its owner's trees, an owner's steps
     /// do in its part what they do in a part alone, no owner has more nodes than it may, each node's owner is there, and each
     /// owner's part is one as every world has it that is reached.
-    pub(crate) fn laws(&self)
+    pub fn laws(&self)
         ensures distinct { (j k : ℕ) → j < length self.now.names → k < length self.now.names → name_in self.now j ≡ name_in self.now k → j ≡ k }
         ensures once { (o : OwnerOf) (x : Name) → count_by (λ n. name_eq n.name x) (nodes (part_of self.now.world o).trees) ≤ 1 }
         ensures alone { (k : ℕ) → k < length self.now.names → IsAlone self.now.world (owner_in self.now k) }
@@ -47,8 +47,8 @@ impl Doc {
         self.forest.name(node).owner
     }
 
-    /// The kind of a node.
-    pub(crate) fn kind(&self, node: Key) -> Kind
+    /// The kind of a node (DOM Standard, interface Node; own rule for a shadow root).
+    pub fn kind(&self, node: Key) -> Kind
         requires { node < length self.now.names }
         ensures { result ≡ kind_of (trees_in self.now node) (name_in self.now node) }
     {
@@ -63,8 +63,9 @@ impl Doc {
         self.forest.text(node)
     }
 
-    /// The number of code units of a Text or a Comment, and of another node that of its children, which are counted.
-    pub(super) fn length(&self, node: Key) -> usize
+    /// The number of code units of a Text or a Comment, and of another node that of its children, which are counted (DOM
+    /// Standard, concept: length).
+    pub fn length(&self, node: Key) -> usize
         requires { node < length self.now.names }
         ensures { result ≡ length_of (trees_in self.now node) (name_in self.now node) }
     {
@@ -72,7 +73,7 @@ impl Doc {
     }
 
     /// The place of a node among its parent's children (DOM Standard, concept: index).
-    pub(super) fn index(&self, node: Key) -> usize
+    pub fn index(&self, node: Key) -> usize
         requires { node < length self.now.names }
         ensures { result ≡ index_of (trees_in self.now node) (name_in self.now node) }
     {
@@ -104,8 +105,8 @@ impl Doc {
         self.forest.attr(node, name).is_some()
     }
 
-    /// The parent of a node.
-    pub(super) fn parent(&self, node: Key) -> Option<Key>
+    /// The parent of a node, which a root has not (DOM Standard, concept: parent).
+    pub fn parent(&self, node: Key) -> Option<Key>
         requires { node < length self.now.names }
         ensures value { option_map (name_in self.now) result ≡ parent_of (trees_in self.now node) (name_in self.now node) }
         ensures node { ForSome result (λ k. k < length self.now.names) }

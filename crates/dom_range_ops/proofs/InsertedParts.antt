@@ -1,0 +1,33 @@
+-- What an owner's plan keeps of the nodes that it does not name, in the state that it leaves.
+use Rattle.std.proofs.Common.{◌≡◌, ℕ, true, false, Option, sym, ap, subst, ◌∙◌}
+use Rattle.dom_base.specs.declared.NodeName.{NodeName}
+use Rattle.dom_base.specs.declared.Owner.{Owner}
+use Rattle.dom_isolation.proofs.KindCommands.{has_node-times}
+use Rattle.dom_isolation.proofs.PlanPlaces.{Changed}
+use Rattle.dom_model.specs.Changes.{Plan}
+use Rattle.dom_model.specs.Part.{Part}
+use Rattle.dom_model.specs.Steps.{after}
+use Rattle.dom_model.specs.Tree.{Trees, kind_of, has_data, has_node}
+use Rattle.dom_model.specs.World.{World, part_of}
+use Rattle.dom_mutation.specs.Doc.{DocState, made, name_in, owner_in, trees_in}
+use Rattle.dom_mutation.specs.Hosting.{PlansOwn, IsAlone}
+use Rattle.dom_mutation.proofs.Made.{plan_alone}
+
+module _ (d e : DocState) (o : Owner) (f : Plan) (alone : IsAlone d.world o) (own : PlansOwn o f) (world : e.world ≡ made o f d.world) where
+  abbrev p : Part
+  p = part_of d.world o
+
+  -- the owner's part
+  pub part-now : part_of e.world o ≡ after p (f p)
+  part-now = ap (λ (w : World). part_of w o) world ∙ plan_alone o f d.world alone own
+
+  -- a fact of a node's name in its owner's trees
+  pub now-at : (P : Trees → NodeName → Type 0) (k : ℕ) → name_in e k ≡ name_in d k → owner_in d k ≡ o → P (part_of e.world o).trees (name_in d k) → P (trees_in e k) (name_in e k)
+  now-at P k name owner h = subst (λ (z : NodeName). P (part_of e.world z.owner).trees z) (sym name) (subst (λ w. P (part_of e.world w).trees (name_in d k)) (sym owner) h)
+
+  -- a node without data has none
+  pub open-kept : (spot : Option NodeName) → Changed spot p (after p (f p)) → (k : ℕ) → name_in e k ≡ name_in d k → owner_in d k ≡ o → has_node p.trees (name_in d k) ≡ true → has_data (kind_of p.trees (name_in d k)) ≡ false
+      → has_data (kind_of (trees_in e k) (name_in e k)) ≡ false
+  open-kept spot changed k name owner there plain =
+      now-at (λ ts x. has_data (kind_of ts x) ≡ false) k name owner
+      (ap (λ (q : Part). has_data (kind_of q.trees (name_in d k))) part-now ∙ ap has_data (changed.kinds (name_in d k) (has_node-times p.trees (name_in d k) there)) ∙ plain)

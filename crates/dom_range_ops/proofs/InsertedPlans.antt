@@ -1,0 +1,93 @@
+-- The steps of an insertion into a live range, put together to its plan.
+use Rattle.std.proofs.Common.{◌≡◌, ℕ, false, List, Option, Some, None, option_map, refl, sym, ap, subst, ◌∙◌}
+use Rattle.std.specs.Option.{ForSome}
+use Rattle.std.proofs.lemmas.Bool.{cond-false}
+use Rattle.dom_base.specs.declared.NodeName.{NodeName}
+use Rattle.dom_base.specs.declared.Owner.{Owner}
+use Rattle.dom_isolation.proofs.Trees.{name_eq-sym}
+use Rattle.dom_model.specs.Changes.{Plan, ◌and_then◌, observed, removing, inserting, reference_for}
+use Rattle.dom_model.specs.Names.{name_eq}
+use Rattle.dom_model.specs.Ranges.{at}
+use Rattle.dom_model.specs.RangeOps.{ending_at, inserting_before, inserting_at}
+use Rattle.dom_model.specs.Tree.{Trees, next_sibling, inclusive_ancestors, is_inclusive_ancestor}
+use Rattle.dom_model.specs.World.{part_of}
+use Rattle.dom_tree.specs.Forest.{name_at}
+use Rattle.dom_mutation.specs.Doc.{DocState, made, planned, name_in, owner_in, trees_in, IsChild}
+use Rattle.dom_mutation.specs.Hosting.{IsAlone}
+use Rattle.dom_mutation.proofs.Made.{planned_then}
+use Rattle.dom_mutation.proofs.Near.{parent_path}
+use Rattle.dom_mutation.proofs.OwnPlans.{plans_removing, plans_inserting}
+use Rattle.dom_mutation.proofs.Paths.{Lacks, lacks_from, lacks_to}
+use Rattle.dom_mutation.proofs.Placed.{Counted, once_in, removal_keeps}
+use Rattle.dom_mutation.proofs.Turns.{Stays}
+use Rattle.dom_range_ops.specs.Insertions.{offset_behind}
+
+-- a state by its names and its world
+pub state-is : (d e : DocState) (o : Owner) (f : Plan) → e.names ≡ d.names → e.world ≡ made o f d.world → e ≡ planned o f d
+state-is d e o f names world = λ j. record { names = names j; world = world j }
+
+-- a reference that is another node is kept
+pub kept-reference : (ts : Trees) (x : NodeName) (name : ℕ → NodeName) (reference : Option ℕ) → ForSome reference (λ b. name_eq x (name b) ≡ false) → reference_for ts x (option_map name reference) ≡ option_map name reference
+kept-reference ts x name None apart = refl
+kept-reference ts x name (Some b) apart = cond-false (name_eq (name b) x) (next_sibling ts x) (Some (name b)) (name_eq-sym (name b) x ∙ apart b refl)
+
+module _ (d : DocState) (o : Owner) (k : ℕ) (parent node : ℕ) (alone : IsAlone d.world o) (own : owner_in d parent ≡ o) (node_own : owner_in d node ≡ o) where
+  abbrev x : NodeName
+  x = name_in d node
+
+  abbrev y : NodeName
+  y = name_in d parent
+
+  abbrev ts : Trees
+  ts = (part_of d.world o).trees
+
+  -- an insertion before a reference, in the state e, and then an end, in f
+  pub inserted-before : (e f : DocState) (reference : Option ℕ) (offset : ℕ) → ForSome reference (λ b. name_eq (name_in d node) (name_in d b) ≡ false)
+      → offset ≡ offset_behind (trees_in d parent) (name_in d parent) (name_in d node) (option_map (name_in d) reference)
+      → e ≡ planned (owner_in d parent) (inserting observed (name_in d node) (name_in d parent) (option_map (name_in d) reference)) d
+      → f ≡ planned o (ending_at k (at (name_in e parent) offset)) e
+      → f ≡ planned o (inserting_before k (name_in d node) (name_in d parent) (option_map (name_in d) reference)) d
+  inserted-before e f reference offset apart behind inserted ended =
+      let before = option_map (name_in d) reference in
+      let put : Plan = inserting observed x y before in
+      let is : e ≡ planned o put d = inserted ∙ ap (λ w. planned w put d) own in
+      let end : ℕ → Plan = λ n. ending_at k (at y n) in
+      let n = offset_behind ts y x before in
+      ended ∙ ap (λ (ns : List NodeName). planned o (ending_at k (at (name_at ns parent) offset)) e) (ap (λ (s : DocState). s.names) is)
+      ∙ ap (planned o (end offset)) is
+      ∙ planned_then o put (end offset) d alone (plans_inserting o observed x y before node_own)
+      ∙ ap (λ m. planned o (put and_then end m) d) (behind ∙ ap (λ w. offset_behind (part_of d.world w).trees y x before) own)
+      ∙ ap (λ b. planned o (inserting observed x y b and_then end n) d) (sym (kept-reference ts x (name_in d) reference apart))
+
+  -- a removal, in the state e, and then an insertion before the reference, in f
+  pub inserted-at : (e f : DocState) (child reference : Option ℕ) → option_map (name_in d) reference ≡ reference_for (trees_in d parent) (name_in d node) (option_map (name_in d) child)
+      → e ≡ planned (owner_in d node) (removing observed (name_in d node)) d
+      → f ≡ planned o (inserting_before k (name_in e node) (name_in e parent) (option_map (name_in e) reference)) e
+      → f ≡ planned o (inserting_at k (name_in d node) (name_in d parent) (option_map (name_in d) child)) d
+  inserted-at e f child reference referred removed inserted =
+      let gone : Plan = removing observed x in
+      let is : e ≡ planned o gone d = removed ∙ ap (λ w. planned w gone d) node_own in
+      inserted ∙ ap (λ (ns : List NodeName). planned o (inserting_before k (name_at ns node) (name_at ns parent) (option_map (name_at ns) reference)) e) (ap (λ (s : DocState). s.names) is)
+      ∙ ap (planned o (inserting_before k x y (option_map (name_in d) reference))) is
+      ∙ planned_then o gone (inserting_before k x y (option_map (name_in d) reference)) d alone (plans_removing o observed x)
+      ∙ ap (λ b. planned o (gone and_then inserting_before k x y b) d) (referred ∙ ap (λ w. reference_for (part_of d.world w).trees x (option_map (name_in d) child)) own)
+
+-- what was asked of a parent and a reference still holds when another node has left its parent
+pub stays-left : (d e : DocState) → Counted d → (parent node : ℕ) (reference : Option ℕ) → IsAlone d.world (owner_in d node) → owner_in d node ≡ owner_in d parent
+    → is_inclusive_ancestor (trees_in d parent) (name_in d node) (name_in d parent) ≡ false → ForSome reference (IsChild d parent) → ForSome reference (λ b. name_eq (name_in d node) (name_in d b) ≡ false)
+    → e ≡ planned (owner_in d node) (removing observed (name_in d node)) d → Stays parent reference d e
+stays-left d e counted parent node reference alone owner off children apart is =
+    let x = name_in d node in
+    let names : e.names ≡ d.names = ap (λ (s : DocState). s.names) is in
+    let lacks : Lacks x (inclusive_ancestors (trees_in d parent) (name_in d parent)) = lacks_from x (inclusive_ancestors (trees_in d parent) (name_in d parent)) off in
+    let same : trees_in d node ≡ trees_in d parent = ap (λ o. (part_of d.world o).trees) owner in
+    let then : trees_in e parent ≡ trees_in e node =
+    ap (λ (ns : List NodeName). (part_of e.world (name_at ns parent).owner).trees) names ∙ (ap (λ o. (part_of e.world o).trees) (sym owner) ∙ ap (λ (ns : List NodeName). (part_of e.world (name_at ns node).owner).trees) (sym names)) in
+    let kept : (z : NodeName) → Lacks x (inclusive_ancestors (trees_in d parent) z) → inclusive_ancestors (trees_in e parent) z ≡ inclusive_ancestors (trees_in d parent) z = λ z h.
+    ap (λ t. inclusive_ancestors t z) then
+    ∙ (removal_keeps d e counted node alone observed is z (ap (λ t. is_inclusive_ancestor t x z) same ∙ lacks_to x (inclusive_ancestors (trees_in d parent) z) h) ∙ ap (λ t. inclusive_ancestors t z) same) in
+    record {
+      names = names;
+      parent_path = kept (name_in d parent) lacks;
+      before_path = λ b here. kept (name_in d b) (subst (Lacks x) (sym (parent_path (trees_in d parent) (once_in d counted (owner_in d parent)) (name_in d b) (name_in d parent) (children b here).child)) (apart b here, lacks));
+    }

@@ -1,0 +1,121 @@
+-- After a Text was split that is a child of a parent: what is kept, and the tail.
+use Rattle.std.proofs.Common.{◌≡◌, ◌<◌, ℕ, ◌+◌, true, false, List, [], ◌∷◌, ◌++◌, length, Some, sym, ap, subst, ◌∙◌, arith}
+use Rattle.std.proofs.lemmas.Bool.{false_from_ne_true}
+use Rattle.std.proofs.lemmas.List.{length_push}
+use Rattle.std.proofs.Math.ListN.{get_or-append}
+use Rattle.std.proofs.Math.Seq.{get_or-append_seam}
+use Rattle.dom_base.specs.declared.NodeName.{NodeName}
+use Rattle.dom_base.specs.declared.Owner.{Owner}
+use Rattle.dom_base.specs.declared.Owner.TheVariants.{Page}
+use Rattle.dom_isolation.specs.Bounds.{HasBounds}
+use Rattle.dom_isolation.specs.Worlds.{IsPart}
+use Rattle.dom_isolation.proofs.Descents.{ancestor-inside}
+use Rattle.dom_isolation.proofs.Insides.{inside-no_ancestor}
+use Rattle.dom_isolation.proofs.KindCommands.{has_node-times}
+use Rattle.dom_isolation.proofs.KeptOffsets.{split-keeps}
+use Rattle.dom_isolation.proofs.PlanChildren.{child-parent}
+use Rattle.dom_isolation.proofs.PlanPlaces.{Changed}
+use Rattle.dom_isolation.proofs.PlanTexts.{leads-splitting}
+use Rattle.dom_isolation.proofs.RangeInsertions.{tail-child}
+use Rattle.dom_model.specs.Changes.{Plan, ◌and_then◌}
+use Rattle.dom_model.specs.Names.{node_of}
+use Rattle.dom_model.specs.Part.{Part, next_name}
+use Rattle.dom_model.specs.Ranges.{Range}
+use Rattle.dom_model.specs.RangeOps.{inserting_at}
+use Rattle.dom_model.specs.Steps.{after}
+use Rattle.dom_model.specs.TextChanges.{splitting}
+use Rattle.dom_model.specs.Tree.{kind_of, is_text, has_data, has_node, parent_of, is_inclusive_ancestor}
+use Rattle.dom_model.specs.World.{part_of}
+use Rattle.dom_model.proofs.PartLaws.{owner-part_of}
+use Rattle.dom_mutation.specs.Doc.{DocState, made, planned, name_in, owner_in, trees_in, IsChild}
+use Rattle.dom_mutation.specs.Hosting.{IsAlone}
+use Rattle.dom_mutation.proofs.Made.{made_then}
+use Rattle.dom_mutation.proofs.OwnPlans.{plans_splitting}
+use Rattle.dom_tree.specs.Forest.{name_at}
+use Rattle.dom_range_ops.specs.Insertions.{inserting_before_tail}
+use Rattle.dom_range_ops.proofs.InsertedParts.{part-now, now-at, open-kept}
+
+-- in a state e with one name more
+kept-name : (d e : DocState) (y : NodeName) → e.names ≡ d.names ++ y ∷ [] → (k : ℕ) → k < length d.names → name_in e k ≡ name_in d k
+kept-name d e y names k less = ap (λ (ns : List NodeName). name_at ns k) names ∙ get_or-append d.names (y ∷ []) (node_of Page 0) k less
+
+-- ---- a child of a parent, a Text, was split in d, and e is the state then, where the tail has the key `tail`
+module _ (d e : DocState) (o : Owner) (start offset parent node tail : ℕ) (alone : IsAlone d.world o) (part : IsPart (part_of d.world o)) (names : e.names ≡ d.names ++ next_name (part_of d.world o) ∷ []) (world : e.world ≡ made o (splitting (name_in d start) offset) d.world)
+    (key : tail ≡ length d.names) (child : IsChild d parent start) (parent_is : parent < length d.names) (parent_own : owner_in d parent ≡ o) where
+  abbrev p : Part
+  p = part_of d.world o
+
+  abbrev x : NodeName
+  x = name_in d start
+
+  abbrev y : NodeName
+  y = name_in d parent
+
+  abbrev f : Plan
+  f = splitting x offset
+
+  up : parent_of p.trees x ≡ Some y
+  up = ap (λ w. parent_of (part_of d.world w).trees x) (sym parent_own) ∙ child.child
+
+  changed : Changed (Some y) p (after p (f p))
+  changed = subst (λ spot. Changed spot p (after p (f p))) up (leads-splitting x offset p part).changed
+
+  now : part_of e.world o ≡ after p (f p)
+  now = part-now d e o f alone (plans_splitting o x offset) world
+
+  pub longer : length e.names ≡ length d.names + 1
+  longer = ap (λ (ns : List NodeName). length ns) names ∙ length_push d.names (next_name p)
+
+  -- names of the keys from before are kept
+  pub split-name : (k : ℕ) → k < length d.names → name_in e k ≡ name_in d k
+  split-name = kept-name d e (next_name p) names
+
+  pub split-owner : (k : ℕ) → k < length d.names → owner_in e k ≡ owner_in d k
+  split-owner k less = ap (λ (z : NodeName). z.owner) (split-name k less)
+
+  tail_name : name_in e tail ≡ next_name p
+  tail_name = ap (λ (ns : List NodeName). name_at ns tail) names ∙ (ap (name_at (d.names ++ next_name p ∷ [])) key ∙ get_or-append_seam d.names (next_name p) [] (node_of Page 0))
+
+  -- the parent has no data
+  pub split-open : has_node p.trees y ≡ true → has_data (kind_of p.trees y) ≡ false → has_data (kind_of (trees_in e parent) (name_in e parent)) ≡ false
+  split-open there plain = open-kept d e o f alone (plans_splitting o x offset) world (Some y) changed parent (split-name parent parent_is) parent_own there plain
+
+  -- what was not above the parent is not
+  pub split-apart : node < length d.names → has_node p.trees (name_in d node) ≡ true → is_inclusive_ancestor p.trees (name_in d node) y ≡ false → is_inclusive_ancestor (trees_in e parent) (name_in e node) (name_in e parent) ≡ false
+  split-apart node_is there off =
+      let z = name_in d node in
+      let was = inside-no_ancestor p.trees z y part.unique off in
+      let none = changed.apart z y (has_node-times p.trees z there) was was in
+      let still : is_inclusive_ancestor (part_of e.world o).trees z y ≡ false = ap (λ (q : Part). is_inclusive_ancestor q.trees z y) now ∙ false_from_ne_true _ (λ h. let some = ancestor-inside (after p (f p)).trees z y h in omega (arith, some, none)) in
+      subst (λ v. is_inclusive_ancestor (trees_in e parent) v (name_in e parent) ≡ false) (sym (split-name node node_is))
+      (now-at d e o f alone (plans_splitting o x offset) world (λ ts v. is_inclusive_ancestor ts z v ≡ false) parent (split-name parent parent_is) parent_own still)
+
+  -- the tail is a child of it
+  pub split-child : IsChild e parent tail
+  split-child =
+      let below = child-parent (after p (f p)) (next_name p) y changed.part (tail-child x offset p y part up) in
+      let found : parent_of (part_of e.world o).trees (next_name p) ≡ Some y = ap (λ (q : Part). parent_of q.trees (next_name p)) now ∙ below in
+      record {
+        node = let more = longer in omega (arith, key, more);
+        owner = ap (λ (z : NodeName). z.owner) tail_name ∙ (owner-part_of d.world o ∙ (sym parent_own ∙ sym (split-owner parent parent_is)));
+        child = subst (λ v. parent_of (trees_in e parent) v ≡ Some (name_in e parent)) (sym tail_name)
+            (now-at d e o f alone (plans_splitting o x offset) world (λ ts v. parent_of ts (next_name p) ≡ Some v) parent (split-name parent parent_is) parent_own found);
+      }
+
+  -- live ranges end within their nodes
+  pub split-bounds : has_node p.trees x ≡ true → is_text (kind_of p.trees x) ≡ true → HasBounds p → HasBounds (part_of e.world o)
+  split-bounds there text bounds = subst HasBounds (sym now) (split-keeps x offset p part there text bounds)
+
+  -- and then the node is inserted before the tail
+  pub split-whole : node < length d.names → (g : DocState) (k : ℕ) (r : Range NodeName) → r.start.node ≡ x → r.start.offset ≡ offset → g ≡ planned o (inserting_at k (name_in e node) (name_in e parent) (Some (name_in e tail))) e
+      → g.world ≡ made o (inserting_before_tail k r (name_in d parent) (name_in d node)) d.world
+  split-whole node_is g k r at_node at_offset is =
+      let put : Plan = inserting_at k (name_in d node) y (Some (next_name p)) in
+      ap (λ (s : DocState). s.world) is
+      ∙ ap (λ z. made o (inserting_at k z (name_in e parent) (Some (name_in e tail))) e.world) (split-name node node_is)
+      ∙ ap (λ z. made o (inserting_at k (name_in d node) z (Some (name_in e tail))) e.world) (split-name parent parent_is)
+      ∙ ap (λ z. made o (inserting_at k (name_in d node) y (Some z)) e.world) tail_name
+      ∙ ap (made o put) world
+      ∙ sym (made_then o f put d.world alone (plans_splitting o x offset))
+      ∙ ap (λ z. made o (splitting z offset and_then put) d.world) (sym at_node)
+      ∙ ap (λ n. made o (splitting r.start.node n and_then put) d.world) (sym at_offset)

@@ -1,0 +1,79 @@
+use Rattle.std.proofs.Common.{◌≡◌, inl, Some, None, Err, sym, ap, ◌∙◌}
+use Rattle.std.specs.Option.{option_or}
+use Rattle.std.proofs.lemmas.Result.{on_ok_weaker}
+use Rattle.dom_base.specs.declared.Fault.TheVariants.{Refused}
+use Rattle.dom_base.specs.declared.Refusal.{Refusal}
+use Rattle.dom_model.specs.CommandRefusals.{limit_on, made_by_insert_node}
+use Rattle.dom_model.specs.Part.{range_at}
+use Rattle.dom_model.specs.RangeOps.{insert_node_refusal, inserting_into_range}
+use Rattle.dom_model.specs.World.{part_of}
+use Rattle.dom_mutation.specs.Doc.{made, name_in}
+use Rattle.dom_tree.specs.Forest.{err_of}
+use Rattle.dom_range_ops.specs.Insertions.{inserting_node}
+use Rattle.dom_range_ops.specs.Texts.{range_at_points}
+use Rattle.dom_range_ops.proofs.DocTexts.{some-of, read-points, within-at}
+use Rattle.dom_range_ops.proofs.InsertedTests.{steps-at, tests-at, refusal-at}
+use Rattle.dom_range_ops.proofs.inserting.insert_node.Goals as goal
+
+pub returns-in-Err-clause-tested : goal.returns-in-Err-clause-tested
+returns-in-Err-clause-tested c q e =
+    let d = c.args.doc.now in
+    let o = c.args.owner in
+    let p = part_of d.world o in
+    let x = name_in d c.args.node in
+    let r = range_at_points d.names c.range_points-points.result in
+    let some = some-of (range_at p c.args.number) c.requires.there in
+    let there : range_at p c.args.number ≡ Some r = some.1 ∙ ap (λ a. Some a) (read-points p _ c.args.number some.0 _ _ some.1 c.range_points-points.ensures.value.0) in
+    let test : insert_node_refusal p.trees r x ≡ Some c.in-Err.refusal = sym (c.check.ensures ∙ ap (λ w. insert_node_refusal (part_of d.world w).trees r x) c.range_points-points.ensures.own_start) ∙ ap err_of c.in-Err.is in
+    let same : Some c.in-Err.refusal ≡ Some q = sym test ∙ (sym (tests-at o d.world c.args.number r x there) ∙ e) in
+    let is : c.in-Err.refusal ≡ q = cc in
+    ap (λ (a : Refusal). Err (Refused a)) is
+
+pub returns-in-Err-clause-stopped : goal.returns-in-Err-clause-stopped
+returns-in-Err-clause-stopped c q e =
+    let d = c.args.doc.now in
+    let o = c.args.owner in
+    let p = part_of d.world o in
+    let x = name_in d c.args.node in
+    let r = range_at_points d.names c.range_points-points.result in
+    let some = some-of (range_at p c.args.number) c.requires.there in
+    let there : range_at p c.args.number ≡ Some r = some.1 ∙ ap (λ a. Some a) (read-points p _ c.args.number some.0 _ _ some.1 c.range_points-points.ensures.value.0) in
+    let test : insert_node_refusal p.trees r x ≡ Some c.in-Err.refusal = sym (c.check.ensures ∙ ap (λ w. insert_node_refusal (part_of d.world w).trees r x) c.range_points-points.ensures.own_start) ∙ ap err_of c.in-Err.is in
+    let same : Some c.in-Err.refusal ≡ Some q = sym (ap (λ a. option_or a (limit_on p.node_count (made_by_insert_node p r))) test) ∙ (sym (refusal-at o d.world c.args.number r x there) ∙ e) in
+    let is : c.in-Err.refusal ≡ q = cc in
+    inl (ap (λ (a : Refusal). Err (Refused a)) is)
+
+pub insert_tested-requires-clause-within : goal.insert_tested-requires-clause-within
+insert_tested-requires-clause-within c =
+    let d = c.args.doc.now in
+    let o = c.args.owner in
+    let p = part_of d.world o in
+    let x = name_in d c.args.node in
+    let r = range_at_points d.names c.range_points-points.result in
+    let some = some-of (range_at p c.args.number) c.requires.there in
+    let there : range_at p c.args.number ≡ Some r = some.1 ∙ ap (λ a. Some a) (read-points p _ c.args.number some.0 _ _ some.1 c.range_points-points.ensures.value.0) in
+    (within-at p c.args.number r c.requires.bounds there).0
+
+pub returns-clause-world : goal.returns-clause-world
+returns-clause-world c =
+    let d = c.args.doc.now in
+    let o = c.args.owner in
+    let p = part_of d.world o in
+    let x = name_in d c.args.node in
+    let r = range_at_points d.names c.range_points-points.result in
+    let some = some-of (range_at p c.args.number) c.requires.there in
+    let there : range_at p c.args.number ≡ Some r = some.1 ∙ ap (λ a. Some a) (read-points p _ c.args.number some.0 _ _ some.1 c.range_points-points.ensures.value.0) in
+    let more : c.insert_tested.new.doc.world ≡ made o (inserting_into_range c.args.number r x) d.world → c.insert_tested.new.doc.world ≡ made o (inserting_node c.args.number x) d.world = λ h. h ∙ steps-at o d.world c.args.number r x there in
+    on_ok_weaker c.insert_tested.result more c.insert_tested.ensures.world
+
+pub returns-clause-stopped : goal.returns-clause-stopped
+returns-clause-stopped c q e =
+    let d = c.args.doc.now in
+    let o = c.args.owner in
+    let p = part_of d.world o in
+    let x = name_in d c.args.node in
+    let r = range_at_points d.names c.range_points-points.result in
+    let some = some-of (range_at p c.args.number) c.requires.there in
+    let there : range_at p c.args.number ≡ Some r = some.1 ∙ ap (λ a. Some a) (read-points p _ c.args.number some.0 _ _ some.1 c.range_points-points.ensures.value.0) in
+    let none : insert_node_refusal p.trees r x ≡ None = sym (c.check.ensures ∙ ap (λ w. insert_node_refusal (part_of d.world w).trees r x) c.range_points-points.ensures.own_start) ∙ ap err_of c.in_default.is in
+    c.insert_tested.ensures.stopped q (sym (ap (λ a. option_or a (limit_on p.node_count (made_by_insert_node p r))) none) ∙ (sym (refusal-at o d.world c.args.number r x there) ∙ e))
