@@ -9,3 +9,5 @@ pub mod Kids
 pub mod AfterPoint
 pub mod KeyedWalks
 pub mod DeletionPlaces
+pub mod DeletionOrder
+pub mod DeletionSteps
