@@ -43,21 +43,21 @@ beyond-up : (ts : Trees) (n : ℕ) (top x y : NodeName) → IsWithin ts top x �
 beyond-up ts zero top x y w le e = let long = ap (length {A = NodeName}) (above-present ts x (stands_in ts top x w)).1 in absurd (omega (arith, long, le))
 beyond-up ts (suc n) top x y w le e = elim (same_or_not x top) [
   | inl same ↦ absurd (none-some y (sym (ap first_of (ap (beyond ts top) same ∙ (top_places ts top (subst (IsWithin ts top) same w)).1)) ∙ e))
-  | inr other ↦ by other (parent_of ts x) refl (next_sibling ts x) refl
+  | inr other ↦ by other (λ p inside less first. beyond-up ts n top p y inside less first) (parent_of ts x) refl (next_sibling ts x) refl
 ]
   where
-    by : (x ≡ top → ⊥) → (o : Option NodeName) → parent_of ts x ≡ o → (s : Option NodeName) → next_sibling ts x ≡ s → GoesUp ts x y
-    by other None up s next = absurd (within-root ts top x w other up)
-    by other (Some p) up (Some s) next =
+    by : (x ≡ top → ⊥) → ((p : NodeName) → IsWithin ts top p → length (inclusive_ancestors ts p) ≤ n → first_of (beyond ts top p) ≡ Some y → GoesUp ts p y) → (o : Option NodeName) → parent_of ts x ≡ o → (s : Option NodeName) → next_sibling ts x ≡ s → GoesUp ts x y
+    by other rest None up s next = absurd (within-root ts top x w other up)
+    by other rest (Some p) up (Some s) next =
         let is = next_places ts top x s w other next in
         let first : Some s ≡ Some y = sym (ap first_of (is.1 ∙ ap (λ xs. xs ++ beyond ts top s) (here ts top s is.0))) ∙ e in
         let path = above-parent ts x p w.once (stands_in ts top x w) up in
         record { parent = p; up = ap (parent_of ts) (sym (same_Some s y first)) ∙ (is.2 ∙ up); below = p; below_up = up; above = subst (In p) (sym (above-present ts p path.1).1) (inl refl) }
-    by other (Some p) up None next =
+    by other rest (Some p) up None next =
         let path = above-parent ts x p w.once (stands_in ts top x w) up in
         let longer = ap (length {A = NodeName}) path.0 in
         let inside = within-parent ts top x p w other up in
-        let k = beyond-up ts n top p y inside (omega (arith, longer, le)) (ap first_of (sym (no_next ts top x p w other up next)) ∙ e) in
+        let k = rest p inside (omega (arith, longer, le)) (ap first_of (sym (no_next ts top x p w other up next)) ∙ e) in
         record { parent = k.parent; up = k.up; below = p; below_up = up; above = subst (In k.parent) (sym (above-parent ts p k.below w.once path.1 k.below_up).0) (inr k.above) }
 
 -- the same of all
@@ -104,7 +104,7 @@ module _ (ts : Trees) (r : Range NodeName) (bounded : IsBounded ts r) (leaves : 
       first = ap first_of (sym (behind_is ts top x w)) ∙ e
 
       by : (kids : List NodeName) → children_of ts x ≡ kids → Clear y
-      by [] is = clear-beyond x y i clear (ap (λ ks. first_of (joined ts ks ++ beyond ts top x)) (sym is) ∙ first)
+      by [] is p up = clear-beyond x y i clear (ap (λ ks. first_of (joined ts ks ++ beyond ts top x)) (sym is) ∙ first) p up
       by (c ∷ kids) is p up =
           let up_c = parent-of_child ts x c bounded.ends.once (stands_in ts top x w) (subst (In c) (sym is) (inl refl)) in
           let inside = above-present ts c up_c.1 in
@@ -130,13 +130,13 @@ module _ (ts : Trees) (r : Range NodeName) (bounded : IsBounded ts r) (leaves : 
       itself : In s (inclusive_ancestors ts s)
       itself = subst (In s) (sym (above-present ts s (stands_in ts top s w)).1) (inl refl)
 
+      clear : Clear s
+      clear p over =
+          let path = above-parent ts s p bounded.ends.once (stands_in ts top s w) over in
+          up p (subst (In p) (sym path.0) (inr (subst (In p) (sym (above-present ts p path.1).1) (inl refl))))
+
       by : (kids : List NodeName) → drop r.start.offset (children_of ts s) ≡ kids → Clear y
-      by [] is = clear-beyond s y (start-in ts r bounded) first (ap (λ ks. first_of (joined ts ks ++ beyond ts top s)) (sym is) ∙ e)
-        where
-          first : Clear s
-          first p over =
-              let path = above-parent ts s p bounded.ends.once (stands_in ts top s w) over in
-              up p (subst (In p) (sym path.0) (inr (subst (In p) (sym (above-present ts p path.1).1) (inl refl))))
+      by [] is p over = clear-beyond s y (start-in ts r bounded) clear (ap (λ ks. first_of (joined ts ks ++ beyond ts top s)) (sym is) ∙ e) p over
       by (c ∷ kids) is p over =
           let among : In c (children_of ts s) = subst (In c) (take-append-drop r.start.offset (children_of ts s)) (In-right c (take r.start.offset (children_of ts s)) (drop r.start.offset (children_of ts s)) (subst (In c) (sym is) (inl refl))) in
           let up_c = parent-of_child ts s c bounded.ends.once (stands_in ts top s w) among in

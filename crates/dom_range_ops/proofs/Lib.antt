@@ -11,3 +11,4 @@ pub mod KeyedWalks
 pub mod DeletionPlaces
 pub mod DeletionOrder
 pub mod DeletionSteps
+pub mod DeletionPaths
