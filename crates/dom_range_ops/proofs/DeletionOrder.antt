@@ -27,6 +27,14 @@ use Rattle.dom_range_ops.proofs.Sides.{before-less, before-turned}
 abbrev pub HasLeaves : Trees → Range NodeName → Type 0
 HasLeaves ts r = (x : NodeName) → In x (nodes_around ts r) → has_data (kind_of ts x) ≡ true → children_of ts x ≡ []
 
+-- the parent of a node, if there is one, is not contained
+abbrev pub IsClear : Trees → Range NodeName → NodeName → Type 0
+IsClear ts r x = (p : NodeName) → parent_of ts x ≡ Some p → is_contained ts r p ≡ false
+
+-- whether a node is contained and its parent is not
+abbrev pub is_outermost : Trees → Range NodeName → NodeName → Bool
+is_outermost ts r x = is_contained ts r x && not (option_map_or (is_contained ts r) (parent_of ts x) false)
+
 -- y stands in or below a child of x, of this number
 pub record IsUnder (ts : Trees) (x y : NodeName) : Type 0 where
   pub child : ℕ
@@ -146,18 +154,10 @@ module _ (ts : Trees) (r : Range NodeName) (bounded : IsBounded ts r) where
 
     -- ---- the outermost contained nodes
 
-    -- the parent, if there is one, is not contained
-    abbrev pub IsClear : NodeName → Type 0
-    IsClear x = (p : NodeName) → parent_of ts x ≡ Some p → is_contained ts r p ≡ false
-
-    -- the test
-    abbrev pub is_outermost : NodeName → Bool
-    is_outermost x = is_contained ts r x && not (option_map_or (is_contained ts r) (parent_of ts x) false)
-
-    pub outermost-not : (x : NodeName) → is_contained ts r x ≡ false → is_outermost x ≡ false
+    pub outermost-not : (x : NodeName) → is_contained ts r x ≡ false → is_outermost ts r x ≡ false
     outermost-not x e = ap (λ b. b && not (option_map_or (is_contained ts r) (parent_of ts x) false)) e
 
-    pub outermost-yes : (x : NodeName) → is_contained ts r x ≡ true → IsClear x → is_outermost x ≡ true
+    pub outermost-yes : (x : NodeName) → is_contained ts r x ≡ true → IsClear ts r x → is_outermost ts r x ≡ true
     outermost-yes x e clear = ap (λ b. b && not (option_map_or (is_contained ts r) (parent_of ts x) false)) e ∙ by (parent_of ts x) refl
       where
         by : (o : Option NodeName) → parent_of ts x ≡ o → not (option_map_or (is_contained ts r) (parent_of ts x) false) ≡ true
@@ -165,8 +165,8 @@ module _ (ts : Trees) (r : Range NodeName) (bounded : IsBounded ts r) where
         by (Some p) is = ap (λ (o : Option NodeName). not (option_map_or (is_contained ts r) o false)) is ∙ ap not (clear p is)
 
     -- what is below a contained node is not outermost
-    pub none-below : (x : NodeName) → In x (nodes_around ts r) → is_contained ts r x ≡ true → filter is_outermost (below ts x) ≡ []
-    none-below x i e = filter-none is_outermost (below ts x) (λ y j. off y j (parent_of ts y) refl)
+    pub none-below : (x : NodeName) → In x (nodes_around ts r) → is_contained ts r x ≡ true → filter (is_outermost ts r) (below ts x) ≡ []
+    none-below x i e = filter-none (is_outermost ts r) (below ts x) (λ y j. off y j (parent_of ts y) refl)
       where
         w : IsWithin ts root x
         w = member-within ts r bounded x i
@@ -181,7 +181,7 @@ module _ (ts : Trees) (r : Range NodeName) (bounded : IsBounded ts r) where
         up : (y : NodeName) → In y (below ts x) → In x (inclusive_ancestors ts y)
         up y j = above-from_below ts x y bounded.ends.once (stands_in ts root x w) (Has-names _ y (inside y j))
 
-        off : (y : NodeName) → In y (below ts x) → (o : Option NodeName) → parent_of ts y ≡ o → is_outermost y ≡ false
+        off : (y : NodeName) → In y (below ts x) → (o : Option NodeName) → parent_of ts y ≡ o → is_outermost ts r y ≡ false
         off y j None is =
             let at_y = Has-subtree ts x y bounded.ends.once (Has-names _ y (inside y j)) in
             elim (subst (In x) (above-root ts y at_y is) (up y j)) [ inl same ↦ absurd (other y j same) | inr k ↦ absurd k ]
@@ -190,4 +190,4 @@ module _ (ts : Trees) (r : Range NodeName) (bounded : IsBounded ts r) where
             let path = above-parent ts y p bounded.ends.once at_y is in
             let k : In x (inclusive_ancestors ts p) = elim (subst (In x) path.0 (up y j)) [ inl same ↦ absurd (other y j same) | inr k ↦ k ] in
             let yes = contained-below x p i e (In-names _ p (below-from_above ts x p bounded.ends.once path.1 k)) in
-            false_from_ne_true (is_outermost y) (λ t. true≢false (sym (and_parts (is_contained ts r y) (not (option_map_or (is_contained ts r) (parent_of ts y) false)) t).1 ∙ (ap (λ (o : Option NodeName). not (option_map_or (is_contained ts r) o false)) is ∙ ap not yes)))
+            false_from_ne_true (is_outermost ts r y) (λ t. true≢false (sym (and_parts (is_contained ts r y) (not (option_map_or (is_contained ts r) (parent_of ts y) false)) t).1 ∙ (ap (λ (o : Option NodeName). not (option_map_or (is_contained ts r) o false)) is ∙ ap not yes)))

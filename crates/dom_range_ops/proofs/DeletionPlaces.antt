@@ -1,8 +1,8 @@
 -- Where a range stands after its contents were taken.
-use Rattle.std.proofs.Common.{◌≡◌, ◌⊎◌, inl, inr, suc, true, false, not, List, [], ◌∷◌, ◌++◌, length, Bool, Option, Some, None, refl, sym, ap, subst, ◌∙◌, arith, append_assoc, length-append}
+use Rattle.std.proofs.Common.{◌≡◌, ◌⊎◌, ℕ, eqb, true≢false, inl, inr, suc, true, false, not, List, [], ◌∷◌, ◌++◌, length, Bool, Option, Some, None, refl, sym, ap, subst, ◌∙◌, arith, append_assoc, length-append}
 use Rattle.std.specs.Prelude.{filter, unwrap_or}
 use Rattle.std.specs.Option.{option_map_or}
-use Rattle.std.proofs.lemmas.Bool.{cond-false, false_from_ne_true}
+use Rattle.std.proofs.lemmas.Bool.{cases_Bool, cond-false, false_from_ne_true, eqb-true, eq-eqb}
 use Rattle.std.proofs.lemmas.List.Elements.{filter-append}
 use Rattle.dom_base.specs.declared.NodeName.{NodeName}
 use Rattle.dom_model.specs.Extract.{behind_node}
@@ -10,12 +10,23 @@ use Rattle.dom_model.specs.Names.{name_eq, is_in, first_of, last_of, items_befor
 use Rattle.dom_model.specs.Ranges.{Range, at}
 use Rattle.dom_model.specs.Tree.{Trees, node_in, kind_of, has_data, children_of, parent_of, next_sibling, index_of, length_of, root_of, inclusive_ancestors, is_inclusive_ancestor, inclusive_descendants}
 use Rattle.dom_slots.proofs.Siblings.{children-single}
-use Rattle.dom_traversal.proofs.Chains.{above-split, above-along}
+use Rattle.dom_traversal.proofs.Chains.{above-split, above-along, first-passes}
 use Rattle.dom_traversal.proofs.Children.{In-names, child-of_parent, parent-of_child}
 use Rattle.dom_traversal.proofs.Lists.{In, In-right, In-from, is_in-from, Single, Single-apart, filter-none, filter-yes, first_split, no_first, split_at, before-split, last_of-end}
 use Rattle.dom_traversal.proofs.Shapes.{Once, Has, Has-above, above-parent, above-root, above-present, below-from_above}
 use Rattle.dom_range_ops.specs.Texts.{nodes_around}
 use Rattle.dom_range_ops.proofs.OneTree.{root-above, root-path}
+
+-- a test of keys the other way round
+pub eqb-turned : (j k : ℕ) → eqb j k ≡ false → eqb k j ≡ false
+eqb-turned j k e = false_from_ne_true (eqb k j) (λ t. true≢false (sym (eq-eqb j k (sym (eqb-true k j t))) ∙ e))
+
+-- what passes alone is not above the other node
+pub not_above : (ts : Trees) (e low : NodeName) → filter (λ a. not (is_inclusive_ancestor ts a e)) (inclusive_ancestors ts low) ≡ low ∷ [] → is_inclusive_ancestor ts low e ≡ false
+not_above ts e low alone = elim (cases_Bool (is_inclusive_ancestor ts low e)) [
+  | inl t ↦ absurd (true≢false (sym (first-passes (λ a. not (is_inclusive_ancestor ts a e)) (inclusive_ancestors ts low) low (ap first_of alone)) ∙ ap not t))
+  | inr f ↦ f
+]
 
 module _ (ts : Trees) (once : Once ts) where
   -- ---- the outermost node above one that is not above another
@@ -24,31 +35,28 @@ module _ (ts : Trees) (once : Once ts) where
   abbrev pub IsBelowAll : NodeName → NodeName → Type 0
   IsBelowAll low e = (parent_of ts low ≡ None) ⊎ ((p : NodeName) × (parent_of ts low ≡ Some p) × (is_inclusive_ancestor ts p e ≡ true))
 
-  -- such a node is it
-  pub outermost-is : (s e low : NodeName) → Has ts s → Has ts e → is_inclusive_ancestor ts low s ≡ true → is_inclusive_ancestor ts low e ≡ false → IsBelowAll low e → last_of (filter (λ a. not (is_inclusive_ancestor ts a e)) (inclusive_ancestors ts s)) ≡ Some low
-  outermost-is s e low h g up off stop =
-      let i = In-from low (inclusive_ancestors ts s) up in
-      let k = Has-above ts low s once h i in
-      let rest = above k stop in
-      ap last_of
-      (ap (filter test) (above-split ts low s once h i)
-      ∙ (filter-append test (front) (inclusive_ancestors ts low)
-      ∙ ap (λ xs. filter test front ++ xs) (ap (filter test) rest.1 ∙ (filter-yes test low rest.0 (ap not off) ∙ ap (λ xs. low ∷ xs) rest.2))))
-      ∙ last_of-end (filter test front) low
+  -- such a node alone of those above it is not above the other one
+  pub alone-is : (e low : NodeName) → Has ts low → Has ts e → is_inclusive_ancestor ts low e ≡ false → IsBelowAll low e → filter (λ a. not (is_inclusive_ancestor ts a e)) (inclusive_ancestors ts low) ≡ low ∷ []
+  alone-is e low k g off stop = by stop
     where
       test : NodeName → Bool
       test a = not (is_inclusive_ancestor ts a e)
 
-      front : List NodeName
-      front = items_before name_eq low (inclusive_ancestors ts s)
+      with : (rest : List NodeName) → inclusive_ancestors ts low ≡ low ∷ rest → filter test rest ≡ [] → filter test (inclusive_ancestors ts low) ≡ low ∷ []
+      with rest path none = ap (filter test) path ∙ (filter-yes test low rest (ap not off) ∙ ap (λ xs. low ∷ xs) none)
 
-      above : Has ts low → IsBelowAll low e → (rest : List NodeName) × (inclusive_ancestors ts low ≡ low ∷ rest) × (filter test rest ≡ [])
-      above k (inl none) = ([], above-root ts low k none, refl)
-      above k (inr p) = (
-        inclusive_ancestors ts p.0,
-        (above-parent ts low p.0 once k p.1).0,
-        filter-none test (inclusive_ancestors ts p.0) (λ y j. ap not (is_in-from y (inclusive_ancestors ts e) (above-along ts y p.0 e once g j (In-from p.0 (inclusive_ancestors ts e) p.2)))),
-      )
+      by : IsBelowAll low e → filter test (inclusive_ancestors ts low) ≡ low ∷ []
+      by (inl none) = with [] (above-root ts low k none) refl
+      by (inr p) =
+          with (inclusive_ancestors ts p.0) (above-parent ts low p.0 once k p.1).0
+          (filter-none test (inclusive_ancestors ts p.0) (λ y j. ap not (is_in-from y (inclusive_ancestors ts e) (above-along ts y p.0 e once g j (In-from p.0 (inclusive_ancestors ts e) p.2)))))
+
+  -- so it is the outermost of all above a node below it
+  pub outermost-is : (s e low : NodeName) → Has ts s → is_inclusive_ancestor ts low s ≡ true → filter (λ a. not (is_inclusive_ancestor ts a e)) (inclusive_ancestors ts low) ≡ low ∷ [] → last_of (filter (λ a. not (is_inclusive_ancestor ts a e)) (inclusive_ancestors ts s)) ≡ Some low
+  outermost-is s e low h up alone =
+      let test = λ (a : NodeName). not (is_inclusive_ancestor ts a e) in
+      let front = items_before name_eq low (inclusive_ancestors ts s) in
+      ap last_of (ap (filter test) (above-split ts low s once h (In-from low (inclusive_ancestors ts s) up)) ∙ (filter-append test front (inclusive_ancestors ts low) ∙ ap (λ xs. filter test front ++ xs) alone)) ∙ last_of-end (filter test front) low
 
   -- ---- just behind a node
 

@@ -9,7 +9,8 @@ use Rattle.std.proofs.lemmas.List.Elements.{filter-append}
 use Rattle.std.proofs.lemmas.Option.{same_Some, none-some}
 use Rattle.dom_base.specs.declared.NodeName.{NodeName}
 use Rattle.dom_model.specs.Names.{first_of}
-use Rattle.dom_model.specs.Ranges.{Range, is_contained}
+use Rattle.dom_model.specs.Ranges.{Range, at, is_contained}
+use Rattle.dom_model.specs.Place.{boundary_place, is_before}
 use Rattle.dom_model.specs.RangeOps.{outermost_contained}
 use Rattle.dom_model.specs.Tree.{Trees, children_of, parent_of, next_sibling, root_of, nodes, names_of, inclusive_ancestors, inclusive_descendants, is_inclusive_ancestor}
 use Rattle.dom_traversal.proofs.Children.{parent-of_child, Has-names}
@@ -22,7 +23,7 @@ use Rattle.dom_range_ops.specs.Points.{nodes_after}
 use Rattle.dom_range_ops.specs.Texts.{nodes_around}
 use Rattle.dom_range_ops.proofs.OneTree.{filter-tree, contained-root, root-above, root-root}
 use Rattle.dom_range_ops.proofs.Between.{IsBounded, IsBetween, Leads, Splits, two-splits, member-within, start-within, end-within, start-out, end-out}
-use Rattle.dom_range_ops.proofs.Sides.{nodes_before, point-splits, before-no, after-yes}
+use Rattle.dom_range_ops.proofs.Sides.{before-less, before-turned, nodes_before, point-splits, before-no, after-yes}
 use Rattle.dom_range_ops.proofs.DeletionOrder.{HasLeaves, IsClear, is_outermost, root, above-in, start-in, start-above-out, between-in, end-above-out, contained-below, outermost-not, outermost-yes, none-below}
 
 -- what holds of all holds of the last ones
@@ -67,10 +68,10 @@ goes-up ts top x y w e = beyond-up ts (length (inclusive_ancestors ts x)) top x 
 module _ (ts : Trees) (r : Range NodeName) (bounded : IsBounded ts r) (leaves : HasLeaves ts r) where
   -- the walk begins where nothing above is contained
   abbrev pub Clear : NodeName → Type 0
-  Clear = IsClear ts r bounded leaves
+  Clear = IsClear ts r
 
   abbrev pub outermost : NodeName → Bool
-  outermost = is_outermost ts r bounded leaves
+  outermost = is_outermost ts r
 
   abbrev pub top : NodeName
   top = root_of ts r.start.node
@@ -162,8 +163,8 @@ module _ (ts : Trees) (r : Range NodeName) (bounded : IsBounded ts r) (leaves : 
       ∙ ap (λ xs. xs ++ filter outermost back) (filter-none outermost front (λ x i. outermost-not ts r bounded leaves x (start-out ts r bounded x (before-no ts top r.start (start-within ts r bounded) x i))))))
 
   -- where the end comes before the start there is none
-  pub none-reversed : ((x : NodeName) → In x (nodes_after ts top r.start) → is_contained ts r x ≡ false) → outermost_contained ts r ≡ []
-  none-reversed off = all-outermost ∙ filter-none outermost (nodes_after ts top r.start) (λ x i. outermost-not ts r bounded leaves x (off x i))
+  pub none-reversed : is_before ts r.end r.start ≡ true → outermost_contained ts r ≡ []
+  none-reversed e = all-outermost ∙ filter-none outermost (nodes_after ts top r.start) (λ x i. outermost-not ts r bounded leaves x (end-out ts r bounded x (before-less (boundary_place ts r.end) (boundary_place ts r.start) (boundary_place ts (at x 0)) e (before-turned (boundary_place ts r.start) (boundary_place ts (at x 0)) (after-yes ts top r.start (start-within ts r bounded) x i)))))
 
   -- from the end on there is none
   pub none-end : filter outermost (nodes_after ts top r.end) ≡ []

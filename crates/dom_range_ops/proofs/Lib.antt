@@ -12,3 +12,4 @@ pub mod DeletionPlaces
 pub mod DeletionOrder
 pub mod DeletionSteps
 pub mod DeletionPaths
+pub mod DeletionKeys

@@ -1,8 +1,8 @@
 //! How the two ends of a live range stand to one another (DOM Standard, 5.5 Interface Range).
-ghost use Rattle.std.specs.Prelude.{◌≡◌, ◌<◌, length, true, false, not, filter, Some, List};
+ghost use Rattle.std.specs.Prelude.{◌≡◌, ◌<◌, length, true, false, not, filter, Some, List, [], ◌∷◌};
 ghost use Rattle.dom_base.specs.declared.NodeName.{NodeName as Name};
 ghost use Rattle.dom_model.specs.Extract.{is_in_one_data, behind_node, new_place};
-ghost use Rattle.dom_model.specs.Names.{name_eq, last_of};
+ghost use Rattle.dom_model.specs.Names.{name_eq};
 ghost use Rattle.dom_model.specs.Ranges.{at, is_collapsed};
 ghost use Rattle.dom_model.specs.Tree.{kind_of, has_data, parent_of, inclusive_ancestors, is_inclusive_ancestor};
 ghost use Rattle.dom_range_ops.specs.Deletions.{AreLeaves};
@@ -62,13 +62,13 @@ pub(crate) fn new_place(forest: &Forest, points: &Points) -> (Key, usize)
 }
 
 /// The outermost inclusive ancestor of a node that is no inclusive ancestor of another one.
-fn outermost_apart(forest: &Forest, first: Key, last: Key) -> Key
+pub(crate) fn outermost_apart(forest: &Forest, first: Key, last: Key) -> Key
     requires first_is_node { first < length forest.now.names }
     requires last_is_node { last < length forest.now.names }
     requires apart { is_inclusive_ancestor forest.now.trees (name_at forest.now.names first) (name_at forest.now.names last) ≡ false }
     ensures node { result < length forest.now.names }
     ensures above { is_inclusive_ancestor forest.now.trees (name_at forest.now.names result) (name_at forest.now.names first) ≡ true }
-    ensures value { last_of (filter (λ a. not (is_inclusive_ancestor forest.now.trees a (name_at forest.now.names last))) (inclusive_ancestors forest.now.trees (name_at forest.now.names first))) ≡ Some (name_at forest.now.names result) }
+    ensures alone { filter (λ a. not (is_inclusive_ancestor forest.now.trees a (name_at forest.now.names last))) (inclusive_ancestors forest.now.trees (name_at forest.now.names result)) ≡ name_at forest.now.names result ∷ [] }
 {
     forest.nodes_stand_once();
     let mut low = first;

@@ -6,7 +6,7 @@ use Rattle.dom_traversal.proofs.Chains.{above-along}
 use Rattle.dom_traversal.proofs.Counts.{Once-forest, Has-forest, above-itself}
 use Rattle.dom_traversal.proofs.Lists.{In, In-from, is_in-from}
 use Rattle.dom_traversal.proofs.Shapes.{above-parent, above-present}
-use Rattle.dom_range_ops.proofs.DeletionPlaces.{outermost-is}
+use Rattle.dom_range_ops.proofs.DeletionPlaces.{alone-is}
 use Rattle.dom_range_ops.proofs.ends.outermost_apart.Goals as goal
 
 pub up-init : goal.up-init
@@ -14,19 +14,17 @@ up-init c =
     let f = c.args.forest.now in
     record { node = c.requires.first_is_node; above = above-itself f.trees (name_at f.names c.args.first) (c.nodes_stand_once.ensures.once c.args.first c.requires.first_is_node); apart = c.requires.apart }
 
-pub returns-in_default-clause-value : goal.returns-in_default-clause-value
-returns-in_default-clause-value c =
+pub returns-in_default-clause-alone : goal.returns-in_default-clause-alone
+returns-in_default-clause-alone c =
     let f = c.args.forest.now in
     let e = c.nodes_stand_once.ensures in
-    outermost-is f.trees (Once-forest f e.once e.only) (name_at f.names c.args.first) (name_at f.names c.args.last) (name_at f.names c.up.low) (Has-forest f e.once c.args.first c.requires.first_is_node) (Has-forest f e.once c.args.last c.requires.last_is_node)
-    c.up.invariant.above c.up.invariant.apart (inl (sym c.in_default.ensures.value))
+    alone-is f.trees (Once-forest f e.once e.only) (name_at f.names c.args.last) (name_at f.names c.up.low) (Has-forest f e.once c.up.low c.up.invariant.node) (Has-forest f e.once c.args.last c.requires.last_is_node) c.up.invariant.apart (inl (sym c.in_default.ensures.value))
 
-pub returns-then-is_inclusive_ancestor-clause-value : goal.returns-then-is_inclusive_ancestor-clause-value
-returns-then-is_inclusive_ancestor-clause-value c =
+pub returns-then-is_inclusive_ancestor-clause-alone : goal.returns-then-is_inclusive_ancestor-clause-alone
+returns-then-is_inclusive_ancestor-clause-alone c =
     let f = c.args.forest.now in
     let e = c.nodes_stand_once.ensures in
-    outermost-is f.trees (Once-forest f e.once e.only) (name_at f.names c.args.first) (name_at f.names c.args.last) (name_at f.names c.up.low) (Has-forest f e.once c.args.first c.requires.first_is_node) (Has-forest f e.once c.args.last c.requires.last_is_node)
-    c.up.invariant.above c.up.invariant.apart (inr (name_at f.names c.in-Some.above, sym c.in-Some.ensures.value, sym c.if-is_inclusive_ancestor.ensures))
+    alone-is f.trees (Once-forest f e.once e.only) (name_at f.names c.args.last) (name_at f.names c.up.low) (Has-forest f e.once c.up.low c.up.invariant.node) (Has-forest f e.once c.args.last c.requires.last_is_node) c.up.invariant.apart (inr (name_at f.names c.in-Some.above, sym c.in-Some.ensures.value, sym c.if-is_inclusive_ancestor.ensures))
 
 pub up-smaller : goal.up-smaller
 up-smaller c =
