@@ -13,3 +13,5 @@ pub mod DeletionOrder
 pub mod DeletionSteps
 pub mod DeletionPaths
 pub mod DeletionKeys
+pub mod DeletionOwn
+pub mod DeletionDocs

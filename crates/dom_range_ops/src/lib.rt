@@ -2,9 +2,11 @@
 #![tactic(auto)]
 
 mod contained;
+mod deleting;
 mod ends;
 mod pieces;
 mod points;
 mod text;
 
+pub use deleting::delete;
 pub use text::range_text;
