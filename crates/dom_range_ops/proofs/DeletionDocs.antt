@@ -1,6 +1,13 @@
 -- What is deleted of a range of a `Doc`, by its forest.
-use Rattle.std.proofs.Common.{◌≡◌, ◌<◌, ℕ, true, List, ◌∷◌, [], length, map, Result, Ok, Err, sym, ap, subst, ◌∙◌}
-use Rattle.std.specs.Prelude.{IfOk}
+use Rattle.std.proofs.Common.{◌≡◌, ◌<◌, ℕ, true, List, [], length, map, Some, is_some, Result, Ok, Err, sym, ap, subst, ◌∙◌}
+use Rattle.std.specs.Prelude.{IfOk, IsTrue}
+use Rattle.std.specs.Option.{ForSome}
+use Rattle.dom_isolation.specs.Bounds.{IsWithin, HasBounds}
+use Rattle.dom_isolation.specs.Tables.{HasEnds}
+use Rattle.dom_model.specs.Command.{Command}
+use Rattle.dom_model.specs.Effects.{Effect, effect}
+use Rattle.dom_model.specs.Output.{boundaries}
+use Rattle.dom_model.specs.Part.{range_at}
 use Rattle.std.specs.List.{AllByRecursion}
 use Rattle.dom_base.specs.declared.NodeName.{NodeName}
 use Rattle.dom_base.specs.declared.Owner.{Owner}
@@ -18,9 +25,9 @@ use Rattle.dom_tree.specs.Owners.{AreOwned, trees_of_owner}
 use Rattle.dom_traversal.proofs.Counts.{StandOnce, StandAlone}
 use Rattle.dom_traversal.proofs.Lists.{In}
 use Rattle.dom_range_ops.specs.Deletions.{AreLeaves, IsRangeIn}
-use Rattle.dom_range_ops.specs.Texts.{range_at_points, AreEnds, AreBounded, nodes_around}
+use Rattle.dom_range_ops.specs.Texts.{range_at_points, AreBounded, nodes_around}
 use Rattle.dom_range_ops.proofs.OneTree.{HasOneTree}
-use Rattle.dom_range_ops.proofs.DocTexts.{are-bounded, start-there, end-there, one-tree}
+use Rattle.dom_range_ops.proofs.DocTexts.{are-bounded, start-there, end-there, one-tree, some-of, read-points, within-at}
 use Rattle.dom_range_ops.proofs.DeletionOwn.{outermost-own, outermost-owner, one-own, cutting-own, place-own, place-owner, keys-own}
 
 -- a state by its parts
@@ -101,3 +108,38 @@ module _ (f : NamedTrees) (once : StandOnce f) (only : StandAlone f) (owned : Ar
   -- at a node of the owner
   pub place-there : (new_place ts r).node.owner ≡ o
   place-there = ap (λ us. (new_place us r).node.owner) (sym (trees_is o)) ∙ place-owner f.trees owned o r one start end
+
+-- ---- a live range
+
+-- the range that the points are of, at nodes of its owner
+pub record IsOfPoints (d : DocState) (o : Owner) (k : ℕ) (points : Points) : Type 0 where
+  pub there : range_at (part_of d.world o) k ≡ Some (range_at_points d.names points)
+  pub owner : owner_in d points.start.0 ≡ o
+  pub range : IsRangeIn d points
+
+module _ (f : NamedTrees) (once : StandOnce f) (only : StandAlone f) (owned : AreOwned f.trees) (d : DocState) (names_is : f.names ≡ d.names) (trees_is : (o : Owner) → trees_of_owner o f.trees ≡ (part_of d.world o).trees) (o : Owner) (k : ℕ) (points : Points) where
+  -- so it is where the points are those that are read
+  pub of-points : points.start.0 < length d.names → points.end.0 < length d.names → is_some (range_at (part_of d.world o) k) ≡ true → ForSome (range_at (part_of d.world o) k) (HasEnds (part_of d.world o).trees) → HasBounds (part_of d.world o)
+      → effect (part_of d.world o) (Command.range_get k) ≡ Effect.tables (part_of d.world o) [] (boundaries (at (name_in d points.start.0) points.start.1) (at (name_in d points.end.0) points.end.1)) → IsOfPoints d o k points
+  of-points start end known ends bounds read =
+      let p = part_of d.world o in
+      let found = some-of (range_at p k) known in
+      let same : found.0 ≡ range_at_points d.names points = read-points p p k found.0 (at (name_in d points.start.0) points.start.1) (at (name_in d points.end.0) points.end.1) found.1 read in
+      let there : range_at p k ≡ Some (range_at_points d.names points) = found.1 ∙ ap Some same in
+      let own_ends = ends (range_at_points d.names points) there in
+      let by_forest = ap (λ ns. range_at_points ns points) (sym names_is) in
+      let start_own = (start-there f once only owned o p.trees (trees_is o) points (range_at_points d.names points) by_forest own_ends).0 in
+      let end_own = (end-there f once only owned o p.trees (trees_is o) points (range_at_points d.names points) by_forest own_ends).0 in
+      let within = (within-at p k (range_at_points d.names points) bounds there).1 in
+      record {
+        there = there;
+        owner = start_own;
+        range = record {
+          start = start;
+          end = end;
+          owner = end_own ∙ sym start_own;
+          ends = subst (λ q. HasEnds (part_of d.world q).trees (range_at_points d.names points)) (sym start_own) own_ends;
+          within = subst (λ q. IsWithin (part_of d.world q).trees (range_at_points d.names points).end) (sym start_own) within;
+          leaves = subst (λ q. (x : NodeName) → IsTrue (has_data (kind_of (part_of d.world q).trees x)) → children_of (part_of d.world q).trees x ≡ []) (sym start_own) bounds.leaves;
+        };
+      }

@@ -3,7 +3,7 @@ use Rattle.std.proofs.Common.{◌≡◌, inl, inr, not, ℕ, ◌<◌, ◌≤◌,
 use Rattle.std.specs.Prelude.{option_to_list}
 use Rattle.std.specs.List.{AllByRecursion}
 use Rattle.std.specs.Option.{ForSome}
-use Rattle.std.proofs.lemmas.Bool.{cases_Bool, false_from_ne_true}
+use Rattle.std.proofs.lemmas.Bool.{false_from_ne_true}
 use Rattle.std.proofs.lemmas.Option.{none-some, same_Some}
 use Rattle.std.proofs.lemmas.List.Elements.{filter-append}
 use Rattle.std.proofs.lemmas.List.{append-nil, reverse-append, map-append}
@@ -26,9 +26,9 @@ use Rattle.dom_tree.specs.Forest.{NamedTrees, name_at}
 use Rattle.dom_range_ops.specs.Deletions.{AreLeaves}
 use Rattle.dom_range_ops.specs.Points.{nodes_after}
 use Rattle.dom_range_ops.specs.Texts.{range_at_points, AreBounded, nodes_around}
-use Rattle.dom_range_ops.proofs.Between.{IsBounded, IsBetween, Leads, member-within}
+use Rattle.dom_range_ops.proofs.Between.{IsBounded, IsBetween, Leads}
 use Rattle.dom_range_ops.proofs.KeyedWalks.{key-found, is-bounded, from-start, leads-from, stop-is, go-on}
-use Rattle.dom_range_ops.proofs.DeletionOrder.{HasLeaves, IsClear, is_outermost, end-above-out, above-in, end-in}
+use Rattle.dom_range_ops.proofs.DeletionOrder.{HasLeaves, IsClear, is_outermost, end-above-out}
 use Rattle.dom_range_ops.proofs.DeletionPaths.{path-start}
 use Rattle.dom_range_ops.proofs.DeletionSteps.{all-outermost, clear-start, clear-behind, clear-beyond, pass, find, lead-on, stands-end, none-end}
 

@@ -4,18 +4,17 @@ use Rattle.std.specs.Prelude.{filter}
 use Rattle.std.specs.Option.{option_map_or}
 use Rattle.std.proofs.lemmas.Bool.{cases_Bool, and_parts, false_from_ne_true, le-ltb, lt-ltb, leb-false, lt-leb, cond-false}
 use Rattle.dom_base.specs.declared.NodeName.{NodeName}
-use Rattle.dom_model.specs.Names.{name_eq, is_in, items_before, items_after}
+use Rattle.dom_model.specs.Names.{name_eq, items_before, items_after}
 use Rattle.dom_model.specs.Place.{boundary_place, is_before, place_of}
 use Rattle.dom_model.specs.Ranges.{Range, at, is_contained}
 use Rattle.dom_model.specs.Tree.{Trees, node_in, kind_of, has_data, children_of, inclusive_descendants, inclusive_ancestors, is_inclusive_ancestor, root_of, length_of, parent_of}
 use Rattle.dom_ranges.proofs.Before.{before-same, before-up, before-down, before-beside}
 use Rattle.dom_traversal.proofs.Children.{In-names, Has-names}
-use Rattle.dom_traversal.proofs.Lists.{In, In-from, In-left, In-right, In-parts, is_in-from, split_at, filter-none, Single, Single-apart}
+use Rattle.dom_traversal.proofs.Lists.{In, In-from, In-parts, split_at, filter-none, Single, Single-apart}
 use Rattle.dom_traversal.proofs.Steps.{within-itself}
-use Rattle.dom_traversal.proofs.Order.{IsWithin, stands_in, all_single, joined, below, here, splits, inside-test}
-use Rattle.dom_traversal.proofs.Shapes.{Has-above, Has-subtree, above-parent, above-root, above-present, above-from_below, below-from_above}
+use Rattle.dom_traversal.proofs.Order.{IsWithin, stands_in, all_single, below, here, splits, inside-test}
+use Rattle.dom_traversal.proofs.Shapes.{Has-above, Has-subtree, above-parent, above-root, above-from_below, below-from_above}
 use Rattle.dom_traversal.specs.Within.{ahead_of, beyond}
-use Rattle.dom_range_ops.specs.Points.{nodes_after}
 use Rattle.dom_range_ops.specs.Texts.{nodes_around}
 use Rattle.dom_range_ops.proofs.OneTree.{root-above, root-path}
 use Rattle.dom_range_ops.proofs.OwnTexts.{around-root}

@@ -1,12 +1,12 @@
 -- What is deleted of an owner's range is the same among all trees and among the owner's own.
-use Rattle.std.proofs.Common.{◌≡◌, ◌<◌, ℕ, suc, inl, inr, Bool, true, false, not, ◌&&◌, List, [], ◌∷◌, ◌++◌, length, map, filter, Option, Some, None, refl, sym, ap, subst, ◌∙◌, true≢false}
+use Rattle.std.proofs.Common.{◌≡◌, ◌<◌, ℕ, suc, inl, inr, false, not, ◌&&◌, List, [], ◌∷◌, length, map, filter, Option, Some, None, refl, sym, ap, subst, ◌∙◌}
 use Rattle.std.specs.Prelude.{◌-◌, unwrap_or, if◌then◌else◌}
 use Rattle.std.specs.List.{AllByRecursion}
-use Rattle.std.specs.Option.{option_map_or, ForSome}
+use Rattle.std.specs.Option.{option_map_or}
 use Rattle.std.proofs.lemmas.Bool.{cases_Bool, and_parts, cond-true, cond-false}
 use Rattle.dom_base.specs.declared.NodeName.{NodeName}
 use Rattle.dom_base.specs.declared.Owner.{Owner}
-use Rattle.dom_model.specs.Changes.{Plan, ◌and_then◌, in_turn, removing, observed, steps_of}
+use Rattle.dom_model.specs.Changes.{steps_of}
 use Rattle.dom_model.specs.Extract.{is_in_one_data, new_place, behind_node, cut_start}
 use Rattle.dom_model.specs.Names.{name_eq, is_in, last_of}
 use Rattle.dom_model.specs.Place.{Boundary}
@@ -19,7 +19,7 @@ use Rattle.dom_tree.proofs.Owned.{own_trees, read_own, stays_own}
 use Rattle.dom_tree.specs.Owners.{AreOwned, trees_of_owner}
 use Rattle.dom_traversal.proofs.Children.{Has-names}
 use Rattle.dom_traversal.proofs.Lists.{In, In-right, is_in-from, filter-same, last_split}
-use Rattle.dom_traversal.proofs.Shapes.{Has, Has-above, above-parent, above-present}
+use Rattle.dom_traversal.proofs.Shapes.{Has-above, above-parent, above-present}
 use Rattle.dom_range_ops.specs.Texts.{nodes_around}
 use Rattle.dom_range_ops.proofs.OneTree.{HasOneTree, contained-root, filter-tree, root-above, root-path, root-root}
 use Rattle.dom_range_ops.proofs.OwnTexts.{contained-own, around-own, around-owner, around-root, ends-own, among-filtered}

@@ -1,13 +1,13 @@
 -- The nodes above a range's end that stand behind its start, in tree order and from the end up.
-use Rattle.std.proofs.Common.{◌≡◌, ◌⊎◌, inl, inr, ℕ, append_assoc, Bool, true, false, not, ◌&&◌, List, [], ◌∷◌, ◌++◌, filter, reverse, refl, sym, ap, subst, ◌∙◌, arith, true≢false}
-use Rattle.std.proofs.lemmas.Bool.{cases_Bool, and_parts, false_from_ne_true, le-ltb, lt-ltb, leb-false}
+use Rattle.std.proofs.Common.{◌≡◌, inl, inr, ℕ, append_assoc, Bool, true, false, not, ◌&&◌, List, [], ◌∷◌, ◌++◌, filter, reverse, refl, sym, ap, subst, ◌∙◌, arith, true≢false}
+use Rattle.std.proofs.lemmas.Bool.{cases_Bool, and_parts, false_from_ne_true, lt-ltb, leb-false}
 use Rattle.std.proofs.lemmas.List.{append-nil, reverse-append}
 use Rattle.std.proofs.lemmas.List.Elements.{filter-append}
 use Rattle.dom_base.specs.declared.NodeName.{NodeName}
 use Rattle.dom_model.specs.Names.{name_eq, is_in}
 use Rattle.dom_model.specs.Place.{is_before, place_of}
-use Rattle.dom_model.specs.Ranges.{Range, at}
-use Rattle.dom_model.specs.Tree.{Trees, none, tree, Node, nodes, names_of, root_of, inclusive_ancestors, inclusive_descendants, is_inclusive_ancestor}
+use Rattle.dom_model.specs.Ranges.{Range}
+use Rattle.dom_model.specs.Tree.{Trees, none, tree, nodes, names_of, root_of, inclusive_ancestors, inclusive_descendants, is_inclusive_ancestor}
 use Rattle.dom_ranges.proofs.Before.{before-up, before-down, before-beside}
 use Rattle.dom_traversal.proofs.Children.{names-tree, Has-names}
 use Rattle.dom_traversal.proofs.Lists.{In, In-from, In-left, In-right, In-parts, is_in-from, is_in-not, filter-none, filter-same, filter-yes, filter-no, name_eq-true}
@@ -15,12 +15,11 @@ use Rattle.dom_traversal.proofs.Order.{IsWithin, stands_in, splits, inside-test}
 use Rattle.dom_traversal.proofs.Shapes.{Once, Has, Has-above, above-here, above-below, above-beside}
 use Rattle.dom_traversal.specs.Within.{ahead_of, beyond}
 use Rattle.dom_range_ops.specs.Points.{nodes_after}
-use Rattle.dom_range_ops.specs.Texts.{nodes_around}
 use Rattle.dom_range_ops.proofs.OneTree.{filter-tree, root-above, root-path, root-root}
 use Rattle.dom_range_ops.proofs.Parting.{behind-apart, ahead-apart}
-use Rattle.dom_range_ops.proofs.Between.{IsBounded, member-within, start-within, end-within}
+use Rattle.dom_range_ops.proofs.Between.{IsBounded, member-within, start-within}
 use Rattle.dom_range_ops.proofs.Sides.{nodes_before, point-splits, before-no, after-yes}
-use Rattle.dom_range_ops.proofs.DeletionOrder.{same-or-under, IsUnder, above-in, start-in, end-in, start-above}
+use Rattle.dom_range_ops.proofs.DeletionOrder.{same-or-under, above-in, start-in, end-in, start-above}
 
 -- ---- in tree order the nodes above one are turned
 

@@ -1,5 +1,5 @@
 -- The walk from the start of a range to its end that skips what is below a contained node.
-use Rattle.std.proofs.Common.{◌≡◌, ◌⊎◌, inl, inr, ℕ, zero, suc, ◌≤◌, ◌<◌, Bool, true, false, not, List, [], ◌∷◌, ◌++◌, length, drop, Option, Some, None, refl, sym, ap, subst, ◌∙◌, arith, true≢false, take}
+use Rattle.std.proofs.Common.{◌≡◌, inl, inr, ℕ, zero, suc, ◌≤◌, Bool, true, false, List, [], ◌∷◌, ◌++◌, length, drop, Option, Some, None, refl, sym, ap, subst, ◌∙◌, arith, true≢false, take}
 use Rattle.std.specs.Prelude.{filter}
 use Rattle.std.specs.List.{AllByRecursion}
 use Rattle.std.proofs.lemmas.Bool.{and_parts, false_from_ne_true}
@@ -12,19 +12,19 @@ use Rattle.dom_model.specs.Names.{first_of}
 use Rattle.dom_model.specs.Ranges.{Range, at, is_contained}
 use Rattle.dom_model.specs.Place.{boundary_place, is_before}
 use Rattle.dom_model.specs.RangeOps.{outermost_contained}
-use Rattle.dom_model.specs.Tree.{Trees, children_of, parent_of, next_sibling, root_of, nodes, names_of, inclusive_ancestors, inclusive_descendants, is_inclusive_ancestor}
-use Rattle.dom_traversal.proofs.Children.{parent-of_child, Has-names}
-use Rattle.dom_traversal.proofs.Lists.{In, In-left, In-right, In-from, is_in-from, filter-none, filter-yes, filter-no, first_split, no_first, same_or_not}
+use Rattle.dom_model.specs.Tree.{Trees, children_of, parent_of, next_sibling, root_of, inclusive_ancestors, inclusive_descendants, is_inclusive_ancestor}
+use Rattle.dom_traversal.proofs.Children.{parent-of_child}
+use Rattle.dom_traversal.proofs.Lists.{In, In-right, filter-none, filter-yes, filter-no, first_split, same_or_not}
 use Rattle.dom_traversal.proofs.Order.{IsWithin, stands_in, joined, below, here, behind_is}
-use Rattle.dom_traversal.proofs.Shapes.{Has, above-parent, above-present, below-from_above, Has-above}
+use Rattle.dom_traversal.proofs.Shapes.{above-parent, above-present, below-from_above, Has-above}
 use Rattle.dom_traversal.proofs.Steps.{within-parent, within-root, top_places, next_places, no_next}
-use Rattle.dom_traversal.specs.Within.{behind, beyond, from_node}
+use Rattle.dom_traversal.specs.Within.{behind, beyond}
 use Rattle.dom_range_ops.specs.Points.{nodes_after}
 use Rattle.dom_range_ops.specs.Texts.{nodes_around}
 use Rattle.dom_range_ops.proofs.OneTree.{filter-tree, contained-root, root-above, root-root}
 use Rattle.dom_range_ops.proofs.Between.{IsBounded, IsBetween, Leads, Splits, two-splits, member-within, start-within, end-within, start-out, end-out}
 use Rattle.dom_range_ops.proofs.Sides.{before-less, before-turned, nodes_before, point-splits, before-no, after-yes}
-use Rattle.dom_range_ops.proofs.DeletionOrder.{HasLeaves, IsClear, is_outermost, root, above-in, start-in, start-above-out, between-in, end-above-out, contained-below, outermost-not, outermost-yes, none-below}
+use Rattle.dom_range_ops.proofs.DeletionOrder.{HasLeaves, IsClear, is_outermost, above-in, start-in, start-above-out, between-in, end-above-out, contained-below, outermost-not, outermost-yes, none-below}
 
 -- what holds of all holds of the last ones
 all-right : (P : NodeName → Type 0) (xs ys : List NodeName) → AllByRecursion P (xs ++ ys) → AllByRecursion P ys

@@ -15,3 +15,4 @@ pub mod DeletionPaths
 pub mod DeletionKeys
 pub mod DeletionOwn
 pub mod DeletionDocs
+pub mod DeletionPlans

@@ -1,4 +1,4 @@
-use Rattle.std.proofs.Common.{Some, true≢false, sym, ap, subst, ◌∙◌, ℕ, List, Option, true, false, ◌≡◌, ◌∷◌, ◌++◌, [], arith}
+use Rattle.std.proofs.Common.{true≢false, sym, ap, subst, ◌∙◌, arith}
 use Rattle.std.specs.Option.{option_map}
 use Rattle.dom_tree.specs.Forest.{name_at}
 use Rattle.dom_range_ops.specs.Texts.{range_at_points}

@@ -1,5 +1,4 @@
-use Rattle.std.proofs.Common.{◌≡◌, ◌<◌, List, ℕ, map, length, sym, ap, ◌∙◌}
-use Rattle.std.specs.List.{AllByRecursion}
+use Rattle.std.proofs.Common.{List, map, sym, ap, ◌∙◌}
 use Rattle.dom_base.specs.declared.NodeName.{NodeName}
 use Rattle.dom_tree.specs.Forest.{name_at}
 use Rattle.dom_range_ops.proofs.DocTexts.{if-ok}
