@@ -28,7 +28,7 @@ use Rattle.dom_range_ops.proofs.Sides.{before-less, before-turned, nodes_before,
 abbrev pub Splits : (xs ys us vs : List NodeName) → Type 0
 Splits xs ys us vs = ((m : List NodeName) × (us ≡ xs ++ m) × (ys ≡ m ++ vs)) ⊎ ((z : NodeName) × In z xs × In z vs)
 
-two-splits : (xs ys us vs : List NodeName) → xs ++ ys ≡ us ++ vs → Splits xs ys us vs
+pub two-splits : (xs ys us vs : List NodeName) → xs ++ ys ≡ us ++ vs → Splits xs ys us vs
 two-splits [] ys us vs e = inl (us, refl, e)
 two-splits (x ∷ xs) ys [] vs e = inr (x, inl refl, subst (In x) e (inl refl))
 two-splits (x ∷ xs) ys (u ∷ us) vs e = by (two-splits xs ys us vs cc) cc
@@ -71,17 +71,17 @@ module _ (ts : Trees) (r : Range NodeName) (bounded : IsBounded ts r) where
   pub end-within : IsWithin ts top r.end.node
   end-within = top-within r.end.node bounded.ends.end (sym (name_eq-true (root_of ts r.start.node) (root_of ts r.end.node) bounded.ends.one_root))
 
-  member-within : (x : NodeName) → In x (nodes_around ts r) → IsWithin ts top x
+  pub member-within : (x : NodeName) → In x (nodes_around ts r) → IsWithin ts top x
   member-within x i = record { once = bounded.ends.once; top_stands = start-within.top_stands; stands = Has-names _ x i }
 
   -- ---- what is contained
 
   -- what does not stand behind the start is not
-  start-out : (x : NodeName) → is_before ts r.start (at x 0) ≡ false → is_contained ts r x ≡ false
+  pub start-out : (x : NodeName) → is_before ts r.start (at x 0) ≡ false → is_contained ts r x ≡ false
   start-out x e = ap (λ b. b && is_before ts (at x (length_of ts x)) r.end) e
 
   -- nor is what stands behind the end
-  end-out : (x : NodeName) → is_before ts r.end (at x 0) ≡ true → is_contained ts r x ≡ false
+  pub end-out : (x : NodeName) → is_before ts r.end (at x 0) ≡ true → is_contained ts r x ≡ false
   end-out x e =
       let long = length_of ts x in
       let later : is_before ts r.end (at x long) ≡ true = before-less (boundary_place ts r.end) (boundary_place ts (at x 0)) (boundary_place ts (at x long)) e (before-same ts x x long 0 refl ∙ le-ltb long 0 (omega arith)) in
@@ -89,7 +89,7 @@ module _ (ts : Trees) (r : Range NodeName) (bounded : IsBounded ts r) where
       (λ c. true≢false (sym (and_parts (is_before ts r.start (at x 0)) (is_before ts (at x long) r.end) c).1 ∙ before-turned (boundary_place ts r.end) (boundary_place ts (at x long)) later))
 
   -- nor is the node of the end
-  end-node-out : (x : NodeName) → x ≡ r.end.node → is_contained ts r x ≡ false
+  pub end-node-out : (x : NodeName) → x ≡ r.end.node → is_contained ts r x ≡ false
   end-node-out x e =
       let fits = bounded.within in
       let size : length_of ts x ≡ length_of ts r.end.node = ap (length_of ts) e in

@@ -77,7 +77,7 @@ module _ (f : NamedTrees) (once : StandOnce f) (only : StandAlone f) (points : P
     stands-end = within-top points.end.0 bounded.ends.end (end-within f.trees r is-bounded)
 
     -- the walk begins at the first node behind the start
-    from-start : (at : Option ℕ) → option_map (name_at f.names) at ≡ first_of (nodes_after f.trees (name_at f.names top) r.start) → nodes_after f.trees (root_of f.trees r.start.node) r.start ≡ from_node f.trees (name_at f.names top) (option_map (name_at f.names) at)
+    pub from-start : (at : Option ℕ) → option_map (name_at f.names) at ≡ first_of (nodes_after f.trees (name_at f.names top) r.start) → nodes_after f.trees (root_of f.trees r.start.node) r.start ≡ from_node f.trees (name_at f.names top) (option_map (name_at f.names) at)
     from-start at is =
         after-from f.trees (root_of f.trees r.start.node) r.start (start-within f.trees r is-bounded) (option_map (name_at f.names) at) (is ∙ ap (λ t. first_of (nodes_after f.trees t r.start)) e)
         ∙ ap (λ t. from_node f.trees t (option_map (name_at f.names) at)) (sym e)

@@ -14,3 +14,11 @@ pub mod InsertedChildren
 pub mod InsertedParts
 pub mod InsertedTails
 pub mod InsertedTests
+pub mod DeletionPlaces
+pub mod DeletionOrder
+pub mod DeletionSteps
+pub mod DeletionPaths
+pub mod DeletionKeys
+pub mod DeletionOwn
+pub mod DeletionDocs
+pub mod DeletionPlans

@@ -26,7 +26,7 @@ parts-same f g [] h = refl
 parts-same f g (x ∷ xs) h = flat_map-cons f x xs ∙ (ap (λ ys. ys ++ flat_map f xs) (h x (inl refl)) ∙ (ap (λ ys. g x ++ ys) (parts-same f g xs (λ y i. h y (inr i))) ∙ sym (flat_map-cons g x xs)))
 
 -- a filter leaves members
-among-filtered : (p : NodeName → Bool) (xs : List NodeName) (y : NodeName) → In y (filter p xs) → In y xs
+pub among-filtered : (p : NodeName → Bool) (xs : List NodeName) (y : NodeName) → In y (filter p xs) → In y xs
 among-filtered p [] y h = h
 among-filtered p (x ∷ xs) y h = by (among-filtered p xs y) (p x) h
   where
@@ -56,7 +56,7 @@ module _ (ts : Trees) (owned : AreOwned ts) (o : Owner) (r : Range NodeName) (en
       ∙ ap (λ k. if is_text (kind_of own y) then slice_range (node_in own y).text (cut_start r y) (if name_eq y r.end.node then r.end.offset else k) else []) is.size
 
   -- whether a node of the tree is contained
-  contained-own : (y : NodeName) → Has ts y → root_of ts y ≡ root_of ts r.start.node → y.owner ≡ o → is_contained ts r y ≡ is_contained own r y
+  pub contained-own : (y : NodeName) → Has ts y → root_of ts y ≡ root_of ts r.start.node → y.owner ≡ o → is_contained ts r y ≡ is_contained own r y
   contained-own y h root e =
       let mine : IsOwnIn ts owned ends.once o y = record { owner = e; there = h } in
       let at_start : IsOwnIn ts owned ends.once o r.start.node = record { owner = start; there = ends.start } in
@@ -68,13 +68,13 @@ module _ (ts : Trees) (owned : AreOwned ts) (o : Owner) (r : Range NodeName) (en
       ∙ ap (λ k. is_before own r.start (at y 0) && is_before own (at y k) r.end) is.size)
 
   -- the nodes of the tree
-  around-own : nodes_around ts r ≡ nodes_around own r
+  pub around-own : nodes_around ts r ≡ nodes_around own r
   around-own =
       let top = root_of ts r.start.node in
       (read_own ts owned o top (stays_own ts owned o r.start.node start).root).inside ∙ ap (inclusive_descendants own) (read_own ts owned o r.start.node start).root
 
   -- are the owner's
-  around-owner : (y : NodeName) → In y (nodes_around ts r) → y.owner ≡ o
+  pub around-owner : (y : NodeName) → In y (nodes_around ts r) → y.owner ≡ o
   around-owner y i =
       let top = root_of ts r.start.node in
       (stays_own ts owned o top (stays_own ts owned o r.start.node start).root).inside y (is_in-from y _ i)
@@ -97,7 +97,7 @@ module _ (ts : Trees) (owned : AreOwned ts) (o : Owner) (r : Range NodeName) (en
       whole a b c = if name_eq r.start.node r.end.node && is_text (kind_of own r.start.node) then a else a ++ b ++ c
 
   -- both ends are nodes of one tree there too
-  ends-own : HasOneTree own r
+  pub ends-own : HasOneTree own r
   ends-own = record {
     once = once_trees o ts ends.once;
     start = has_own o ts owned.owners r.start.node start ends.start;

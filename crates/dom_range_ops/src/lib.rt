@@ -1,10 +1,15 @@
-//! The operations on a live range: the insertion of a node, its text (DOM Standard, 5.5 Interface Range).
+//! The operations on a live range: its text, the deletion and the extraction of its contents, and the insertion of a node (DOM
+//! Standard, 5.5 Interface Range).
 #![tactic(auto)]
 
+mod contained;
+mod deleting;
+mod ends;
 mod inserting;
 mod pieces;
 mod points;
 mod text;
 
+pub use deleting::delete;
 pub use inserting::insert_node;
 pub use text::range_text;

@@ -45,7 +45,7 @@ pub(crate) fn child_at(forest: &Forest, node: Key, index: usize) -> Option<Key>
 }
 
 /// The first node of the tree of `top` that stands behind a node and is not below it.
-fn beyond(forest: &Forest, key: Key, top: Key) -> Option<Key>
+pub(crate) fn beyond(forest: &Forest, key: Key, top: Key) -> Option<Key>
     requires top_is_node { top < length forest.now.names }
     requires stands { StandsIn forest.now top key }
     ensures value { option_map (name_at forest.now.names) result ≡ first_of (beyond forest.now.trees (name_at forest.now.names top) (name_at forest.now.names key)) }

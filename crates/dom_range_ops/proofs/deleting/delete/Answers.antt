@@ -1,0 +1,71 @@
+use Rattle.std.proofs.Common.{sym, ◌∙◌}
+use Rattle.dom_range_ops.specs.Texts.{range_at_points}
+use Rattle.dom_range_ops.proofs.DeletionDocs.{of-points}
+use Rattle.dom_range_ops.proofs.DeletionPlans.{deletion-done, deletion-there, deletion-owner}
+use Rattle.dom_range_ops.proofs.deleting.delete.Goals as goal
+
+pub place_after-place-requires : goal.place_after-place-requires
+place_after-place-requires c =
+    let d = c.args.doc.now in
+    let g = c.forest.ensures in
+    let e = c.nodes_stand_once.ensures in
+    let points = c.range_points-points.result in
+    let k = c.range_points-points.ensures in
+    let here = of-points c.forest.result.now e.once e.only g.owned d g.names g.trees c.args.owner c.args.number points k.start_is_node k.end_is_node c.requires.there c.requires.ends c.requires.bounds k.value.0 in
+    here.range
+
+pub delete_contents-requires : goal.delete_contents-requires
+delete_contents-requires c =
+    let d = c.args.doc.now in
+    let g = c.forest.ensures in
+    let e = c.nodes_stand_once.ensures in
+    let points = c.range_points-points.result in
+    let k = c.range_points-points.ensures in
+    let here = of-points c.forest.result.now e.once e.only g.owned d g.names g.trees c.args.owner c.args.number points k.start_is_node k.end_is_node c.requires.there c.requires.ends c.requires.bounds k.value.0 in
+    here.range
+
+pub range_put-requires-clause-there : goal.range_put-requires-clause-there
+range_put-requires-clause-there c =
+    let d = c.args.doc.now in
+    let g = c.forest.ensures in
+    let e = c.nodes_stand_once.ensures in
+    let points = c.range_points-points.result in
+    let k = c.range_points-points.ensures in
+    let here = of-points c.forest.result.now e.once e.only g.owned d g.names g.trees c.args.owner c.args.number points k.start_is_node k.end_is_node c.requires.there c.requires.ends c.requires.bounds k.value.0 in
+    let alone = c.laws.ensures.alone points.start.0 k.start_is_node in
+    let r = range_at_points d.names points in
+    deletion-there c.args.owner c.args.number d c.delete_contents.new.doc points.start.0 r here.owner alone c.requires.there c.in_ok-delete_contents.ensures
+
+pub range_put-requires-clause-own_start : goal.range_put-requires-clause-own_start
+range_put-requires-clause-own_start c =
+    let d = c.args.doc.now in
+    let g = c.forest.ensures in
+    let e = c.nodes_stand_once.ensures in
+    let points = c.range_points-points.result in
+    let k = c.range_points-points.ensures in
+    let here = of-points c.forest.result.now e.once e.only g.owned d g.names g.trees c.args.owner c.args.number points k.start_is_node k.end_is_node c.requires.there c.requires.ends c.requires.bounds k.value.0 in
+    deletion-owner c.args.owner d c.delete_contents.new.doc points.start.0 (range_at_points d.names points) c.both_at.result.start c.place_after-place.result here.owner c.place_after-place.ensures.owner c.in_ok-delete_contents.ensures c.both_at.ensures.start
+
+pub range_put-requires-clause-own_end : goal.range_put-requires-clause-own_end
+range_put-requires-clause-own_end c =
+    let d = c.args.doc.now in
+    let g = c.forest.ensures in
+    let e = c.nodes_stand_once.ensures in
+    let points = c.range_points-points.result in
+    let k = c.range_points-points.ensures in
+    let here = of-points c.forest.result.now e.once e.only g.owned d g.names g.trees c.args.owner c.args.number points k.start_is_node k.end_is_node c.requires.there c.requires.ends c.requires.bounds k.value.0 in
+    deletion-owner c.args.owner d c.delete_contents.new.doc points.start.0 (range_at_points d.names points) c.both_at.result.end c.place_after-place.result here.owner c.place_after-place.ensures.owner c.in_ok-delete_contents.ensures c.both_at.ensures.end
+
+pub returns-clause-world : goal.returns-clause-world
+returns-clause-world c =
+    let d = c.args.doc.now in
+    let g = c.forest.ensures in
+    let e = c.nodes_stand_once.ensures in
+    let points = c.range_points-points.result in
+    let k = c.range_points-points.ensures in
+    let here = of-points c.forest.result.now e.once e.only g.owned d g.names g.trees c.args.owner c.args.number points k.start_is_node k.end_is_node c.requires.there c.requires.ends c.requires.bounds k.value.0 in
+    let alone = c.laws.ensures.alone points.start.0 k.start_is_node in
+    let r = range_at_points d.names points in
+    let wide = sym (c.is_collapsed.ensures d.names (c.laws.ensures.distinct points.start.0 points.end.0 k.start_is_node k.end_is_node)) ∙ c.if-is_collapsed.false in
+    deletion-done c.args.owner c.args.number d c.delete_contents.new.doc c.range_put.new.self points.start.0 r c.both_at.result.start c.both_at.result.end c.place_after-place.result here.owner alone here.there wide c.place_after-place.ensures.value
+    c.in_ok-delete_contents.ensures c.both_at.ensures.start c.both_at.ensures.end c.range_put.ensures

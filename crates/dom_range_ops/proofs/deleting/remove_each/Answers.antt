@@ -1,0 +1,12 @@
+use Rattle.dom_model.specs.Changes.{removing, observed}
+use Rattle.dom_mutation.specs.Doc.{planned, name_in, owner_in}
+use Rattle.dom_mutation.proofs.Turns.{empties_on}
+use Rattle.dom_range_ops.proofs.DeletionDocs.{state-is}
+use Rattle.dom_range_ops.proofs.deleting.remove_each.Goals as goal
+
+pub loop-key-preserved : goal.loop-key-preserved
+loop-key-preserved c =
+    let e = c.loop-key.doc in
+    let k = c.key-item.result in
+    empties_on observed c.args.first c.args.keys.now c.args.doc.now c.loop-key.key-index k e c.remove.new.self c.laws-in-loop-key.ensures.once c.loop-key-test.true c.key-item.is c.requires.nodes c.loop-key.invariant
+    (state-is c.remove.new.self (planned (owner_in e k) (removing observed (name_in e k)) e) c.in_ok-remove.ensures.names c.in_ok-remove.ensures.world)

@@ -1,0 +1,168 @@
+//! Deleting the contents of a live range (DOM Standard, 5.5 Interface Range).
+ghost use Rattle.std.specs.Prelude.{◌≡◌, ◌<◌, length, map, true, is_some, IfOk, IfErr, OnOk};
+ghost use Rattle.std.specs.List.{AllByRecursion};
+ghost use Rattle.std.specs.Option.{ForSome};
+ghost use Rattle.dom_base.specs.declared.Fault.TheVariants.{Memory};
+ghost use Rattle.dom_isolation.specs.Bounds.{HasBounds};
+ghost use Rattle.dom_isolation.specs.Tables.{HasEnds};
+ghost use Rattle.dom_model.specs.Changes.{in_turn, removing, observed};
+ghost use Rattle.dom_model.specs.Effects.{plan_of_range};
+ghost use Rattle.dom_model.specs.Extract.{is_in_one_data, new_place};
+ghost use Rattle.dom_model.specs.Part.{range_at};
+ghost use Rattle.dom_model.specs.RangeOps.{cutting_data, outermost_contained, deleting_contents, deleting};
+ghost use Rattle.dom_model.specs.Ranges.{at};
+ghost use Rattle.dom_model.specs.World.{part_of};
+ghost use Rattle.dom_mutation.specs.Doc.{made, planned, name_in, owner_in, trees_in};
+ghost use Rattle.dom_range_ops.specs.Deletions.{IsRangeIn, cutting};
+ghost use Rattle.dom_range_ops.specs.Texts.{range_at_points, AreEnds};
+ghost use Rattle.dom_tree.specs.Forest.{name_at};
+
+use crate::contained::outermost_contained;
+use crate::ends::{has_data, is_collapsed, is_in_one_data, new_place};
+use dom_base::{Fault, Owner};
+use dom_mutation::Doc;
+use dom_ranges::Points;
+use dom_tree::Forest;
+use node_arena::Key;
+use std::alloc::{AllocError, Global};
+
+/// Deletes what is in an owner's live range: the parts of a Text or Comment at its ends, and each contained node whose parent
+/// is not contained, in tree order; the range then stands at its start, or just behind what is left of it (DOM Standard,
+/// deleteContents()). A collapsed range stays as it is. It is refused where memory is refused, and only then.
+pub fn delete(alloc: Global, doc: &mut Doc, owner: Owner, number: u32) -> Result<(), Fault>
+    requires there { is_some (range_at (part_of doc.old.world owner) number) ≡ true }
+    requires ends { ForSome (range_at (part_of doc.old.world owner) number) (HasEnds (part_of doc.old.world owner).trees) }
+    requires bounds { HasBounds (part_of doc.old.world owner) }
+    ensures names { OnOk result (doc.new.names ≡ doc.old.names) }
+    ensures world { OnOk result (doc.new.world ≡ made owner (λ p. plan_of_range p number (deleting number)) doc.old.world) }
+    ensures other { IfErr result (λ fault. fault ≡ Memory) }
+{
+    doc.laws();
+    doc.forest().nodes_stand_once();
+    let points = doc.range_points(owner, number);
+    if is_collapsed(&points) {
+        return Ok(());
+    }
+    let place = place_after(doc, &points);
+    delete_contents(alloc, doc, &points)?;
+    doc.range_put(owner, number, both_at(place));
+    Ok(())
+}
+
+/// A range with both ends at one boundary point.
+fn both_at(place: (Key, usize)) -> Points
+    ensures start { result.start ≡ place }
+    ensures end { result.end ≡ place }
+{
+    let (node, offset) = place;
+    Points {
+        start: (node, offset),
+        end: (node, offset),
+    }
+}
+
+/// What is in a range is deleted, of which the parts are found first.
+fn delete_contents(alloc: Global, doc: &mut Doc, points: &Points) -> Result<(), AllocError>
+    requires { IsRangeIn doc.old points.now }
+    ensures { OnOk result (doc.new ≡ planned (owner_in doc.old points.now.start.0) (deleting_contents (trees_in doc.old points.now.start.0) (range_at_points doc.old.names points.now)) doc.old) }
+{
+    doc.laws();
+    let first = points.start.0;
+    let last = points.end.0;
+    let at_start = part_at(doc, points, first);
+    if is_within_one(doc, points) {
+        return cut(doc, first, at_start);
+    }
+    let at_end = part_at(doc, points, last);
+    let found = contained_in(alloc, doc, points)?;
+    cut(doc, first, at_start)?;
+    remove_each(doc, first, found.as_slice())?;
+    cut(doc, last, at_end)
+}
+
+/// Where a range of a document stands after its contents were taken.
+fn place_after(doc: &Doc, points: &Points) -> (Key, usize)
+    requires { IsRangeIn doc.now points.now }
+    ensures value { at (name_in doc.now result.0) result.1 ≡ new_place (trees_in doc.now points.now.start.0) (range_at_points doc.now.names points.now) }
+    ensures node { result.0 < length doc.now.names }
+    ensures owner { owner_in doc.now result.0 ≡ owner_in doc.now points.now.start.0 }
+{
+    let forest = doc.forest();
+    forest.nodes_stand_once();
+    new_place(forest, points)
+}
+
+/// Whether both ends of a range of a document are in one Text or Comment.
+fn is_within_one(doc: &Doc, points: &Points) -> bool
+    requires { IsRangeIn doc.now points.now }
+    ensures { result ≡ is_in_one_data (trees_in doc.now points.now.start.0) (range_at_points doc.now.names points.now) }
+{
+    let forest = doc.forest();
+    forest.nodes_stand_once();
+    is_in_one_data(forest, points)
+}
+
+/// The nodes of a document that a range contains and whose parents it does not, in tree order.
+fn contained_in(alloc: Global, doc: &Doc, points: &Points) -> Result<Vec<Key>, AllocError>
+    requires { IsRangeIn doc.now points.now }
+    ensures value { IfOk result (λ keys. map (name_in doc.now) keys.items ≡ outermost_contained (trees_in doc.now points.now.start.0) (range_at_points doc.now.names points.now)) }
+    ensures nodes { IfOk result (λ keys. AllByRecursion (λ k. (k < length doc.now.names) × (owner_in doc.now k ≡ owner_in doc.now points.now.start.0)) keys.items) }
+{
+    let forest = doc.forest();
+    forest.nodes_stand_once();
+    outermost_contained(alloc, forest, points)
+}
+
+/// The part of a node in a range, by an offset and a count of code units, if the node is a Text or a Comment.
+fn part_at(doc: &Doc, points: &Points, key: Key) -> Option<(usize, usize)>
+    requires range { IsRangeIn doc.now points.now }
+    requires node { key < length doc.now.names }
+    requires owner { owner_in doc.now key ≡ owner_in doc.now points.now.start.0 }
+    ensures { cutting (name_in doc.now key) result ≡ cutting_data (trees_in doc.now points.now.start.0) (range_at_points doc.now.names points.now) (name_in doc.now key) }
+{
+    let forest = doc.forest();
+    forest.nodes_stand_once();
+    part_in(forest, points, key)
+}
+
+/// The same by a forest.
+fn part_in(forest: &Forest, points: &Points, key: Key) -> Option<(usize, usize)>
+    requires node { key < length forest.now.names }
+    requires ends { AreEnds forest.now points.now }
+    ensures { cutting (name_at forest.now.names key) result ≡ cutting_data forest.now.trees (range_at_points forest.now.names points.now) (name_at forest.now.names key) }
+{
+    forest.nodes_stand_once();
+    if !has_data(forest, key) {
+        return None;
+    }
+    let (first, start) = points.start;
+    let (last, end) = points.end;
+    let from = if key == first { start } else { 0 };
+    let to = if key == last { end } else { forest.length(key) };
+    Some((from, to.saturating_sub(from)))
+}
+
+/// A part of a node's data goes, if there is one.
+fn cut(doc: &mut Doc, key: Key, part: Option<(usize, usize)>) -> Result<(), AllocError>
+    requires { key < length doc.old.names }
+    ensures { OnOk result (doc.new ≡ planned (owner_in doc.old key) (cutting (name_in doc.old key) part) doc.old) }
+{
+    let Some((from, count)) = part else {
+        return Ok(());
+    };
+    doc.delete_data(key, from, count)
+}
+
+/// Some nodes of the owner of `first` leave their parents, one after another.
+fn remove_each(doc: &mut Doc, first: Key, keys: &[Key]) -> Result<(), AllocError>
+    requires first_is_node { first < length doc.old.names }
+    requires nodes { AllByRecursion (λ k. (k < length doc.old.names) × (owner_in doc.old k ≡ owner_in doc.old first)) keys.now }
+    ensures { OnOk result (doc.new ≡ planned (owner_in doc.old first) (in_turn (removing observed) (map (name_in doc.old) keys.now)) doc.old) }
+{
+    doc.laws();
+    for key in keys {
+        doc.laws();
+        doc.remove(*key)?;
+    }
+    Ok(())
+}
