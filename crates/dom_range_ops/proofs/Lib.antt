@@ -8,3 +8,4 @@ pub mod Between
 pub mod Kids
 pub mod AfterPoint
 pub mod KeyedWalks
+pub mod PieceItems

@@ -1,7 +1,12 @@
 -- What an extraction takes, as a list in tree order.
-use Rattle.std.specs.Prelude.{ℕ, suc, List, [], ◌∷◌, ◌++◌}
+use Rattle.std.specs.Prelude.{◌≡◌, ℕ, ◌<◌, suc, Bool, List, [], ◌∷◌, ◌++◌, map, length, take, drop, Option, Some, None, if◌then◌else◌}
+use Rattle.std.specs.List.{AllByRecursion}
 use Rattle.dom_base.specs.declared.NodeName.{NodeName}
-use Rattle.dom_model.specs.Extract.{Pieces, nothing, whole, cut, clone}
+use Rattle.dom_model.specs.Extract.{Pieces, nothing, whole, cut, clone, cut_start, cut_end}
+use Rattle.dom_model.specs.Names.{name_eq, items_before, items_after}
+use Rattle.dom_model.specs.Place.{Boundary}
+use Rattle.dom_model.specs.Ranges.{Range}
+use Rattle.dom_model.specs.Tree.{Trees, kind_of, has_data, children_of, siblings}
 use Rattle.dom_range_ops.specs.declared.pieces.Piece.{Piece}
 use Rattle.dom_range_ops.specs.declared.pieces.Piece.TheVariants.{Whole, Cut, Clone, End}
 use Rattle.dom_tree.specs.Forest.{name_at}
@@ -35,3 +40,58 @@ made_by (whole_item x ∷ items) = made_by items
 made_by (cut_item x from to ∷ items) = suc (made_by items)
 made_by (clone_item x ∷ items) = suc (made_by items)
 made_by (end_item ∷ items) = made_by items
+
+-- a piece that names a node, of so many
+abbrev pub IsPieceIn : ℕ → Piece → Type 0
+IsPieceIn n (Whole x) = x < n
+IsPieceIn n (Cut x from to) = x < n
+IsPieceIn n (Clone x) = x < n
+IsPieceIn n End = Unit {0}
+
+-- pieces of which these are the items, each of which names a node
+pub record AreItems (names : List NodeName) (pieces : List Piece) (items : List Item) : Type 0 where
+  pub value : map (item_in names) pieces ≡ items
+  pub nodes : AllByRecursion (IsPieceIn (length names)) pieces
+
+-- pieces to which others were added, of which these are the items
+abbrev pub Adds : List NodeName → List Piece → List Piece → List Item → Type 0
+Adds names old new items = (xs : List Item) → AreItems names old xs → AreItems names new (xs ++ items)
+
+-- nodes, where they are taken as they are, else nothing
+abbrev pub wholes_if : Bool → List NodeName → List Item
+wholes_if taken xs = if taken then map whole_item xs else []
+
+-- a node and its following siblings; none where there is no node
+abbrev pub from_sibling : Trees → Option NodeName → List NodeName
+from_sibling ts None = []
+from_sibling ts (Some x) = x ∷ items_after name_eq x (siblings ts x)
+
+-- nodes in front of one of them; all where there is none
+abbrev pub up_to : Option NodeName → List NodeName → List NodeName
+up_to None xs = xs
+up_to (Some y) xs = items_before name_eq y xs
+
+-- A path goes from a node up to one of its inclusive ancestors. What is taken of the nodes above its first, in tree order up
+-- to that one: of each a clone, then the children in front of the path where they are taken
+abbrev pub heads : Trees → Bool → List NodeName → List Item
+heads ts before [] = []
+heads ts before (x ∷ []) = []
+heads ts before (x ∷ p ∷ path) = heads ts before (p ∷ path) ++ clone_item p ∷ wholes_if before (items_before name_eq x (children_of ts p))
+
+-- and behind it: the children behind the path where they are taken, then the end of the clone
+abbrev pub tails : Trees → Bool → List NodeName → List Item
+tails ts behind [] = []
+tails ts behind (x ∷ []) = []
+tails ts behind (x ∷ p ∷ path) = wholes_if behind (items_after name_eq x (children_of ts p)) ++ end_item ∷ tails ts behind (p ∷ path)
+
+-- what is taken of the node of an end of a range: of data a part, else a clone with the children that are taken in front of the
+-- offset and behind it
+abbrev pub end_items : Trees → Range NodeName → Boundary NodeName → Bool → Bool → List Item
+end_items ts r b before behind =
+    if has_data (kind_of ts b.node) then cut_item b.node (cut_start r b.node) (cut_end ts r b.node) ∷ []
+    else clone_item b.node ∷ wholes_if before (take b.offset (children_of ts b.node)) ++ wholes_if behind (drop b.offset (children_of ts b.node)) ++ end_item ∷ []
+
+-- what is taken of the tree of the last node of a path from the node of an end; nothing where there is no path
+abbrev pub side_items : Trees → Range NodeName → Boundary NodeName → Bool → Bool → List NodeName → List Item
+side_items ts r b before behind [] = []
+side_items ts r b before behind (x ∷ path) = heads ts before (x ∷ path) ++ end_items ts r b before behind ++ tails ts behind (x ∷ path)
