@@ -9,3 +9,4 @@ pub mod Kids
 pub mod AfterPoint
 pub mod KeyedWalks
 pub mod PieceItems
+pub mod DeletionPlaces
