@@ -10,3 +10,5 @@ pub mod AfterPoint
 pub mod KeyedWalks
 pub mod PieceItems
 pub mod DeletionPlaces
+pub mod PieceLevels
+pub mod PieceSides

@@ -89,9 +89,9 @@ tails ts behind (x ∷ p ∷ path) = wholes_if behind (items_after name_eq x (ch
 abbrev pub end_items : Trees → Range NodeName → Boundary NodeName → Bool → Bool → List Item
 end_items ts r b before behind =
     if has_data (kind_of ts b.node) then cut_item b.node (cut_start r b.node) (cut_end ts r b.node) ∷ []
-    else clone_item b.node ∷ wholes_if before (take b.offset (children_of ts b.node)) ++ wholes_if behind (drop b.offset (children_of ts b.node)) ++ end_item ∷ []
+    else clone_item b.node ∷ (wholes_if before (take b.offset (children_of ts b.node)) ++ (wholes_if behind (drop b.offset (children_of ts b.node)) ++ end_item ∷ []))
 
 -- what is taken of the tree of the last node of a path from the node of an end; nothing where there is no path
 abbrev pub side_items : Trees → Range NodeName → Boundary NodeName → Bool → Bool → List NodeName → List Item
 side_items ts r b before behind [] = []
-side_items ts r b before behind (x ∷ path) = heads ts before (x ∷ path) ++ end_items ts r b before behind ++ tails ts behind (x ∷ path)
+side_items ts r b before behind (x ∷ path) = heads ts before (x ∷ path) ++ (end_items ts r b before behind ++ tails ts behind (x ∷ path))
