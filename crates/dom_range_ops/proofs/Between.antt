@@ -28,7 +28,7 @@ use Rattle.dom_range_ops.proofs.Sides.{before-less, before-turned, nodes_before,
 abbrev pub Splits : (xs ys us vs : List NodeName) → Type 0
 Splits xs ys us vs = ((m : List NodeName) × (us ≡ xs ++ m) × (ys ≡ m ++ vs)) ⊎ ((z : NodeName) × In z xs × In z vs)
 
-two-splits : (xs ys us vs : List NodeName) → xs ++ ys ≡ us ++ vs → Splits xs ys us vs
+pub two-splits : (xs ys us vs : List NodeName) → xs ++ ys ≡ us ++ vs → Splits xs ys us vs
 two-splits [] ys us vs e = inl (us, refl, e)
 two-splits (x ∷ xs) ys [] vs e = inr (x, inl refl, subst (In x) e (inl refl))
 two-splits (x ∷ xs) ys (u ∷ us) vs e = by (two-splits xs ys us vs cc) cc

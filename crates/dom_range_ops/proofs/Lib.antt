@@ -12,3 +12,5 @@ pub mod PieceItems
 pub mod DeletionPlaces
 pub mod PieceLevels
 pub mod PieceSides
+pub mod PieceParts
+pub mod PieceMiddle

@@ -24,7 +24,7 @@ use Rattle.dom_range_ops.proofs.PieceItems.{node_items, items-partly}
 use Rattle.dom_range_ops.proofs.PieceLevels.{IsBehind, IsAhead, Level, in-front, in-back, self-in, self-within}
 
 -- a last item is a member
-last-member : (x y : NodeName) (xs : List NodeName) → last_of (x ∷ xs) ≡ Some y → In y (x ∷ xs)
+pub last-member : (x y : NodeName) (xs : List NodeName) → last_of (x ∷ xs) ≡ Some y → In y (x ∷ xs)
 last-member x y [] e = inl (sym (same_Some x y e))
 last-member x y (z ∷ zs) e = inr (last-member z y zs e)
 
