@@ -65,9 +65,9 @@ module _ (ts : Trees) (once : Once ts) where
   ]
 
   -- nor does its last point come before it
-  pub above-end : ((x : NodeName) → has_data (kind_of ts x) ≡ true → children_of ts x ≡ []) → (b : Boundary NodeName) → b.offset ≤ length_of ts b.node → (z : NodeName) → Has ts z → In b.node (inclusive_descendants ts z)
+  pub above-end : (b : Boundary NodeName) → b.offset ≤ length_of ts b.node → (z : NodeName) → (has_data (kind_of ts z) ≡ true → children_of ts z ≡ []) → Has ts z → In b.node (inclusive_descendants ts z)
       → is_before ts (at z (length_of ts z)) b ≡ false
-  above-end leaves b fits z h i = elim (descend z b.node h i) [
+  above-end b fits z leaf h i = elim (descend z b.node h i) [
     | inl same ↦
         let size : length_of ts b.node ≡ length_of ts z = ap (length_of ts) same in
         before-same ts z b.node (length_of ts z) b.offset (sym same) ∙ le-ltb (length_of ts z) b.offset (omega (arith, fits, size))
@@ -75,7 +75,7 @@ module _ (ts : Trees) (once : Once ts) where
         let low = u.fits in
         before-down ts z b.node (length_of ts z) b.offset u.child u.rest u.place
         ∙ elim (cases_Bool (has_data (kind_of ts z))) [
-          | inl e ↦ absurd (let none = ap (length {A = NodeName}) (leaves z e) in omega (arith, low, none))
+          | inl e ↦ absurd (let none = ap (length {A = NodeName}) (leaf e) in omega (arith, low, none))
           | inr e ↦
               let size : length_of ts z ≡ length (children_of ts z) = cond-false (has_data (kind_of ts z)) (length (node_in ts z).text) (length (children_of ts z)) e in
               lt-leb (length_of ts z) u.child (omega (arith, low, size))

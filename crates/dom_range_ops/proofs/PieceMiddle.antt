@@ -8,11 +8,14 @@ use Rattle.dom_base.specs.declared.NodeName.{NodeName}
 use Rattle.dom_model.specs.Names.{name_eq, last_of, items_before, items_after}
 use Rattle.dom_model.specs.Place.{Boundary, boundary_place, is_before}
 use Rattle.dom_model.specs.Ranges.{Range, at}
-use Rattle.dom_model.specs.Tree.{Trees, kind_of, has_data, children_of, inclusive_ancestors, inclusive_descendants, length_of}
-use Rattle.dom_traversal.proofs.Children.{parent-of_child}
+use Rattle.dom_model.specs.Tree.{Trees, kind_of, has_data, children_of, inclusive_ancestors, inclusive_descendants, length_of, root_of, subtree}
+use Rattle.dom_traversal.proofs.Chains.{above-along}
+use Rattle.dom_traversal.proofs.Children.{In-names, Has-names, parent-of_child}
 use Rattle.dom_traversal.proofs.Lists.{In, In-left, In-right, In-parts, split_at}
-use Rattle.dom_traversal.proofs.Shapes.{Has, Once}
+use Rattle.dom_traversal.proofs.Shapes.{Has, Once, Has-subtree, above-parent, above-present, above-from_below, below-from_above}
 use Rattle.dom_range_ops.specs.Pieces.{Item, wholes_if, side_items}
+use Rattle.dom_range_ops.specs.Texts.{nodes_around}
+use Rattle.dom_range_ops.proofs.OneTree.{root-above, root-path}
 use Rattle.dom_range_ops.proofs.Between.{Splits, two-splits}
 use Rattle.dom_range_ops.proofs.Sides.{before-less, before-turned}
 use Rattle.dom_range_ops.proofs.PieceItems.{node_items}
@@ -20,13 +23,14 @@ use Rattle.dom_range_ops.proofs.PieceLevels.{IsBehind, IsAhead, Level, in-front,
 use Rattle.dom_range_ops.proofs.PieceSides.{IsSide, side-is, flat-wholes}
 use Rattle.dom_range_ops.proofs.PieceParts.{between-items, in-front-items, behind-items, turned-items, start-side, start-turned, end-side, end-turned, Course, at_top, inside, course}
 
--- What is asked of a range: its ends are nodes of the trees, the second within its node, and no Text and no Comment has children.
+-- What is asked of a range: its ends are nodes of the trees, the second within its node, and no Text and no Comment of their
+-- tree has children.
 pub record IsRange (ts : Trees) (r : Range NodeName) : Type 0 where
   pub once : Once ts
   pub start : Has ts r.start.node
   pub end : Has ts r.end.node
   pub fits : r.end.offset ≤ length_of ts r.end.node
-  pub leaves : (x : NodeName) → has_data (kind_of ts x) ≡ true → children_of ts x ≡ []
+  pub leaves : (x : NodeName) → In x (nodes_around ts r) → has_data (kind_of ts x) ≡ true → children_of ts x ≡ []
 
 -- The inclusive ancestors of both ends part below c.
 pub record PartAt (ts : Trees) (r : Range NodeName) (c : NodeName) (rest start_path end_path : List NodeName) : Type 0 where
@@ -64,6 +68,19 @@ module _ (ts : Trees) (r : Range NodeName) (is : IsRange ts r) (c : NodeName) (r
   end-last : (z : NodeName) → In z at_end.middle → (last_of end_path ≡ Some z) × In r.end.node (inclusive_descendants ts z)
   end-last z i = middle-last r.end end_path (course ts is.once c rest r.end end_path is.end parts.end) z i
 
+  -- what is in the tree of a child is of the tree of the range
+  below-leaves : (y : NodeName) → In y kids → (x : NodeName) → In x (inclusive_descendants ts y) → has_data (kind_of ts x) ≡ true → children_of ts x ≡ []
+  below-leaves y among x i =
+      let top = root_of ts r.start.node in
+      let up = parent-of_child ts c y is.once parts.there among in
+      let inside = Has-names (subtree ts y) x i in
+      let h = Has-subtree ts y x is.once inside in
+      let above_child = subst (In c) (sym (above-parent ts y c is.once up.1 up.0).0) (inr (subst (In c) (sym (above-present ts c parts.there).1) (inl refl))) in
+      let above_start = subst (In c) (sym parts.start) (In-right c start_path (c ∷ rest) (inl refl)) in
+      let above_top = subst (λ z. In z (inclusive_ancestors ts c)) (root-path ts c r.start.node is.once is.start above_start) (root-above ts c parts.there) in
+      let all = above-along ts top c x is.once h above_top (above-along ts c y x is.once h above_child (above-from_below ts y x is.once up.1 inside)) in
+      is.leaves x (In-names (subtree ts top) x (below-from_above ts top x is.once h all))
+
   -- children in a part are children
   module _ (b : Boundary NodeName) (l : Level ts is.once c b) (z : NodeName) where
     kid-front : In z l.front → Has ts z
@@ -77,6 +94,13 @@ module _ (ts : Trees) (r : Range NodeName) (is : IsRange ts r) (c : NodeName) (r
 
     is-behind : In z l.back → IsBehind ts is.once b z
     is-behind i = in-back ts is.once c parts.there b l z z i (self-in ts is.once z (kid-back i))
+
+    -- no Text and no Comment in their trees has children
+    leaf-front : In z l.front → (x : NodeName) → In x (inclusive_descendants ts z) → has_data (kind_of ts x) ≡ true → children_of ts x ≡ []
+    leaf-front i = below-leaves z (subst (In z) (sym l.kids) (In-left z l.front (l.middle ++ l.back) i))
+
+    leaf-back : In z l.back → (x : NodeName) → In x (inclusive_descendants ts z) → has_data (kind_of ts x) ≡ true → children_of ts x ≡ []
+    leaf-back i = below-leaves z (subst (In z) (sym l.kids) (In-right z l.front (l.middle ++ l.back) (In-right z l.middle l.back i)))
 
   -- ---- the children between
 
@@ -175,10 +199,10 @@ module _ (ts : Trees) (r : Range NodeName) (is : IsRange ts r) (c : NodeName) (r
       ∙ three (items s.front) (items s.middle) (items o.between) (items e.middle) (items e.back) _ _ _
       (flat-wholes (node_items ts r) false s.front (λ z i. in-front-items ts r is.once is.start is.end z (kid-front r.start s z i) (is-ahead r.start s z i) (is-ahead r.end e z (in_front z (inl (inl i))))))
       (side-flat r.start start_path (course ts is.once c rest r.start start_path is.start parts.start) false true is.start parts.start
-      (λ y i. start-side ts r is.once is.start is.end is.leaves is.fits y (kid-front r.end e y (in_front y (inl (inr i)))) (λ z j. in-front ts is.once c parts.there r.end e y z (in_front y (inl (inr i))) j)))
+      (λ y i. start-side ts r is.once is.start is.end y (leaf-front r.end e y (in_front y (inl (inr i)))) is.fits (kid-front r.end e y (in_front y (inl (inr i)))) (λ z j. in-front ts is.once c parts.there r.end e y z (in_front y (inl (inr i))) j)))
       (flat-wholes (node_items ts r) true o.between (λ z i. between-items ts r is.once is.start is.end z (kid-back r.start s z (in_back z (inl i))) (is-behind r.start s z (in_back z (inl i))) (is-ahead r.end e z (in_front z (inr i)))))
       (side-flat r.end end_path (course ts is.once c rest r.end end_path is.end parts.end) true false is.end parts.end
-      (λ y i. end-side ts r is.once is.start is.end is.leaves is.fits y (kid-back r.start s y (in_back y (inr (inl i)))) (λ z j. in-back ts is.once c parts.there r.start s y z (in_back y (inr (inl i))) j)))
+      (λ y i. end-side ts r is.once is.start is.end y (leaf-back r.start s y (in_back y (inr (inl i)))) is.fits (kid-back r.start s y (in_back y (inr (inl i)))) (λ z j. in-back ts is.once c parts.there r.start s y z (in_back y (inr (inl i))) j)))
       (flat-wholes (node_items ts r) false e.back (λ z i. behind-items ts r is.once is.start is.end z (kid-back r.end e z i) (is-behind r.start s z (in_back z (inr (inr i)))) (is-behind r.end e z i))))
     where
       s : Level ts is.once c r.start
@@ -205,10 +229,10 @@ module _ (ts : Trees) (r : Range NodeName) (is : IsRange ts r) (c : NodeName) (r
       ∙ three (items e.front) (items e.middle) (items o.between) (items s.middle) (items s.back) _ _ _
       (flat-wholes (node_items ts r) false e.front (λ z i. in-front-items ts r is.once is.start is.end z (kid-front r.end e z i) (is-ahead r.start s z (in_front z (inl (inl i)))) (is-ahead r.end e z i)))
       (side-flat r.end end_path (course ts is.once c rest r.end end_path is.end parts.end) false false is.end parts.end
-      (λ y i. end-turned ts r is.once is.start is.end is.leaves is.fits y (kid-front r.start s y (in_front y (inl (inr i)))) (λ z j. in-front ts is.once c parts.there r.start s y z (in_front y (inl (inr i))) j)))
+      (λ y i. end-turned ts r is.once is.start is.end y (leaf-front r.start s y (in_front y (inl (inr i)))) is.fits (kid-front r.start s y (in_front y (inl (inr i)))) (λ z j. in-front ts is.once c parts.there r.start s y z (in_front y (inl (inr i))) j)))
       (flat-wholes (node_items ts r) false o.between (λ z i. turned-items ts r is.once is.start is.end z (kid-front r.start s z (in_front z (inr i))) (is-ahead r.start s z (in_front z (inr i))) (is-behind r.end e z (in_back z (inl i)))))
       (side-flat r.start start_path (course ts is.once c rest r.start start_path is.start parts.start) false false is.start parts.start
-      (λ y i. start-turned ts r is.once is.start is.end is.leaves is.fits y (kid-back r.end e y (in_back y (inr (inl i)))) (λ z j. in-back ts is.once c parts.there r.end e y z (in_back y (inr (inl i))) j)))
+      (λ y i. start-turned ts r is.once is.start is.end y (leaf-back r.end e y (in_back y (inr (inl i)))) is.fits (kid-back r.end e y (in_back y (inr (inl i)))) (λ z j. in-back ts is.once c parts.there r.end e y z (in_back y (inr (inl i))) j)))
       (flat-wholes (node_items ts r) false s.back (λ z i. behind-items ts r is.once is.start is.end z (kid-back r.start s z i) (is-behind r.start s z i) (is-behind r.end e z (in_back z (inr (inr i)))))))
     where
       s : Level ts is.once c r.start

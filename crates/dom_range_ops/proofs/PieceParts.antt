@@ -75,7 +75,7 @@ module _ (ts : Trees) (r : Range NodeName) (once : Once ts) (start : Has ts r.st
   above z x h i = is_in-from z (inclusive_ancestors ts x) (above-from_below ts z x once h (Has-names (subtree ts z) x i))
 
   -- in the tree of a node all are in front of the end
-  module _ (leaves : (x : NodeName) → has_data (kind_of ts x) ≡ true → children_of ts x ≡ []) (fits : r.end.offset ≤ length_of ts r.end.node) (y : NodeName) (h : Has ts y) where
+  module _ (y : NodeName) (leaves : (x : NodeName) → In x (inclusive_descendants ts y) → has_data (kind_of ts x) ≡ true → children_of ts x ≡ []) (fits : r.end.offset ≤ length_of ts r.end.node) (h : Has ts y) where
     pub start-side : ((z : NodeName) → In z (inclusive_descendants ts y) → IsAhead ts once r.end z) → IsSide ts r once r.start false true y
     start-side far = record {
       top_stands = h;
@@ -103,7 +103,7 @@ module _ (ts : Trees) (r : Range NodeName) (once : Once ts) (start : Has ts r.st
       top_stands = h;
       ahead = λ z i b. between-items z (there y z i) (far z i) b;
       later = λ z i b. behind-items z (there y z i) (far z i) b;
-      apart = λ z i j. not-end z (above-end ts once leaves r.end fits z (there y z i) j);
+      apart = λ z i j. not-end z (above-end ts once r.end fits z (leaves z i) (there y z i) j);
       partly = λ z i j. partly-is z false true (behind-off ts once r.start z (there y z i) start (far z i)) (above z r.end.node (there y z i) j);
       leaves = leaves;
     }
@@ -114,7 +114,7 @@ module _ (ts : Trees) (r : Range NodeName) (once : Once ts) (start : Has ts r.st
       top_stands = h;
       ahead = λ z i b. in-front-items z (there y z i) (far z i) b;
       later = λ z i b. turned-items z (there y z i) (far z i) b;
-      apart = λ z i j. not-end z (above-end ts once leaves r.end fits z (there y z i) j);
+      apart = λ z i j. not-end z (above-end ts once r.end fits z (leaves z i) (there y z i) j);
       partly = λ z i j. partly-is z false true (ahead-off ts once r.start z (there y z i) start (far z i)) (above z r.end.node (there y z i) j);
       leaves = leaves;
     }

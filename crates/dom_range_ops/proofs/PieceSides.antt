@@ -44,7 +44,7 @@ module _ (ts : Trees) (r : Range NodeName) (once : Once ts) (b : Boundary NodeNa
     pub later : (z : NodeName) → In z (inclusive_descendants ts top) → IsBehind ts once b z → node_items ts r z ≡ wholes_if behind (z ∷ [])
     pub apart : (z : NodeName) → In z (inclusive_descendants ts top) → In b.node (inclusive_descendants ts z) → is_contained ts r z ≡ false
     pub partly : (z : NodeName) → In z (inclusive_descendants ts top) → In b.node (inclusive_descendants ts z) → is_partly_contained ts r z ≡ true
-    pub leaves : (x : NodeName) → has_data (kind_of ts x) ≡ true → children_of ts x ≡ []
+    pub leaves : (x : NodeName) → In x (inclusive_descendants ts top) → has_data (kind_of ts x) ≡ true → children_of ts x ≡ []
 
   module _ (side : IsSide) where
     -- a node in the tree
@@ -75,7 +75,7 @@ module _ (ts : Trees) (r : Range NodeName) (once : Once ts) (b : Boundary NodeNa
         let f = node_items ts r in
         let inner = In-names (subtree ts top) p w.stands in
         let l : Level ts once p b = record { front = items_before name_eq x (children_of ts p); middle = x ∷ []; back = items_after name_eq x (children_of ts p); kids = split_at x (children_of ts p) i; shape = inr record { child = x; alone = refl; inside = inside } } in
-        let no_data : has_data (kind_of ts p) ≡ false = elim (cases_Bool (has_data (kind_of ts p))) [ inl e ↦ absurd (subst (In x) (side.leaves p e) i) | inr e ↦ e ] in
+        let no_data : has_data (kind_of ts p) ≡ false = elim (cases_Bool (has_data (kind_of ts p))) [ inl e ↦ absurd (subst (In x) (side.leaves p inner e) i) | inr e ↦ e ] in
         items-partly ts r once p (stands_in ts top p w) (side.apart p inner below) (side.partly p inner below)
         ∙ (cond-false (has_data (kind_of ts p)) (cut_item p (cut_start r p) (cut_end ts r p) ∷ []) (clone_item p ∷ (flat_map f (children_of ts p) ++ end_item ∷ [])) no_data
         ∙ ap (λ xs. clone_item p ∷ (xs ++ end_item ∷ []))
