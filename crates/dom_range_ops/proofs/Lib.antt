@@ -14,3 +14,6 @@ pub mod PieceLevels
 pub mod PieceSides
 pub mod PieceParts
 pub mod PieceMiddle
+pub mod PieceRuns
+pub mod PiecePaths
+pub mod PieceSteps

@@ -2,6 +2,7 @@
 use Rattle.std.proofs.Common.{◌≡◌, ◌⊎◌, inl, inr, Bool, true, false, List, [], ◌∷◌, ◌++◌, take, drop, Some, refl, sym, ap, subst, ◌∙◌, append_assoc}
 use Rattle.std.specs.Prelude.{if◌then◌else◌}
 use Rattle.std.specs.List.{flat_map}
+use Rattle.std.specs.Option.{option_map_or}
 use Rattle.std.proofs.lemmas.Bool.{cases_Bool, cond-true, cond-false}
 use Rattle.std.proofs.lemmas.List.{append-nil, take-append-drop}
 use Rattle.std.proofs.lemmas.List.Concat.{flat_map-cons}
@@ -111,14 +112,16 @@ module _ (ts : Trees) (r : Range NodeName) (once : Once ts) (b : Boundary NodeNa
         → node_items ts r top ≡ heads ts before (x ∷ path) ++ (node_items ts r x ++ tails ts behind (x ∷ path))
     path-up x [] rest h above last inside = ap (node_items ts r) (sym (same_Some x top last)) ∙ sym (append-nil (node_items ts r x))
     path-up x (p ∷ path) rest h above last inside =
-        let up = above-parent ts x p once h (ap (λ xs. first_of (drop 1 xs)) above) in
+        let parent = ap (λ xs. first_of (drop 1 xs)) above in
+        let up = above-parent ts x p once h parent in
         let higher : inclusive_ancestors ts p ≡ (p ∷ path) ++ rest = tail-same x (inclusive_ancestors ts p) ((p ∷ path) ++ rest) (sym up.0 ∙ above) in
-        let among = (child-of_parent ts x p once h (ap (λ xs. first_of (drop 1 xs)) above)).1 in
+        let among = (child-of_parent ts x p once h parent).1 in
         let below = In-names (subtree ts p) b.node (below-point p x up.1 h (subst (In p) (sym up.0) (inr (subst (In p) (sym higher) (inl refl)))) inside) in
         let w = in-tree p up.1 (subst (In top) (sym higher) (In-left top (p ∷ path) rest (last-member p top path last))) in
         path-up p path rest up.1 higher last below
         ∙ (ap (λ xs. heads ts before (p ∷ path) ++ (xs ++ tails ts behind (p ∷ path))) (path-items p x w among inside below)
-        ∙ regroup (heads ts before (p ∷ path)) (wholes_if before (items_before name_eq x (children_of ts p))) (node_items ts r x) (wholes_if behind (items_after name_eq x (children_of ts p))) (tails ts behind (p ∷ path)) p)
+        ∙ (regroup (heads ts before (p ∷ path)) (wholes_if before (items_before name_eq x (children_of ts p))) (node_items ts r x) (wholes_if behind (items_after name_eq x (children_of ts p))) (tails ts behind (p ∷ path)) p
+        ∙ ap (λ xs. heads ts before (x ∷ p ∷ path) ++ (node_items ts r x ++ (wholes_if behind (items_after name_eq x xs) ++ end_item ∷ tails ts behind (p ∷ path)))) (sym (ap (λ o. option_map_or (children_of ts) o (x ∷ [])) parent))))
       where
         tail-same : (y : NodeName) (xs ys : List NodeName) → y ∷ xs ≡ y ∷ ys → xs ≡ ys
         tail-same y xs ys e = cc

@@ -29,7 +29,7 @@ pub(crate) fn node_after(forest: &Forest, point: (Key, usize), top: Key) -> Opti
 }
 
 /// The child of a node at an index, where there are so many.
-fn child_at(forest: &Forest, node: Key, index: usize) -> Option<Key>
+pub(crate) fn child_at(forest: &Forest, node: Key, index: usize) -> Option<Key>
     requires { node < length forest.now.names }
     ensures value { option_map (name_at forest.now.names) result ≡ first_of (drop index (children_of forest.now.trees (name_at forest.now.names node))) }
     ensures node { ForSome result (λ k. k < length forest.now.names) }
