@@ -17,3 +17,4 @@ pub mod PieceMiddle
 pub mod PieceRuns
 pub mod PiecePaths
 pub mod PieceSteps
+pub mod PieceLaws

@@ -1,7 +1,6 @@
 -- How a boundary point stands to the trees of the children of a node above it.
-use Rattle.std.proofs.Common.{◌≡◌, ◌⊎◌, inl, inr, ℕ, ◌<◌, ◌≤◌, suc, true, false, List, [], ◌∷◌, ◌++◌, length, take, drop, refl, sym, ap, subst, ◌∙◌, arith, append_assoc, length-append, length-take, length-drop, true≢false}
+use Rattle.std.proofs.Common.{◌≡◌, ◌⊎◌, inl, inr, ℕ, ◌<◌, ◌≤◌, suc, true, false, List, [], ◌∷◌, ◌++◌, length, take, drop, refl, sym, ap, subst, ◌∙◌, arith, append_assoc, length-append, length-take, true≢false}
 use Rattle.std.proofs.lemmas.Bool.{cases_Bool, cond-false, lt-ltb, le-ltb, le-leb, lt-leb}
-use Rattle.std.proofs.lemmas.List.{take-append-drop}
 use Rattle.dom_base.specs.declared.NodeName.{NodeName}
 use Rattle.dom_model.specs.Names.{name_eq, items_before, items_after}
 use Rattle.dom_model.specs.Place.{Boundary, place_of, is_before}
@@ -9,7 +8,7 @@ use Rattle.dom_model.specs.Ranges.{at}
 use Rattle.dom_model.specs.Tree.{Trees, node_in, kind_of, has_data, children_of, inclusive_ancestors, inclusive_descendants, is_inclusive_ancestor, length_of, subtree}
 use Rattle.dom_ranges.proofs.Before.{before-same, before-up, before-down, before-beside}
 use Rattle.dom_traversal.proofs.Children.{In-names}
-use Rattle.dom_traversal.proofs.Lists.{In, In-right, is_in-not, split_at}
+use Rattle.dom_traversal.proofs.Lists.{In, is_in-not, split_at}
 use Rattle.dom_traversal.proofs.Order.{IsWithin, here}
 use Rattle.dom_traversal.proofs.Shapes.{Has, Once, above-present, below-from_above}
 use Rattle.dom_range_ops.proofs.Parting.{joined-in, under-kid}

@@ -1,19 +1,20 @@
 -- What is taken of the children of the lowest common ancestor of the ends of a range.
 use Rattle.std.proofs.Common.{◌≡◌, ◌⊎◌, inl, inr, ◌≤◌, Bool, true, false, List, [], ◌∷◌, ◌++◌, take, drop, Some, refl, sym, ap, subst, ◌∙◌, append_assoc, true≢false}
 use Rattle.std.specs.List.{flat_map}
+use Rattle.std.specs.Option.{option_map_or}
 use Rattle.std.proofs.lemmas.List.{append-nil, take-append-drop}
 use Rattle.std.proofs.lemmas.List.Concat.{flat_map-cons}
 use Rattle.std.proofs.lemmas.Grind.{flat_map-append}
 use Rattle.dom_base.specs.declared.NodeName.{NodeName}
-use Rattle.dom_model.specs.Names.{name_eq, last_of, items_before, items_after}
+use Rattle.dom_model.specs.Names.{name_eq, first_of, last_of, items_before, items_after}
 use Rattle.dom_model.specs.Place.{Boundary, boundary_place, is_before}
 use Rattle.dom_model.specs.Ranges.{Range, at}
-use Rattle.dom_model.specs.Tree.{Trees, kind_of, has_data, children_of, inclusive_ancestors, inclusive_descendants, length_of, root_of, subtree}
+use Rattle.dom_model.specs.Tree.{Trees, kind_of, has_data, children_of, inclusive_ancestors, inclusive_descendants, length_of, root_of, siblings, next_sibling, subtree}
 use Rattle.dom_traversal.proofs.Chains.{above-along}
 use Rattle.dom_traversal.proofs.Children.{In-names, Has-names, parent-of_child}
 use Rattle.dom_traversal.proofs.Lists.{In, In-left, In-right, In-parts, split_at}
 use Rattle.dom_traversal.proofs.Shapes.{Has, Once, Has-subtree, above-parent, above-present, above-from_below, below-from_above}
-use Rattle.dom_range_ops.specs.Pieces.{Item, wholes_if, side_items}
+use Rattle.dom_range_ops.specs.Pieces.{Item, wholes_if, side_items, first_behind, first_from}
 use Rattle.dom_range_ops.specs.Texts.{nodes_around}
 use Rattle.dom_range_ops.proofs.OneTree.{root-above, root-path}
 use Rattle.dom_range_ops.proofs.Between.{Splits, two-splits}
@@ -65,7 +66,7 @@ module _ (ts : Trees) (r : Range NodeName) (is : IsRange ts r) (c : NodeName) (r
   start-last : (z : NodeName) → In z at_start.middle → (last_of start_path ≡ Some z) × In r.start.node (inclusive_descendants ts z)
   start-last z i = middle-last r.start start_path (course ts is.once c rest r.start start_path is.start parts.start) z i
 
-  end-last : (z : NodeName) → In z at_end.middle → (last_of end_path ≡ Some z) × In r.end.node (inclusive_descendants ts z)
+  pub end-last : (z : NodeName) → In z at_end.middle → (last_of end_path ≡ Some z) × In r.end.node (inclusive_descendants ts z)
   end-last z i = middle-last r.end end_path (course ts is.once c rest r.end end_path is.end parts.end) z i
 
   -- what is in the tree of a child is of the tree of the range
@@ -250,3 +251,23 @@ module _ (ts : Trees) (r : Range NodeName) (is : IsRange ts r) (c : NodeName) (r
       in_back z (inl i) = subst (In z) (sym o.back) (In-left z o.between (s.middle ++ s.back) i)
       in_back z (inr (inl i)) = subst (In z) (sym o.back) (In-right z o.between (s.middle ++ s.back) (In-left z s.middle s.back i))
       in_back z (inr (inr i)) = subst (In z) (sym o.back) (In-right z o.between (s.middle ++ s.back) (In-right z s.middle s.back i))
+
+  -- ---- the run between
+
+  -- the siblings of a child
+  kid-siblings : (y : NodeName) → In y kids → siblings ts y ≡ kids
+  kid-siblings y i = ap (λ o. option_map_or (children_of ts) o (y ∷ [])) (parent-of_child ts c y is.once parts.there i).0
+
+  -- where it begins
+  pub begins : (b : Boundary NodeName) (path : List NodeName) (w : Course ts is.once c rest b path) → first_behind ts b path ≡ first_of (level b path w).back
+  unfolding level
+  begins b path (at_top none same) = ap (first_behind ts b) none ∙ ap (λ x. first_of (drop b.offset (children_of ts x))) same
+  begins b path (inside y more whole last among below) =
+      ap (λ o. option_map_or (next_sibling ts) o (first_of (drop b.offset (children_of ts b.node)))) last ∙ ap (λ xs. first_of (items_after name_eq y xs)) (kid-siblings y among)
+
+  -- and where it ends
+  pub stops : (b : Boundary NodeName) (path : List NodeName) (w : Course ts is.once c rest b path)
+      → first_from ts b path ≡ first_of ((level b path w).middle ++ (level b path w).back)
+  unfolding level
+  stops b path (at_top none same) = ap (first_from ts b) none ∙ ap (λ x. first_of (drop b.offset (children_of ts x))) same
+  stops b path (inside y more whole last among below) = ap (λ o. option_map_or Some o (first_of (drop b.offset (children_of ts b.node)))) last

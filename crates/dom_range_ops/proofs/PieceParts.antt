@@ -1,25 +1,19 @@
 -- What is taken below the lowest common ancestor of the ends of a range: of the start's side, between, and of the end's side.
-use Rattle.std.proofs.Common.{◌≡◌, ◌⊎◌, inl, inr, ◌≤◌, Bool, true, false, not, ◌&&◌, ◌||◌, List, [], ◌∷◌, ◌++◌, take, drop, Option, Some, None, refl, sym, ap, subst, ◌∙◌, append_assoc, true≢false, map}
-use Rattle.std.specs.List.{flat_map}
-use Rattle.std.proofs.lemmas.List.{append-nil, take-append-drop}
-use Rattle.std.proofs.lemmas.List.Concat.{flat_map-cons}
-use Rattle.std.proofs.lemmas.Grind.{flat_map-append}
+use Rattle.std.proofs.Common.{◌≡◌, ◌≤◌, Bool, true, false, not, ◌&&◌, ◌||◌, List, [], ◌∷◌, ◌++◌, drop, Option, Some, None, refl, sym, ap, subst, ◌∙◌}
 use Rattle.std.proofs.lemmas.Option.{same_Some}
 use Rattle.dom_base.specs.declared.NodeName.{NodeName}
 use Rattle.dom_model.specs.Extract.{is_partly_contained}
-use Rattle.dom_model.specs.Names.{name_eq, first_of, last_of, items_before, items_after}
-use Rattle.dom_model.specs.Place.{Boundary, boundary_place, is_before}
+use Rattle.dom_model.specs.Names.{first_of, last_of}
+use Rattle.dom_model.specs.Place.{Boundary, is_before}
 use Rattle.dom_model.specs.Ranges.{Range, at, is_contained}
 use Rattle.dom_model.specs.Tree.{Trees, kind_of, has_data, children_of, inclusive_ancestors, is_inclusive_ancestor, inclusive_descendants, length_of, subtree}
-use Rattle.dom_traversal.proofs.Children.{In-names, Has-names, child-of_parent, parent-of_child}
-use Rattle.dom_traversal.proofs.Lists.{In, In-left, In-right, In-parts, is_in-from, split_at}
+use Rattle.dom_traversal.proofs.Children.{In-names, Has-names, child-of_parent}
+use Rattle.dom_traversal.proofs.Lists.{In, In-left, is_in-from}
 use Rattle.dom_traversal.proofs.Shapes.{Has, Once, Has-subtree, above-parent, above-present, above-from_below, below-from_above}
-use Rattle.dom_range_ops.specs.Pieces.{Item, whole_item, wholes_if, side_items}
-use Rattle.dom_range_ops.proofs.Between.{Splits, two-splits}
-use Rattle.dom_range_ops.proofs.Sides.{before-less, before-turned}
+use Rattle.dom_range_ops.specs.Pieces.{whole_item}
 use Rattle.dom_range_ops.proofs.PieceItems.{node_items, items-whole, items-out}
-use Rattle.dom_range_ops.proofs.PieceLevels.{IsBehind, IsAhead, Level, in-front, in-back, self-in, above-start, above-end, behind-off, ahead-off}
-use Rattle.dom_range_ops.proofs.PieceSides.{IsSide, side-is, flat-wholes, last-member}
+use Rattle.dom_range_ops.proofs.PieceLevels.{IsBehind, IsAhead, above-start, above-end, behind-off, ahead-off}
+use Rattle.dom_range_ops.proofs.PieceSides.{IsSide, last-member}
 
 -- nothing is both, where the second is not
 and-no : (b : Bool) → b && false ≡ false

@@ -1,5 +1,5 @@
 -- The paths from the ends of a range up to the children of their lowest common inclusive ancestor, by keys.
-use Rattle.std.proofs.Common.{◌≡◌, ℕ, zero, suc, ◌<◌, ◌≤◌, ◌-◌, List, [], ◌∷◌, ◌++◌, length, map, take, drop, get_or, Option, Some, None, refl, sym, ap, subst, ◌∙◌, arith, length-drop}
+use Rattle.std.proofs.Common.{◌≡◌, ℕ, zero, suc, ◌<◌, ◌≤◌, ◌-◌, List, [], ◌∷◌, ◌++◌, length, map, take, drop, get_or, Some, refl, sym, ap, subst, ◌∙◌, arith, length-drop}
 use Rattle.std.specs.Prelude.{unwrap_or}
 use Rattle.std.specs.List.{AllByRecursion}
 use Rattle.std.proofs.Math.Seq.{take-suc}
@@ -11,7 +11,7 @@ use Rattle.dom_model.specs.Tree.{inclusive_ancestors, root_of}
 use Rattle.dom_observers.specs.Naming.{IsKey, AreAll}
 use Rattle.dom_ranges.specs.declared.table.Points.{Points}
 use Rattle.dom_traversal.proofs.Climbing.{TellApart}
-use Rattle.dom_traversal.proofs.Counts.{StandOnce, StandAlone, Once-forest, Has-forest}
+use Rattle.dom_traversal.proofs.Counts.{StandOnce, StandAlone, Has-forest}
 use Rattle.dom_traversal.proofs.Lists.{name_eq-true, last_of-end}
 use Rattle.dom_traversal.proofs.Shapes.{above-present}
 use Rattle.dom_tree.specs.Forest.{NamedTrees, name_at}
@@ -135,3 +135,7 @@ module _ (f : NamedTrees) (once : StandOnce f) (only : StandAlone f) (distinct :
         start_nodes = all-take (λ j. j < length f.names) m first start_nodes;
         end_nodes = all-take (λ j. j < length f.names) n second end_nodes;
       }
+
+-- lists that are the same end alike as others do
+pub alike : (xs ys us vs : List ℕ) (m n : ℕ) → xs ≡ us → ys ≡ vs → EndAlike xs ys m n → EndAlike us vs m n
+alike xs ys us vs m n e g a = subst (λ ws. EndAlike us ws m n) g (subst (λ ws. EndAlike ws ys m n) e a)

@@ -1,10 +1,10 @@
 -- Pieces that are added one by one, and runs of siblings.
-use Rattle.std.proofs.Common.{◌≡◌, inl, ℕ, ◌<◌, suc, Bool, true, false, List, [], ◌∷◌, ◌++◌, length, map, take, drop, Option, Some, None, refl, sym, ap, subst, ◌∙◌, append_assoc, arith}
+use Rattle.std.proofs.Common.{◌≡◌, inl, ℕ, ◌<◌, suc, List, [], ◌∷◌, ◌++◌, length, map, take, drop, Option, Some, None, refl, sym, ap, subst, ◌∙◌, append_assoc, arith}
 use Rattle.std.specs.List.{AllByRecursion}
 use Rattle.std.specs.Option.{option_map, option_map_or, ForSome}
 use Rattle.std.proofs.lemmas.List.{append-nil, map_push, take-append-drop}
 use Rattle.dom_base.specs.declared.NodeName.{NodeName}
-use Rattle.dom_model.specs.Names.{name_eq, first_of, items_before, items_after}
+use Rattle.dom_model.specs.Names.{name_eq, first_of, items_after}
 use Rattle.dom_model.specs.Tree.{Trees, parent_of, children_of, siblings, next_sibling}
 use Rattle.dom_range_ops.specs.Pieces.{Item, whole_item, item_in, IsPieceIn, AreItems, Adds, from_sibling, up_to}
 use Rattle.dom_range_ops.specs.declared.pieces.Piece.{Piece}

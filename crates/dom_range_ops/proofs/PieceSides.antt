@@ -1,9 +1,9 @@
 -- What is taken of the tree of a child of the common ancestor, along the path to an end of a range.
-use Rattle.std.proofs.Common.{◌≡◌, ◌⊎◌, inl, inr, Bool, true, false, List, [], ◌∷◌, ◌++◌, take, drop, Some, refl, sym, ap, subst, ◌∙◌, append_assoc}
+use Rattle.std.proofs.Common.{◌≡◌, inl, inr, Bool, true, false, List, [], ◌∷◌, ◌++◌, take, drop, Some, refl, sym, ap, subst, ◌∙◌, append_assoc}
 use Rattle.std.specs.Prelude.{if◌then◌else◌}
 use Rattle.std.specs.List.{flat_map}
 use Rattle.std.specs.Option.{option_map_or}
-use Rattle.std.proofs.lemmas.Bool.{cases_Bool, cond-true, cond-false}
+use Rattle.std.proofs.lemmas.Bool.{cases_Bool, cond-false}
 use Rattle.std.proofs.lemmas.List.{append-nil, take-append-drop}
 use Rattle.std.proofs.lemmas.List.Concat.{flat_map-cons}
 use Rattle.std.proofs.lemmas.Grind.{flat_map-append}
@@ -22,7 +22,7 @@ use Rattle.dom_traversal.proofs.Shapes.{Has, Once, Has-subtree, above-parent, ab
 use Rattle.dom_traversal.proofs.Steps.{within-child}
 use Rattle.dom_range_ops.specs.Pieces.{Item, whole_item, cut_item, clone_item, end_item, wholes_if, heads, tails, end_items, side_items}
 use Rattle.dom_range_ops.proofs.PieceItems.{node_items, items-partly}
-use Rattle.dom_range_ops.proofs.PieceLevels.{IsBehind, IsAhead, Level, in-front, in-back, self-in, self-within}
+use Rattle.dom_range_ops.proofs.PieceLevels.{IsBehind, IsAhead, Level, in-front, in-back, self-in}
 
 -- a last item is a member
 pub last-member : (x y : NodeName) (xs : List NodeName) → last_of (x ∷ xs) ≡ Some y → In y (x ∷ xs)

@@ -57,11 +57,7 @@ pub(crate) fn pieces_between(
 }
 
 /// The same of a range that is not collapsed and not in one Text or Comment.
-fn pieces_apart(
-    alloc: Global,
-    forest: &Forest,
-    points: &Points,
-) -> Result<Vec<Piece>, AllocError>
+fn pieces_apart(alloc: Global, forest: &Forest, points: &Points) -> Result<Vec<Piece>, AllocError>
     requires spanned { AreSpanned forest.now points.now }
     requires not_collapsed { is_collapsed name_eq (range_at_points forest.now.names points.now) ≡ false }
     requires not_in_one_data { is_in_one_data forest.now.trees (range_at_points forest.now.names points.now) ≡ false }
@@ -72,7 +68,13 @@ fn pieces_apart(
     let end_path = inclusive_ancestors(alloc, forest, points.end.0)?;
     let (first, last) = parting(&start_path, &end_path);
     let mut pieces = Vec::new(alloc);
-    push_pieces(&mut pieces, forest, points, &start_path[..first], &end_path[..last])?;
+    push_pieces(
+        &mut pieces,
+        forest,
+        points,
+        &start_path[..first],
+        &end_path[..last],
+    )?;
     Ok(pieces)
 }
 

@@ -1,8 +1,6 @@
-use Rattle.std.proofs.Common.{◌≡◌, ◌<◌, length, map, List, ℕ, Some, None, refl, sym, ap, subst, ◌∙◌}
-use Rattle.std.proofs.lemmas.List.{append-nil}
+use Rattle.std.proofs.Common.{◌<◌, length, map, Some, refl, sym, ap, subst, ◌∙◌}
 use Rattle.dom_observers.proofs.Ascending.{HasClimbed, above, climbs-first, climbs-more, climbs-fewer, climbs-all, path_keys-named}
 use Rattle.dom_tree.specs.Forest.{name_at}
-use Rattle.dom_range_ops.proofs.PiecePaths.{all-keys}
 use Rattle.dom_range_ops.proofs.pieces.paths.inclusive_ancestors.Goals as goal
 
 pub loop-at-init : goal.loop-at-init

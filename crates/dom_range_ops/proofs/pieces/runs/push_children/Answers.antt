@@ -1,4 +1,4 @@
-use Rattle.std.proofs.Common.{◌≡◌, [], ◌++◌, None, sym, ap, subst, ◌∙◌, map, take, drop}
+use Rattle.std.proofs.Common.{◌++◌, sym, ap, subst, ◌∙◌, map, take, drop}
 use Rattle.std.specs.Option.{option_map}
 use Rattle.std.proofs.lemmas.List.{append-nil}
 use Rattle.dom_model.specs.Tree.{children_of}

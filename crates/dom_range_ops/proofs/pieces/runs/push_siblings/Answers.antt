@@ -1,4 +1,4 @@
-use Rattle.std.proofs.Common.{◌≡◌, true≢false, List, [], Some, None, refl, sym, ap, ◌∙◌}
+use Rattle.std.proofs.Common.{true≢false, sym, ap, ◌∙◌}
 use Rattle.std.specs.Option.{option_map}
 use Rattle.dom_model.specs.Names.{name_eq, items_after}
 use Rattle.dom_model.specs.Tree.{siblings}

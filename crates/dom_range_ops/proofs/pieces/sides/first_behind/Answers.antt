@@ -1,4 +1,4 @@
-use Rattle.std.proofs.Common.{◌≡◌, drop, Some, None, refl, sym, ap, ◌∙◌}
+use Rattle.std.proofs.Common.{drop, sym, ap, ◌∙◌}
 use Rattle.std.specs.Option.{option_map_or, option_copied}
 use Rattle.dom_model.specs.Names.{first_of}
 use Rattle.dom_model.specs.Tree.{children_of, next_sibling}

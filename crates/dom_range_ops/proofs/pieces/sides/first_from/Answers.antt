@@ -1,7 +1,7 @@
-use Rattle.std.proofs.Common.{◌≡◌, drop, Some, sym, ap, ◌∙◌}
+use Rattle.std.proofs.Common.{drop, Some, sym, ap, ◌∙◌}
 use Rattle.std.specs.Option.{option_map_or, option_copied}
 use Rattle.dom_model.specs.Names.{first_of}
-use Rattle.dom_model.specs.Tree.{children_of, next_sibling}
+use Rattle.dom_model.specs.Tree.{children_of}
 use Rattle.dom_tree.specs.Forest.{name_at}
 use Rattle.dom_range_ops.proofs.PieceSteps.{last-named}
 use Rattle.dom_range_ops.proofs.pieces.sides.first_from.Goals as goal

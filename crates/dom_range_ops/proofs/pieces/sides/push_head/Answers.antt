@@ -1,4 +1,4 @@
-use Rattle.std.proofs.Common.{◌≡◌, [], ◌∷◌, ◌++◌, Some, refl, sym, ap, subst, ◌∙◌, map}
+use Rattle.std.proofs.Common.{[], ◌∷◌, Some, refl, sym, ap, subst, ◌∙◌, map}
 use Rattle.std.specs.Option.{option_map}
 use Rattle.dom_model.specs.Names.{name_eq, items_before}
 use Rattle.dom_model.specs.Tree.{children_of}

@@ -1,11 +1,10 @@
-use Rattle.std.proofs.Common.{◌≡◌, List, [], ◌∷◌, ◌++◌, None, refl, sym, ap, subst, ◌∙◌, map}
+use Rattle.std.proofs.Common.{[], ◌∷◌, sym, ap, subst, ◌∙◌, map}
 use Rattle.std.specs.Option.{option_map}
-use Rattle.dom_base.specs.declared.NodeName.{NodeName}
 use Rattle.dom_model.specs.Names.{name_eq, items_after}
 use Rattle.dom_model.specs.Tree.{siblings}
 use Rattle.dom_tree.specs.Forest.{name_at}
 use Rattle.dom_traversal.proofs.Counts.{Once-forest, Has-forest}
-use Rattle.dom_range_ops.specs.Pieces.{Item, Adds, whole_item, end_item, wholes_if}
+use Rattle.dom_range_ops.specs.Pieces.{Adds, whole_item, end_item, wholes_if}
 use Rattle.dom_range_ops.specs.declared.pieces.Piece.TheVariants.{End}
 use Rattle.dom_range_ops.proofs.PieceRuns.{adds-none, adds-on, adds-one, adds-same, sibling-next}
 use Rattle.dom_range_ops.proofs.pieces.sides.push_tail.Goals as goal

@@ -1,4 +1,4 @@
-use Rattle.std.proofs.Common.{◌≡◌, ◌-◌, ◌++◌, List, map, drop}
+use Rattle.std.proofs.Common.{◌-◌, map, drop}
 use Rattle.dom_tree.specs.Forest.{name_at}
 use Rattle.dom_range_ops.proofs.PieceRuns.{Partway}
 use Rattle.dom_range_ops.specs.Pieces.{tails}
