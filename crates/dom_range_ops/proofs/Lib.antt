@@ -22,3 +22,12 @@ pub mod DeletionKeys
 pub mod DeletionOwn
 pub mod DeletionDocs
 pub mod DeletionPlans
+pub mod PieceItems
+pub mod PieceLevels
+pub mod PieceSides
+pub mod PieceParts
+pub mod PieceMiddle
+pub mod PieceRuns
+pub mod PiecePaths
+pub mod PieceSteps
+pub mod PieceLaws

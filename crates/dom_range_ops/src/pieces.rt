@@ -1,5 +1,23 @@
 //! What an extraction takes of the tree of a live range (DOM Standard, concept: extract).
+ghost use Rattle.std.specs.Prelude.{◌≡◌, ◌∷◌, [], false, map, List, IfOk, if◌then◌else◌};
+ghost use Rattle.dom_base.specs.declared.NodeName.{NodeName as Name};
+ghost use Rattle.dom_model.specs.Extract.{pieces_of, is_in_one_data};
+ghost use Rattle.dom_model.specs.Names.{name_eq};
+ghost use Rattle.dom_model.specs.Ranges.{is_collapsed};
+ghost use Rattle.dom_range_ops.specs.Pieces.{items_of, item_in, made_by, AreItems, AreSpanned};
+ghost use Rattle.dom_range_ops.specs.Texts.{range_at_points};
+
+use crate::ends::{is_collapsed, is_in_one_data};
+use crate::pieces::paths::{inclusive_ancestors, parting};
+use crate::pieces::sides::push_pieces;
+use dom_ranges::Points;
+use dom_tree::Forest;
 use node_arena::Key;
+use std::alloc::{AllocError, Global};
+
+mod paths;
+mod runs;
+mod sides;
 
 /// A piece of what is extracted, in tree order.
 #[derive(Clone, Copy)]
@@ -12,4 +30,70 @@ pub(crate) enum Piece {
     Clone(Key),
     /// The end of what goes into the last clone that is not ended.
     End,
+}
+
+/// The pieces that an extraction takes of the tree of a range, in tree order (DOM Standard, concept: extract). The nodes
+/// above the two ends are walked, and of their children those that are taken. It is refused where memory is refused.
+pub(crate) fn pieces_between(
+    alloc: Global,
+    forest: &Forest,
+    points: &Points,
+) -> Result<Vec<Piece>, AllocError>
+    requires { AreSpanned forest.now points.now }
+    ensures { IfOk result (λ pieces. AreItems forest.now.names pieces.items (items_of (pieces_of forest.now.trees (range_at_points forest.now.names points.now)))) }
+{
+    forest.nodes_stand_once();
+    let mut pieces = Vec::new(alloc);
+    if is_collapsed(points) {
+        return Ok(pieces);
+    }
+    if is_in_one_data(forest, points) {
+        let (node, from) = points.start;
+        let (_, to) = points.end;
+        pieces.push(Piece::Cut(node, from, to))?;
+        return Ok(pieces);
+    }
+    pieces_apart(alloc, forest, points)
+}
+
+/// The same of a range that is not collapsed and not in one Text or Comment.
+fn pieces_apart(alloc: Global, forest: &Forest, points: &Points) -> Result<Vec<Piece>, AllocError>
+    requires spanned { AreSpanned forest.now points.now }
+    requires not_collapsed { is_collapsed name_eq (range_at_points forest.now.names points.now) ≡ false }
+    requires not_in_one_data { is_in_one_data forest.now.trees (range_at_points forest.now.names points.now) ≡ false }
+    ensures { IfOk result (λ pieces. AreItems forest.now.names pieces.items (items_of (pieces_of forest.now.trees (range_at_points forest.now.names points.now)))) }
+{
+    forest.nodes_stand_once();
+    let start_path = inclusive_ancestors(alloc, forest, points.start.0)?;
+    let end_path = inclusive_ancestors(alloc, forest, points.end.0)?;
+    let (first, last) = parting(&start_path, &end_path);
+    let mut pieces = Vec::new(alloc);
+    push_pieces(
+        &mut pieces,
+        forest,
+        points,
+        &start_path[..first],
+        &end_path[..last],
+    )?;
+    Ok(pieces)
+}
+
+/// How many nodes the taking of pieces makes: one for each clone.
+pub(crate) fn count_made(pieces: &[Piece]) -> usize
+    ensures { (names : List Name) → result ≡ made_by (map (item_in names) pieces.now) }
+{
+    let mut count = 0;
+    for piece in pieces {
+        if is_made(piece) {
+            count += 1;
+        }
+    }
+    count
+}
+
+/// Whether a node is made for a piece.
+fn is_made(piece: &Piece) -> bool
+    ensures { (names : List Name) → made_by (item_in names piece.now ∷ []) ≡ (if result then 1 else 0) }
+{
+    matches!(piece, Piece::Cut(_, _, _) | Piece::Clone(_))
 }

@@ -1,0 +1,34 @@
+use Rattle.std.proofs.Common.{ℕ, ◌+◌, List, [], ◌∷◌, map, take, get_or, sym, ap, ◌∙◌, arith}
+use Rattle.std.specs.Prelude.{if◌then◌else◌}
+use Rattle.std.proofs.lemmas.List.{take_more, map_push}
+use Rattle.dom_base.specs.declared.NodeName.{NodeName}
+use Rattle.dom_range_ops.specs.Pieces.{item_in, made_by}
+use Rattle.dom_range_ops.proofs.PiecePaths.{all-taken}
+use Rattle.dom_range_ops.proofs.PieceSteps.{made-append}
+use Rattle.dom_range_ops.proofs.pieces.count_made.Goals as goal
+use Rattle.dom_range_ops.proofs.pieces.count_made.Goals.{then-is_made, else-is_made}
+
+pub loop-piece-preserved : goal.loop-piece-preserved
+loop-piece-preserved c =
+    let inv = c.loop-piece.invariant in
+    let i = c.loop-piece.piece-index in
+    let all = c.args.pieces.now in
+    let grown = λ (names : List NodeName).
+    ap (λ ps. made_by (map (item_in names) ps)) (take_more all i c.piece-item.result c.loop-piece-test.true)
+    ∙ (ap made_by (map_push (item_in names) (take i all) (get_or all i c.piece-item.result))
+    ∙ (made-append (map (item_in names) (take i all)) (item_in names (get_or all i c.piece-item.result) ∷ [])
+    ∙ (ap (λ p. made_by (map (item_in names) (take i all)) + made_by (item_in names p ∷ [])) (sym c.piece-item.is)
+    ∙ ap (λ n. made_by (map (item_in names) (take i all)) + n) (c.is_made.ensures names)))) in
+    elim c.if-is_made.branch [
+      | then-is_made w ↦
+          let one = w.count-is in
+          let few = inv.few in
+          record { few = omega (arith, one, few); value = λ names. let g = grown names in let v = inv.value names in let yes = ap {B = ℕ} (λ b. if b then 1 else 0) w.if-is_made.true in omega (arith, one, g, v, yes) }
+      | else-is_made w ↦
+          let one = w.count-is in
+          let few = inv.few in
+          record { few = omega (arith, one, few); value = λ names. let g = grown names in let v = inv.value names in let no = ap {B = ℕ} (λ b. if b then 1 else 0) w.if-is_made.false in omega (arith, one, g, v, no) }
+    ]
+
+pub returns : goal.returns
+returns c names = c.loop-piece.invariant.value names ∙ ap (λ ps. made_by (map (item_in names) ps)) (all-taken c.args.pieces.now c.loop-piece.piece-index c.loop-piece-test.false)

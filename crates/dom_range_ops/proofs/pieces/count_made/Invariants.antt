@@ -1,0 +1,7 @@
+use Rattle.std.proofs.Common.{◌≡◌, ◌≤◌, List, map, take}
+use Rattle.dom_base.specs.declared.NodeName.{NodeName}
+use Rattle.dom_range_ops.specs.Pieces.{item_in, made_by}
+use Rattle.dom_range_ops.proofs.pieces.count_made.Given as goal
+
+abbrev pub invariant-loop-piece : goal.invariant-loop-piece
+invariant-loop-piece l = record { few : l.count ≤ l.piece-index; value : (names : List NodeName) → l.count ≡ made_by (map (item_in names) (take l.piece-index l.pieces)) }

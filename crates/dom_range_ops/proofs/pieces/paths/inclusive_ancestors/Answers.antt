@@ -1,0 +1,30 @@
+use Rattle.std.proofs.Common.{◌<◌, length, map, Some, refl, sym, ap, subst, ◌∙◌}
+use Rattle.dom_observers.proofs.Ascending.{HasClimbed, above, climbs-first, climbs-more, climbs-fewer, climbs-all, path_keys-named}
+use Rattle.dom_tree.specs.Forest.{name_at}
+use Rattle.dom_range_ops.proofs.pieces.paths.inclusive_ancestors.Goals as goal
+
+pub loop-at-init : goal.loop-at-init
+loop-at-init c =
+    let f = c.args.forest.now in
+    subst (λ path. HasClimbed f c.args.key path (Some c.args.key)) (sym c.new-path.ensures.items) (climbs-first f c.args.key c.requires)
+
+pub loop-at-preserved : goal.loop-at-preserved
+loop-at-preserved c =
+    let f = c.args.forest.now in
+    let done = subst (HasClimbed f c.args.key c.loop-at.path.items) c.in-Some.is c.loop-at.invariant in
+    subst (λ path. HasClimbed f c.args.key path c.parent-at.result) (sym c.in_ok-push.ensures.items)
+    (climbs-more f c.nodes_stand_once.ensures.once c.nodes_stand_once.ensures.only c.args.key c.in-Some.node c.loop-at.path.items c.parent-at.result done (done.next c.in-Some.node refl) c.parent-at.ensures.value c.parent-at.ensures.node)
+
+pub loop-at-smaller : goal.loop-at-smaller
+loop-at-smaller c =
+    let f = c.args.forest.now in
+    let done = subst (HasClimbed f c.args.key c.loop-at.path.items) c.in-Some.is c.loop-at.invariant in
+    subst (λ at. length (above f c.parent-at.result) < length (above f at)) (sym c.in-Some.is)
+    (climbs-fewer f c.nodes_stand_once.ensures.once c.nodes_stand_once.ensures.only c.in-Some.node c.parent-at.result (done.next c.in-Some.node refl) c.parent-at.ensures.value)
+
+pub returns-clause-names : goal.returns-clause-names
+returns-clause-names c =
+    let f = c.args.forest.now in
+    let e = c.nodes_stand_once.ensures in
+    let done = subst (HasClimbed f c.args.key c.loop-at.path.items) c.in_default.is c.loop-at.invariant in
+    ap (map (name_at f.names)) (climbs-all f e.distinct c.args.key c.loop-at.path.items done) ∙ (path_keys-named f e.once e.only c.args.key c.requires).0

@@ -1,0 +1,27 @@
+use Rattle.std.proofs.Common.{ℕ, ◌<◌, List, [], length, map, sym, ap, subst, ◌∙◌, refl}
+use Rattle.std.specs.List.{AllByRecursion}
+use Rattle.dom_tree.specs.Forest.{name_at}
+use Rattle.dom_range_ops.specs.Pieces.{AreItems}
+use Rattle.dom_range_ops.specs.declared.pieces.Piece.{Piece}
+use Rattle.dom_range_ops.proofs.PiecePaths.{paths-part, alike}
+use Rattle.dom_range_ops.proofs.pieces.pieces_apart.Goals as goal
+
+pub push_pieces-requires-clause-paths : goal.push_pieces-requires-clause-paths
+push_pieces-requires-clause-paths c =
+    let f = c.args.forest.now in
+    let e = c.nodes_stand_once.ensures in
+    let points = c.args.points.now in
+    let node = λ (ks : List ℕ). AllByRecursion (λ k. k < length f.names) ks in
+    let start = c.deref-3.ensures.value in
+    let end = c.deref-4.ensures.value in
+    let first = c.deref.ensures.value ∙ sym start in
+    let second = c.deref-2.ensures.value ∙ sym end in
+    paths-part f e.once e.only e.distinct points c.requires.spanned.ends c.deref-3.result.now c.deref-4.result.now
+    (ap (map (name_at f.names)) start ∙ c.in_ok-start_path.ensures.names) (ap (map (name_at f.names)) end ∙ c.in_ok-end_path.ensures.names)
+    (subst node (sym start) c.in_ok-start_path.ensures.nodes) (subst node (sym end) c.in_ok-end_path.ensures.nodes) c.parting-first.result.0 c.parting-first.result.1
+    (alike c.deref.result.now c.deref-2.result.now c.deref-3.result.now c.deref-4.result.now c.parting-first.result.0 c.parting-first.result.1 first second c.parting-first.ensures)
+
+pub returns : goal.returns
+returns c =
+    let none : AreItems c.args.forest.now.names c.new-pieces.result.items [] = subst (λ (ps : List Piece). AreItems c.args.forest.now.names ps []) (sym c.new-pieces.ensures.items) (record { value = refl; nodes = tt }) in
+    c.in_ok-push_pieces.ensures [] none

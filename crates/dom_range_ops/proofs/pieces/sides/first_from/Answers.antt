@@ -1,0 +1,12 @@
+use Rattle.std.proofs.Common.{drop, Some, sym, ap, ◌∙◌}
+use Rattle.std.specs.Option.{option_map_or, option_copied}
+use Rattle.dom_model.specs.Names.{first_of}
+use Rattle.dom_model.specs.Tree.{children_of}
+use Rattle.dom_tree.specs.Forest.{name_at}
+use Rattle.dom_range_ops.proofs.PieceSteps.{last-named}
+use Rattle.dom_range_ops.proofs.pieces.sides.first_from.Goals as goal
+
+pub returns-in-Some-clause-value : goal.returns-in-Some-clause-value
+returns-in-Some-clause-value c =
+    let f = c.args.forest.now in
+    ap (λ o. option_map_or Some o (first_of (drop c.args.point.1 (children_of f.trees (name_at f.names c.args.point.0))))) (sym (last-named f.names c.args.path.now c.in-Some.child.now (sym c.last.ensures.value ∙ ap option_copied c.in-Some.is)))

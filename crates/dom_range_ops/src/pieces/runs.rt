@@ -1,0 +1,61 @@
+//! Runs of siblings that are taken as they are.
+ghost use Rattle.std.specs.Prelude.{◌≡◌, ◌<◌, ◌++◌, length, map, take, drop, None, OnOk};
+ghost use Rattle.std.specs.Option.{option_map, ForSome};
+ghost use Rattle.dom_model.specs.Tree.{children_of};
+ghost use Rattle.dom_range_ops.specs.Pieces.{Adds, whole_item, wholes_if, from_sibling, up_to};
+ghost use Rattle.dom_tree.specs.Forest.{name_at};
+
+use super::Piece;
+use crate::points::{child_at, is_node};
+use dom_tree::Forest;
+use node_arena::Key;
+use std::alloc::AllocError;
+
+/// A node and the siblings behind it are added to pieces, up to another one of them; none where there is no node, and all
+/// where there is no other one.
+pub(super) fn push_siblings(
+    pieces: &mut Vec<Piece>,
+    forest: &Forest,
+    from: Option<Key>,
+    until: Option<Key>,
+) -> Result<(), AllocError>
+    requires from_is_node { ForSome from (λ k. k < length forest.now.names) }
+    requires until_is_node { ForSome until (λ k. k < length forest.now.names) }
+    ensures { OnOk result (Adds forest.now.names pieces.old.items pieces.new.items (map whole_item (up_to (option_map (name_at forest.now.names) until) (from_sibling forest.now.trees (option_map (name_at forest.now.names) from))))) }
+{
+    forest.nodes_stand_once();
+    let mut at = from;
+    while let Some(key) = at {
+        let stop = until;
+        if is_node(stop, key) {
+            break;
+        }
+        pieces.push(Piece::Whole(key))?;
+        at = forest.next(key);
+    }
+    Ok(())
+}
+
+/// The first children of a node, where they are taken, and the others, where they are.
+pub(super) fn push_children(
+    pieces: &mut Vec<Piece>,
+    forest: &Forest,
+    point: (Key, usize),
+    before: bool,
+    behind: bool,
+) -> Result<(), AllocError>
+    requires { point.0 < length forest.now.names }
+    ensures { OnOk result (Adds forest.now.names pieces.old.items pieces.new.items (wholes_if before (take point.1 (children_of forest.now.trees (name_at forest.now.names point.0))) ++ wholes_if behind (drop point.1 (children_of forest.now.trees (name_at forest.now.names point.0))))) }
+{
+    forest.nodes_stand_once();
+    let (node, offset) = point;
+    if before {
+        let until = child_at(forest, node, offset);
+        push_siblings(pieces, forest, forest.first(node), until)?;
+    }
+    if behind {
+        let from = child_at(forest, node, offset);
+        push_siblings(pieces, forest, from, None)?;
+    }
+    Ok(())
+}
