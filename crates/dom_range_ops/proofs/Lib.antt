@@ -8,3 +8,6 @@ pub mod Between
 pub mod Kids
 pub mod AfterPoint
 pub mod KeyedWalks
+pub mod TakingItems
+pub mod TakingCounts
+pub mod TakingParts

@@ -1,3 +1,4 @@
 pub mod Texts
 pub mod Points
 pub mod Pieces
+pub mod Takings
