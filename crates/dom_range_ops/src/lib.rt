@@ -1,6 +1,7 @@
 //! The operations on a live range: its text (DOM Standard, 5.5 Interface Range).
 #![tactic(auto)]
 
+mod cloning;
 mod pieces;
 mod points;
 mod text;
