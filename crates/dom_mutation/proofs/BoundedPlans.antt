@@ -1,26 +1,24 @@
 -- Where in each plan live ranges' offsets are asked to be within lengths: before room is made, before data grow, and before a
 -- join. The bounds hold there, in an owner's part, if they held before the plan.
-use Rattle.std.proofs.Common.{◌≡◌, ◌≤◌, ◌<◌, ℕ, ◌+◌, true, false, List, [], ◌∷◌, length, Option, Some, None, sym, ap, subst, ◌∙◌, arith}
+use Rattle.std.proofs.Common.{◌≡◌, ◌≤◌, ◌<◌, ℕ, ◌+◌, true, false, List, [], ◌∷◌, length, Some, None, sym, ap, subst, ◌∙◌, arith}
 use Rattle.std.specs.Prelude.{IsTrue}
 use Rattle.std.specs.Prelude.{flat_map}
 use Rattle.std.specs.List.{AllByRecursion}
 use Rattle.std.proofs.lemmas.Bool.{cond-false}
 use Rattle.dom_base.specs.declared.NodeName.{NodeName}
-use Rattle.dom_model.specs.Changes.{Observing, suppressed, in_turn, removing, emptying, making_room}
+use Rattle.dom_model.specs.Changes.{Observing, suppressed, in_turn, removing, emptying}
 use Rattle.dom_model.specs.Output.{child_list}
 use Rattle.dom_model.specs.Part.{Part}
-use Rattle.dom_model.specs.Ranges.{Range}
-use Rattle.dom_model.specs.Steps.{join_at, queue_record, part_step, after}
+use Rattle.dom_model.specs.Steps.{queue_record, after}
 use Rattle.dom_model.specs.TextChanges.{replacing_data, normalizing_text, texts_after}
 use Rattle.dom_model.specs.Tree.{Trees, node_in, has_node, has_data, is_text, kind_of, children_of, parent_of, index_of, length_of}
-use Rattle.dom_isolation.specs.Bounds.{EndsWithin, EndsWithinRoom, HasBounds, HasRoomFor}
+use Rattle.dom_isolation.specs.Bounds.{HasBounds}
 use Rattle.dom_isolation.specs.Worlds.{IsPart}
 use Rattle.dom_isolation.proofs.Bounds.{nowhere}
 use Rattle.dom_isolation.proofs.Insides.{times-has_node}
 use Rattle.dom_isolation.proofs.Kids.{index-below, length-children}
-use Rattle.dom_isolation.proofs.KeptOffsets.{room-of, bounds-of, make_room-keeps, join_at-keeps, queue_record-keeps}
+use Rattle.dom_isolation.proofs.KeptOffsets.{room-of, bounds-of, queue_record-keeps}
 use Rattle.dom_isolation.proofs.KindCommands.{has_node-times}
-use Rattle.dom_isolation.proofs.Lists.{all-then}
 use Rattle.dom_isolation.proofs.PlanBounds.{room-removals}
 use Rattle.dom_isolation.proofs.PlanPlaces.{after-append, still}
 use Rattle.dom_isolation.proofs.PlanTexts.{leads-removals, leads-normalizing_text}

@@ -1,5 +1,5 @@
 -- Normalization: the Texts directly after a Text, their data, and the Texts below a node.
-use Rattle.std.proofs.Common.{◌≡◌, ℕ, suc, ◌+◌, ◌<◌, ◌≤◌, inl, inr, Bool, true, false, List, [], ◌∷◌, ◌++◌, drop, drop-cons, add-one, get_or, length, map, Option, Some, None, option_map, refl, sym, ap, subst, ◌∙◌, arith}
+use Rattle.std.proofs.Common.{◌≡◌, ℕ, suc, ◌<◌, ◌≤◌, inl, inr, Bool, true, false, List, [], ◌∷◌, ◌++◌, drop, length, map, Option, Some, None, option_map, refl, sym, ap, subst, ◌∙◌, arith}
 use Rattle.std.specs.Prelude.{◌==◌, filter, flat_map, take_while, if◌then◌else◌}
 use Rattle.std.specs.List.{AllByRecursion}
 use Rattle.std.specs.Option.{ForSome, option_map_or}
@@ -25,13 +25,12 @@ use Rattle.dom_mutation.proofs.Paths.{Lacks, swapped, IsOnce, path_none, path_go
 use Rattle.dom_mutation.proofs.Moves.{none_or_some}
 use Rattle.dom_mutation.proofs.Near.{NoTwice, children_once, next_child, once_subtree}
 use Rattle.dom_mutation.proofs.Once.{names_once}
-use Rattle.dom_mutation.proofs.Made.{planned_then, planned_turn, alone_made}
-use Rattle.dom_mutation.proofs.OwnPlans.{plans_then, plans_data, plans_joins, plans_normalizing_text}
+use Rattle.dom_mutation.proofs.Made.{planned_then}
+use Rattle.dom_mutation.proofs.OwnPlans.{plans_then, plans_data, plans_joins}
 use Rattle.dom_mutation.proofs.Placed.{Counted, once_in}
 use Rattle.dom_mutation.proofs.Covering.{walked, StandsIn, left, Walks, walks, first_inside}
 use Rattle.dom_mutation.proofs.Listing.{all_push}
 use Rattle.dom_mutation.proofs.Replaced.{lacks_after}
-use Rattle.dom_mutation.proofs.Turns.{all_drop}
 
 -- ---- the Texts directly after a Text
 

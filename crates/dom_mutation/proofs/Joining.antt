@@ -1,13 +1,13 @@
 -- A Text got the data of those directly after it: the live ranges' offsets are within lengths then, each join fits, and the joins
 -- are those that were planned before.
-use Rattle.std.proofs.Common.{◌≡◌, ℕ, true, List, length, map, Some, sym, ap, subst, ◌∙◌}
+use Rattle.std.proofs.Common.{◌≡◌, ℕ, true, List, map, Some, sym, ap, subst, ◌∙◌}
 use Rattle.std.specs.Prelude.{flat_map}
 use Rattle.dom_base.specs.declared.NodeName.{NodeName}
 use Rattle.dom_model.specs.Names.{DomString}
 use Rattle.dom_model.specs.Part.{Part}
 use Rattle.dom_model.specs.Steps.{after}
 use Rattle.dom_model.specs.TextChanges.{replacing_data, joins, texts_after}
-use Rattle.dom_model.specs.Tree.{Trees, node_in, has_node, is_text, kind_of, parent_of, length_of}
+use Rattle.dom_model.specs.Tree.{node_in, has_node, is_text, kind_of, parent_of, length_of}
 use Rattle.dom_model.specs.World.{part_of}
 use Rattle.dom_isolation.specs.Bounds.{HasBounds}
 use Rattle.dom_isolation.specs.Worlds.{IsPart}

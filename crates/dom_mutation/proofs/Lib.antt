@@ -68,3 +68,4 @@ pub mod RangedStates
 pub mod JoinedEach
 pub mod Joining
 pub mod RangedPassing
+pub mod RangeSteps

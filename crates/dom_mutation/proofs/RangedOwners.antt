@@ -11,9 +11,8 @@ use Rattle.dom_model.proofs.OwnerLaws.{owner_eq-true, owner_eq-false}
 use Rattle.dom_ranges.specs.Settings.{named_ranges}
 use Rattle.dom_ranges.specs.Tables.{RangeLists, EachRange, BothEnds, ranges_of}
 use Rattle.dom_mutation.specs.Contents.{Contents, Tables, world_of}
-use Rattle.dom_mutation.specs.Hosting.{IsAttached, signals_in}
+use Rattle.dom_mutation.specs.Hosting.{IsAttached}
 use Rattle.dom_mutation.specs.Ranging.{IsOwnPoint, AreOwnRanges, AreRangesOf}
-use Rattle.dom_mutation.proofs.HostedSteps.{signalled_fields}
 use Rattle.dom_mutation.proofs.RangedKeeping.{named_grown, own_grown}
 use Rattle.dom_mutation.proofs.Worlds.{In, there_in, in_there}
 

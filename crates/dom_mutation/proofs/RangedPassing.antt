@@ -1,6 +1,6 @@
 -- Calls that pass a command on to the table of live ranges: what they ask, what holds after them, and that they do what the
 -- model says of the command.
-use Rattle.std.proofs.Common.{◌≡◌, ℕ, ◌+◌, ◌<◌, ◌≤◌, ◌^◌, ◌⊎◌, inl, inr, Bool, true, false, true≢false, cond, List, [], ◌∷◌, ◌++◌, length, Option, Some, None, Result, Ok, Err, is_some, refl, sym, ap, subst, ◌∙◌, arith}
+use Rattle.std.proofs.Common.{◌≡◌, ℕ, ◌<◌, ◌≤◌, ◌^◌, ◌⊎◌, inl, inr, Bool, true, false, true≢false, cond, List, [], ◌∷◌, ◌++◌, length, Option, Some, None, Result, Ok, Err, is_some, refl, sym, ap, subst, ◌∙◌}
 use Rattle.std.specs.Prelude.{⊤, not, ◌&&◌, if◌then◌else◌, IsSome, IfOk, IfErr, OnOk, OnErr, ◌↔◌, option_map, slice_set}
 use Rattle.std.proofs.lemmas.Bool.{cases_Bool, false_from_ne_true}
 use Rattle.dom_base.specs.declared.Fault.{Fault}
@@ -17,7 +17,6 @@ use Rattle.dom_model.proofs.OwnerLaws.{owner_eq-true}
 use Rattle.dom_model.specs.Output.{Value, nothing, a_range, boundaries}
 use Rattle.dom_model.specs.Part.{Part, range_at}
 use Rattle.dom_model.specs.Ranges.{Range, at, from_to}
-use Rattle.dom_model.specs.Place.{Boundary}
 use Rattle.dom_model.specs.Tree.{length_of}
 use Rattle.dom_model.specs.World.{part_of, is_there}
 use Rattle.dom_ranges.specs.Settings.{named_boundary, named_range, named_ranges, start_set, end_set, have_one_root, is_key_before}
@@ -33,7 +32,7 @@ use Rattle.dom_mutation.proofs.Places.{single_owners}
 use Rattle.dom_mutation.proofs.RangedCalls.{set_makes, set_ranges, make_effect, drop_effect, collapse_effect, points_effect, start_effect, end_effect, range_read, made_own, made_few, dropped_own, rewritten_own, written_few}
 use Rattle.dom_mutation.proofs.RangedRefusals.{limit_read, end_read}
 use Rattle.dom_mutation.proofs.RangedStates.{held_live}
-use Rattle.dom_mutation.proofs.Worlds.{part_at, part_off, there_same, changed}
+use Rattle.dom_mutation.proofs.Worlds.{part_at, part_off, there_same}
 
 -- the same ranges in another list of lists
 ranges_equal : (c : Contents) (t u : RangeLists) → ((q : Owner) → ranges_of u q ≡ ranges_of t q) → AreRangesOf c t → AreRangesOf (ranged u c) u

@@ -1,22 +1,20 @@
 -- What the commands on ranges are refused for, as the table of ranges tests it and as the definitions say it.
-use Rattle.std.proofs.Common.{◌≡◌, ℕ, ◌<◌, true, length, Option, Some, None, refl, sym, ap, ◌∙◌}
+use Rattle.std.proofs.Common.{◌≡◌, ℕ, ◌<◌, true, length, Option, sym, ap, ◌∙◌}
 use Rattle.std.specs.Prelude.{nat_lt, option_map, ◌↔◌}
 use Rattle.std.proofs.lemmas.Bool.{lt-ltb, ltb-true}
 use Rattle.std.proofs.lemmas.List.{length-map}
 use Rattle.dom_base.specs.declared.NodeName.{NodeName}
 use Rattle.dom_base.specs.declared.Owner.{Owner}
 use Rattle.dom_model.specs.CommandRefusals.{past_limit, past_end}
-use Rattle.dom_model.specs.Part.{range_at}
 use Rattle.dom_model.specs.Ranges.{Range}
 use Rattle.dom_model.specs.Tree.{length_of}
 use Rattle.dom_ranges.specs.Settings.{named_range}
-use Rattle.dom_ranges.specs.Tables.{RangeLists, ranges_of, range_in}
+use Rattle.dom_ranges.specs.Tables.{RangeLists, ranges_of}
 use Rattle.dom_tree.specs.Forest.{name_at}
 use Rattle.dom_tree.specs.Owners.{AreOwned}
 use Rattle.dom_tree.proofs.Owned.{read_own}
 use Rattle.dom_mutation.specs.Contents.{Contents, part_in}
 use Rattle.dom_mutation.specs.Ranging.{AreRangesOf}
-use Rattle.dom_mutation.proofs.RangedCalls.{range_read}
 
 module _ (c : Contents) (t : RangeLists) (ranges : AreRangesOf c t) (o : Owner) where
   -- the ranges that an owner has made, dropped ones counted

@@ -1,28 +1,24 @@
 -- Steps that move boundary points and signal no slots, in the world of what is held with hosts: where the table of ranges was told,
 -- the world is the one after the step.
-use Rattle.std.proofs.Common.{◌≡◌, ℕ, ◌<◌, true, List, length, Some, refl, sym, ap}
+use Rattle.std.proofs.Common.{◌≡◌, ℕ, ◌<◌, true, List, length, refl, ap}
 use Rattle.std.specs.Prelude.{nat_eq}
 use Rattle.dom_base.specs.declared.Owner.{Owner}
 use Rattle.dom_model.specs.Names.{DomString}
 use Rattle.dom_model.specs.Ranges.{after_insert, after_replace_data, after_split, after_join}
-use Rattle.dom_model.specs.Steps.{make_room, take_out, replace_data, split_at, join_at}
-use Rattle.dom_model.specs.Tree.{parent_of}
-use Rattle.dom_model.specs.TreeChanges.{taken_out, change_node, with_data_replaced}
+use Rattle.dom_model.specs.Steps.{make_room, replace_data, split_at, join_at}
+use Rattle.dom_model.specs.TreeChanges.{change_node, with_data_replaced}
 use Rattle.dom_model.specs.World.{is_there}
 use Rattle.dom_model.specs.WorldSteps.{world_step}
 use Rattle.dom_ranges.specs.Naming.{AreApart}
 use Rattle.dom_ranges.specs.Tables.{RangeLists, ends_by, ranges_of}
 use Rattle.dom_slots.specs.Hosts.{ShadowHost}
-use Rattle.dom_slots.specs.Steps.{step_signals}
-use Rattle.dom_slots.specs.declared.step.Step.TheVariants.{Removal}
 use Rattle.dom_tree.specs.Forest.{name_at, count_of}
-use Rattle.dom_tree.specs.Owners.{AreOwned, IsOwnChange}
-use Rattle.dom_mutation.specs.Contents.{Contents, Tables, part_with, world_of}
-use Rattle.dom_mutation.specs.Hosting.{AreHostsOf, shadows_in, signals_in}
+use Rattle.dom_tree.specs.Owners.{IsOwnChange}
+use Rattle.dom_mutation.specs.Contents.{Contents, part_with, world_of}
+use Rattle.dom_mutation.specs.Hosting.{AreHostsOf}
 use Rattle.dom_mutation.specs.Ranging.{AreRangesOf, ranged}
-use Rattle.dom_mutation.proofs.HostedSteps.{plain_step, removal_hosted}
-use Rattle.dom_mutation.proofs.RangedSteps.{room_ranged, data_ranged, split_ranged, join_ranged, removal_ranged, removal_by_keys, left_part}
-use Rattle.dom_mutation.proofs.Worlds.{IsChangeOf}
+use Rattle.dom_mutation.proofs.HostedSteps.{plain_step}
+use Rattle.dom_mutation.proofs.RangedSteps.{room_ranged, data_ranged, split_ranged, join_ranged}
 
 module _ (c : Contents) (hosts : List ShadowHost) (held : AreHostsOf c hosts) (t u : RangeLists) (ranges : AreRangesOf c t) (apart : AreApart c.names) (o : Owner) (there : is_there (world_of c) o ≡ true) where
   -- room is made for children of a node

@@ -9,7 +9,7 @@ use Rattle.dom_base.specs.declared.Owner.{Owner}
 use Rattle.dom_model.specs.Names.{name_eq, owner_eq, append_once}
 use Rattle.dom_model.specs.Tree.{Trees, none, parent_of, index_of}
 use Rattle.dom_model.specs.TreeChanges.{taken_out}
-use Rattle.dom_model.specs.Steps.{Step as ModelStep, take_out, part_step}
+use Rattle.dom_model.specs.Steps.{Step as ModelStep, take_out}
 use Rattle.dom_model.specs.World.{Task, is_there}
 use Rattle.dom_model.specs.WorldSteps.{world_step}
 use Rattle.dom_slots.specs.Hosts.{ShadowHost}

@@ -1,21 +1,19 @@
 -- What the elementary steps do to what a `Doc` holds: the world after each.
-use Rattle.std.proofs.Common.{◌≡◌, ℕ, ◌<◌, inl, inr, Bool, true, false, true≢false, List, [], ◌++◌, length, Option, Some, option_map, unwrap_or, map, refl, sym, ap, subst, ◌∙◌}
+use Rattle.std.proofs.Common.{◌≡◌, ℕ, ◌<◌, inl, inr, Bool, true, false, true≢false, List, [], ◌++◌, length, Some, unwrap_or, map, refl, sym, ap, subst, ◌∙◌}
 use Rattle.std.specs.Prelude.{nat_eq, slice_set, if◌then◌else◌}
 use Rattle.std.specs.Option.{ForSome}
-use Rattle.std.specs.Option.{option_map_or}
 use Rattle.std.proofs.lemmas.Bool.{cases_Bool}
 use Rattle.std.proofs.lemmas.Option.{same_Some}
 use Rattle.dom_base.specs.declared.NodeName.{NodeName}
 use Rattle.dom_base.specs.declared.Owner.{Owner}
-use Rattle.dom_model.specs.Names.{DomString, name_eq, owner_eq}
-use Rattle.dom_model.specs.Tree.{Trees, inclusive_ancestors, is_inclusive_ancestor, index_of, parent_of}
-use Rattle.dom_model.specs.TreeChanges.{taken_out, change_node, with_data_replaced}
-use Rattle.dom_model.specs.Ranges.{Range, map_ends, after_removal}
+use Rattle.dom_model.specs.Names.{name_eq, owner_eq}
+use Rattle.dom_model.specs.Tree.{Trees, inclusive_ancestors, parent_of}
+use Rattle.dom_model.specs.TreeChanges.{taken_out}
 use Rattle.dom_model.specs.Traversal.{Iterator, Walker, adjusted_iterator}
 use Rattle.dom_model.specs.Observers.{transients_for}
 use Rattle.dom_model.specs.Part.{Part}
 use Rattle.dom_model.specs.Output.{Change}
-use Rattle.dom_model.specs.Steps.{Step, make_room, take_out, replace_data, split_at, join_at, queue_record, part_step, is_taken, leave}
+use Rattle.dom_model.specs.Steps.{Step, queue_record, part_step, is_taken}
 use Rattle.dom_model.specs.World.{is_there, queued_notify}
 use Rattle.dom_model.specs.WorldSteps.{world_step}
 use Rattle.dom_model.proofs.OwnerLaws.{owner_eq-true, owner_eq-false}
@@ -40,7 +38,7 @@ use Rattle.dom_mutation.specs.Doc.{named_trees, own_tables, attached_of, shown_t
 use Rattle.dom_mutation.proofs.Worlds.{IsChangeOf}
 use Rattle.dom_mutation.proofs.Places.{table_set, table_set_other}
 use Rattle.dom_mutation.proofs.Quiet.{untaken, untold_part}
-use Rattle.dom_mutation.proofs.HostedSteps.{plain_step, record_hosted}
+use Rattle.dom_mutation.proofs.HostedSteps.{record_hosted}
 use Rattle.dom_mutation.proofs.Keeping.{Stays, views_left, tables_left, tables_apart}
 use Rattle.dom_mutation.proofs.Held.{are_hosts, there_table}
 use Rattle.dom_mutation.proofs.Observed.{seen_own, seen_other, seen_speaks, seen_off}

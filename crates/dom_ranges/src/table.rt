@@ -213,8 +213,8 @@ impl RangeTable {
         true
     }
 
-    /// Gives a range that is there other ends.
-    fn write(&mut self, owner: Owner, number: u32, points: Points)
+    /// Gives a range that is there other ends, whichever comes first (own rule).
+    pub fn write(&mut self, owner: Owner, number: u32, points: Points)
         requires { IsSome (range_in (ranges_of self.old owner) number) }
         ensures { (o : Owners) → ranges_of self.new o ≡ with_ranges self.old owner (slice_set (ranges_of self.old owner) number (Some (range_from points))) o }
     {

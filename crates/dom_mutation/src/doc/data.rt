@@ -1,5 +1,5 @@
 //! Data of Texts and Comments (DOM Standard, concept: replace data).
-ghost use Rattle.std.specs.Prelude.{◌≡◌, ◌<◌, ◌≤◌, ◌↔◌, ◌⊎◌, length, true, IfOk, IfErr, IsOk, OnOk};
+ghost use Rattle.std.specs.Prelude.{◌≡◌, ◌<◌, ◌≤◌, ◌↔◌, ◌⊎◌, [], length, true, IfOk, IfErr, IsOk, OnOk};
 ghost use Rattle.dom_base.specs.declared.Refusal.TheVariants.{IndexSize};
 ghost use Rattle.dom_model.specs.Tree.{node_in, kind_of, has_data};
 ghost use Rattle.dom_model.specs.TreeChanges.{replaced};
@@ -50,6 +50,15 @@ impl Doc {
     {
         let count = self.length(node);
         self.replacing_data(node, 0, count, data)
+    }
+
+    /// From an offset on, so many code units of a node, or as many as there are, go (DOM Standard, replace data with the empty
+    /// string).
+    pub fn delete_data(&mut self, node: Key, offset: usize, count: usize) -> Result<(), AllocError>
+        requires { node < length self.old.names }
+        ensures { OnOk result (self.new ≡ planned (owner_in self.old node) (replacing_data (name_in self.old node) offset count []) self.old) }
+    {
+        self.replacing_data(node, offset, count, Vec::new(self.alloc))
     }
 
     /// From an offset on, so many code units give way to others.

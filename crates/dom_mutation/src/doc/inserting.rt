@@ -5,7 +5,7 @@ ghost use Rattle.dom_base.specs.declared.NodeName.{NodeName as Name};
 ghost use Rattle.std.specs.Option.{option_map, ForSome};
 ghost use Rattle.dom_model.specs.Names.{name_eq};
 ghost use Rattle.dom_model.specs.Tree.{kind_of, is_fragment, children_of, is_inclusive_ancestor, inclusive_ancestors};
-ghost use Rattle.dom_model.specs.Changes.{pre_inserting, reference_for, inserting, sibling_before, in_turn, making_room, steps_of, telling, placing, emptying, removing};
+ghost use Rattle.dom_model.specs.Changes.{pre_inserting, reference_for, inserting, observed, sibling_before, in_turn, making_room, steps_of, telling, placing, emptying, removing};
 ghost use Rattle.dom_base.specs.declared.Refusal.{Refusal as RefusalOf};
 ghost use Rattle.dom_model.specs.Validity.{insertion_refusal};
 ghost use Rattle.dom_model.specs.World.{part_of};
@@ -45,6 +45,23 @@ impl Doc {
         let before = self.reference_for(parent, node, child);
         self.inserting(Telling::Observed, node, parent, before)?;
         Ok(())
+    }
+
+    /// Puts a node among the children of a parent, before a child of it or last; of a fragment its children. It leaves its
+    /// parent and gets the parent's node document. Whether it may stand there is not tested (DOM Standard, insert).
+    pub fn insert_before(
+        &mut self,
+        parent: Key,
+        node: Key,
+        child: Option<Key>,
+    ) -> Result<(), AllocError>
+        requires parent_is_node { parent < length self.old.names }
+        requires may_move { MayMove self.old parent child node }
+        requires child_is_child { ForSome child (IsChild self.old parent) }
+        requires bounds { HasBounds (part_of self.old.world (owner_in self.old parent)) }
+        ensures { OnOk result (self.new ≡ planned (owner_in self.old parent) (inserting observed (name_in self.old node) (name_in self.old parent) (option_map (name_in self.old) child)) self.old) }
+    {
+        self.inserting(Telling::Observed, node, parent, child)
     }
 
     /// Tests whether a node may be put among the children of a parent, before the child given or last.

@@ -7,9 +7,10 @@ ghost use Rattle.dom_model.specs.CommandRefusals.{past_limit, past_end};
 ghost use Rattle.dom_model.specs.Names.{node_of};
 ghost use Rattle.dom_model.specs.Output.{nothing, a_range, boundaries};
 ghost use Rattle.dom_model.specs.Part.{range_at};
-ghost use Rattle.dom_model.specs.Ranges.{at};
+ghost use Rattle.dom_model.specs.Ranges.{at, from_to};
+ghost use Rattle.dom_model.specs.Steps.{set_range};
 ghost use Rattle.dom_model.specs.World.{part_of};
-ghost use Rattle.dom_mutation.specs.Doc.{name_in, owner_in, Makes};
+ghost use Rattle.dom_mutation.specs.Doc.{name_in, owner_in, stepped, Makes};
 
 use crate::Doc;
 use dom_base::{Fault, Owner, Refusal};
@@ -94,6 +95,19 @@ impl Doc {
         ensures world { Makes owner (Command.range_collapse number to_start) nothing self.old.world self.new.world }
     {
         let _ = self.ranges.collapse(owner, number, to_start);
+    }
+
+    /// Gives a live range both ends, at offsets in nodes of its owner, whichever comes first: the elementary step by which an
+    /// operation on a range sets its ends (own rule).
+    pub fn range_put(&mut self, owner: Owner, number: u32, points: Points)
+        requires there { is_some (range_at (part_of self.old.world owner) number) ≡ true }
+        requires start_is_node { points.start.0 < length self.old.names }
+        requires end_is_node { points.end.0 < length self.old.names }
+        requires own_start { owner_in self.old points.start.0 ≡ owner }
+        requires own_end { owner_in self.old points.end.0 ≡ owner }
+        ensures { self.new ≡ stepped owner (set_range number (from_to (at (name_in self.old points.start.0) points.start.1) (at (name_in self.old points.end.0) points.end.1))) self.old }
+    {
+        self.ranges.write(owner, number, points);
     }
 
     /// Drops a live range, whose number is not given again (own rule).

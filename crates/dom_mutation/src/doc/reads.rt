@@ -19,7 +19,7 @@ impl Doc {
     /// Holds of every document: names tell the nodes apart, each node stands once in its owner's trees, an owner's steps
     /// do in its part what they do in a part alone, no owner has more nodes than it may, each node's owner is there, and each
     /// owner's part is one as every world has it that is reached.
-    pub(crate) fn laws(&self)
+    pub fn laws(&self)
         ensures distinct { (j k : ℕ) → j < length self.now.names → k < length self.now.names → name_in self.now j ≡ name_in self.now k → j ≡ k }
         ensures once { (o : OwnerOf) (x : Name) → count_by (λ n. name_eq n.name x) (nodes (part_of self.now.world o).trees) ≤ 1 }
         ensures alone { (k : ℕ) → k < length self.now.names → IsAlone self.now.world (owner_in self.now k) }

@@ -1,5 +1,4 @@
 use Rattle.std.proofs.Common.{is_some, sym, ap, ◌∙◌}
-use Rattle.std.specs.Prelude.{option_map}
 use Rattle.dom_mutation.proofs.RangedPassing.{some_of, range_is}
 use Rattle.dom_ranges.specs.Tables.{range_from}
 use Rattle.dom_mutation.proofs.doc.Doc.has_range.Goals as goal

@@ -1,12 +1,9 @@
-use Rattle.std.proofs.Common.{◌≡◌, ◌+◌, ◌<◌, ◌≤◌, ◌^◌, ℕ, length, sym, ap, subst, ◌∙◌, arith}
-use Rattle.std.specs.Prelude.{nat_eq}
-use Rattle.dom_base.specs.declared.Owner.{Owner}
+use Rattle.std.proofs.Common.{◌≡◌, ◌+◌, ◌<◌, ◌^◌, ℕ, length, ap, subst, ◌∙◌, arith}
 use Rattle.dom_model.specs.Steps.{join_at}
 use Rattle.dom_model.specs.Tree.{index_of, length_of}
 use Rattle.dom_model.specs.World.{part_of}
-use Rattle.dom_isolation.specs.Bounds.{HasBounds}
 use Rattle.dom_tree.specs.Forest.{name_at}
-use Rattle.dom_mutation.specs.Doc.{name_in, owner_in, trees_in, stepped, contents, all_tables}
+use Rattle.dom_mutation.specs.Doc.{name_in, owner_in, stepped, contents, all_tables}
 use Rattle.dom_mutation.proofs.Held.{are_hosts}
 use Rattle.dom_mutation.proofs.RangedStates.{held_live, live_done, join_asks}
 use Rattle.dom_mutation.proofs.RangedSteps.{join_ranged}

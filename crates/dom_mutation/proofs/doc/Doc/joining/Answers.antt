@@ -1,9 +1,8 @@
-use Rattle.std.proofs.Common.{◌≡◌, ◌<◌, List, length, subst, sym, ap, ◌∙◌}
+use Rattle.std.proofs.Common.{◌<◌, List, length, subst, sym, ap, ◌∙◌}
 use Rattle.std.proofs.lemmas.Result.{on_ok_weaker}
 use Rattle.dom_base.specs.declared.NodeName.{NodeName}
 use Rattle.dom_isolation.proofs.TextBounds.{text-data}
 use Rattle.dom_model.specs.Tree.{kind_of}
-use Rattle.dom_tree.specs.Forest.{name_at}
 use Rattle.dom_mutation.specs.Doc.{DocState, name_in, trees_in}
 use Rattle.dom_mutation.proofs.Joined.{own_nodes, joined_whole}
 use Rattle.dom_mutation.proofs.Joining.{joining_exact, joining_fits, joining_bounds}

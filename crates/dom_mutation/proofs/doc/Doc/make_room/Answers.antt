@@ -1,6 +1,5 @@
-use Rattle.std.proofs.Common.{◌≡◌, ◌<◌, ℕ, length, sym, ap, ◌∙◌}
+use Rattle.std.proofs.Common.{◌<◌, ℕ, length, sym, ap, ◌∙◌}
 use Rattle.std.specs.Prelude.{nat_eq}
-use Rattle.dom_base.specs.declared.Owner.{Owner}
 use Rattle.dom_model.specs.Ranges.{after_insert}
 use Rattle.dom_model.specs.Steps.{make_room}
 use Rattle.dom_model.specs.Tree.{index_of}

@@ -1,4 +1,4 @@
-use Rattle.std.proofs.Common.{ℕ, List, map, ap, ◌∙◌}
+use Rattle.std.proofs.Common.{map, ap, ◌∙◌}
 use Rattle.dom_model.specs.Tree.{is_text, kind_of, descendants}
 use Rattle.dom_mutation.specs.Doc.{name_in, trees_in}
 use Rattle.dom_mutation.proofs.JoinedEach.{listed_texts}

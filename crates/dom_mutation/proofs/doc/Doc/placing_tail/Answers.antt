@@ -1,4 +1,4 @@
-use Rattle.std.proofs.Common.{◌<◌, ap, subst, ◌∙◌, arith}
+use Rattle.std.proofs.Common.{ap, subst, ◌∙◌, arith}
 use Rattle.dom_isolation.specs.Bounds.{HasBounds}
 use Rattle.dom_model.specs.Tree.{index_of}
 use Rattle.dom_model.specs.World.{part_of}

@@ -1,4 +1,4 @@
-use Rattle.std.proofs.Common.{◌≡◌, ◌<◌, true, length, ap, subst, sym}
+use Rattle.std.proofs.Common.{◌≡◌, ◌<◌, true, length, ap, subst}
 use Rattle.dom_base.specs.declared.NodeName.{NodeName}
 use Rattle.dom_model.specs.Names.{node_of}
 use Rattle.dom_model.specs.World.{is_there}

@@ -1,4 +1,4 @@
-use Rattle.std.proofs.Common.{◌≡◌, true≢false, is_some, sym, ap, ◌∙◌}
+use Rattle.std.proofs.Common.{true≢false, is_some, sym, ap, ◌∙◌}
 use Rattle.std.specs.Prelude.{option_map}
 use Rattle.dom_ranges.specs.Tables.{range_from}
 use Rattle.dom_mutation.proofs.RangedPassing.{range_is, points_own, points_makes}

@@ -1,4 +1,4 @@
-use Rattle.std.proofs.Common.{ℕ, ◌<◌, ◌^◌, arith}
+use Rattle.std.proofs.Common.{arith}
 use Rattle.dom_mutation.proofs.RangedLists.{own_at_nodes}
 use Rattle.dom_mutation.proofs.RangedPassing.{end_held, end_makes, end_refused, end_faults, same_if}
 use Rattle.dom_mutation.proofs.doc.Doc.range_set_end.Goals as goal
