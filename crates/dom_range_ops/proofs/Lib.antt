@@ -11,3 +11,4 @@ pub mod KeyedWalks
 pub mod TakingItems
 pub mod TakingCounts
 pub mod TakingParts
+pub mod DeletionPlaces

@@ -2,3 +2,4 @@ pub mod Texts
 pub mod Points
 pub mod Pieces
 pub mod Takings
+pub mod Deletions

@@ -2,6 +2,7 @@
 #![tactic(auto)]
 
 mod cloning;
+mod ends;
 mod pieces;
 mod points;
 mod text;

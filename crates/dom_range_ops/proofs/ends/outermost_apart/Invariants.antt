@@ -1,0 +1,14 @@
+use Rattle.std.proofs.Common.{◌≡◌, ◌<◌, length, true, false}
+use Rattle.dom_model.specs.Tree.{inclusive_ancestors, is_inclusive_ancestor}
+use Rattle.dom_tree.specs.Forest.{name_at}
+use Rattle.dom_range_ops.proofs.ends.outermost_apart.Given as goal
+
+abbrev pub invariant-up : goal.invariant-up
+invariant-up l = record {
+  node : l.low < length l.forest.names;
+  above : is_inclusive_ancestor l.forest.trees (name_at l.forest.names l.low) (name_at l.forest.names l.fn.first) ≡ true;
+  apart : is_inclusive_ancestor l.forest.trees (name_at l.forest.names l.low) (name_at l.forest.names l.fn.last) ≡ false;
+}
+
+abbrev pub decreases-up : goal.decreases-up
+decreases-up l = length (inclusive_ancestors l.forest.trees (name_at l.forest.names l.low))

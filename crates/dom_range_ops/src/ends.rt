@@ -1,0 +1,101 @@
+//! How the two ends of a live range stand to one another (DOM Standard, 5.5 Interface Range).
+ghost use Rattle.std.specs.Prelude.{◌≡◌, ◌<◌, length, true, false, not, filter, Some, List};
+ghost use Rattle.dom_base.specs.declared.NodeName.{NodeName as Name};
+ghost use Rattle.dom_model.specs.Extract.{is_in_one_data, behind_node, new_place};
+ghost use Rattle.dom_model.specs.Names.{name_eq, last_of};
+ghost use Rattle.dom_model.specs.Ranges.{at, is_collapsed};
+ghost use Rattle.dom_model.specs.Tree.{kind_of, has_data, parent_of, inclusive_ancestors, is_inclusive_ancestor};
+ghost use Rattle.dom_range_ops.specs.Deletions.{AreLeaves};
+ghost use Rattle.dom_range_ops.specs.Texts.{range_at_points, AreEnds};
+ghost use Rattle.dom_tree.specs.Forest.{name_at};
+
+use dom_base::Kind;
+use dom_ranges::Points;
+use dom_tree::Forest;
+use node_arena::Key;
+
+/// Whether both ends of a range are one boundary point (DOM Standard, concept: range, collapsed), whatever the names of the
+/// nodes are that tell them apart.
+pub(crate) fn is_collapsed(points: &Points) -> bool
+    ensures { (names : List Name) → (name_at names points.now.start.0 ≡ name_at names points.now.end.0 → points.now.start.0 ≡ points.now.end.0) → result ≡ is_collapsed name_eq (range_at_points names points.now) }
+{
+    let (first, from) = points.start;
+    let (last, to) = points.end;
+    first == last && from == to
+}
+
+/// Whether both ends of a range are in one Text or Comment (DOM Standard, deleteContents(), extractContents()).
+pub(crate) fn is_in_one_data(forest: &Forest, points: &Points) -> bool
+    requires { AreEnds forest.now points.now }
+    ensures { result ≡ is_in_one_data forest.now.trees (range_at_points forest.now.names points.now) }
+{
+    forest.nodes_stand_once();
+    let first = points.start.0;
+    let last = points.end.0;
+    first == last && has_data(forest, first)
+}
+
+/// Whether a node is a Text or a Comment.
+pub(crate) fn has_data(forest: &Forest, key: Key) -> bool
+    requires { key < length forest.now.names }
+    ensures { result ≡ has_data (kind_of forest.now.trees (name_at forest.now.names key)) }
+{
+    matches!(forest.kind(key), Kind::Text | Kind::Comment)
+}
+
+/// Where a range stands after its contents were taken (DOM Standard, concept: extract, new node and new offset): its start,
+/// where the start node is an inclusive ancestor of the end node, else just behind the start node's outermost inclusive
+/// ancestor that is none of the end node.
+pub(crate) fn new_place(forest: &Forest, points: &Points) -> (Key, usize)
+    requires ends { AreEnds forest.now points.now }
+    requires leaves { AreLeaves forest.now points.now }
+    ensures value { at (name_at forest.now.names result.0) result.1 ≡ new_place forest.now.trees (range_at_points forest.now.names points.now) }
+    ensures node { result.0 < length forest.now.names }
+{
+    forest.nodes_stand_once();
+    let first = points.start.0;
+    let last = points.end.0;
+    if forest.is_inclusive_ancestor(first, last) {
+        return points.start;
+    }
+    behind_node(forest, outermost_apart(forest, first, last))
+}
+
+/// The outermost inclusive ancestor of a node that is no inclusive ancestor of another one.
+fn outermost_apart(forest: &Forest, first: Key, last: Key) -> Key
+    requires first_is_node { first < length forest.now.names }
+    requires last_is_node { last < length forest.now.names }
+    requires apart { is_inclusive_ancestor forest.now.trees (name_at forest.now.names first) (name_at forest.now.names last) ≡ false }
+    ensures node { result < length forest.now.names }
+    ensures above { is_inclusive_ancestor forest.now.trees (name_at forest.now.names result) (name_at forest.now.names first) ≡ true }
+    ensures value { last_of (filter (λ a. not (is_inclusive_ancestor forest.now.trees a (name_at forest.now.names last))) (inclusive_ancestors forest.now.trees (name_at forest.now.names first))) ≡ Some (name_at forest.now.names result) }
+{
+    forest.nodes_stand_once();
+    let mut low = first;
+    'up: loop {
+        let Some(above) = forest.parent(low) else {
+            return low;
+        };
+        if forest.is_inclusive_ancestor(above, last) {
+            return low;
+        }
+        low = above;
+    }
+}
+
+/// The boundary point just behind a node whose parent is no Text and no Comment.
+fn behind_node(forest: &Forest, key: Key) -> (Key, usize)
+    requires node { key < length forest.now.names }
+    requires below_no_data { (p : Name) → parent_of forest.now.trees (name_at forest.now.names key) ≡ Some p → has_data (kind_of forest.now.trees p) ≡ false }
+    ensures value { at (name_at forest.now.names result.0) result.1 ≡ behind_node forest.now.trees (name_at forest.now.names key) }
+    ensures node { result.0 < length forest.now.names }
+{
+    forest.nodes_stand_once();
+    let Some(parent) = forest.parent(key) else {
+        return (key, 1);
+    };
+    match forest.next(key) {
+        Some(next) => (parent, forest.index(next)),
+        None => (parent, forest.length(parent)),
+    }
+}
