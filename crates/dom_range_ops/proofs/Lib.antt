@@ -8,7 +8,9 @@ pub mod Between
 pub mod Kids
 pub mod AfterPoint
 pub mod KeyedWalks
+pub mod CloneAttributes
 pub mod TakingItems
 pub mod TakingCounts
 pub mod TakingParts
+pub mod TakingStacks
 pub mod DeletionPlaces

@@ -19,9 +19,9 @@ use std::alloc::{AllocError, Global};
 /// It is refused where memory is refused.
 pub(crate) fn clone_node(alloc: Global, forest: &Forest, key: Key) -> Result<NodeData, AllocError>
     requires { key < length forest.now.names }
-    ensures value { IfOk result (λ data. (x : Name) → node_from forest.now.names x data ≡ with_name x (node_in forest.now.trees (name_at forest.now.names key))) }
-    ensures kind { IfOk result (λ data. data.kind ≡ kind_of forest.now.trees (name_at forest.now.names key)) }
-    ensures document { IfOk result (λ data. ForSome data.document (λ d. d < length forest.now.names)) }
+    ensures value { IfOk result (λ copy. (x : Name) → node_from forest.now.names x copy ≡ with_name x (node_in forest.now.trees (name_at forest.now.names key))) }
+    ensures kind { IfOk result (λ copy. copy.kind ≡ kind_of forest.now.trees (name_at forest.now.names key)) }
+    ensures document { IfOk result (λ copy. ForSome copy.document (λ d. d < length forest.now.names)) }
 {
     let text = Vec::from_slice(alloc, forest.text(key))?;
     data_with(alloc, forest, key, text)
@@ -36,9 +36,9 @@ pub(crate) fn clone_units(
     to: usize,
 ) -> Result<NodeData, AllocError>
     requires { key < length forest.now.names }
-    ensures value { IfOk result (λ data. (x : Name) → node_from forest.now.names x data ≡ clone_part x from to (node_in forest.now.trees (name_at forest.now.names key))) }
-    ensures kind { IfOk result (λ data. data.kind ≡ kind_of forest.now.trees (name_at forest.now.names key)) }
-    ensures document { IfOk result (λ data. ForSome data.document (λ d. d < length forest.now.names)) }
+    ensures value { IfOk result (λ copy. (x : Name) → node_from forest.now.names x copy ≡ clone_part x from to (node_in forest.now.trees (name_at forest.now.names key))) }
+    ensures kind { IfOk result (λ copy. copy.kind ≡ kind_of forest.now.trees (name_at forest.now.names key)) }
+    ensures document { IfOk result (λ copy. ForSome copy.document (λ d. d < length forest.now.names)) }
 {
     let text = Vec::from_slice(alloc, units_between(forest.text(key), from, to))?;
     data_with(alloc, forest, key, text)
@@ -52,9 +52,9 @@ fn data_with(
     text: DomStr,
 ) -> Result<NodeData, AllocError>
     requires { key < length forest.now.names }
-    ensures value { IfOk result (λ data. (x : Name) → node_from forest.now.names x data ≡ record (node_in forest.now.trees (name_at forest.now.names key)) { name = x; text = text.items }) }
-    ensures kind { IfOk result (λ data. data.kind ≡ kind_of forest.now.trees (name_at forest.now.names key)) }
-    ensures document { IfOk result (λ data. ForSome data.document (λ d. d < length forest.now.names)) }
+    ensures value { IfOk result (λ copy. (x : Name) → node_from forest.now.names x copy ≡ record (node_in forest.now.trees (name_at forest.now.names key)) { name = x; text = text.items }) }
+    ensures kind { IfOk result (λ copy. copy.kind ≡ kind_of forest.now.trees (name_at forest.now.names key)) }
+    ensures document { IfOk result (λ copy. ForSome copy.document (λ d. d < length forest.now.names)) }
 {
     Ok(NodeData {
         kind: forest.kind(key),
@@ -79,10 +79,7 @@ fn attributes(
     while let Some((name, value)) = forest.attr_at(key, copied.len()) {
         let name = String::from_str(alloc, name)?;
         let value = Vec::from_slice(alloc, value)?;
-        match copied.insert(name, value) {
-            Ok(_) => (),
-            Err(_) => return Err(AllocError),
-        }
+        copied.insert(name, value)?;
     }
     Ok(copied)
 }

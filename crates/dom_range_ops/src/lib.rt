@@ -5,6 +5,7 @@ mod cloning;
 mod ends;
 mod pieces;
 mod points;
+mod taking;
 mod text;
 
 pub use text::range_text;
