@@ -13,4 +13,6 @@ pub mod TakingItems
 pub mod TakingCounts
 pub mod TakingParts
 pub mod TakingStacks
+pub mod TakingDocs
+pub mod TakingPieces
 pub mod DeletionPlaces

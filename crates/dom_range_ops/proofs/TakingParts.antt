@@ -1,6 +1,8 @@
 -- What may be taken item by item may be so still after each of them.
 use Rattle.std.proofs.Common.{◌≡◌, ◌≤◌, ◌+◌, ◌-◌, true, false, List, [], ◌∷◌, ◌++◌, drop, Option, Some, None, refl, sym, ap, ◌∙◌, subst, arith}
 use Rattle.std.specs.List.{AllByRecursion}
+use Rattle.dom_base.specs.declared.Kind.{Kind}
+use Rattle.dom_base.specs.declared.Kind.TheVariants.{Document, Fragment, Shadow, Element, Text, Comment}
 use Rattle.dom_base.specs.declared.NodeName.{NodeName}
 use Rattle.dom_isolation.specs.Bounds.{HasBounds}
 use Rattle.dom_isolation.specs.Worlds.{IsPart}
@@ -165,3 +167,12 @@ takes-on into clones p item items i le m =
     made-more (cut_item x from to) items = omega arith
     made-more (clone_item x) items = omega arith
     made-more end_item items = omega arith
+
+-- a Text or a Comment is no shadow root
+pub data-no_shadow : (k : Kind) → has_data k ≡ true → is_shadow k ≡ false
+data-no_shadow Document h = refl
+data-no_shadow Fragment h = refl
+data-no_shadow Shadow h = sym h
+data-no_shadow Element h = refl
+data-no_shadow Text h = refl
+data-no_shadow Comment h = refl
