@@ -15,4 +15,5 @@ pub mod TakingParts
 pub mod TakingStacks
 pub mod TakingDocs
 pub mod TakingPieces
+pub mod TakingLoops
 pub mod DeletionPlaces

@@ -70,7 +70,6 @@ record Leaves (into : NodeName) (clones : List NodeName) (p : Part) (steps : Lis
   leads : Leads (Some (top_of into clones)) p steps
   bounds : HasBounds (after p steps)
   takers : AllByRecursion (IsTaker into (after p steps).trees) (into ∷ clones_after (next_name p) item clones)
-  count : (after p steps).node_count + 0 ≡ p.node_count + made_by (item ∷ [])
 
 -- a new node below a taker
 record IsPutBelow (into top : NodeName) (p : Part) (n : Node) : Type 0 where
@@ -109,7 +108,6 @@ item-leaves into clones p i h t le (whole_item x) m =
       leads = l;
       bounds = insertion-keeps observed x top None p i m.there taker.there (m.apart top taker.new) taker.no_data h;
       takers = all-then (IsTaker into p.trees) (IsTaker into q.trees) (taker-still into p q l.changed) (into ∷ clones) t;
-      count = let c = count-inserting observed x top None p in omega arith;
     }
 item-leaves into clones p i h t le (cut_item x from to) m =
     let top = top_of into clones in
@@ -127,7 +125,6 @@ item-leaves into clones p i h t le (cut_item x from to) m =
       leads = both;
       bounds = subst HasBounds (sym same) (data-keeps x from (to - from) [] q put.leads.changed.part units put.bounds);
       takers = all-then (IsTaker into p.trees) (IsTaker into r.trees) (taker-still into p r both.changed) (into ∷ clones) t;
-      count = let c = count-making_below top n p in let d = ap (λ (v : Part). v.node_count) same in omega arith;
     }
 item-leaves into clones p i h t le (clone_item x) m =
     let top = top_of into clones in
@@ -139,14 +136,31 @@ item-leaves into clones p i h t le (clone_item x) m =
       leads = put.leads;
       bounds = put.bounds;
       takers = (kept.0, (record { there = times-has_node q.trees (next_name p) put.there; no_data = ap has_data put.kind ∙ m.1; new = le }, kept.1));
-      count = let c = count-making_below top n p in omega arith;
     }
 item-leaves into clones p i h t le end_item m =
-    record { leads = leads-nothing (Some (top_of into clones)) p i; bounds = h; takers = (t.0, dropped clones t.1); count = refl }
+    record { leads = leads-nothing (Some (top_of into clones)) p i; bounds = h; takers = (t.0, dropped clones t.1) }
   where
     dropped : (xs : List NodeName) → AllByRecursion (IsTaker into p.trees) xs → AllByRecursion (IsTaker into p.trees) (drop 1 xs)
     dropped [] g = tt
     dropped (x ∷ xs) g = g.1
+
+-- how many nodes there are then
+pub count-item : (top : NodeName) (p : Part) (item : Item) → (after p (taking_item top item p)).node_count ≡ p.node_count + made_by (item ∷ [])
+count-item top p (whole_item x) = let c = count-inserting observed x top None p in omega arith
+count-item top p (cut_item x from to) =
+    let n = clone_part (next_name p) from to (node_in p.trees x) in
+    let one = making_below top n p in
+    let q = after p one in
+    let c = count-making_below top n p in let d = ap (λ (v : Part). v.node_count) (after-append p one (replacing_data x from (to - from) [] q)) in omega arith
+count-item top p (clone_item x) = let c = count-making_below top (with_name (next_name p) (node_in p.trees x)) p in omega arith
+count-item top p end_item = omega arith
+
+-- of one item and of others
+pub made-more : (item : Item) (items : List Item) → made_by (item ∷ items) ≡ made_by (item ∷ []) + made_by items
+made-more (whole_item x) items = omega arith
+made-more (cut_item x from to) items = omega arith
+made-more (clone_item x) items = omega arith
+made-more end_item items = omega arith
 
 -- so the others may be taken then
 pub takes-on : (into : NodeName) (clones : List NodeName) (p : Part) (item : Item) (items : List Item) → IsPart p → into.number ≤ p.node_count → MayTake p into clones (item ∷ items) →
@@ -159,14 +173,8 @@ takes-on into clones p item items i le m =
       bounds = left.bounds;
       takers = left.takers;
       taken = all-then (MayBeTaken into p.trees) (MayBeTaken into q.trees) (item-still into top p q (top-takes into p.trees clones m.takers).new i left.leads.changed) items m.taken.1;
-      limited = let c = left.count in let d = m.limited in let e = made-more item items in omega arith;
+      limited = let c = count-item top p item in let d = m.limited in let e = made-more item items in omega arith;
     }
-  where
-    made-more : (item : Item) (items : List Item) → made_by (item ∷ items) ≡ made_by (item ∷ []) + made_by items
-    made-more (whole_item x) items = omega arith
-    made-more (cut_item x from to) items = omega arith
-    made-more (clone_item x) items = omega arith
-    made-more end_item items = omega arith
 
 -- a Text or a Comment is no shadow root
 pub data-no_shadow : (k : Kind) → has_data k ≡ true → is_shadow k ≡ false
