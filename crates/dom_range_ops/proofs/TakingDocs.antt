@@ -1,11 +1,10 @@
 -- A new node of a `Doc` below another one.
-use Rattle.std.proofs.Common.{zero, suc, ◌≡◌, ◌<◌, ◌≤◌, ℕ, ◌+◌, true, false, List, [], ◌∷◌, ◌++◌, length, Option, Some, None, refl, sym, ap, ◌∙◌, arith, length-append}
+use Rattle.std.proofs.Common.{◌≡◌, ◌<◌, ℕ, true, false, List, [], ◌∷◌, ◌++◌, length, None, sym, ap, ◌∙◌, arith, length-append}
 use Rattle.std.proofs.Math.ListN.{get_or-append}
 use Rattle.std.proofs.Math.Seq.{get_or-append_seam}
 use Rattle.dom_base.specs.declared.NodeName.{NodeName}
 use Rattle.dom_base.specs.declared.Owner.{Owner}
 use Rattle.dom_base.specs.declared.Owner.TheVariants.{Page}
-use Rattle.dom_isolation.specs.Bounds.{HasBounds}
 use Rattle.dom_isolation.specs.Worlds.{IsPart}
 use Rattle.dom_isolation.proofs.Descents.{ancestor-inside}
 use Rattle.dom_isolation.proofs.KindCommands.{has_node-times}
@@ -22,7 +21,6 @@ use Rattle.dom_model.specs.Tree.{Node, node_in, has_node, is_inclusive_ancestor}
 use Rattle.dom_model.specs.World.{World, part_of}
 use Rattle.dom_mutation.specs.Doc.{DocState, made, planned, name_in, owner_in, trees_in, MayMove}
 use Rattle.dom_mutation.specs.Hosting.{IsAlone, PlansOwn}
-use Rattle.dom_mutation.proofs.BoundedDocs.{bounds_added}
 use Rattle.dom_mutation.proofs.Made.{plan_alone, made_then}
 use Rattle.dom_mutation.proofs.OwnPlans.{plans_then, plans_inserting}
 use Rattle.dom_tree.proofs.Owned.{read_own}

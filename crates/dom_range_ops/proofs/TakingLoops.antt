@@ -7,7 +7,7 @@ use Rattle.dom_base.specs.declared.Owner.{Owner}
 use Rattle.dom_isolation.specs.Worlds.{IsPart}
 use Rattle.dom_isolation.proofs.KindCommands.{has_node-times}
 use Rattle.dom_model.proofs.PartLaws.{owner-part_of}
-use Rattle.dom_model.specs.Changes.{Plan, observed, inserting}
+use Rattle.dom_model.specs.Changes.{observed}
 use Rattle.dom_model.specs.Extract.{clone_part, making_below}
 use Rattle.dom_model.specs.Names.{node_of}
 use Rattle.dom_model.specs.Part.{Part, next_name}
@@ -26,7 +26,6 @@ use Rattle.dom_range_ops.specs.Pieces.{Item, whole_item, cut_item, clone_item, e
 use Rattle.dom_range_ops.specs.Takings.{top_of, taking_item, taking_items, clones_after, new_names, names_in, MayBeTaken, MayTake, IsPieceOf}
 use Rattle.dom_range_ops.specs.declared.pieces.Piece.{Piece}
 use Rattle.dom_range_ops.specs.declared.pieces.Piece.TheVariants.{Whole, Cut, Clone, End}
-use Rattle.dom_tree.specs.Forest.{name_at}
 
 -- the steps for an item that may be taken are in its owner's part
 plans-item : (o : Owner) (into top : NodeName) (p : Part) (item : Item) → IsPart p → p.owner ≡ o → MayBeTaken into p.trees item → PlansOwn o (taking_item top item)

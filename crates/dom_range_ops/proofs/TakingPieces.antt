@@ -1,5 +1,5 @@
 -- A piece that may be taken, by its key.
-use Rattle.std.proofs.Common.{zero, suc, ◌≡◌, ◌<◌, ◌≤◌, ℕ, ◌+◌, ◌-◌, true, false, List, [], ◌∷◌, ◌++◌, length, map, reverse, length-append, Option, Some, None, refl, sym, ap, ◌∙◌, subst, arith}
+use Rattle.std.proofs.Common.{zero, suc, ◌≡◌, ◌<◌, ℕ, ◌-◌, false, List, [], ◌∷◌, ◌++◌, length, map, reverse, length-append, None, refl, sym, ap, ◌∙◌, subst, arith}
 use Rattle.std.specs.Prelude.{slice_get, unwrap_or}
 use Rattle.std.specs.List.{AllByRecursion}
 use Rattle.std.proofs.Math.Seq.{get_or-append_seam}
@@ -11,17 +11,16 @@ use Rattle.dom_isolation.specs.Worlds.{IsPart}
 use Rattle.dom_isolation.proofs.KindCommands.{has_node-times}
 use Rattle.dom_isolation.proofs.Lists.{all-append, all-then}
 use Rattle.dom_model.proofs.PartLaws.{owner-part_of}
-use Rattle.dom_model.specs.Changes.{observed, inserting}
 use Rattle.dom_model.specs.Names.{node_of}
 use Rattle.dom_model.specs.Part.{Part, next_name}
 use Rattle.dom_model.specs.Tree.{kind_of, has_data, is_inclusive_ancestor}
 use Rattle.dom_model.specs.World.{part_of}
-use Rattle.dom_mutation.specs.Doc.{DocState, made, planned, name_in, owner_in, trees_in, IsOwnNode, MayMove}
+use Rattle.dom_mutation.specs.Doc.{DocState, made, name_in, owner_in, trees_in, IsOwnNode, MayMove}
 use Rattle.dom_range_ops.proofs.TakingDocs.{name-kept, node-kept}
 use Rattle.dom_range_ops.proofs.TakingParts.{top-takes}
 use Rattle.dom_range_ops.proofs.TakingStacks.{stack-push, stack-top}
 use Rattle.dom_range_ops.specs.Pieces.{Item, item_in, made_by}
-use Rattle.dom_range_ops.specs.Takings.{top_of, taking_item, new_names, names_in, IsTaker, IsTaken, MayBeTaken, MayTake, IsPieceOf}
+use Rattle.dom_range_ops.specs.Takings.{top_of, taking_item, new_names, names_in, IsTaker, IsTaken, MayTake}
 use Rattle.dom_range_ops.specs.declared.pieces.Piece.{Piece}
 use Rattle.dom_tree.specs.Forest.{name_at}
 

@@ -2,7 +2,7 @@ use Rattle.std.proofs.Common.{◌+◌, drop, subst}
 use Rattle.dom_base.specs.declared.NodeName.{NodeName}
 use Rattle.dom_mutation.specs.Doc.{owner_in}
 use Rattle.dom_mutation.specs.Hosting.{IsAlone}
-use Rattle.dom_range_ops.proofs.TakingLoops.{Progress, progress-first, left-now, same-into, into-kept, next-may, next-node, progress-next}
+use Rattle.dom_range_ops.proofs.TakingLoops.{Progress, left-now, same-into, into-kept, next-may, next-node, progress-next}
 use Rattle.dom_range_ops.proofs.taking.take_pieces.Goals as goal
 
 pub take_piece-requires-clause-into_is_node : goal.take_piece-requires-clause-into_is_node

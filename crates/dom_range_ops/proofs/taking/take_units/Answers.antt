@@ -1,15 +1,14 @@
-use Rattle.std.proofs.Common.{◌≡◌, ◌-◌, ◌∷◌, [], List, true, false, true≢false, sym, ap, ◌∙◌}
-use Rattle.dom_base.specs.declared.Kind.{Kind}
+use Rattle.std.proofs.Common.{◌≡◌, ◌∷◌, [], List, sym, ap, ◌∙◌}
 use Rattle.dom_base.specs.declared.NodeName.{NodeName}
 use Rattle.dom_model.proofs.PartLaws.{owner-part_of}
 use Rattle.dom_model.specs.Changes.{◌and_then◌}
 use Rattle.dom_model.specs.Extract.{clone_part, making_below}
 use Rattle.dom_model.specs.Part.{next_name}
 use Rattle.dom_model.specs.TextChanges.{replacing_data}
-use Rattle.dom_model.specs.Tree.{Node, is_shadow, has_data, kind_of, node_in}
+use Rattle.dom_model.specs.Tree.{Node, is_shadow, kind_of, node_in}
 use Rattle.dom_model.specs.World.{part_of}
-use Rattle.dom_mutation.specs.Doc.{made, planned, name_in, owner_in, trees_in}
-use Rattle.dom_tree.specs.Forest.{name_at, node_from}
+use Rattle.dom_mutation.specs.Doc.{made, name_in, owner_in, trees_in}
+use Rattle.dom_tree.specs.Forest.{node_from}
 use Rattle.dom_range_ops.proofs.TakingDocs.{name-kept, node-read, units-made}
 use Rattle.dom_range_ops.proofs.TakingParts.{data-no_shadow}
 use Rattle.dom_range_ops.proofs.taking.take_units.Goals as goal
