@@ -14,6 +14,14 @@ pub mod InsertedChildren
 pub mod InsertedParts
 pub mod InsertedTails
 pub mod InsertedTests
+pub mod CloneAttributes
+pub mod TakingItems
+pub mod TakingCounts
+pub mod TakingParts
+pub mod TakingStacks
+pub mod TakingDocs
+pub mod TakingPieces
+pub mod TakingLoops
 pub mod DeletionPlaces
 pub mod DeletionOrder
 pub mod DeletionSteps

@@ -2,4 +2,5 @@ pub mod Texts
 pub mod Points
 pub mod Pieces
 pub mod Insertions
+pub mod Takings
 pub mod Deletions

@@ -4,10 +4,12 @@
 
 mod contained;
 mod deleting;
+mod cloning;
 mod ends;
 mod inserting;
 mod pieces;
 mod points;
+mod taking;
 mod text;
 
 pub use deleting::delete;

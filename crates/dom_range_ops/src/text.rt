@@ -113,7 +113,7 @@ fn is_text(forest: &Forest, key: Key) -> bool
 }
 
 /// The code units from an offset on up to another one, as far as there are such.
-fn units_between(units: &[u16], start: usize, end: usize) -> &[u16]
+pub(crate) fn units_between(units: &[u16], start: usize, end: usize) -> &[u16]
     ensures { result.now ≡ slice_range units.now start end }
 {
     let (_, tail) = units.split_at(start.min(units.len()));

@@ -19,3 +19,4 @@ pub mod Owned
 pub mod OwnChanges
 pub mod EachNode
 pub mod Ordered
+pub mod OwnNames

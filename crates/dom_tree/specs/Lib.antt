@@ -3,3 +3,4 @@ pub mod Rows
 pub mod Forest
 pub mod Owners
 pub mod EachNode
+pub mod Attributes

@@ -3,6 +3,7 @@ ghost use Rattle.std.specs.Prelude.{◌≡◌, ◌<◌, length, Some, None, slic
 ghost use Rattle.std.specs.Option.{option_map, ForSome};
 ghost use Rattle.dom_model.specs.Tree.{kind_of, node_in, attribute_value};
 ghost use Rattle.dom_model.specs.TreeChanges.{change_node, with_text, under_document, with_attribute};
+ghost use Rattle.dom_tree.specs.Attributes.{HaveOwnNames};
 ghost use Rattle.dom_tree.specs.Forest.{name_at, attribute_from};
 
 use crate::Forest;
@@ -82,6 +83,14 @@ impl Forest {
     {
         let (name, value) = self.arena.payload(key).node.attributes.get_index(index)?;
         Some((name.as_str(), value.as_slice()))
+    }
+
+    /// Holds of every node (DOM Standard, concept: attribute list): no two of its attributes have one name.
+    pub fn attributes_have_own_names(&self, key: Key)
+        requires { key < length self.now.names }
+        ensures { HaveOwnNames (node_in self.now.trees (name_at self.now.names key)).attributes }
+    {
+        let _count = self.arena.payload(key).node.attributes.len();
     }
 
     /// Sets an attribute to a value in code units. One that is there keeps its place, and a new one goes last (DOM

@@ -1,0 +1,54 @@
+-- The attributes of a node, copied one by one.
+use Rattle.std.proofs.Common.{zero, suc, ◌≡◌, ◌<◌, ℕ, ◌-◌, Bool, false, List, [], ◌∷◌, length, take, Some, None, refl, sym, ap, ◌∙◌, arith}
+use Rattle.std.specs.Prelude.{slice_get}
+use Rattle.std.specs.List.{AllByRecursion}
+use Rattle.std.specs.Str.{bytes_eq}
+use Rattle.std.proofs.lemmas.Bool.{cond-false}
+use Rattle.std.proofs.lemmas.List.{length-map, length-take-le}
+use Rattle.indexmap.specs.IndexMap.{insert_entry}
+use Rattle.dom_model.specs.Names.{text_eq}
+use Rattle.dom_model.specs.Tree.{Attribute}
+use Rattle.dom_model.specs.TreeChanges.{attributes_with}
+use Rattle.dom_tree.specs.Attributes.{HaveOwnNames}
+use Rattle.dom_tree.proofs.Attributes.{attributes_in, insert-attributes}
+
+-- the next attribute goes behind those that were copied
+pub attributes-next : (bs : List Attribute) → HaveOwnNames bs → (n : ℕ) (b : Attribute) → slice_get bs n ≡ Some b → attributes_with b.name b.value (take n bs) ≡ take (suc n) bs
+attributes-next [] h n b is = absurd (cc)
+attributes-next (c ∷ bs) h zero b is = let same : c ≡ b = cc in ap (λ (d : Attribute). d ∷ []) (sym same)
+attributes-next (c ∷ bs) h (suc n) b is =
+    cond-false (text_eq b.name c.name) _ _ (apart bs n h.0 is) ∙ ap (λ ds. c ∷ ds) (attributes-next bs h.1 n b is)
+  where
+    apart : (ds : List Attribute) (n : ℕ) → AllByRecursion (λ (d : Attribute). text_eq d.name c.name ≡ false) ds → slice_get ds n ≡ Some b → text_eq b.name c.name ≡ false
+    apart [] n g e = absurd (cc)
+    apart (d ∷ ds) zero g e = let same : d ≡ b = cc in ap (λ (x : Attribute). text_eq x.name c.name) (sym same) ∙ g.0
+    apart (d ∷ ds) (suc n) g e = apart ds n g.1 e
+
+-- where there is none, all were copied
+pub attributes-all : (bs : List Attribute) (n : ℕ) → slice_get bs n ≡ None → take n bs ≡ bs
+attributes-all [] zero is = refl
+attributes-all [] (suc n) is = refl
+attributes-all (c ∷ bs) zero is = absurd (cc)
+attributes-all (c ∷ bs) (suc n) is = ap (λ ds. c ∷ ds) (attributes-all bs n is)
+
+-- where there is one, not all were
+pub attributes-left : (bs : List Attribute) (n : ℕ) (b : Attribute) → slice_get bs n ≡ Some b → n < length bs
+attributes-left [] n b is = absurd (cc)
+attributes-left (c ∷ bs) zero b is = omega arith
+attributes-left (c ∷ bs) (suc n) b is = let more = attributes-left bs n b is in omega arith
+
+-- The attributes of the code's map: one more is put into it.
+module _ {K V : Type 0} (text_of : K → List ℕ) (items_of : V → List ℕ) (eq : K → K → Bool) (same : (x y : K) → eq x y ≡ bytes_eq (text_of x) (text_of y)) where
+  -- those that were copied are the first ones
+  abbrev pub AreFirst : List (K × V) → List Attribute → Type 0
+  AreFirst es bs = attributes_in text_of items_of es ≡ take (length es) bs
+
+  pub attributes-put : (es : List (K × V)) (bs : List Attribute) → HaveOwnNames bs → AreFirst es bs → (k : K) (v : V) → slice_get bs (length es) ≡ Some (record { name = text_of k; value = items_of v }) → (new : List (K × V)) → new ≡ insert_entry eq es k v →
+      AreFirst new bs × (length bs - length new < length bs - length es)
+  attributes-put es bs h first k v there new put =
+      let more : attributes_in text_of items_of new ≡ take (suc (length es)) bs =
+      ap (attributes_in text_of items_of) put ∙ insert-attributes text_of items_of eq same k v es ∙ ap (attributes_with (text_of k) (items_of v)) first ∙ attributes-next bs h (length es) (record { name = text_of k; value = items_of v }) there in
+      let left = attributes-left bs (length es) (record { name = text_of k; value = items_of v }) there in
+      let size : length new ≡ suc (length es) =
+      sym (length-map new (λ e. record { name = text_of e.0; value = items_of e.1 })) ∙ ap (λ (ds : List Attribute). length ds) more ∙ length-take-le (suc (length es)) bs (omega arith) in
+      (more ∙ ap (λ n. take n bs) (sym size), omega arith)

@@ -1,0 +1,66 @@
+-- The steps that take pieces are those that take their items, one after another.
+use Rattle.std.proofs.Common.{◌≡◌, [], ◌∷◌, ◌++◌, List, refl, sym, ap, ◌∙◌, append_assoc}
+use Rattle.std.specs.Prelude.{◌-◌, None}
+use Rattle.std.proofs.lemmas.List.{append-nil}
+use Rattle.dom_base.specs.declared.NodeName.{NodeName}
+use Rattle.dom_isolation.proofs.PlanPlaces.{after-append}
+use Rattle.dom_model.specs.Changes.{Plan, ◌and_then◌, observed, inserting}
+use Rattle.dom_model.specs.Extract.{Pieces, nothing, whole, cut, clone, clone_part, making_below, taking}
+use Rattle.dom_model.specs.Part.{Part, next_name}
+use Rattle.dom_model.specs.Steps.{after}
+use Rattle.dom_model.specs.TextChanges.{replacing_data}
+use Rattle.dom_model.specs.Tree.{node_in}
+use Rattle.dom_model.specs.TreeChanges.{with_name}
+use Rattle.dom_range_ops.specs.Pieces.{Item, end_item, items_of}
+use Rattle.dom_range_ops.specs.Takings.{top_of, taking_items}
+
+-- three plans in turn
+pub then-assoc : (f g h : Plan) (p : Part) → ((f and_then g) and_then h) p ≡ (f and_then (g and_then h)) p
+then-assoc f g h p =
+    let one = f p in
+    let q = after p one in
+    let two = g q in
+    ap (λ (r : Part). (one ++ two) ++ h r) (after-append p one two) ∙ append_assoc one two (h (after q two))
+
+-- the same plan behind another one
+pub then-same : (f g h : Plan) (p : Part) → ((q : Part) → g q ≡ h q) → (f and_then g) p ≡ (f and_then h) p
+then-same f g h p is = ap (λ steps. f p ++ steps) (is (after p (f p)))
+
+-- and a plan that is the same
+then-first : (f g h : Plan) (p : Part) → f p ≡ g p → (f and_then h) p ≡ (g and_then h) p
+then-first f g h p is = ap (λ steps. steps ++ h (after p steps)) is
+
+-- pieces and then more
+pub items-taking : (into : NodeName) (pieces : Pieces) (clones : List NodeName) (more : List Item) (p : Part) →
+    taking_items into clones (items_of pieces ++ more) p ≡ (taking (top_of into clones) pieces and_then taking_items into clones more) p
+items-taking into nothing clones more p = refl
+items-taking into (whole x rest) clones more p =
+    let top = top_of into clones in
+    let one : Plan = inserting observed x top None in
+    let last = taking_items into clones more in
+    then-same one (taking_items into clones (items_of rest ++ more)) (taking top rest and_then last) p (items-taking into rest clones more) ∙ sym (then-assoc one (taking top rest) last p)
+items-taking into (cut x from to rest) clones more p =
+    let top = top_of into clones in
+    let one : Plan = making_below top (clone_part (next_name p) from to (node_in p.trees x)) and_then replacing_data x from (to - from) [] in
+    let last = taking_items into clones more in
+    then-same one (taking_items into clones (items_of rest ++ more)) (taking top rest and_then last) p (items-taking into rest clones more) ∙ sym (then-assoc one (taking top rest) last p)
+items-taking into (clone x inside rest) clones more p =
+    let top = top_of into clones in
+    let new = next_name p in
+    let one = making_below top (with_name new (node_in p.trees x)) in
+    let last = taking_items into clones more in
+    let behind = items_of rest ++ more in
+    let deep : (q : Part) → taking_items into (new ∷ clones) ((items_of inside ++ end_item ∷ items_of rest) ++ more) q ≡ (taking new inside and_then (taking top rest and_then last)) q =
+    λ q. ap (λ items. taking_items into (new ∷ clones) items q) (append_assoc (items_of inside) (end_item ∷ items_of rest) more)
+    ∙ items-taking into inside (new ∷ clones) (end_item ∷ behind) q
+    ∙ then-same (taking new inside) (taking_items into (new ∷ clones) (end_item ∷ behind)) (taking top rest and_then last) q (items-taking into rest clones more) in
+    then-same one (taking_items into (new ∷ clones) ((items_of inside ++ end_item ∷ items_of rest) ++ more)) (taking new inside and_then (taking top rest and_then last)) p deep
+    ∙ sym (then-assoc one (taking new inside) (taking top rest and_then last) p)
+    ∙ sym (then-assoc (one and_then taking new inside) (taking top rest) last p)
+
+-- all pieces
+pub items-all : (into : NodeName) (pieces : Pieces) (p : Part) → taking_items into [] (items_of pieces) p ≡ taking into pieces p
+items-all into pieces p =
+    ap (λ items. taking_items into [] items p) (sym (append-nil (items_of pieces)))
+    ∙ items-taking into pieces [] [] p
+    ∙ append-nil (taking into pieces p)

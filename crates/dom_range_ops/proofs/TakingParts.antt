@@ -1,0 +1,186 @@
+-- What may be taken item by item may be so still after each of them.
+use Rattle.std.proofs.Common.{◌≡◌, ◌≤◌, ◌+◌, ◌-◌, true, false, List, [], ◌∷◌, ◌++◌, drop, Option, Some, None, refl, sym, ap, ◌∙◌, subst, arith}
+use Rattle.std.specs.List.{AllByRecursion}
+use Rattle.dom_base.specs.declared.Kind.{Kind}
+use Rattle.dom_base.specs.declared.Kind.TheVariants.{Document, Fragment, Shadow, Element, Text, Comment}
+use Rattle.dom_base.specs.declared.NodeName.{NodeName}
+use Rattle.dom_isolation.specs.Bounds.{HasBounds}
+use Rattle.dom_isolation.specs.Worlds.{IsPart}
+use Rattle.dom_isolation.proofs.Descents.{ancestor-inside}
+use Rattle.dom_isolation.proofs.Insides.{inside-no_ancestor, times-has_node}
+use Rattle.dom_isolation.proofs.KeptOffsets.{insertion-keeps, make-keeps, data-keeps}
+use Rattle.dom_isolation.proofs.KindCommands.{has_node-times}
+use Rattle.dom_isolation.proofs.Lists.{all-then}
+use Rattle.dom_isolation.proofs.NodesRead.{node-new}
+use Rattle.dom_isolation.proofs.PartSteps.{next-absent}
+use Rattle.dom_isolation.proofs.PlanContents.{OldIn, old-may, old-still, leads-making_below}
+use Rattle.dom_isolation.proofs.PlanPlaces.{Changed, MayGo, Leads, still, after-append, leads-then, leads-eased, leads-nothing, leads-one, leads-inserting}
+use Rattle.dom_isolation.proofs.PlanTexts.{new-there, new-may, leads-replacing_data}
+use Rattle.dom_isolation.proofs.TableSteps.{There}
+use Rattle.dom_isolation.proofs.Tests.{by_cases}
+use Rattle.dom_model.specs.Changes.{observed, inserting}
+use Rattle.dom_model.specs.Extract.{clone_part, making_below}
+use Rattle.dom_model.specs.Part.{Part, next_name}
+use Rattle.dom_model.specs.Steps.{Step, make, part_step, after}
+use Rattle.dom_model.specs.TextChanges.{replacing_data}
+use Rattle.dom_model.specs.Tree.{Trees, Node, node_in, kind_of, has_data, is_shadow, is_inclusive_ancestor}
+use Rattle.dom_model.specs.TreeChanges.{with_name}
+use Rattle.dom_range_ops.proofs.TakingCounts.{count-inserting, count-making_below}
+use Rattle.dom_range_ops.specs.Pieces.{Item, whole_item, cut_item, clone_item, end_item, made_by}
+use Rattle.dom_range_ops.specs.Takings.{top_of, taking_item, clones_after, IsTaker, IsTaken, MayBeTaken, MayTake}
+
+-- a node that is taken is an old one
+pub old-of : (into : NodeName) (p : Part) (x : NodeName) → IsPart p → IsTaken into p.trees x → OldIn into.number p x
+old-of into p x i t = record { there = has_node-times p.trees x t.there; alone = λ z k. inside-no_ancestor p.trees x z i.unique (t.apart z k) }
+
+-- and back
+taken-of : (into : NodeName) (p : Part) (x : NodeName) → OldIn into.number p x → IsTaken into p.trees x
+taken-of into p x o =
+    record {
+      there = times-has_node p.trees x o.there;
+      apart = λ z k. by_cases (is_inclusive_ancestor p.trees x z) (λ e. absurd (let a = ancestor-inside p.trees x z e in let b = o.alone z k in omega arith)) (λ e. e);
+    }
+
+-- after changes that place others below a taker
+taken-still : (into top : NodeName) (p q : Part) → into.number ≤ top.number → IsPart p → Changed (Some top) p q → (x : NodeName) → IsTaken into p.trees x → IsTaken into q.trees x
+taken-still into top p q le i c x t = taken-of into q x (old-still into.number top p q le c x (old-of into p x i t))
+
+-- each item
+item-still : (into top : NodeName) (p q : Part) → into.number ≤ top.number → IsPart p → Changed (Some top) p q → (item : Item) → MayBeTaken into p.trees item → MayBeTaken into q.trees item
+item-still into top p q le i c (whole_item x) h = taken-still into top p q le i c x h
+item-still into top p q le i c (cut_item x from to) h = (taken-still into top p q le i c x h.0, ap has_data (c.kinds x (has_node-times p.trees x h.0.there)) ∙ h.1)
+item-still into top p q le i c (clone_item x) h =
+    let kind = c.kinds x (has_node-times p.trees x h.0.there) in
+    (taken-still into top p q le i c x h.0, ap has_data kind ∙ h.1, ap is_shadow kind ∙ h.2)
+item-still into top p q le i c end_item h = tt
+
+-- a taker stays one
+taker-still : {spot : Option NodeName} (into : NodeName) (p q : Part) → Changed spot p q → (x : NodeName) → IsTaker into p.trees x → IsTaker into q.trees x
+taker-still into p q c x t =
+    let there = has_node-times p.trees x t.there in
+    record { there = times-has_node q.trees x (still c x there); no_data = ap has_data (c.kinds x there) ∙ t.no_data; new = t.new }
+
+-- the node into which items go is a taker
+pub top-takes : (into : NodeName) (ts : Trees) (clones : List NodeName) → AllByRecursion (IsTaker into ts) (into ∷ clones) → IsTaker into ts (top_of into clones)
+top-takes into ts [] h = h.0
+top-takes into ts (x ∷ clones) h = h.1.0
+
+-- What one item leaves.
+record Leaves (into : NodeName) (clones : List NodeName) (p : Part) (steps : List Step) (item : Item) : Type 0 where
+  leads : Leads (Some (top_of into clones)) p steps
+  bounds : HasBounds (after p steps)
+  takers : AllByRecursion (IsTaker into (after p steps).trees) (into ∷ clones_after (next_name p) item clones)
+
+-- a new node below a taker
+record IsPutBelow (into top : NodeName) (p : Part) (n : Node) : Type 0 where
+  leads : Leads (Some top) p (making_below top n p)
+  bounds : HasBounds (after p (making_below top n p))
+  there : There (after p (making_below top n p)) (next_name p)
+  kind : kind_of (after p (making_below top n p)).trees (next_name p) ≡ n.kind
+
+put-below : (into top : NodeName) (p : Part) (n : Node) → n.name ≡ next_name p → IsPart p → HasBounds p → IsTaker into p.trees top → IsPutBelow into top p n
+put-below into top p n e i h t =
+    let there = has_node-times p.trees top t.there in
+    let q = part_step p (make n) in
+    let first = leads-one p (make n) i tt in
+    let may : MayGo top q n.name = subst (MayGo top q) (sym e) (new-may p n top i there) in
+    let put = leads-inserting observed n.name top None q first.changed.part may in
+    let apart : is_inclusive_ancestor q.trees n.name top ≡ false =
+    by_cases (is_inclusive_ancestor q.trees n.name top) (λ k. absurd (let a = ancestor-inside q.trees n.name top k in let b = may.apart in omega arith)) (λ k. k) in
+    let taker = taker-still into p q first.changed top t in
+    let made : node_in q.trees (next_name p) ≡ with_name (next_name p) n = node-new (with_name (next_name p) n) p.trees (next-absent p i) in
+    record {
+      leads = leads-making_below top n p e i there;
+      bounds = insertion-keeps observed n.name top None q first.changed.part (times-has_node q.trees n.name may.there) taker.there apart taker.no_data (make-keeps p n i h);
+      there = still put.changed (next_name p) (new-there p n);
+      kind = put.changed.kinds (next_name p) (new-there p n) ∙ ap (λ (m : Node). m.kind) made;
+    }
+
+-- each item
+item-leaves : (into : NodeName) (clones : List NodeName) (p : Part) → IsPart p → HasBounds p → AllByRecursion (IsTaker into p.trees) (into ∷ clones) → into.number ≤ p.node_count → (item : Item) → MayBeTaken into p.trees item → Leaves into clones p (taking_item (top_of into clones) item p) item
+item-leaves into clones p i h t le (whole_item x) m =
+    let top = top_of into clones in
+    let taker = top-takes into p.trees clones t in
+    let may = old-may into.number p x top i (old-of into p x i m) (has_node-times p.trees top taker.there) taker.new in
+    let l = leads-inserting observed x top None p i may in
+    let q = after p (inserting observed x top None p) in
+    record {
+      leads = l;
+      bounds = insertion-keeps observed x top None p i m.there taker.there (m.apart top taker.new) taker.no_data h;
+      takers = all-then (IsTaker into p.trees) (IsTaker into q.trees) (taker-still into p q l.changed) (into ∷ clones) t;
+    }
+item-leaves into clones p i h t le (cut_item x from to) m =
+    let top = top_of into clones in
+    let n = clone_part (next_name p) from to (node_in p.trees x) in
+    let put = put-below into top p n refl i h (top-takes into p.trees clones t) in
+    let one = making_below top n p in
+    let q = after p one in
+    let two = replacing_data x from (to - from) [] q in
+    let l = leads-replacing_data x from (to - from) [] q put.leads.changed.part in
+    let both = leads-then (Some top) p one two put.leads (leads-eased (Some top) q two l) in
+    let r = after p (one ++ two) in
+    let same = after-append p one two in
+    let units : has_data (kind_of q.trees x) ≡ true = ap has_data (put.leads.changed.kinds x (has_node-times p.trees x m.0.there)) ∙ m.1 in
+    record {
+      leads = both;
+      bounds = subst HasBounds (sym same) (data-keeps x from (to - from) [] q put.leads.changed.part units put.bounds);
+      takers = all-then (IsTaker into p.trees) (IsTaker into r.trees) (taker-still into p r both.changed) (into ∷ clones) t;
+    }
+item-leaves into clones p i h t le (clone_item x) m =
+    let top = top_of into clones in
+    let n = with_name (next_name p) (node_in p.trees x) in
+    let put = put-below into top p n refl i h (top-takes into p.trees clones t) in
+    let q = after p (making_below top n p) in
+    let kept = all-then (IsTaker into p.trees) (IsTaker into q.trees) (taker-still into p q put.leads.changed) (into ∷ clones) t in
+    record {
+      leads = put.leads;
+      bounds = put.bounds;
+      takers = (kept.0, (record { there = times-has_node q.trees (next_name p) put.there; no_data = ap has_data put.kind ∙ m.1; new = le }, kept.1));
+    }
+item-leaves into clones p i h t le end_item m =
+    record { leads = leads-nothing (Some (top_of into clones)) p i; bounds = h; takers = (t.0, dropped clones t.1) }
+  where
+    dropped : (xs : List NodeName) → AllByRecursion (IsTaker into p.trees) xs → AllByRecursion (IsTaker into p.trees) (drop 1 xs)
+    dropped [] g = tt
+    dropped (x ∷ xs) g = g.1
+
+-- how many nodes there are then
+pub count-item : (top : NodeName) (p : Part) (item : Item) → (after p (taking_item top item p)).node_count ≡ p.node_count + made_by (item ∷ [])
+count-item top p (whole_item x) = let c = count-inserting observed x top None p in omega arith
+count-item top p (cut_item x from to) =
+    let n = clone_part (next_name p) from to (node_in p.trees x) in
+    let one = making_below top n p in
+    let q = after p one in
+    let c = count-making_below top n p in let d = ap (λ (v : Part). v.node_count) (after-append p one (replacing_data x from (to - from) [] q)) in omega arith
+count-item top p (clone_item x) = let c = count-making_below top (with_name (next_name p) (node_in p.trees x)) p in omega arith
+count-item top p end_item = omega arith
+
+-- of one item and of others
+pub made-more : (item : Item) (items : List Item) → made_by (item ∷ items) ≡ made_by (item ∷ []) + made_by items
+made-more (whole_item x) items = omega arith
+made-more (cut_item x from to) items = omega arith
+made-more (clone_item x) items = omega arith
+made-more end_item items = omega arith
+
+-- so the others may be taken then
+pub takes-on : (into : NodeName) (clones : List NodeName) (p : Part) (item : Item) (items : List Item) → IsPart p → into.number ≤ p.node_count → MayTake p into clones (item ∷ items) →
+    MayTake (after p (taking_item (top_of into clones) item p)) into (clones_after (next_name p) item clones) items
+takes-on into clones p item items i le m =
+    let top = top_of into clones in
+    let left = item-leaves into clones p i m.bounds m.takers le item m.taken.0 in
+    let q = after p (taking_item top item p) in
+    record {
+      bounds = left.bounds;
+      takers = left.takers;
+      taken = all-then (MayBeTaken into p.trees) (MayBeTaken into q.trees) (item-still into top p q (top-takes into p.trees clones m.takers).new i left.leads.changed) items m.taken.1;
+      limited = let c = count-item top p item in let d = m.limited in let e = made-more item items in omega arith;
+    }
+
+-- a Text or a Comment is no shadow root
+pub data-no_shadow : (k : Kind) → has_data k ≡ true → is_shadow k ≡ false
+data-no_shadow Document h = refl
+data-no_shadow Fragment h = refl
+data-no_shadow Shadow h = sym h
+data-no_shadow Element h = refl
+data-no_shadow Text h = refl
+data-no_shadow Comment h = refl

@@ -1,0 +1,59 @@
+use Rattle.std.proofs.Common.{◌≡◌, Some, length, refl, sym, ap, ◌∙◌}
+use Rattle.std.specs.Prelude.{slice_get}
+use Rattle.std.specs.Option.{option_map}
+use Rattle.std.specs.String.{string_bytes, string_eq}
+use Rattle.dom_model.specs.Tree.{node_in}
+use Rattle.dom_tree.specs.Forest.{name_at, attribute_from}
+use Rattle.dom_range_ops.proofs.CloneAttributes.{attributes-all, attributes-put}
+use Rattle.dom_range_ops.proofs.cloning.attributes.Goals as goal
+
+pub loop-name-smaller : goal.loop-name-smaller
+loop-name-smaller c =
+    let bs = (node_in c.args.forest.now.trees (name_at c.args.forest.now.names c.args.key)).attributes in
+    let there : slice_get bs (length c.loop-name.copied.entries) ≡ Some (attribute_from (string_bytes c.in_ok-name.name) c.in_ok-value.value.items) =
+    ap (slice_get bs) (sym c.len.ensures.len)
+    ∙ sym c.attr_at.ensures
+    ∙ ap (option_map (λ a. attribute_from a.0.now a.1.now)) c.in-Some.is
+    ∙ ap (λ text. Some (attribute_from text c.in-Some.value.now)) (sym c.in_ok-name.ensures.ok)
+    ∙ ap (λ units. Some (attribute_from (string_bytes c.in_ok-name.name) units)) (sym c.in_ok-value.ensures.items) in
+    (attributes-put string_bytes (λ v. v.items) string_eq (λ x y. refl) c.loop-name.copied.entries bs c.attributes_have_own_names.ensures c.loop-name.invariant c.in_ok-name.name c.in_ok-value.value there c.insert.new.self.entries c.in_ok-insert.ensures.entries).1
+
+pub loop-name-preserved : goal.loop-name-preserved
+loop-name-preserved c =
+    let bs = (node_in c.args.forest.now.trees (name_at c.args.forest.now.names c.args.key)).attributes in
+    let there : slice_get bs (length c.loop-name.copied.entries) ≡ Some (attribute_from (string_bytes c.in_ok-name.name) c.in_ok-value.value.items) =
+    ap (slice_get bs) (sym c.len.ensures.len)
+    ∙ sym c.attr_at.ensures
+    ∙ ap (option_map (λ a. attribute_from a.0.now a.1.now)) c.in-Some.is
+    ∙ ap (λ text. Some (attribute_from text c.in-Some.value.now)) (sym c.in_ok-name.ensures.ok)
+    ∙ ap (λ units. Some (attribute_from (string_bytes c.in_ok-name.name) units)) (sym c.in_ok-value.ensures.items) in
+    (attributes-put string_bytes (λ v. v.items) string_eq (λ x y. refl) c.loop-name.copied.entries bs c.attributes_have_own_names.ensures c.loop-name.invariant c.in_ok-name.name c.in_ok-value.value there c.insert.new.self.entries c.in_ok-insert.ensures.entries).0
+
+pub loop-name-smaller-in_ok-insert : goal.loop-name-smaller-in_ok-insert
+loop-name-smaller-in_ok-insert c =
+    let bs = (node_in c.args.forest.now.trees (name_at c.args.forest.now.names c.args.key)).attributes in
+    let there : slice_get bs (length c.loop-name.copied.entries) ≡ Some (attribute_from (string_bytes c.in_ok-name.name) c.in_ok-value.value.items) =
+    ap (slice_get bs) (sym c.len.ensures.len)
+    ∙ sym c.attr_at.ensures
+    ∙ ap (option_map (λ a. attribute_from a.0.now a.1.now)) c.in-Some.is
+    ∙ ap (λ text. Some (attribute_from text c.in-Some.value.now)) (sym c.in_ok-name.ensures.ok)
+    ∙ ap (λ units. Some (attribute_from (string_bytes c.in_ok-name.name) units)) (sym c.in_ok-value.ensures.items) in
+    (attributes-put string_bytes (λ v. v.items) string_eq (λ x y. refl) c.loop-name.copied.entries bs c.attributes_have_own_names.ensures c.loop-name.invariant c.in_ok-name.name c.in_ok-value.value there c.insert.new.self.entries c.in_ok-insert.ensures.entries).1
+
+pub loop-name-preserved-in_ok-insert : goal.loop-name-preserved-in_ok-insert
+loop-name-preserved-in_ok-insert c =
+    let bs = (node_in c.args.forest.now.trees (name_at c.args.forest.now.names c.args.key)).attributes in
+    let there : slice_get bs (length c.loop-name.copied.entries) ≡ Some (attribute_from (string_bytes c.in_ok-name.name) c.in_ok-value.value.items) =
+    ap (slice_get bs) (sym c.len.ensures.len)
+    ∙ sym c.attr_at.ensures
+    ∙ ap (option_map (λ a. attribute_from a.0.now a.1.now)) c.in-Some.is
+    ∙ ap (λ text. Some (attribute_from text c.in-Some.value.now)) (sym c.in_ok-name.ensures.ok)
+    ∙ ap (λ units. Some (attribute_from (string_bytes c.in_ok-name.name) units)) (sym c.in_ok-value.ensures.items) in
+    (attributes-put string_bytes (λ v. v.items) string_eq (λ x y. refl) c.loop-name.copied.entries bs c.attributes_have_own_names.ensures c.loop-name.invariant c.in_ok-name.name c.in_ok-value.value there c.insert.new.self.entries c.in_ok-insert.ensures.entries).0
+
+pub returns : goal.returns
+returns c =
+    let bs = (node_in c.args.forest.now.trees (name_at c.args.forest.now.names c.args.key)).attributes in
+    c.loop-name.invariant
+    ∙ attributes-all bs (length c.loop-name.copied.entries)
+    (ap (slice_get bs) (sym c.len.ensures.len) ∙ sym c.attr_at.ensures ∙ ap (option_map (λ a. attribute_from a.0.now a.1.now)) c.in_default.is)

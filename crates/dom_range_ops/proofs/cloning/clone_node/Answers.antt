@@ -1,0 +1,10 @@
+use Rattle.std.proofs.Common.{List, ℕ, ap, ◌∙◌}
+use Rattle.dom_model.specs.Tree.{node_in}
+use Rattle.dom_tree.specs.Forest.{name_at}
+use Rattle.dom_range_ops.proofs.DocTexts.{if-ok}
+use Rattle.dom_range_ops.proofs.cloning.clone_node.Goals as goal
+
+pub returns-clause-value : goal.returns-clause-value
+returns-clause-value c =
+    let n = node_in c.args.forest.now.trees (name_at c.args.forest.now.names c.args.key) in
+    if-ok c.data_with.result (λ copy is x. is x ∙ ap (λ (units : List ℕ). record n { name = x; text = units }) (c.in_ok-text.ensures.items ∙ c.text.ensures)) c.data_with.ensures.value
