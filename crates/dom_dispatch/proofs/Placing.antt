@@ -1,15 +1,15 @@
 -- The places of a node's entries in a table, and the entries in them.
-use Rattle.std.proofs.Common.{◌≡◌, ℕ, ◌+◌, ◌<◌, ◌&&◌, ◌||◌, Bool, true, false, not, List, [], ◌∷◌, ◌++◌, length, take, filter, map, Option, Some, None, zero, suc, refl, sym, ap, subst, ◌∙◌, arith, append_assoc, append-nil, length-append}
-use Rattle.std.specs.Prelude.{nat_eq, filter_map, slice_get, slice_set, remove, if◌then◌else◌}
+use Rattle.std.proofs.Common.{◌≡◌, ℕ, ◌+◌, ◌<◌, ◌||◌, Bool, true, false, not, List, [], ◌∷◌, ◌++◌, length, get_or, take, filter, Option, Some, None, zero, suc, refl, sym, ap, subst, ◌∙◌, arith, append_assoc, append-nil, length-append}
+use Rattle.std.specs.Prelude.{nat_eq, is_some, filter_map, slice_get, slice_set, remove, if◌then◌else◌}
 use Rattle.std.specs.List.{list_any, cons_option}
-use Rattle.std.specs.Option.{option_flatten, option_map_or, option_and_then}
+use Rattle.std.specs.Option.{option_flatten, option_map_or}
 use Rattle.std.proofs.Math.Bool.{or-false, or-true}
 use Rattle.std.proofs.Math.Seq.{set-append_seam}
 use Rattle.std.proofs.lemmas.Bool.{cond-true, cond-false, eqb-true}
 use Rattle.std.proofs.lemmas.List.{map-append, length_push, take_more}
 use Rattle.std.proofs.lemmas.List.Folds.{list_any-append}
 use Rattle.std.proofs.lemmas.Option.{slice_get_within, get_or_from_slice_get}
-use Rattle.std.proofs.lemmas.List.Elements.{filter_map-append, filter-append}
+use Rattle.std.proofs.lemmas.List.Elements.{filter_map-append, filter-append, filter_more}
 use Rattle.std.proofs.lemmas.Map.Views.{any-filter_same}
 use Rattle.dom_isolation.proofs.Tests.{by_cases}
 use Rattle.dom_model.specs.Listeners.{Listener}
@@ -89,7 +89,7 @@ module _ (p : Listener ℕ → Bool) (es : List (Option Entry)) (places : List �
       alone : (o : Option Entry) → option_map_or (λ (e : Entry). p (listener_of e)) o false ≡ false → filter p (listeners_in (cons_option o [])) ≡ []
       alone None h = refl
       alone (Some e) h = cond-false (p (listener_of e)) (listener_of e ∷ []) [] h
-      
+
   -- and that one comes to them, if it passes
   pub kept-next : (e : Entry) → entry_at es place ≡ Some e → p (listener_of e) ≡ true → filter p (listeners_in (picked es (take (i + 1) places))) ≡ filter p (listeners_in (picked es (take i places))) ++ listener_of e ∷ []
   kept-next e at it =
@@ -253,3 +253,28 @@ passes-any p (None ∷ es) zero h = cc
 passes-any p (Some e ∷ es) zero h = ap (λ b. b || list_any p (listeners_in (present es))) h
 passes-any p (None ∷ es) (suc i) h = passes-any p es i h
 passes-any p (Some e ∷ es) (suc i) h = ap (λ b. p (listener_of e) || b) (passes-any p es i h) ∙ or-true (p (listener_of e))
+
+-- ---- closing up
+
+module _ (es : List (Option Entry)) (i : ℕ) (o : Option Entry) (h : i < length es) (g : o ≡ get_or es i o) where
+  -- the next place has a listener, or not
+  pub counted-next : length (present (take (i + 1) es)) ≡ length (present (take i es)) + (if is_some o then 1 else 0)
+  counted-next =
+      ap (λ xs. length (present xs)) (take_more es i o h ∙ ap (λ x. take i es ++ x ∷ []) (sym g))
+      ∙ ap length (filter_map-append (λ x. x) (take i es) (o ∷ []))
+      ∙ length-append (present (take i es)) (present (o ∷ []))
+      ∙ ap (λ n. length (present (take i es)) + n) (by o)
+    where
+      by : (o : Option Entry) → length (present (o ∷ [])) ≡ (if is_some o then 1 else 0)
+      by None = refl
+      by (Some e) = refl
+
+  -- and is kept, or not
+  pub closed-next : filter is_some (take (i + 1) es) ≡ filter is_some (take i es) ++ (if is_some o then o ∷ [] else [])
+  closed-next = filter_more is_some es i o h ∙ ap (λ x. filter is_some (take i es) ++ (if is_some x then x ∷ [] else [])) (sym g)
+
+-- those that are there stay
+pub closed-present : (es : List (Option Entry)) → present (filter is_some es) ≡ present es
+closed-present [] = refl
+closed-present (None ∷ es) = closed-present es
+closed-present (Some e ∷ es) = ap (λ xs. e ∷ xs) (closed-present es)

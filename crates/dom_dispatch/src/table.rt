@@ -1,5 +1,5 @@
 //! Where listeners stand.
-ghost use Rattle.std.specs.Prelude.{◌≡◌, ℕ, ◌+◌, ◌<◌, ◌++◌, ◌∷◌, [], Bool, nat_eq, not, true, is_some, length, filter, IfSome, OnOk, OnErr};
+ghost use Rattle.std.specs.Prelude.{◌≡◌, ℕ, ◌+◌, ◌*◌, ◌<◌, ◌≤◌, ◌↔◌, ◌++◌, ◌∷◌, [], Bool, nat_eq, not, true, is_some, length, filter, vec_len, vec_capacity, IsTrue, IfSome, IfOk, OnOk, OnErr};
 ghost use Rattle.std.specs.List.{list_any};
 ghost use Rattle.std.specs.Option.{option_map};
 ghost use Rattle.dom_model.specs.Listeners.{Listener, is_listener};
@@ -75,11 +75,66 @@ impl Table {
         ensures ok { OnOk result (present self.new.entries.items ≡ present self.old.entries.items ++ entry ∷ []) }
         ensures err { OnErr result (present self.new.entries.items ≡ present self.old.entries.items) }
     {
-        self.entries.reserve(1)?;
+        self.make_room()?;
         self.places.reserve(entry.node)?;
         self.places.push(entry.node, self.entries.len());
         self.entries.push_reserved(Some(entry));
         Ok(())
+    }
+
+    /// Makes room for one listener more. Where all places are taken, and no more than half of them have a listener, the empty ones are
+    /// closed up.
+    fn make_room(&mut self) -> Result<(), AllocError>
+        requires indexed { IsIndexed self.old.places self.old.entries.items }
+        ensures indexed { IsIndexed self.new.places self.new.entries.items }
+        ensures present { present self.new.entries.items ≡ present self.old.entries.items }
+        ensures room { OnOk result (vec_len self.new.entries < vec_capacity self.new.entries) }
+    {
+        if self.entries.len() == self.entries.capacity() && self.is_half_empty() {
+            self.close_up()?;
+        }
+        self.entries.reserve(1)
+    }
+
+    /// Whether no more than half of the places have a listener.
+    fn is_half_empty(&self) -> bool
+        ensures { IsTrue result ↔ (2 * length (present self.now.entries.items) ≤ length self.now.entries.items) }
+    {
+        let mut there = 0;
+        for entry in &self.entries {
+            if entry.is_some() {
+                there += 1;
+            }
+        }
+        there <= self.entries.len() - there
+    }
+
+    /// Closes the empty places up. Where memory is refused, all is as it was.
+    fn close_up(&mut self) -> Result<(), AllocError>
+        requires indexed { IsIndexed self.old.places self.old.entries.items }
+        ensures indexed { IsIndexed self.new.places self.new.entries.items }
+        ensures present { present self.new.entries.items ≡ present self.old.entries.items }
+    {
+        let places = self.places_closed_up()?;
+        self.entries.retain(|entry| entry.is_some());
+        self.places = places;
+        Ok(())
+    }
+
+    /// The places of the listeners once the empty ones are closed up.
+    fn places_closed_up(&self) -> Result<Places, AllocError>
+        ensures { IfOk result (λ places. IsIndexed places (filter is_some self.now.entries.items)) }
+    {
+        let mut places = Places::new(*self.entries.allocator());
+        let mut count = 0;
+        for entry in &self.entries {
+            if let Some(entry) = entry {
+                places.reserve(entry.node)?;
+                places.push(entry.node, count);
+                count += 1;
+            }
+        }
+        Ok(places)
     }
 
     /// Takes one of a node's listeners away.

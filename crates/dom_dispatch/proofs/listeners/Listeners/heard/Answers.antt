@@ -8,7 +8,7 @@ use Rattle.dom_model.specs.Listeners.{Listener}
 use Rattle.dom_model.specs.Names.{text_eq}
 use Rattle.dom_dispatch.specs.declared.listeners.Entry.{Entry}
 use Rattle.dom_dispatch.specs.Entries.{listener_of, listeners_in, hears_at}
-use Rattle.dom_dispatch.specs.Tables.{places_from, passes_in}
+use Rattle.dom_dispatch.specs.Tables.{places_from}
 use Rattle.dom_dispatch.proofs.Entered.{and-first}
 use Rattle.dom_dispatch.proofs.Placing.{picked, picked-kept, kept-next, kept-same}
 use Rattle.dom_dispatch.proofs.listeners.Listeners.heard.Goals as goal

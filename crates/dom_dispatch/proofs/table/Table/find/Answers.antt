@@ -1,5 +1,5 @@
-use Rattle.std.proofs.Common.{◌≡◌, ◌≤◌, ℕ, ◌&&◌, Bool, true, false, nat_eq, length, take, Some, sym, ap, subst, ◌∙◌, arith}
-use Rattle.std.specs.Prelude.{slice_get, slice_index_or}
+use Rattle.std.proofs.Common.{◌≡◌, ℕ, ◌&&◌, Bool, true, false, nat_eq, take, sym, ap, ◌∙◌, arith}
+use Rattle.std.specs.Prelude.{slice_index_or}
 use Rattle.std.specs.Bool.{beq}
 use Rattle.std.specs.List.{list_any}
 use Rattle.std.specs.Option.{option_map_or}
@@ -8,7 +8,7 @@ use Rattle.std.proofs.lemmas.Option.{slice_get-get_or}
 use Rattle.dom_model.specs.Listeners.{Listener, is_listener}
 use Rattle.dom_model.specs.Names.{text_eq}
 use Rattle.dom_dispatch.specs.Entries.{listeners_in}
-use Rattle.dom_dispatch.specs.Tables.{present, places_at, places_from, passes_in, holds_at}
+use Rattle.dom_dispatch.specs.Tables.{places_from, passes_in, holds_at}
 use Rattle.dom_dispatch.proofs.Entered.{and-first}
 use Rattle.dom_dispatch.proofs.Placing.{picked, picked-any, none-next, passes-any}
 use Rattle.dom_dispatch.proofs.table.Table.find.Goals as goal

@@ -1,11 +1,11 @@
-use Rattle.std.proofs.Common.{◌≡◌, ◌<◌, nat_eq, true, false, length, Some, None, sym, ap, subst, ◌∙◌, arith}
-use Rattle.std.specs.Prelude.{slice_get, slice_set, slice_index_or, remove, if◌then◌else◌}
+use Rattle.std.proofs.Common.{◌≡◌, nat_eq, true, false, Some, sym, ap, subst, ◌∙◌, arith}
+use Rattle.std.specs.Prelude.{slice_get, slice_index_or, remove, if◌then◌else◌}
 use Rattle.std.specs.Option.{option_map_or}
 use Rattle.std.proofs.lemmas.Option.{slice_get-get_or}
 use Rattle.dom_dispatch.specs.declared.listeners.Entry.{Entry}
 use Rattle.dom_dispatch.specs.Entries.{listener_of}
-use Rattle.dom_dispatch.specs.Tables.{places_at, places_from, passes_in}
-use Rattle.dom_dispatch.proofs.Placing.{IsParted, parted, parted-within, parted-entry, parted-fewer, parted-others, parted-places}
+use Rattle.dom_dispatch.specs.Tables.{places_at, passes_in}
+use Rattle.dom_dispatch.proofs.Placing.{parted, parted-within, parted-entry, parted-fewer, parted-others, parted-places}
 use Rattle.dom_dispatch.proofs.table.Table.take.Goals as goal
 
 pub index_mut-requires : goal.index_mut-requires
