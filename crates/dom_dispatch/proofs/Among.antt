@@ -16,13 +16,9 @@ use Rattle.dom_model.proofs.PartLaws.{part_of-with_part, part_of-with_part-other
 use Rattle.dom_isolation.proofs.Tests.{by_cases}
 use Rattle.dom_dispatch.specs.Kept.{is_of_owner, DispatchedAmong, DispatchedAlong, dispatch_along, dispatch_among}
 use Rattle.dom_dispatch.specs.Named.{listener_named, dispatching_named}
+use Rattle.dom_dispatch.proofs.Entered.{and-first}
 use Rattle.dom_dispatch.proofs.Naming.{dispatched-named}
 use Rattle.dom_dispatch.proofs.Narrowing.{narrowed, visited-narrow, visited-apart}
-
--- the first of two tests that hold
-and-first : (a b : Bool) → (a && b) ≡ true → a ≡ true
-and-first true b h = refl
-and-first false b h = absurd (true≢false (sym h))
 
 -- a first test that fails
 and-none : (a b : Bool) → a ≡ false → (a && b) ≡ false

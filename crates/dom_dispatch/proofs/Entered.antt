@@ -1,8 +1,13 @@
 -- Tests of the entries of a table, and of the listeners that these are.
-use Rattle.std.proofs.Common.{◌≡◌, Bool, ◌||◌, List, [], ◌∷◌, filter, map, refl, ap, ◌∙◌, sym}
+use Rattle.std.proofs.Common.{◌≡◌, Bool, true, false, ◌&&◌, ◌||◌, List, [], ◌∷◌, filter, map, refl, ap, ◌∙◌, sym, true≢false}
 use Rattle.std.specs.List.{list_any}
 use Rattle.std.proofs.lemmas.Bool.{cond-true, cond-false}
 use Rattle.dom_isolation.proofs.Tests.{by_cases}
+
+-- the first of two tests that hold
+pub and-first : (a b : Bool) → (a && b) ≡ true → a ≡ true
+and-first true b h = refl
+and-first false b h = absurd (true≢false (sym h))
 
 module _ {X Y : Type 0} (p : Y → Bool) (f : X → Y) where
   -- whether one of them passes

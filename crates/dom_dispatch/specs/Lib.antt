@@ -2,3 +2,4 @@ pub mod Named
 pub mod Kept
 pub mod Entries
 pub mod Dispatches
+pub mod Tables

@@ -130,9 +130,12 @@ impl Listeners {
         ensures { IfOk result (λ heard. listeners_in heard.items ≡ filter (hears_at node event.now capturing) self.now) }
     {
         let mut heard = VecDeque::new(self.alloc);
-        for entry in &self.entries {
-            if entry.hears(node, event, capturing) {
-                heard.push_back(entry.copied(self.alloc)?)?;
+        let places = self.table.places.of(node);
+        for place in places {
+            if let Some(entry) = self.table.entry(*place) {
+                if entry.hears(node, event, capturing) {
+                    heard.push_back(entry.copied(self.alloc)?)?;
+                }
             }
         }
         Ok(heard)

@@ -6,7 +6,9 @@ mod dispatch;
 mod event;
 mod laws;
 mod listeners;
+mod places;
 mod progress;
+mod table;
 mod visit;
 
 pub use event::{EventInit, LogLine, Outcome};

@@ -5,6 +5,7 @@ ghost use Rattle.dom_model.specs.Names.{text_eq};
 ghost use Rattle.std.specs.List.{list_any};
 ghost use Rattle.dom_dispatch.specs.Entries.{words_of, listener_of, hears_at};
 
+use crate::table::Table;
 use dom_base::Action;
 use node_arena::Key;
 use std::alloc::{AllocError, Global};
@@ -30,7 +31,7 @@ pub(crate) struct Entry {
 
 impl Entry {
     /// Whether this is the listener of a node with this type, label and capture (own rule).
-    fn is(&self, node: Key, event: &str, label: &str, capture: bool) -> bool
+    pub(crate) fn is(&self, node: Key, event: &str, label: &str, capture: bool) -> bool
         ensures { result ≡ is_listener nat_eq node event.now label.now capture (listener_of self.now) }
     {
         self.node == node
@@ -68,10 +69,11 @@ impl Entry {
     }
 }
 
-/// The listeners of all nodes, in the order of adding (DOM Standard, concept: event listener list).
+/// The listeners of all nodes, in the order of adding (DOM Standard, concept: event listener list). A node's own are found by one
+/// look.
 #[derive(Drop)]
 pub struct Listeners {
-    pub(crate) entries: Vec<Entry>,
+    pub(crate) table: Table,
     pub(crate) alloc: Global,
 }
 
@@ -82,8 +84,11 @@ impl Model for Listeners {
     ghost Value = { List (Listener ℕ) };
 
     ghost use Rattle.dom_dispatch.specs.Entries.{listeners_in};
+    ghost use Rattle.dom_dispatch.specs.Tables.{present, IsIndexed};
 
-    ghost view = { λ l. listeners_in l.entries.items };
+    ghost view = { λ l. listeners_in (present l.table.entries.items) };
+
+    ghost invariant = { λ l. IsIndexed l.table.places l.table.entries.items };
 }
 
 impl Listeners {
@@ -92,7 +97,7 @@ impl Listeners {
         ensures { result ≡ [] }
     {
         Listeners {
-            entries: Vec::new(alloc),
+            table: Table::new(alloc),
             alloc,
         }
     }
@@ -106,22 +111,20 @@ impl Listeners {
         if self.has(node, &words) {
             return Ok(());
         }
-        self.entries.push(Entry { node, words })?;
-        Ok(())
+        self.table.push(Entry { node, words })
     }
 
     /// Whether a node has a listener with the type, the label and the capture of these words.
     pub(crate) fn has(&self, node: Key, words: &ListenerInit) -> bool
         ensures { result ≡ list_any (is_listener nat_eq node (string_bytes words.now.event) (string_bytes words.now.label) words.now.capture) self.now }
     {
-        self.entries.iter().any(|entry| {
-            entry.is(
-                node,
-                words.event.as_str(),
-                words.label.as_str(),
-                words.capture,
-            )
-        })
+        let found = self.table.find(
+            node,
+            words.event.as_str(),
+            words.label.as_str(),
+            words.capture,
+        );
+        found.is_some()
     }
 
     /// Takes the listener of a node with this type, label and capture away, if there is one (DOM Standard, concept: remove
@@ -129,8 +132,9 @@ impl Listeners {
     pub fn unlisten(&mut self, node: Key, event: &str, label: &str, capture: bool)
         ensures { self.new ≡ unlistened nat_eq node event.now label.now capture self.old }
     {
-        self.entries
-            .retain(|entry| !entry.is(node, event, label, capture));
+        while let Some(at) = self.table.find(node, event, label, capture) {
+            self.table.take(node, at);
+        }
     }
 }
 

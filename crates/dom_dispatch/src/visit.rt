@@ -15,6 +15,7 @@ use dom_base::Owner;
 use dom_path::Path;
 use dom_tree::Forest;
 use node_arena::Key;
+use smallvec::SmallVec;
 use std::alloc::{AllocError, Global};
 
 /// A visit of an event at a node, with what listeners see of the event there (DOM Standard, concept: invoke).
@@ -26,7 +27,7 @@ pub(crate) struct Visit {
     pub(crate) capturing: bool,
     pub(crate) target: Key,
     pub(crate) related: Option<Key>,
-    pub(crate) path: Vec<Key>,
+    pub(crate) path: SmallVec<Key, 16>,
 }
 
 impl Visit {

@@ -15,6 +15,7 @@ use crate::stand::Stand;
 use dom_slots::Slots;
 use dom_tree::Forest;
 use node_arena::Key;
+use smallvec::SmallVec;
 use std::alloc::{AllocError, Global};
 
 /// The places of an event's target and of its related node, and whether it is composed.
@@ -55,13 +56,13 @@ impl Event {
     }
 
     /// The items of the path: of the target, and then each event parent's, up to where the path ends (DOM Standard, concept:
-    /// dispatch). One look for a slot a node, and the walks up to roots are walks along the path.
+    /// dispatch). One look for a slot a node, and the walks up to roots are walks along the path. Up to 16 items take no memory.
     pub(crate) fn items(
         &self,
         alloc: Global,
         forest: &Forest,
         slots: &Slots,
-    ) -> Result<Vec<Item>, AllocError>
+    ) -> Result<SmallVec<Item, 16>, AllocError>
         requires event { IsEvent forest.now slots.now.hosts self.now.target self.now.related }
         requires free { slots.now.begun ≡ None }
         requires slots { AreSlotsOf forest.now slots.now }
@@ -69,9 +70,11 @@ impl Event {
         ensures each { IfOk result (λ items. AllByRecursion (IsItemOf forest.now slots.now.hosts self.now.target self.now.related) items.items) }
     {
         forest.nodes_stand_once();
-        let mut items = Vec::new(alloc);
+        let mut items = SmallVec::new(alloc);
         let mut next = Some(self.target);
         while let Some(at) = next {
+            // The loop ends since the number of items is a `usize`.
+            prove!(items.len() <= usize::MAX);
             items.push(self.item(&at))?;
             next = self.next(forest, slots, &at);
         }

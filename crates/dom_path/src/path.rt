@@ -14,13 +14,14 @@ use crate::item::Item;
 use dom_slots::Slots;
 use dom_tree::Forest;
 use node_arena::Key;
+use smallvec::SmallVec;
 use std::alloc::{AllocError, Global};
 use std::marker::Model;
 
-/// The path of an event: its nodes in the order of bubbling, with what the event shows at each.
+/// The path of an event: its nodes in the order of bubbling, with what the event shows at each. Up to 16 of them take no memory.
 #[derive(Drop)]
 pub struct Path {
-    items: Vec<Item>,
+    items: SmallVec<Item, 16>,
     alloc: Global,
 }
 
@@ -59,7 +60,7 @@ impl Path {
         let event = Event::new(forest, slots, target, related, composed);
         if event.is_silent() {
             return Ok(Path {
-                items: Vec::new(alloc),
+                items: SmallVec::new(alloc),
                 alloc,
             });
         }
@@ -75,14 +76,15 @@ impl Path {
         self.items.as_slice()
     }
 
-    /// The nodes of the path that are not hidden from the item at this place (DOM Standard, composedPath()).
-    pub fn composed_path(&self, at: usize) -> Result<Vec<Key>, AllocError>
+    /// The nodes of the path that are not hidden from the item at this place (DOM Standard, composedPath()). Up to 16 of them take no
+    /// memory.
+    pub fn composed_path(&self, at: usize) -> Result<SmallVec<Key, 16>, AllocError>
         requires { at < length self.now.items }
         ensures { IfOk result (λ nodes. option_map (λ (v : View ℕ). v.path) (slice_get self.now.views at) ≡ Some nodes.items) }
     {
         let items = self.items();
         let root = items[at].root;
-        let mut nodes = Vec::new(self.alloc);
+        let mut nodes = SmallVec::new(self.alloc);
         for item in items {
             if !item.is_hidden_from(root) {
                 nodes.push(item.node)?;

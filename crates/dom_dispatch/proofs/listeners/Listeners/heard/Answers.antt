@@ -1,44 +1,57 @@
-use Rattle.std.proofs.Common.{◌≡◌, ℕ, Bool, cond, [], ◌∷◌, ◌++◌, length, get_or, filter, ap, subst, sym, ◌∙◌, arith, append-nil}
-use Rattle.std.proofs.lemmas.Bool.{cond-true, cond-false}
+use Rattle.std.proofs.Common.{◌≡◌, ℕ, ◌&&◌, Bool, true, nat_eq, [], ◌∷◌, ◌++◌, take, filter, Option, Some, false, ap, sym, ◌∙◌, arith}
+use Rattle.std.specs.Prelude.{slice_get, slice_index_or}
+use Rattle.std.specs.Bool.{beq}
+use Rattle.std.specs.Option.{option_map_or}
 use Rattle.std.proofs.lemmas.List.{map-append, take_all}
+use Rattle.std.proofs.lemmas.Option.{slice_get-get_or}
 use Rattle.dom_model.specs.Listeners.{Listener}
+use Rattle.dom_model.specs.Names.{text_eq}
 use Rattle.dom_dispatch.specs.declared.listeners.Entry.{Entry}
 use Rattle.dom_dispatch.specs.Entries.{listener_of, listeners_in, hears_at}
-use Rattle.dom_dispatch.proofs.Entered.{kept-mapped}
-use Rattle.dom_dispatch.proofs.Visiting.{kept-more}
+use Rattle.dom_dispatch.specs.Tables.{places_from}
+use Rattle.dom_dispatch.proofs.Entered.{and-first}
+use Rattle.dom_dispatch.proofs.Placing.{picked, picked-kept, kept-next, kept-same}
 use Rattle.dom_dispatch.proofs.listeners.Listeners.heard.Goals as goal
-use Rattle.dom_dispatch.proofs.listeners.Listeners.heard.Goals.{then-hears+in_ok-copied+in_ok-push_back, else-hears}
+use Rattle.dom_dispatch.proofs.listeners.Listeners.heard.Goals.{in-Some+then-hears+in_ok-copied+in_ok-push_back, in-Some+else-hears, in_default}
 
-pub loop-entry-preserved : goal.loop-entry-preserved
-loop-entry-preserved c =
-    let entries = c.self.inside.entries.items in
-    let test : Entry → Bool = λ e. hears_at c.args.node c.args.event.now c.args.capturing (listener_of e) in
-    let entry = c.entry-item.result in
-    let before = listeners_in c.loop-entry.heard.items in
-    let at = subst (λ xs. entry ≡ get_or xs c.loop-entry.entry-index entry) c.deref-entry-items.ensures.value c.entry-item.is in
-    let same : length c.deref-entry-items.result.now ≡ length entries = ap length c.deref-entry-items.ensures.value in
-    let here : listeners_in c.if-hears.heard.items ≡ before ++ cond (test entry) (listener_of entry ∷ []) [] =
-    elim c.if-hears.branch [
-      | then-hears+in_ok-copied+in_ok-push_back w ↦
+pub loop-place-preserved : goal.loop-place-preserved
+loop-place-preserved c =
+    let es = c.self.inside.table.entries.items in
+    let p : Listener ℕ → Bool = hears_at c.args.node c.args.event.now c.args.capturing in
+    let places = c.of-places.result.now in
+    let i = c.loop-place.place-index in
+    let place = slice_index_or places i 0 in
+    let there : slice_get places i ≡ Some place = slice_get-get_or places i 0 c.loop-place-test.true in
+    let read : Option Entry → Bool = λ o. option_map_or (λ (e : Entry). p (listener_of e)) o false in
+    let before = listeners_in c.loop-place.heard.items in
+    elim c.match-entry.branch [
+      | in-Some+then-hears+in_ok-copied+in_ok-push_back w ↦
           ap (λ h. listeners_in h.items) w.heard-is
           ∙ ap listeners_in w.in_ok-push_back.ensures.items
-          ∙ map-append listener_of c.loop-entry.heard.items (w.in_ok-copied.field-0 ∷ [])
+          ∙ map-append listener_of c.loop-place.heard.items (w.in_ok-copied.field-0 ∷ [])
           ∙ ap (λ l. before ++ l ∷ []) w.in_ok-copied.ensures
-          ∙ sym (ap (λ ls. before ++ ls) (cond-true (test entry) (listener_of entry ∷ []) [] (sym w.if-hears.ensures)))
-      | else-hears w ↦
+          ∙ ap (λ ls. ls ++ listener_of w.in-Some.entry.now ∷ []) c.loop-place.invariant
+          ∙ sym (kept-next p es places i place there w.in-Some.entry.now (sym w.in-Some.ensures) (sym w.if-hears.ensures))
+      | in-Some+else-hears w ↦
           ap (λ h. listeners_in h.items) w.heard-is
-          ∙ sym (append-nil before)
-          ∙ sym (ap (λ ls. before ++ ls) (cond-false (test entry) (listener_of entry ∷ []) [] (sym w.if-hears.ensures)))
-    ] in
-    here ∙ ap (λ ls. ls ++ cond (test entry) (listener_of entry ∷ []) []) c.loop-entry.invariant
-    ∙ kept-more listener_of test entries c.loop-entry.entry-index entry (omega (arith, same)) at
+          ∙ c.loop-place.invariant
+          ∙ sym (kept-same p es places i place there (ap read (sym w.in-Some.ensures) ∙ sym w.if-hears.ensures))
+      | in_default w ↦
+          ap (λ h. listeners_in h.items) w.heard-is
+          ∙ c.loop-place.invariant
+          ∙ sym (kept-same p es places i place there (ap read (sym w.in_default.ensures)))
+    ]
 
 pub returns : goal.returns
 returns c =
-    let entries = c.self.inside.entries.items in
-    let test : Listener ℕ → Bool = hears_at c.args.node c.args.event.now c.args.capturing in
-    let same : length c.deref-entry-items.result.now ≡ length entries = ap length c.deref-entry-items.ensures.value in
-    c.loop-entry.invariant
-    ∙ ap (λ es. listeners_in (filter (λ e. test (listener_of e)) es)) (take_all c.loop-entry.entry-index entries (omega (arith, same)))
-    ∙ kept-mapped test listener_of entries
-    ∙ ap (filter test) c.self.view_is
+    let es = c.self.inside.table.entries.items in
+    let p : Listener ℕ → Bool = hears_at c.args.node c.args.event.now c.args.capturing in
+    let places = c.of-places.result.now in
+    let narrow : (l : Listener ℕ) → p l ≡ true → nat_eq l.node c.args.node ≡ true =
+    λ l h. and-first (nat_eq l.node c.args.node) (text_eq l.words.event c.args.event.now && beq l.words.capture c.args.capturing) h in
+    let all : take c.loop-place.place-index places ≡ places_from c.args.node 0 es =
+    take_all c.loop-place.place-index places (omega (arith, c.loop-place-test.false)) ∙ c.of-places.ensures ∙ c.self.invariant c.args.node in
+    c.loop-place.invariant
+    ∙ ap (λ ps. filter p (listeners_in (picked es ps))) all
+    ∙ picked-kept c.args.node p narrow es
+    ∙ ap (filter p) c.self.view_is

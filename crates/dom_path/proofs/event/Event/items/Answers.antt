@@ -12,7 +12,7 @@ loop-next-preserved c =
     let e = c.args.self.now in
     let so_far = subst (IsTrack c.args.forest.now c.args.slots.now.hosts e.target e.related e.composed c.loop-next.items.items) c.in-Some.is c.loop-next.invariant in
     track-more c.args.forest.now c.args.slots.now.hosts e.target e.related e.composed c.loop-next.items.items c.in-Some.at c.push.new.self.items c.next-next.result so_far
-    (c.in_ok-push.ensures.items ∙ ap (λ i. c.loop-next.items.items ++ i ∷ []) c.item.ensures)
+    (c.in_ok-push.ensures.ok ∙ ap (λ i. c.loop-next.items.items ++ i ∷ []) c.item.ensures)
     c.next-next.ensures.stands c.next-next.ensures.value c.next-next.ensures.entered
 
 pub returns-clause-way : goal.returns-clause-way

@@ -7,4 +7,4 @@ invariant-loop-next l = IsTrack l.forest l.slots.hosts l.self.target l.self.rela
 
 -- the number of items fits, so a path without an end would be met by want of memory
 abbrev pub decreases-loop-next : goal.decreases-loop-next
-decreases-loop-next l = 2 ^ 63 - length l.items.items
+decreases-loop-next l = 2 ^ 64 - length l.items.items

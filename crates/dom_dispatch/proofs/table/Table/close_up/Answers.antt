@@ -1,0 +1,18 @@
+use Rattle.std.proofs.Common.{ap, sym, ◌∙◌, rules, tests}
+use Rattle.std.specs.Prelude.{is_some}
+use Rattle.std.proofs.lemmas.Fn.{filter_same}
+use Rattle.dom_dispatch.specs.Tables.{present, places_from}
+use Rattle.dom_dispatch.proofs.Placing.{closed-present}
+use Rattle.dom_dispatch.proofs.table.Table.close_up.Goals as goal
+
+pub returns-clause-indexed : goal.returns-clause-indexed
+returns-clause-indexed c = λ k.
+    let es = c.args.self.now.entries.items in
+    let kept = filter_same _ is_some _ (λ x b q k. (search (rules, tests), search (rules, tests))) es c.retain.new.self.items c.retain.ensures.filtered in
+    c.in_ok-places.ensures k ∙ ap (places_from k 0) (sym kept)
+
+pub returns-clause-present : goal.returns-clause-present
+returns-clause-present c =
+    let es = c.args.self.now.entries.items in
+    let kept = filter_same _ is_some _ (λ x b q k. (search (rules, tests), search (rules, tests))) es c.retain.new.self.items c.retain.ensures.filtered in
+    ap present kept ∙ closed-present es

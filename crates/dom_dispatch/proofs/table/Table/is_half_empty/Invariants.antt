@@ -1,0 +1,9 @@
+use Rattle.std.proofs.Common.{◌≡◌, ◌≤◌, length, take}
+use Rattle.dom_dispatch.specs.Tables.{present}
+use Rattle.dom_dispatch.proofs.table.Table.is_half_empty.Given as goal
+
+abbrev pub invariant-loop-entry : goal.invariant-loop-entry
+invariant-loop-entry l = record {
+  counted : l.there ≡ length (present (take l.entry-index l.self.entries.items));
+  within : l.there ≤ l.entry-index;
+}

@@ -1,0 +1,11 @@
+use Rattle.std.proofs.Common.{◌≡◌, ◌≤◌, filter, length, take}
+use Rattle.std.specs.Prelude.{is_some}
+use Rattle.dom_dispatch.specs.Tables.{IsIndexed}
+use Rattle.dom_dispatch.proofs.table.Table.places_closed_up.Given as goal
+
+abbrev pub invariant-loop-entry : goal.invariant-loop-entry
+invariant-loop-entry l = record {
+  counted : l.count ≡ length (filter is_some (take l.entry-index l.self.entries.items));
+  within : l.count ≤ l.entry-index;
+  indexed : IsIndexed l.places (filter is_some (take l.entry-index l.self.entries.items));
+}

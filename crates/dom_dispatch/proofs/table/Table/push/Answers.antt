@@ -1,0 +1,22 @@
+use Rattle.std.proofs.Common.{◌≡◌, ◌++◌, ◌∷◌, [], nat_eq, Some, length, sym, ap, ◌∙◌, arith}
+use Rattle.std.specs.Prelude.{if◌then◌else◌}
+use Rattle.std.proofs.lemmas.List.Elements.{filter_map-append}
+use Rattle.dom_dispatch.specs.Tables.{present, places_at, places_from}
+use Rattle.dom_dispatch.proofs.Placing.{places-more}
+use Rattle.dom_dispatch.proofs.table.Table.push.Goals as goal
+
+pub returns-clause-indexed : goal.returns-clause-indexed
+returns-clause-indexed c = λ k.
+    let entry = c.args.entry in
+    let room = c.make_room.new.self in
+    let es = room.entries.items in
+    let place : c.len.result ≡ length es = omega (arith, c.len.ensures, room.entries.ok) in
+    let kept = c.reserve.new.self in
+    places-more k es entry (places_at kept k) (places_at c.push.new.self k) (c.reserve.ensures.places k ∙ c.make_room.ensures.indexed k)
+    (c.push.ensures k ∙ ap (λ j. if nat_eq entry.node k then places_at kept k ++ j ∷ [] else places_at kept k) place)
+    ∙ ap (places_from k 0) (sym c.push_reserved.ensures.items)
+
+pub returns-clause-ok : goal.returns-clause-ok
+returns-clause-ok c =
+    let after = Some c.args.entry ∷ [] in
+    ap present c.push_reserved.ensures.items ∙ filter_map-append (λ o. o) c.make_room.new.self.entries.items after ∙ ap (λ xs. xs ++ c.args.entry ∷ []) c.make_room.ensures.present

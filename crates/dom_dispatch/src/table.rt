@@ -1,0 +1,153 @@
+//! Where listeners stand.
+ghost use Rattle.std.specs.Prelude.{◌≡◌, ℕ, ◌+◌, ◌*◌, ◌<◌, ◌≤◌, ◌↔◌, ◌++◌, ◌∷◌, [], Bool, nat_eq, not, true, is_some, length, filter, vec_len, vec_capacity, IsTrue, IfSome, IfOk, OnOk, OnErr};
+ghost use Rattle.std.specs.List.{list_any};
+ghost use Rattle.std.specs.Option.{option_map};
+ghost use Rattle.dom_model.specs.Listeners.{Listener, is_listener};
+ghost use Rattle.dom_dispatch.specs.Entries.{listeners_in};
+ghost use Rattle.dom_dispatch.specs.Tables.{present, entry_at, places_at, passes_in, holds_at, IsIndexed};
+
+use crate::listeners::Entry;
+use crate::places::Places;
+use node_arena::Key;
+use std::alloc::{AllocError, Global};
+
+/// The listeners of all nodes in the order of adding, each in a place, and for each node the places of its listeners. One that is
+/// taken away leaves its place empty.
+#[derive(Drop)]
+pub(crate) struct Table {
+    pub(crate) entries: Vec<Option<Entry>>,
+    pub(crate) places: Places,
+}
+
+impl Table {
+    /// No listeners. Takes no memory yet.
+    pub(crate) fn new(alloc: Global) -> Self
+        ensures none { present result.entries.items ≡ [] }
+        ensures indexed { IsIndexed result.places result.entries.items }
+    {
+        Table {
+            entries: Vec::new(alloc),
+            places: Places::new(alloc),
+        }
+    }
+
+    /// The listener in a place, if there is one.
+    pub(crate) fn entry(&self, place: usize) -> Option<&Entry>
+        ensures { option_map (λ e. e.now) result ≡ entry_at self.now.entries.items place }
+    {
+        match self.entries.get(place) {
+            Some(Some(entry)) => Some(entry),
+            _ => None,
+        }
+    }
+
+    /// Which of a node's listeners, in their order, has this type, label and capture, if one has. This looks at the node's listeners
+    /// only.
+    pub(crate) fn find(&self, node: Key, event: &str, label: &str, capture: bool) -> Option<usize>
+        requires indexed { IsIndexed self.now.places self.now.entries.items }
+        ensures there { is_some result ≡ list_any (is_listener nat_eq node event.now label.now capture) (listeners_in (present self.now.entries.items)) }
+        ensures within { IfSome result (λ at. at < length (places_at self.now.places node)) }
+        ensures found { IfSome result (λ at. holds_at (is_listener nat_eq node event.now label.now capture) self.now.entries.items (places_at self.now.places node) at ≡ true) }
+    {
+        let places = self.places.of(node);
+        for at in 0..places.len() {
+            if self.has_in(places[at], node, event, label, capture) {
+                return Some(at);
+            }
+        }
+        None
+    }
+
+    /// Whether the listener in a place is that of a node with this type, label and capture.
+    fn has_in(&self, place: usize, node: Key, event: &str, label: &str, capture: bool) -> bool
+        ensures { result ≡ passes_in (is_listener nat_eq node event.now label.now capture) self.now.entries.items place }
+    {
+        match self.entry(place) {
+            Some(entry) => entry.is(node, event, label, capture),
+            None => false,
+        }
+    }
+
+    /// Puts a listener behind the others.
+    pub(crate) fn push(&mut self, entry: Entry) -> Result<(), AllocError>
+        requires indexed { IsIndexed self.old.places self.old.entries.items }
+        ensures indexed { IsIndexed self.new.places self.new.entries.items }
+        ensures ok { OnOk result (present self.new.entries.items ≡ present self.old.entries.items ++ entry ∷ []) }
+        ensures err { OnErr result (present self.new.entries.items ≡ present self.old.entries.items) }
+    {
+        self.make_room()?;
+        self.places.reserve(entry.node)?;
+        self.places.push(entry.node, self.entries.len());
+        self.entries.push_reserved(Some(entry));
+        Ok(())
+    }
+
+    /// Makes room for one listener more. Where all places are taken, and no more than half of them have a listener, the empty ones are
+    /// closed up.
+    fn make_room(&mut self) -> Result<(), AllocError>
+        requires indexed { IsIndexed self.old.places self.old.entries.items }
+        ensures indexed { IsIndexed self.new.places self.new.entries.items }
+        ensures present { present self.new.entries.items ≡ present self.old.entries.items }
+        ensures room { OnOk result (vec_len self.new.entries < vec_capacity self.new.entries) }
+    {
+        if self.entries.len() == self.entries.capacity() && self.is_half_empty() {
+            self.close_up()?;
+        }
+        self.entries.reserve(1)
+    }
+
+    /// Whether no more than half of the places have a listener.
+    fn is_half_empty(&self) -> bool
+        ensures { IsTrue result ↔ (2 * length (present self.now.entries.items) ≤ length self.now.entries.items) }
+    {
+        let mut there = 0;
+        for entry in &self.entries {
+            if entry.is_some() {
+                there += 1;
+            }
+        }
+        there <= self.entries.len() - there
+    }
+
+    /// Closes the empty places up. Where memory is refused, all is as it was.
+    fn close_up(&mut self) -> Result<(), AllocError>
+        requires indexed { IsIndexed self.old.places self.old.entries.items }
+        ensures indexed { IsIndexed self.new.places self.new.entries.items }
+        ensures present { present self.new.entries.items ≡ present self.old.entries.items }
+    {
+        let places = self.places_closed_up()?;
+        self.entries.retain(|entry| entry.is_some());
+        self.places = places;
+        Ok(())
+    }
+
+    /// The places of the listeners once the empty ones are closed up.
+    fn places_closed_up(&self) -> Result<Places, AllocError>
+        ensures { IfOk result (λ places. IsIndexed places (filter is_some self.now.entries.items)) }
+    {
+        let mut places = Places::new(*self.entries.allocator());
+        let mut count = 0;
+        for entry in &self.entries {
+            if let Some(entry) = entry {
+                places.reserve(entry.node)?;
+                places.push(entry.node, count);
+                count += 1;
+            }
+        }
+        Ok(places)
+    }
+
+    /// Takes one of a node's listeners away.
+    pub(crate) fn take(&mut self, node: Key, at: usize)
+        requires indexed { IsIndexed self.old.places self.old.entries.items }
+        requires within { at < length (places_at self.old.places node) }
+        ensures indexed { IsIndexed self.new.places self.new.entries.items }
+        // The others stay, and so do all that fail a test which this one passes.
+        ensures fewer { length (present self.new.entries.items) + 1 ≡ length (present self.old.entries.items) }
+        ensures others { (p : Listener ℕ → Bool) → holds_at p self.old.entries.items (places_at self.old.places node) at ≡ true → filter (λ l. not (p l)) (listeners_in (present self.new.entries.items)) ≡ filter (λ l. not (p l)) (listeners_in (present self.old.entries.items)) }
+    {
+        let place = self.places.of(node)[at];
+        self.places.remove(node, at);
+        self.entries[place] = None;
+    }
+}
