@@ -1,11 +1,10 @@
 -- The keys of a node's inclusive ancestors, from the node upwards.
-use Rattle.std.proofs.Common.{inl, inr, ◌≡◌, ℕ, zero, suc, ◌+◌, ◌<◌, Bool, true, false, cond, List, [], ◌∷◌, ◌++◌, length, map, Option, Some, None, refl, sym, ap, ◌∙◌, subst, arith}
+use Rattle.std.proofs.Common.{inl, inr, ◌≡◌, ℕ, zero, suc, ◌<◌, Bool, true, false, List, [], ◌∷◌, ◌++◌, length, map, Option, Some, None, refl, sym, ap, ◌∙◌, subst, arith}
 use Rattle.std.specs.Prelude.{option_map, slice_get}
 use Rattle.std.proofs.lemmas.Option.{same_Some, none-some}
 use Rattle.std.specs.Option.{ForSome, option_map_or}
-use Rattle.std.specs.List.{All}
 use Rattle.std.proofs.lemmas.Bool.{cond-true, cond-false}
-use Rattle.std.proofs.lemmas.List.{append_assoc, append-nil, map_push}
+use Rattle.std.proofs.lemmas.List.{append_assoc, append-nil, map_push, map-append}
 use Rattle.dom_base.specs.declared.NodeName.{NodeName}
 use Rattle.dom_model.specs.Names.{name_eq}
 use Rattle.dom_model.specs.Tree.{inclusive_ancestors, parent_of, nodes, names_of}
@@ -13,7 +12,7 @@ use Rattle.dom_model.proofs.OwnerLaws.{name_eq-same}
 use Rattle.dom_tree.specs.Forest.{NamedTrees, name_at}
 use Rattle.dom_tree.proofs.Names.{name_eq-other, name_eq-true}
 use Rattle.dom_traversal.proofs.Counts.{StandOnce, StandAlone, Once-forest, Has-forest}
-use Rattle.dom_traversal.proofs.Shapes.{above-parent, above-root, Has-above}
+use Rattle.dom_traversal.proofs.Shapes.{above-parent, above-present, above-root, Has-above}
 use Rattle.dom_traversal.proofs.Lists.{In, is_in-from}
 use Rattle.dom_traversal.proofs.Children.{In-names}
 use Rattle.dom_observers.specs.Paths.{key_of, path_keys}
@@ -85,6 +84,21 @@ unfolding above
 climbs-all f apart key path done =
     sym (keys_of-names f.names apart path done.nodes)
     ∙ ap (map (key_of f.names)) (sym (append-nil (map (name_at f.names) path)) ∙ done.whole)
+
+-- what it has done is the beginning of the whole way
+pub climbs-through : (f : NamedTrees) → StandOnce f → TellApart f.names → (key k : ℕ) (path : List ℕ) → HasClimbed f key path (Some k) → (rest : List ℕ) × (path_keys f key ≡ path ++ k ∷ rest)
+unfolding above
+climbs-through f once apart key k path done =
+    let node = done.next k refl in
+    let begins = above-present f.trees (name_at f.names k) (Has-forest f once k node) in
+    let rest = map (key_of f.names) begins.0 in (
+      rest,
+      ap (map (key_of f.names)) (sym done.whole)
+          ∙ (map-append (key_of f.names) (map (name_at f.names) path) (above f (Some k))
+          ∙ (ap (λ keys. keys ++ map (key_of f.names) (above f (Some k))) (keys_of-names f.names apart path done.nodes)
+          ∙ (ap (λ names. path ++ map (key_of f.names) names) begins.1
+          ∙ ap (λ j. path ++ j ∷ rest) (key_of-name f.names apart k node)))),
+    )
 
 -- ---- the keys of the path stand for its names
 

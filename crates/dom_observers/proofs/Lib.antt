@@ -5,3 +5,4 @@ pub mod Lookups
 pub mod Ascending
 pub mod Naming
 pub mod Speaking
+pub mod Watching

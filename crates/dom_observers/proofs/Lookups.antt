@@ -11,7 +11,7 @@ use Rattle.dom_model.specs.Names.{owner_eq}
 use Rattle.dom_observers.specs.declared.observers.Observers.TheInside.{Inside}
 use Rattle.dom_observers.specs.declared.table.Table.{Table}
 use Rattle.dom_observers.specs.Tables.{TablesOf, no_tables}
-use Rattle.dom_observers.specs.Views.{table_of}
+use Rattle.dom_observers.specs.TableView.{table_of}
 use Rattle.dom_observers.specs.AllTables.{AllTables}
 use Rattle.dom_observers.specs.Owners.{tables_of, all_tables, ChangesTables, KeepsTables}
 use Rattle.dom_model.proofs.OwnerLaws.{owner_eq-true}

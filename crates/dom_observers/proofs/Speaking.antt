@@ -1,6 +1,6 @@
 -- The nodes that an owner's registrations and records name: they stay of P after each call, and where two namings agree on
 -- P the tables are the same in names.
-use Rattle.std.proofs.Common.{◌≡◌, ℕ, zero, suc, Bool, true, false, not, cond, ◌&&◌, ◌==◌, List, [], ◌∷◌, ◌++◌, map, Option, Some, None, refl, sym, ap, subst, ◌∙◌}
+use Rattle.std.proofs.Common.{◌≡◌, ℕ, zero, suc, Bool, true, false, not, cond, ◌&&◌, ◌==◌, List, [], ◌∷◌, ◌++◌, map, Option, Some, None, refl, ap, subst, ◌∙◌}
 use Rattle.std.specs.Prelude.{nat_eq, slice_get, slice_set, option_map, unwrap_or, if◌then◌else◌}
 use Rattle.std.specs.List.{fold, filter, list_any}
 use Rattle.std.specs.Option.{ForSome}

@@ -1,18 +1,18 @@
 -- What becomes of tables: records given one after the other, queues emptied, and registrations that are kept.
-use Rattle.std.proofs.Common.{◌≡◌, ℕ, zero, suc, ◌<◌, Bool, true, false, not, ◌||◌, cond, eqb, List, [], ◌∷◌, ◌++◌, length, map, get_or, set, take, Option, Some, None, refl, sym, ap, ◌∙◌, subst, arith}
+use Rattle.std.proofs.Common.{◌≡◌, ℕ, zero, suc, ◌<◌, Bool, true, false, not, eqb, List, [], ◌∷◌, ◌++◌, length, map, get_or, set, take, Option, Some, None, refl, sym, ap, ◌∙◌, arith}
 use Rattle.std.specs.Prelude.{slice_get, unwrap_or, option_map, is_some, Vec}
-use Rattle.std.specs.List.{fold, filter, IsDistinct, AllByRecursion}
-use Rattle.std.proofs.lemmas.Bool.{cond-true, cond-false, or_parts, or_from, eq-eqb, ne_eqb, cases_eq, eqb-true, true≢false}
+use Rattle.std.specs.List.{fold, filter, IsDistinct}
+use Rattle.std.proofs.lemmas.Bool.{cond-true, cond-false, or_parts, or_from, eq-eqb, ne_eqb, true≢false}
 use Rattle.std.proofs.lemmas.List.{append-nil}
 use Rattle.std.proofs.lemmas.List.Elements.{All-from_recursion}
 use Rattle.dom_model.specs.Names.{is_in, append_once, is_empty}
 use Rattle.dom_model.specs.Output.{Change as Changed}
-use Rattle.dom_model.specs.Observers.{Registration, interested, record_for}
+use Rattle.dom_model.specs.Observers.{Registration, interested, record_for, transients_for}
 use Rattle.dom_observers.specs.declared.change.Change.{Change}
-use Rattle.dom_observers.specs.Tables.{TablesOf, queue_at, emptied, given, told, is_taken, left}
+use Rattle.dom_observers.specs.Tables.{TablesOf, queue_at, given, told, is_taken, left}
 use Rattle.dom_observers.specs.Views.{change_of}
 use Rattle.dom_observers.proofs.Folds.{eqb-turned}
-use Rattle.dom_observers.proofs.Gathering.{fold-agree, interested-none, copies-none}
+use Rattle.dom_observers.proofs.Gathering.{fold-agree}
 
 -- ---- records that are given
 
@@ -103,18 +103,18 @@ filter_of_map p h (x ∷ xs) = by (p (h x)) refl (filter_of_map p h xs)
         ap (map h) (cond-false (p (h x)) (x ∷ filter (λ y. p (h y)) xs) (filter (λ y. p (h y)) xs) e)
         ∙ (rest ∙ sym (cond-false (p (h x)) (h x ∷ filter p (map h xs)) (filter p (map h xs)) e))
 
--- ---- an owner without registrations
+-- ---- where nobody is interested, and no node gets a transient registration
 
-pub not_taken : (path : List ℕ) (c : Changed ℕ) (t : TablesOf ℕ) → is_empty t.registrations ≡ true → is_taken eqb path t c ≡ false
-not_taken path c t e = ap (λ ks. not (is_empty ks)) (interested-none path t.registrations c e)
+pub not_taken : (path : List ℕ) (c : Changed ℕ) (t : TablesOf ℕ) → interested eqb path t.registrations c ≡ [] → is_taken eqb path t c ≡ false
+not_taken path c t e = ap (λ ks. not (is_empty ks)) e
 
-pub not_told : (path : List ℕ) (c : Changed ℕ) (t : TablesOf ℕ) → is_empty t.registrations ≡ true → told eqb path c t ≡ t
+pub not_told : (path : List ℕ) (c : Changed ℕ) (t : TablesOf ℕ) → interested eqb path t.registrations c ≡ [] → told eqb path c t ≡ t
 not_told path c t e =
     let rec = record_for eqb path t.registrations c in
     let after = λ (ks : List ℕ). let s : TablesOf ℕ = record t { record_queues = fold (λ queues k. set queues k (queue_at queues k ++ rec k ∷ [])) t.record_queues ks; pending = fold (append_once eqb) t.pending ks } in s in
-    ap after (interested-none path t.registrations c e)
+    ap after e
 
-pub none_left : (node : ℕ) (path : List ℕ) (t : TablesOf ℕ) → is_empty t.registrations ≡ true → left eqb node path t ≡ t
+pub none_left : (node : ℕ) (path : List ℕ) (t : TablesOf ℕ) → transients_for eqb node path t.registrations ≡ [] → left eqb node path t ≡ t
 none_left node path t e =
-    ap (λ (rs : List (Registration ℕ)). record t { registrations = t.registrations ++ rs }) (copies-none node path t.registrations e)
+    ap (λ (rs : List (Registration ℕ)). record t { registrations = t.registrations ++ rs }) e
     ∙ ap (λ (rs : List (Registration ℕ)). record t { registrations = rs }) (append-nil t.registrations)

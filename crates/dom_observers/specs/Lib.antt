@@ -1,5 +1,7 @@
 pub mod Views
 pub mod Tables
+pub mod Watching
+pub mod TableView
 pub mod Paths
 pub mod Taking
 pub mod Takers

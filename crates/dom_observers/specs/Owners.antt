@@ -5,7 +5,7 @@ use Rattle.dom_base.specs.declared.Owner.{Owner}
 use Rattle.dom_model.specs.Names.{owner_eq}
 use Rattle.dom_observers.specs.declared.observers.Observers.TheInside.{Inside}
 use Rattle.dom_observers.specs.Tables.{TablesOf, no_tables}
-use Rattle.dom_observers.specs.Views.{table_of}
+use Rattle.dom_observers.specs.TableView.{table_of}
 use Rattle.dom_observers.specs.AllTables.{AllTables}
 
 -- an owner's tables; one that has none reads as one that has nothing

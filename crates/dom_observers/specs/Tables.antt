@@ -1,6 +1,6 @@
 -- What an owner has of observers, of nodes named by any type, and what each call does to it. These are the rules of the
 -- model's part, with its other fields left away.
-use Rattle.std.specs.Prelude.{ℕ, Bool, not, nat_eq, List, [], ◌∷◌, ◌++◌, map, fold, length, slice_get, slice_set, unwrap_or}
+use Rattle.std.specs.Prelude.{ℕ, Bool, not, nat_eq, List, [], ◌∷◌, ◌++◌, map, fold, slice_get, slice_set, unwrap_or}
 use Rattle.dom_model.specs.Names.{append_once, is_empty}
 use Rattle.dom_model.specs.Command.{ObserveWords}
 use Rattle.dom_model.specs.Output.{Change}

@@ -1,5 +1,5 @@
 -- What contracts see of what the code holds: the model's options, registrations and changes.
-use Rattle.std.specs.Prelude.{ℕ, List, map, Option, option_map, string_bytes, Vec}
+use Rattle.std.specs.Prelude.{ℕ, List, map, option_map, string_bytes, Vec}
 use Rattle.dom_model.specs.Command.{ObserveWords}
 use Rattle.dom_model.specs.Output.{Change as Changed, child_list, attributes, character_data}
 use Rattle.dom_model.specs.Observers.{Registration, Source as From, asked_for, copied_from, copied_from_transient}
@@ -9,8 +9,6 @@ use Rattle.dom_observers.specs.declared.change.Change.TheVariants.{ChildList, At
 use Rattle.dom_observers.specs.declared.registered.Source.{Source}
 use Rattle.dom_observers.specs.declared.registered.Source.TheVariants.{AskedFor, CopiedFrom, CopiedFromTransient}
 use Rattle.dom_observers.specs.declared.registered.Registered.{Registered}
-use Rattle.dom_observers.specs.declared.table.Table.{Table}
-use Rattle.dom_observers.specs.Tables.{TablesOf}
 
 -- the words of observe() (DOM Standard, dictionary MutationObserverInit)
 abbrev pub words_of : Options → ObserveWords
@@ -40,15 +38,6 @@ source_of CopiedFromTransient = copied_from_transient
 -- a registration (DOM Standard, concept: registered observer)
 abbrev pub registration_of : Registered → Registration ℕ
 registration_of r = record { node = r.node; observer = r.observer; options = words_of r.options.value; source = source_of r.source }
-
--- what an owner has of observers (DOM Standard, 4.3 Mutation observers)
-abbrev pub table_of : Table → TablesOf ℕ
-table_of t =
-    record {
-      registrations = map registration_of t.registrations.items;
-      record_queues = map (λ queue. map change_of queue.items) t.queues.items;
-      pending = t.pending.keys;
-    }
 
 -- an observer's number with its records
 abbrev pub notice_of : {Z : Type 0} → ℕ × Vec Change Z → ℕ × List (Changed ℕ)

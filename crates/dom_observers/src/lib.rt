@@ -9,8 +9,10 @@ mod observers;
 mod options;
 mod path;
 mod registered;
+mod registrations;
 mod table;
 mod takers;
+mod watched;
 
 pub use change::{Change, Record};
 pub use laws::{keys_stand_for_names, path_keys_are_named};

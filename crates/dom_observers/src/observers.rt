@@ -13,7 +13,6 @@ ghost use Rattle.dom_observers.specs.Owners.{tables_of, ChangesTables, KeepsTabl
 
 use crate::change::{Change, Record};
 use crate::options::Options;
-use crate::path::inclusive_ancestors;
 use crate::table::Table;
 use dom_base::{Fault, Owner, Refusal};
 use dom_tree::Forest;
@@ -148,23 +147,19 @@ impl Observers {
 
     /// Gives the record of a change to the observers of the target's owner that are interested in it, each once, which are
     /// then pending; it answers whether there are some (DOM Standard, queue a mutation record). A change of a node of an
-    /// owner without registrations takes no walk. After a refusal of memory some may have it and others not.
+    /// owner without registrations takes no walk, and where nobody is interested one look for each inclusive ancestor serves,
+    /// unless registrations have gone since the last change. After a refusal of memory some may have it and others not.
     pub fn queue_record(&mut self, forest: &Forest, change: Change) -> Result<bool, AllocError>
         requires { target_of (change_of change) < length forest.now.names }
         ensures taken { IfOk result (λ taken. taken ≡ is_taken nat_eq (path_keys forest.now (target_of (change_of change))) (tables_of self.old (name_at forest.now.names (target_of (change_of change))).owner) (change_of change)) }
         ensures tables { OnOk result (ChangesTables (name_at forest.now.names (target_of (change_of change))).owner (told nat_eq (path_keys forest.now (target_of (change_of change))) (change_of change) (tables_of self.old (name_at forest.now.names (target_of (change_of change))).owner)) self.old self.new) }
     {
-        let alloc = self.alloc;
         let target = change.target();
         let owner = forest.name(target).owner;
         let Some(table) = self.tables.get_mut(&owner) else {
             return Ok(false);
         };
-        if table.has_no_registration() {
-            return Ok(false);
-        }
-        let path = inclusive_ancestors(alloc, forest, target)?;
-        table.queue_record(path.as_slice(), change)
+        table.queue_record(forest, change)
     }
 
     /// Gives a node that leaves a parent its transient registrations: copies of the registrations on the parent's inclusive
@@ -175,16 +170,11 @@ impl Observers {
         requires node_is_node { node < length forest.now.names }
         ensures { OnOk result (ChangesTables (name_at forest.now.names node).owner (left nat_eq node (path_keys forest.now parent) (tables_of self.old (name_at forest.now.names node).owner)) self.old self.new) }
     {
-        let alloc = self.alloc;
         let owner = forest.name(node).owner;
         let Some(table) = self.tables.get_mut(&owner) else {
             return Ok(());
         };
-        if table.has_no_registration() {
-            return Ok(());
-        }
-        let path = inclusive_ancestors(alloc, forest, parent)?;
-        table.add_transients(path.as_slice(), node)
+        table.add_transients(forest, parent, node)
     }
 
     /// Empties an owner's set of pending observers, and gives each with the records of its queue, in order (DOM Standard,

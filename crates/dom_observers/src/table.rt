@@ -1,19 +1,21 @@
 //! What one owner has of observers.
-ghost use Rattle.std.specs.Prelude.{◌≡◌, ◌↔◌, ◌⊎◌, nat_eq, nat_lt, true, false, not, ◌&&◌, ◌==◌, map, filter, fold, length, option_map, slice_get, is_some, IfOk, IfErr, OnOk, OnErr, if◌then◌else◌};
-ghost use Rattle.std.specs.List.{list_any};
+ghost use Rattle.std.specs.Prelude.{◌≡◌, ◌<◌, ◌↔◌, ◌⊎◌, nat_eq, nat_lt, true, false, map, fold, length, option_map, slice_get, is_some, IfOk, IfErr, OnOk, OnErr, if◌then◌else◌};
 ghost use Rattle.dom_model.specs.Names.{is_empty};
 ghost use Rattle.dom_model.specs.CommandRefusals.{past_limit};
-ghost use Rattle.dom_model.specs.Observers.{options_of, asks_for_nothing, is_asked_for, with_options, stems_from};
+ghost use Rattle.dom_model.specs.Observers.{options_of, asks_for_nothing, target_of};
 ghost use Rattle.dom_observers.specs.Tables.{no_tables, with_observer, observing, disconnected, emptied, appended, given, is_taken, told, left, notices, notified};
-ghost use Rattle.dom_observers.specs.Views.{words_of, change_of, registration_of, table_of, notice_of};
-ghost use Rattle.dom_observers.specs.Taking.{copied_on};
+ghost use Rattle.dom_observers.specs.Views.{words_of, change_of, notice_of};
+ghost use Rattle.dom_observers.specs.TableView.{table_of};
+ghost use Rattle.dom_observers.specs.Paths.{path_keys};
 ghost use Rattle.dom_observers.specs.Takers.{record_of};
 
 use crate::change::{Change, Record};
 use crate::options::Options;
-use crate::registered::{Registered, Source};
+use crate::path::inclusive_ancestors;
+use crate::registrations::Registrations;
 use crate::takers::Takers;
 use dom_base::{Fault, MAX_NODES, Refusal};
+use dom_tree::Forest;
 use indexmap::IndexSet;
 use node_arena::Key;
 use std::alloc::{AllocError, Global};
@@ -24,7 +26,7 @@ use std::rc::Rc;
 /// observers in the order in which they became pending (DOM Standard, 4.3 Mutation observers).
 #[derive(Drop)]
 pub struct Table {
-    registrations: Vec<Registered>,
+    registrations: Registrations,
     queues: Vec<Vec<Record>>,
     pending: IndexSet<u32>,
     alloc: Global,
@@ -36,7 +38,7 @@ impl Table {
         ensures { table_of result ≡ no_tables }
     {
         Table {
-            registrations: Vec::new(alloc),
+            registrations: Registrations::new(alloc),
             queues: Vec::new(alloc),
             pending: IndexSet::new(alloc),
             alloc,
@@ -93,45 +95,9 @@ impl Table {
         if options.ask_for_nothing() {
             return Err(Fault::Refused(Refusal::TypeFault));
         }
-        let options = Rc::new(self.alloc, options)?;
-        if self.is_registered(observer, node) {
-            self.registrations = self.renewed(observer, node, &options)?;
-        } else {
-            self.registrations.push(Registered {
-                node,
-                observer,
-                options,
-                source: Source::AskedFor,
-            })?;
-        }
-        Ok(())
-    }
-
-    /// Whether an observer has a registration on a node that was asked for.
-    fn is_registered(&self, observer: u32, node: Key) -> bool
-        ensures { result ≡ list_any (is_asked_for nat_eq observer node) (table_of self.now).registrations }
-    {
         self.registrations
-            .iter()
-            .any(|registered| registered.is_asked_for(observer, node))
-    }
-
-    /// The registrations where an observer's on a node has other options, and the transient copies of it are gone.
-    fn renewed(
-        &self,
-        observer: u32,
-        node: Key,
-        options: &Rc<Options>,
-    ) -> Result<Vec<Registered>, AllocError>
-        ensures { IfOk result (λ rs. map registration_of rs.items ≡ map (with_options nat_eq observer node (words_of options.now.value)) (filter (λ r. not ((r.observer == observer) && stems_from nat_eq node r.source)) (table_of self.now).registrations)) }
-    {
-        let mut renewed = Vec::new(self.alloc);
-        for registered in &self.registrations {
-            if !registered.stems_from(observer, node) {
-                renewed.push(registered.renewed(observer, node, options)?)?;
-            }
-        }
-        Ok(renewed)
+            .observe(observer, node, Rc::new(self.alloc, options)?)?;
+        Ok(())
     }
 
     /// Takes an observer's registrations away, transient ones too, and empties its record queue, where there is such an
@@ -143,8 +109,7 @@ impl Table {
         if self.take(observer).is_none() {
             return false;
         }
-        self.registrations
-            .retain(|registered| registered.observer != observer);
+        self.registrations.remove_of(observer);
         true
     }
 
@@ -158,13 +123,24 @@ impl Table {
         Some(mem::replace(queue, Vec::new(alloc)))
     }
 
-    /// Gives the record of a change to the observers that are interested in it, where the changed node has these inclusive
-    /// ancestors (DOM Standard, queue a mutation record). The last of them gets the change itself.
-    pub(crate) fn queue_record(&mut self, path: &[Key], change: Change) -> Result<bool, AllocError>
-        ensures taken { IfOk result (λ taken. taken ≡ is_taken nat_eq path.now (table_of self.old) (change_of change)) }
-        ensures tables { OnOk result (table_of self.new ≡ told nat_eq path.now (change_of change) (table_of self.old)) }
+    /// Gives the record of a change of a node to the observers that are interested in it (DOM Standard, queue a mutation
+    /// record). The last of them gets the change itself. Where nobody is, it costs a look for each inclusive ancestor.
+    pub(crate) fn queue_record(
+        &mut self,
+        forest: &Forest,
+        change: Change,
+    ) -> Result<bool, AllocError>
+        requires { target_of (change_of change) < length forest.now.names }
+        ensures taken { IfOk result (λ taken. taken ≡ is_taken nat_eq (path_keys forest.now (target_of (change_of change))) (table_of self.old) (change_of change)) }
+        ensures tables { OnOk result (table_of self.new ≡ told nat_eq (path_keys forest.now (target_of (change_of change))) (change_of change) (table_of self.old)) }
     {
-        let takers = Takers::of(self.alloc, self.registrations.as_slice(), path, &change)?;
+        let target = change.target();
+        self.registrations.refresh()?;
+        if !self.registrations.may_concern(forest, target) {
+            return Ok(false);
+        }
+        let path = inclusive_ancestors(self.alloc, forest, target)?;
+        let takers = Takers::of(self.alloc, &self.registrations, path.as_slice(), &change)?;
         let Some((last, others)) = takers.observers.as_slice().split_last() else {
             return Ok(false);
         };
@@ -212,16 +188,23 @@ impl Table {
         }
     }
 
-    /// Adds the transient registrations of a removed node, whose parent had these inclusive ancestors (DOM Standard,
-    /// remove).
-    pub(crate) fn add_transients(&mut self, path: &[Key], node: Key) -> Result<(), AllocError>
-        ensures { OnOk result (table_of self.new ≡ left nat_eq node path.now (table_of self.old)) }
+    /// Adds the transient registrations of a node that leaves a parent (DOM Standard, remove). Where it gets none, it costs
+    /// a look for each inclusive ancestor of the parent.
+    pub(crate) fn add_transients(
+        &mut self,
+        forest: &Forest,
+        parent: Key,
+        node: Key,
+    ) -> Result<(), AllocError>
+        requires { parent < length forest.now.names }
+        ensures { OnOk result (table_of self.new ≡ left nat_eq node (path_keys forest.now parent) (table_of self.old)) }
     {
-        let mut copies = Vec::new(self.alloc);
-        for above in path {
-            copy_on(self.registrations.as_slice(), *above, node, &mut copies)?;
+        self.registrations.refresh()?;
+        if !self.registrations.may_be_left(forest, parent) {
+            return Ok(());
         }
-        self.registrations.append(&mut copies)?;
+        let path = inclusive_ancestors(self.alloc, forest, parent)?;
+        self.registrations.add_transients(path.as_slice(), node)?;
         Ok(())
     }
 
@@ -238,26 +221,7 @@ impl Table {
             let records = self.take(*observer).unwrap_or(Vec::new(alloc));
             notices.push((*observer, records))?;
         }
-        self.registrations.retain(|registered| {
-            !(registered.is_transient() && pending.contains(&registered.observer))
-        });
+        self.registrations.remove_transients(&pending);
         Ok(notices)
     }
-}
-
-/// Puts the transient copies of the registrations on a node that observe its subtree behind others, for a removed node.
-fn copy_on(
-    registrations: &[Registered],
-    above: Key,
-    node: Key,
-    copies: &mut Vec<Registered>,
-) -> Result<(), AllocError>
-    ensures { OnOk result (map registration_of copies.new.items ≡ copied_on node (map registration_of registrations.now) (map registration_of copies.old.items) above) }
-{
-    for registered in registrations {
-        if registered.observes_below(above) {
-            copies.push(registered.copied_to(node)?)?;
-        }
-    }
-    Ok(())
 }

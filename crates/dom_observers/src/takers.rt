@@ -8,6 +8,7 @@ ghost use Rattle.dom_observers.specs.Takers.{found_of};
 
 use crate::change::Change;
 use crate::registered::Registered;
+use crate::registrations::Registrations;
 use indexmap::IndexSet;
 use node_arena::Key;
 use std::alloc::{AllocError, Global};
@@ -24,19 +25,21 @@ impl Takers {
     /// Those of a change, of an owner's registrations and the inclusive ancestors of the changed node.
     pub(crate) fn of(
         alloc: Global,
-        registrations: &[Registered],
+        registrations: &Registrations,
         path: &[Key],
         change: &Change,
     ) -> Result<Takers, AllocError>
-        ensures observers { IfOk result (λ t. t.observers.keys ≡ interested nat_eq path.now (map registration_of registrations.now) (change_of change.now)) }
-        ensures with_old { IfOk result (λ t. (k : ℕ) → list_any (nat_eq k) t.with_old.keys ≡ list_any (λ r. (r.observer == k) && asks_for_old r.options (change_of change.now)) (fitting nat_eq path.now (map registration_of registrations.now) (change_of change.now))) }
+        ensures observers { IfOk result (λ t. t.observers.keys ≡ interested nat_eq path.now registrations.now (change_of change.now)) }
+        ensures with_old { IfOk result (λ t. (k : ℕ) → list_any (nat_eq k) t.with_old.keys ≡ list_any (λ r. (r.observer == k) && asks_for_old r.options (change_of change.now)) (fitting nat_eq path.now registrations.now (change_of change.now))) }
     {
         let mut takers = Takers {
             observers: IndexSet::new(alloc),
             with_old: IndexSet::new(alloc),
         };
         for node in path {
-            takers.add_on(registrations, *node, change)?;
+            if registrations.may_be_on(*node) {
+                takers.add_on(registrations.as_slice(), *node, change)?;
+            }
         }
         Ok(takers)
     }

@@ -1,4 +1,4 @@
-use Rattle.std.proofs.Common.{◌<◌, length, Some, None, refl, sym, subst}
+use Rattle.std.proofs.Common.{◌<◌, length, Some, refl, sym, subst}
 use Rattle.dom_observers.proofs.Ascending.{HasClimbed, above, climbs-first, climbs-more, climbs-fewer, climbs-all}
 use Rattle.dom_observers.proofs.path.inclusive_ancestors.Goals as goal
 

@@ -1,13 +1,8 @@
-use Rattle.std.proofs.Common.{◌≡◌, ℕ, true, false, eqb, ltb, length, nat_eq, cond, OnOk, OnErr, Some, None, refl, sym, ap, ◌∙◌, subst, arith}
-use Rattle.std.specs.Prelude.{slice_get}
-use Rattle.std.proofs.lemmas.Result.{on_ok_weaker, on_err_weaker, IfOk-weaker}
+use Rattle.std.proofs.Common.{ℕ, ltb, length, cond, sym, ap, ◌∙◌}
 use Rattle.dom_observers.specs.declared.observers.Observers.TheInside.{Inside}
-use Rattle.dom_observers.specs.Tables.{TablesOf, no_tables, with_observer, observing, disconnected, emptied, told, is_taken, left, notices, notified}
-use Rattle.dom_observers.specs.Owners.{tables_of, all_tables, ChangesTables, KeepsTables}
-use Rattle.dom_observers.specs.Paths.{path_keys}
-use Rattle.dom_observers.specs.Views.{words_of, change_of, notice_of, table_of}
-use Rattle.dom_observers.proofs.Lookups.{rewritten, had, had-none, kept-changes, changes-kept, changes-same, untouched, untouched-changes, lookup-get, written-none, below_none}
-use Rattle.dom_observers.proofs.Tables.{not_taken, not_told, none_left}
+use Rattle.dom_observers.specs.Tables.{TablesOf, disconnected}
+use Rattle.dom_observers.specs.Owners.{all_tables}
+use Rattle.dom_observers.proofs.Lookups.{rewritten, had, had-none, kept-changes, untouched, below_none}
 use Rattle.dom_observers.proofs.observers.Observers.disconnect.Goals as goal
 
 pub returns-in_default : goal.returns-in_default

@@ -1,17 +1,16 @@
-use Rattle.std.proofs.Common.{◌≡◌, ℕ, true, false, eqb, ltb, length, nat_eq, cond, OnOk, OnErr, Some, None, refl, sym, ap, ◌∙◌, subst, arith}
-use Rattle.std.specs.Prelude.{slice_get, ◌↔◌, Err}
+use Rattle.std.proofs.Common.{◌≡◌, ℕ, true, false, ltb, length, nat_eq, refl, sym, ap, ◌∙◌, subst}
+use Rattle.std.specs.Prelude.{◌↔◌, Err}
 use Rattle.std.proofs.lemmas.Bool.{true≢false}
 use Rattle.dom_base.specs.declared.Fault.TheVariants.{Refused}
 use Rattle.dom_base.specs.declared.Refusal.TheVariants.{Unknown, TypeFault}
 use Rattle.dom_model.specs.Observers.{options_of, asks_for_nothing}
-use Rattle.std.proofs.lemmas.Result.{on_ok_weaker, on_err_weaker, IfOk-weaker}
+use Rattle.std.proofs.lemmas.Result.{on_ok_weaker, on_err_weaker}
 use Rattle.dom_observers.specs.declared.observers.Observers.TheInside.{Inside}
-use Rattle.dom_observers.specs.Tables.{TablesOf, no_tables, with_observer, observing, disconnected, emptied, told, is_taken, left, notices, notified}
+use Rattle.dom_observers.specs.Tables.{TablesOf, observing}
 use Rattle.dom_observers.specs.Owners.{tables_of, all_tables, ChangesTables, KeepsTables}
-use Rattle.dom_observers.specs.Paths.{path_keys}
-use Rattle.dom_observers.specs.Views.{words_of, change_of, notice_of, table_of}
-use Rattle.dom_observers.proofs.Lookups.{rewritten, had, had-none, kept-changes, changes-kept, changes-same, untouched, untouched-changes, lookup-get, written-none, below_none}
-use Rattle.dom_observers.proofs.Tables.{not_taken, not_told, none_left}
+use Rattle.dom_observers.specs.Views.{words_of}
+use Rattle.dom_observers.specs.TableView.{table_of}
+use Rattle.dom_observers.proofs.Lookups.{rewritten, had, had-none, changes-kept, untouched, below_none}
 use Rattle.dom_observers.proofs.observers.Observers.observe.Goals as goal
 
 pub returns-in_default-clause-unknown : goal.returns-in_default-clause-unknown

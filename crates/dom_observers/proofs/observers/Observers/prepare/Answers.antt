@@ -1,26 +1,13 @@
-use Rattle.std.proofs.Common.{◌≡◌, ℕ, true, false, ltb, length, nat_eq, cond, OnOk, OnErr, Some, None, refl, sym, ap, ◌∙◌, subst, arith}
+use Rattle.std.proofs.Common.{◌≡◌, true, OnErr, sym, ap, ◌∙◌, subst}
 use Rattle.std.specs.Prelude.{is_some, Result, Ok, Err}
 use Rattle.std.specs.Map.{lookup}
 use Rattle.std.specs.HashMap.{get}
-use Rattle.std.proofs.lemmas.Bool.{true≢false}
-use Rattle.std.proofs.lemmas.Result.{on_ok_weaker, on_err_weaker}
-use Rattle.dom_base.specs.declared.Owner.{Owner}
-use Rattle.dom_base.specs.declared.NodeName.{NodeName}
 use Rattle.dom_base.specs.contracts.OwnerPartialEq.TheImpl as OwnerImpl
-use Rattle.dom_base.specs.declared.Fault.TheVariants.{Refused, Memory}
-use Rattle.dom_base.specs.declared.Refusal.TheVariants.{Limit}
-use Rattle.dom_model.specs.Names.{owner_eq, is_empty}
-use Rattle.dom_model.specs.CommandRefusals.{past_limit}
-use Rattle.dom_model.specs.Observers.{target_of}
-use Rattle.dom_tree.specs.Forest.{name_at}
+use Rattle.dom_model.specs.Names.{owner_eq}
 use Rattle.dom_observers.specs.declared.observers.Observers.TheInside.{Inside}
-use Rattle.dom_observers.specs.Tables.{TablesOf, no_tables, with_observer, told, is_taken, left}
 use Rattle.dom_observers.specs.AllTables.{AllTables}
-use Rattle.dom_observers.specs.Owners.{tables_of, all_tables, ChangesTables, KeepsTables}
-use Rattle.dom_observers.specs.Paths.{path_keys}
-use Rattle.dom_observers.specs.Views.{change_of, table_of}
-use Rattle.dom_observers.proofs.Lookups.{rewritten, had, had-none, tables_of-none, kept-changes, changes-kept, changes-before, untouched-changes, lookup-get, written-none}
-use Rattle.dom_observers.proofs.Tables.{none_from, not_taken, not_told, none_left}
+use Rattle.dom_observers.proofs.Lookups.{had-none, lookup-get, written-none}
+use Rattle.dom_observers.proofs.Tables.{none_from}
 use Rattle.dom_observers.proofs.observers.Observers.prepare.Goals as goal
 
 -- what holds, holds of an error

@@ -5,7 +5,8 @@ use Rattle.std.proofs.lemmas.Bool.{cases_lt, false≢true}
 use Rattle.std.proofs.lemmas.List.{set_past, map-set, map_push, length-map}
 use Rattle.dom_model.specs.Output.{Change}
 use Rattle.dom_observers.specs.Tables.{TablesOf, queue_at}
-use Rattle.dom_observers.specs.Views.{change_of, table_of}
+use Rattle.dom_observers.specs.Views.{change_of}
+use Rattle.dom_observers.specs.TableView.{table_of}
 use Rattle.dom_observers.proofs.table.Table.append.Goals as goal
 
 pub returns-in_ok-push-in-Some : goal.returns-in_ok-push-in-Some

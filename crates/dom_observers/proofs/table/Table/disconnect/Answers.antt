@@ -1,13 +1,12 @@
-use Rattle.std.proofs.Common.{◌≡◌, ℕ, not, eqb, List, [], map, set, sym, ap, ◌∙◌, refl, rules, tests}
+use Rattle.std.proofs.Common.{ℕ, List, [], map, sym, ap, ◌∙◌}
 use Rattle.std.specs.Prelude.{slice_get, is_some}
-use Rattle.std.specs.List.{filter}
 use Rattle.std.proofs.lemmas.Bool.{lt-ltb}
-use Rattle.std.proofs.lemmas.Fn.{filter_same}
-use Rattle.dom_model.specs.Observers.{Registration}
+use Rattle.dom_model.specs.Observers.{Registration, without_observer}
 use Rattle.dom_model.specs.Output.{Change}
 use Rattle.dom_observers.specs.Tables.{TablesOf}
-use Rattle.dom_observers.specs.Views.{change_of, registration_of, table_of}
-use Rattle.dom_observers.proofs.Tables.{set-none, none_from, there_from, is_some-map, filter_of_map}
+use Rattle.dom_observers.specs.Views.{change_of}
+use Rattle.dom_observers.specs.TableView.{table_of}
+use Rattle.dom_observers.proofs.Tables.{set-none, none_from, there_from, is_some-map}
 use Rattle.dom_observers.proofs.table.Table.disconnect.Goals as goal
 
 pub returns-then-is_none-clause-tables : goal.returns-then-is_none-clause-tables
@@ -25,7 +24,5 @@ returns-clause-value c =
 pub returns-clause-tables : goal.returns-clause-tables
 returns-clause-tables c =
     let a : TablesOf ℕ = table_of c.take.new.self in
-    let test = λ (r : Registration ℕ). not (eqb r.observer c.args.observer) in
-    let kept = filter_same _ (λ r. test (registration_of r)) _ (λ x b q k. (search (rules, tests), search (rules, tests))) c.take.new.self.registrations.items c.retain.new.self.items c.retain.ensures.filtered in
-    ap (λ (rs : List (Registration ℕ)). record a { registrations = rs }) (ap (map registration_of) kept ∙ filter_of_map test registration_of c.take.new.self.registrations.items)
-    ∙ ap (λ (t : TablesOf ℕ). record t { registrations = filter test t.registrations }) c.take.ensures.tables
+    ap (λ (rs : List (Registration ℕ)). record a { registrations = rs }) c.remove_of.ensures
+    ∙ ap (λ (t : TablesOf ℕ). record t { registrations = without_observer c.args.observer t.registrations }) c.take.ensures.tables

@@ -1,7 +1,7 @@
-use Rattle.std.proofs.Common.{◌≡◌, ℕ, List, nat_eq, ap, ◌∙◌}
+use Rattle.std.proofs.Common.{ℕ, List, nat_eq, ap, ◌∙◌}
 use Rattle.dom_model.specs.Names.{append_once}
 use Rattle.dom_observers.specs.Tables.{TablesOf}
-use Rattle.dom_observers.specs.Views.{table_of}
+use Rattle.dom_observers.specs.TableView.{table_of}
 use Rattle.dom_observers.proofs.table.Table.give.Goals as goal
 
 pub returns : goal.returns

@@ -1,7 +1,8 @@
 use Rattle.std.proofs.Common.{◌≡◌, take}
 use Rattle.std.specs.List.{fold}
 use Rattle.dom_observers.specs.Tables.{given}
-use Rattle.dom_observers.specs.Views.{change_of, table_of}
+use Rattle.dom_observers.specs.Views.{change_of}
+use Rattle.dom_observers.specs.TableView.{table_of}
 use Rattle.dom_observers.specs.Takers.{record_of}
 use Rattle.dom_observers.proofs.table.Table.give_copies.Given as goal
 

@@ -1,14 +1,13 @@
-use Rattle.std.proofs.Common.{◌≡◌, ℕ, ◌+◌, ◌<◌, ◌++◌, ◌∷◌, [], List, take, map, set, get_or, not, eqb, ◌&&◌, sym, ap, ◌∙◌, subst, refl, arith, rules, tests}
-use Rattle.std.specs.List.{fold, filter, IsDistinct}
-use Rattle.std.proofs.lemmas.Fn.{filter_same}
+use Rattle.std.proofs.Common.{◌≡◌, ℕ, ◌++◌, ◌∷◌, [], List, take, map, set, get_or, eqb, sym, ap, ◌∙◌, subst, refl, arith}
+use Rattle.std.specs.List.{fold, IsDistinct}
 use Rattle.std.proofs.lemmas.List.{map_push, map_more, take_all}
 use Rattle.std.proofs.lemmas.List.Sums.{fold_more}
-use Rattle.dom_model.specs.Names.{is_in}
 use Rattle.dom_model.specs.Output.{Change}
-use Rattle.dom_model.specs.Observers.{Registration, is_transient, without_transients}
+use Rattle.dom_model.specs.Observers.{Registration, without_transients}
 use Rattle.dom_observers.specs.Tables.{TablesOf, queue_at}
-use Rattle.dom_observers.specs.Views.{change_of, registration_of, table_of, notice_of}
-use Rattle.dom_observers.proofs.Tables.{queue_at-emptied, not_before, unwrapped, filter_of_map}
+use Rattle.dom_observers.specs.Views.{change_of, notice_of}
+use Rattle.dom_observers.specs.TableView.{table_of}
+use Rattle.dom_observers.proofs.Tables.{queue_at-emptied, not_before, unwrapped}
 use Rattle.dom_observers.proofs.table.Table.notify.Goals as goal
 
 -- tables by their parts
@@ -74,11 +73,7 @@ returns-clause-tables c =
     let l = c.loop-observer.invariant in
     let same = ap (λ s. s.keys) c.replace-pending.ensures.value in
     let all = take_all c.loop-observer.observer-index items (omega arith) ∙ (c.as_slice-observer-items.ensures.keys ∙ same) in
-    let keys = c.replace-pending.result.keys in
-    let test = λ (r : Registration ℕ). not (is_transient r.source && is_in eqb r.observer keys) in
-    let kept = filter_same _ (λ r. test (registration_of r)) _ (λ x b q k. (search (rules, tests), search (rules, tests))) c.loop-observer.self.registrations.items c.retain.new.self.items c.retain.ensures.filtered in
-    let rs = (ap (map registration_of) kept ∙ filter_of_map test registration_of c.loop-observer.self.registrations.items)
-    ∙ (ap (filter test) l.registrations ∙ ap (λ ks. without_transients ks t.registrations) same) in
+    let rs = c.remove_transients.ensures ∙ (ap (without_transients c.replace-pending.result.keys) l.registrations ∙ ap (λ ks. without_transients ks t.registrations) same) in
     let queues = l.queues ∙ ap (fold emptying t.record_queues) all in
     ap (λ list. built list (table_of c.loop-observer.self).record_queues (table_of c.loop-observer.self).pending) rs
     ∙ (ap (λ list. built (without_transients t.pending t.registrations) list (table_of c.loop-observer.self).pending) queues

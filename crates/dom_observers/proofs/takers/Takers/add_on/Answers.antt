@@ -1,11 +1,10 @@
-use Rattle.std.proofs.Common.{◌≡◌, ◌+◌, take, map, nat_eq, ◌&&◌, sym, ap, ◌∙◌, arith}
-use Rattle.std.specs.List.{fold}
+use Rattle.std.proofs.Common.{◌≡◌, nat_eq, ◌&&◌, sym, ap, ◌∙◌, arith}
 use Rattle.std.proofs.lemmas.Bool.{cond-true, cond-false}
 use Rattle.dom_model.specs.Observers.{fits, asks_for_old}
 use Rattle.dom_observers.specs.Views.{words_of, change_of, registration_of}
 use Rattle.dom_observers.specs.Taking.{found_by, and_found}
 use Rattle.dom_observers.specs.Takers.{found_of}
-use Rattle.dom_observers.proofs.Folds.{fold-view_more, fold-view_all}
+use Rattle.dom_observers.proofs.Folds.{fold-view_more}
 use Rattle.dom_observers.proofs.takers.Takers.add_on.Goals as goal
 use Rattle.dom_observers.proofs.takers.Takers.add_on.Goals.{then-fits+in_ok-add, else-fits}
 

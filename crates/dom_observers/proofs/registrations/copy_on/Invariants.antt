@@ -2,7 +2,7 @@ use Rattle.std.proofs.Common.{◌≡◌, take, map}
 use Rattle.std.specs.List.{fold}
 use Rattle.dom_observers.specs.Views.{registration_of}
 use Rattle.dom_observers.specs.Taking.{copied_by}
-use Rattle.dom_observers.proofs.table.copy_on.Given as goal
+use Rattle.dom_observers.proofs.registrations.copy_on.Given as goal
 
 abbrev pub invariant-loop-registered : goal.invariant-loop-registered
 invariant-loop-registered l =

@@ -1,16 +1,16 @@
-use Rattle.std.proofs.Common.{◌≡◌, ℕ, Bool, true, false, ◌+◌, ◌++◌, ◌∷◌, [], List, length, take, map, get_or, not, nat_eq, ◌&&◌, cond, sym, ap, ◌∙◌, subst, arith}
+use Rattle.std.proofs.Common.{◌≡◌, ℕ, ◌+◌, ◌++◌, ◌∷◌, [], length, take, map, get_or, not, nat_eq, ◌&&◌, cond, sym, ap, ◌∙◌, subst, arith}
 use Rattle.std.specs.List.{filter}
 use Rattle.std.proofs.lemmas.Bool.{cond-true, cond-false}
 use Rattle.std.proofs.lemmas.List.{map_push, append-nil, take_all, length-map}
 use Rattle.dom_model.specs.Observers.{Registration, with_options, stems_from}
 use Rattle.dom_observers.specs.Views.{words_of, registration_of}
 use Rattle.dom_observers.proofs.Folds.{filter-view_more}
-use Rattle.dom_observers.proofs.table.Table.renewed.Goals as goal
-use Rattle.dom_observers.proofs.table.Table.renewed.Goals.{then-not-stems_from+in_ok-renewed+in_ok-push, else-not-stems_from}
+use Rattle.dom_observers.proofs.registrations.Registrations.renewed.Goals as goal
+use Rattle.dom_observers.proofs.registrations.Registrations.renewed.Goals.{then-not-stems_from+in_ok-renewed+in_ok-push, else-not-stems_from}
 
 pub loop-registered-preserved : goal.loop-registered-preserved
 loop-registered-preserved c =
-    let items = c.args.self.now.registrations.items in
+    let items = c.self.inside.list.items in
     let p = λ (r : Registration ℕ). not (nat_eq r.observer c.args.observer && stems_from nat_eq c.args.node r.source) in
     let g = with_options nat_eq c.args.observer c.args.node (words_of c.args.options.now.value) in
     let item = registration_of c.registered-item.result in
@@ -31,13 +31,16 @@ loop-registered-preserved c =
     ] in
     here
     ∙ (ap (λ rs. rs ++ map g (cond (p item) (item ∷ []) [])) c.loop-registered.invariant
-    ∙ sym (filter-view_more p g registration_of items c.loop-registered.registered-index c.registered-item.result (omega (arith, same)) at))
+    ∙ sym (subst (λ rs. map g (filter p (take (c.loop-registered.registered-index + 1) rs)) ≡ map g (filter p (take c.loop-registered.registered-index rs)) ++ map g (cond (p item) (item ∷ []) [])) c.self.view_is
+    (filter-view_more p g registration_of items c.loop-registered.registered-index c.registered-item.result (omega (arith, same)) at)))
 
 pub returns : goal.returns
 returns c =
-    let items = c.args.self.now.registrations.items in
-    let rs = map registration_of items in
+    let items = c.self.inside.list.items in
+    let rs = c.args.self.now in
+    let long = length-map items registration_of in
+    let view = ap (length {A = Registration ℕ}) c.self.view_is in
     let same : length c.deref-registered-items.result.now ≡ length items = ap length c.deref-registered-items.ensures.value in
     let p = λ (r : Registration ℕ). not (nat_eq r.observer c.args.observer && stems_from nat_eq c.args.node r.source) in
     let g = with_options nat_eq c.args.observer c.args.node (words_of c.args.options.now.value) in
-    c.loop-registered.invariant ∙ ap (λ xs. map g (filter p xs)) (take_all c.loop-registered.registered-index rs (omega (arith, same, length-map items registration_of)))
+    c.loop-registered.invariant ∙ ap (λ xs. map g (filter p xs)) (take_all c.loop-registered.registered-index rs (omega (arith, same, long, view)))

@@ -1,11 +1,11 @@
-use Rattle.std.proofs.Common.{◌≡◌, ◌+◌, ◌++◌, ◌∷◌, [], take, map, nat_eq, ◌&&◌, sym, ap, ◌∙◌, arith}
+use Rattle.std.proofs.Common.{◌≡◌, ◌++◌, ◌∷◌, [], map, nat_eq, ◌&&◌, sym, ap, ◌∙◌, arith}
 use Rattle.std.proofs.lemmas.Bool.{cond-true, cond-false}
 use Rattle.std.proofs.lemmas.List.{map_push}
 use Rattle.dom_observers.specs.Views.{registration_of}
 use Rattle.dom_observers.specs.Taking.{transient_copy, copied_by}
 use Rattle.dom_observers.proofs.Folds.{fold-view_more, fold-view_all}
-use Rattle.dom_observers.proofs.table.copy_on.Goals as goal
-use Rattle.dom_observers.proofs.table.copy_on.Goals.{then-observes_below+in_ok-copied_to+in_ok-push, else-observes_below}
+use Rattle.dom_observers.proofs.registrations.copy_on.Goals as goal
+use Rattle.dom_observers.proofs.registrations.copy_on.Goals.{then-observes_below+in_ok-copied_to+in_ok-push, else-observes_below}
 
 pub loop-registered-preserved : goal.loop-registered-preserved
 loop-registered-preserved c =
