@@ -16,3 +16,4 @@ pub mod DeletionKeys
 pub mod DeletionOwn
 pub mod DeletionDocs
 pub mod DeletionPlans
+pub mod DeletionHeights

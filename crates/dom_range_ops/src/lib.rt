@@ -1,4 +1,4 @@
-//! The operations on a live range: its text (DOM Standard, 5.5 Interface Range).
+//! The operations on a live range: its text, and deleting its contents (DOM Standard, 5.5 Interface Range).
 #![tactic(auto)]
 
 mod contained;
