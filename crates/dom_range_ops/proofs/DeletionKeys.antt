@@ -151,9 +151,6 @@ module _ (f : NamedTrees) (once : StandOnce f) (only : StandAlone f) (distinct :
     within : IsWithin f.trees (name_at f.names top) x
     within = IsWithin-key f once only top key stands_here
 
-    same_top : (P : NodeName → Type 0) → P (name_at f.names top) → P (root_of f.trees r.start.node)
-    same_top P p = subst P root_is p
-
     -- where it stops all are found
     pub finds-end : option_map (name_at f.names) o ≡ first_of (nodes_after f.trees (root_of f.trees r.start.node) r.end) → map (name_at f.names) found ≡ outermost_contained f.trees r
     finds-end e =

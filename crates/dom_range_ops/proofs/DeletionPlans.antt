@@ -143,33 +143,33 @@ pub contents-made : (d d1 d2 d3 : DocState) (first last : ℕ) (ts : Trees) (r :
     → d3 ≡ planned (owner_in d first) (deleting_contents ts r) d
 contents-made d d1 d2 d3 first last ts r p1 p2 ks start end alone one owner cut1 cut2 found e1 e2 e3 =
     let o = owner_in d first in
-    let C1 = cutting_data ts r r.start.node in
-    let T = in_turn (removing observed) (outermost_contained ts r) in
-    let C2 = cutting_data ts r r.end.node in
+    let first_cut = cutting_data ts r r.start.node in
+    let removals = in_turn (removing observed) (outermost_contained ts r) in
+    let last_cut = cutting_data ts r r.end.node in
     let names1 = ap (λ (s : DocState). s.names) e1 in
     let names2 = ap (λ (s : DocState). s.names) e2 ∙ names1 in
-    let f1 : d1 ≡ planned o C1 d = e1 ∙ ap (λ (f : Plan). planned o f d) (cut1 ∙ ap (cutting_data ts r) (sym start)) in
-    let f2 : d2 ≡ planned o T d1 =
+    let f1 : d1 ≡ planned o first_cut d = e1 ∙ ap (λ (f : Plan). planned o f d) (cut1 ∙ ap (cutting_data ts r) (sym start)) in
+    let f2 : d2 ≡ planned o removals d1 =
     e2 ∙ (ap (λ (ns : List NodeName). planned (name_at ns first).owner (in_turn (removing observed) (map (name_at ns) ks)) d1) names1 ∙ ap (λ xs. planned o (in_turn (removing observed) xs) d1) found) in
-    let f3 : d3 ≡ planned o C2 d2 =
+    let f3 : d3 ≡ planned o last_cut d2 =
     e3
     ∙ (ap (λ (ns : List NodeName). planned (name_at ns last).owner (cutting (name_at ns last) p2) d2) names2
     ∙ (ap (λ q. planned q (cutting (name_in d last) p2) d2) owner ∙ ap (λ (f : Plan). planned o f d2) (cut2 ∙ ap (cutting_data ts r) (sym end)))) in
-    let g2 : d2 ≡ planned o (C1 and_then T) d = f2 ∙ (ap (planned o T) f1 ∙ planned_then o C1 T d alone (plans-cut ts r o r.start.node)) in
+    let g2 : d2 ≡ planned o (first_cut and_then removals) d = f2 ∙ (ap (planned o removals) f1 ∙ planned_then o first_cut removals d alone (plans-cut ts r o r.start.node)) in
     f3
-    ∙ (ap (planned o C2) g2
-    ∙ (planned_then o (C1 and_then T) C2 d alone (plans-front ts r o) ∙ ap (λ (f : Plan). planned o f d) (sym (cond-false (is_in_one_data ts r) C1 (apart ts r) one))))
+    ∙ (ap (planned o last_cut) g2
+    ∙ (planned_then o (first_cut and_then removals) last_cut d alone (plans-front ts r o) ∙ ap (λ (f : Plan). planned o f d) (sym (cond-false (is_in_one_data ts r) first_cut (apart ts r) one))))
 
 -- and then the range's ends
 pub deletion-made : (o : Owner) (k : ℕ) (w : World) (r s : Range NodeName) → IsAlone w o → range_at (part_of w o) k ≡ Some r → is_collapsed name_eq r ≡ false → s ≡ both_at (new_place (part_of w o).trees r)
     → world_after o (made o (deleting_contents (part_of w o).trees r) w) (set_range k s ∷ []) ≡ made o (λ p. plan_of_range p k (deleting k)) w
 deletion-made o k w r s alone there wide ends =
     let p = part_of w o in
-    let D = deleting_contents p.trees r in
-    let S = doing (set_range k (both_at (new_place p.trees r))) in
-    ap (λ b. world_after o (made o D w) (set_range k b ∷ [])) ends
-    ∙ (sym (made_then o D S w alone (plans-contents p.trees r o))
-    ∙ (ap (world_after o w) (sym (cond-false (is_collapsed name_eq r) [] ((D and_then S) p) wide))
+    let contents = deleting_contents p.trees r in
+    let setting = doing (set_range k (both_at (new_place p.trees r))) in
+    ap (λ b. world_after o (made o contents w) (set_range k b ∷ [])) ends
+    ∙ (sym (made_then o contents setting w alone (plans-contents p.trees r o))
+    ∙ (ap (world_after o w) (sym (cond-false (is_collapsed name_eq r) [] ((contents and_then setting) p) wide))
     ∙ ap (λ (m : Option (Range NodeName)). world_after o w (option_map_or (λ (q : Range NodeName). deleting k q p) m [])) (sym there)))
 
 -- the same of the states

@@ -39,3 +39,4 @@ pub mod PieceRuns
 pub mod PiecePaths
 pub mod PieceSteps
 pub mod PieceLaws
+pub mod DeletionHeights

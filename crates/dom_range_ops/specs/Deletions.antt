@@ -6,10 +6,10 @@ use Rattle.dom_isolation.specs.Tables.{HasEnds}
 use Rattle.dom_model.specs.Changes.{Plan, steps_of}
 use Rattle.dom_model.specs.Names.{name_eq, is_in}
 use Rattle.dom_model.specs.TextChanges.{replacing_data}
-use Rattle.dom_model.specs.Tree.{kind_of, has_data, children_of}
+use Rattle.dom_model.specs.Tree.{kind_of, has_data, children_of, inclusive_ancestors}
 use Rattle.dom_mutation.specs.Doc.{DocState, owner_in, trees_in}
 use Rattle.dom_ranges.specs.declared.table.Points.{Points}
-use Rattle.dom_tree.specs.Forest.{NamedTrees}
+use Rattle.dom_tree.specs.Forest.{NamedTrees, name_at}
 use Rattle.dom_range_ops.specs.Texts.{range_at_points, nodes_around}
 
 -- no Text and no Comment of a range's tree has children
@@ -24,6 +24,10 @@ pub record IsRangeIn (d : DocState) (points : Points) : Type 0 where
   pub ends : HasEnds (trees_in d points.start.0) (range_at_points d.names points)
   pub within : IsWithin (trees_in d points.start.0) (range_at_points d.names points).end
   pub leaves : (x : NodeName) → IsTrue (has_data (kind_of (trees_in d points.start.0) x)) → children_of (trees_in d points.start.0) x ≡ []
+
+-- how many nodes stand above a key's node, with that one
+abbrev pub height_at : NamedTrees → ℕ → ℕ
+height_at f k = length (inclusive_ancestors f.trees (name_at f.names k))
 
 -- from an offset on so many code units of a node go, or none
 abbrev pub cutting : NodeName → Option (ℕ × ℕ) → Plan

@@ -1,11 +1,11 @@
 //! How the two ends of a live range stand to one another (DOM Standard, 5.5 Interface Range).
-ghost use Rattle.std.specs.Prelude.{◌≡◌, ◌<◌, length, true, false, not, filter, Some, List, [], ◌∷◌};
+ghost use Rattle.std.specs.Prelude.{◌≡◌, ◌<◌, ◌≤◌, ◌+◌, ◌⊎◌, length, true, false, not, filter, Some, List, [], ◌∷◌};
 ghost use Rattle.dom_base.specs.declared.NodeName.{NodeName as Name};
 ghost use Rattle.dom_model.specs.Extract.{is_in_one_data, behind_node, new_place};
 ghost use Rattle.dom_model.specs.Names.{name_eq};
 ghost use Rattle.dom_model.specs.Ranges.{at, is_collapsed};
 ghost use Rattle.dom_model.specs.Tree.{kind_of, has_data, parent_of, inclusive_ancestors, is_inclusive_ancestor};
-ghost use Rattle.dom_range_ops.specs.Deletions.{AreLeaves};
+ghost use Rattle.dom_range_ops.specs.Deletions.{AreLeaves, height_at};
 ghost use Rattle.dom_range_ops.specs.Texts.{range_at_points, AreEnds};
 ghost use Rattle.dom_tree.specs.Forest.{name_at};
 
@@ -61,7 +61,8 @@ pub(crate) fn new_place(forest: &Forest, points: &Points) -> (Key, usize)
     behind_node(forest, outermost_apart(forest, first, last))
 }
 
-/// The outermost inclusive ancestor of a node that is no inclusive ancestor of another one.
+/// The outermost inclusive ancestor of a node that is no inclusive ancestor of another one. The steps taken are as many as the
+/// nodes above the two.
 pub(crate) fn outermost_apart(forest: &Forest, first: Key, last: Key) -> Key
     requires first_is_node { first < length forest.now.names }
     requires last_is_node { last < length forest.now.names }
@@ -71,15 +72,74 @@ pub(crate) fn outermost_apart(forest: &Forest, first: Key, last: Key) -> Key
     ensures alone { filter (λ a. not (is_inclusive_ancestor forest.now.trees a (name_at forest.now.names last))) (inclusive_ancestors forest.now.trees (name_at forest.now.names result)) ≡ name_at forest.now.names result ∷ [] }
 {
     forest.nodes_stand_once();
-    let mut low = first;
+    let Some(parent) = forest.parent(first) else {
+        return first;
+    };
+    let (gauge, last_gauge) = climb_together(forest, parent, last);
+    let mut low = raise(forest, first, gauge);
+    let mut other = raise(forest, last, last_gauge);
     'up: loop {
         let Some(above) = forest.parent(low) else {
             return low;
         };
-        if forest.is_inclusive_ancestor(above, last) {
+        if above == other {
             return low;
         }
+        let Some(beside) = forest.parent(other) else {
+            return above;
+        };
         low = above;
+        other = beside;
+    }
+}
+
+/// The nodes reached from two nodes by going up from both at once, until one of them is a root.
+fn climb_together(forest: &Forest, first: Key, last: Key) -> (Key, Key)
+    requires first_is_node { first < length forest.now.names }
+    requires last_is_node { last < length forest.now.names }
+    ensures first_is_node { result.0 < length forest.now.names }
+    ensures last_is_node { result.1 < length forest.now.names }
+    ensures difference { height_at forest.now result.0 + height_at forest.now last ≡ height_at forest.now first + height_at forest.now result.1 }
+    ensures first_above { height_at forest.now result.0 ≤ height_at forest.now first }
+    ensures last_above { height_at forest.now result.1 ≤ height_at forest.now last }
+    ensures root { (height_at forest.now result.0 ≡ 1) ⊎ (height_at forest.now result.1 ≡ 1) }
+{
+    forest.nodes_stand_once();
+    let mut low = first;
+    let mut other = last;
+    'up: loop {
+        let Some(above) = forest.parent(low) else {
+            return (low, other);
+        };
+        let Some(beside) = forest.parent(other) else {
+            return (low, other);
+        };
+        low = above;
+        other = beside;
+    }
+}
+
+/// The node above a node by as many levels as `gauge` has nodes above it.
+fn raise(forest: &Forest, key: Key, gauge: Key) -> Key
+    requires key_is_node { key < length forest.now.names }
+    requires gauge_is_node { gauge < length forest.now.names }
+    requires deep { height_at forest.now gauge ≤ height_at forest.now key }
+    ensures node { result < length forest.now.names }
+    ensures above { is_inclusive_ancestor forest.now.trees (name_at forest.now.names result) (name_at forest.now.names key) ≡ true }
+    ensures height { height_at forest.now result + height_at forest.now gauge ≡ height_at forest.now key + 1 }
+{
+    forest.nodes_stand_once();
+    let mut top = key;
+    let mut left = gauge;
+    'up: loop {
+        let Some(fewer) = forest.parent(left) else {
+            return top;
+        };
+        let Some(above) = forest.parent(top) else {
+            return top;
+        };
+        top = above;
+        left = fewer;
     }
 }
 

@@ -2,9 +2,9 @@
 //! Standard, 5.5 Interface Range).
 #![tactic(auto)]
 
+mod cloning;
 mod contained;
 mod deleting;
-mod cloning;
 mod ends;
 mod inserting;
 mod pieces;

@@ -1,50 +1,101 @@
-use Rattle.std.proofs.Common.{inl, inr, refl, sym, ap, subst, length, arith}
-use Rattle.dom_base.specs.declared.NodeName.{NodeName}
-use Rattle.dom_model.specs.Tree.{inclusive_ancestors}
+use Rattle.std.proofs.Common.{inl, inr, refl, sym, ap, ◌∙◌, arith}
+use Rattle.std.proofs.lemmas.Bool.{eqb-true}
+use Rattle.dom_model.specs.Tree.{is_inclusive_ancestor}
 use Rattle.dom_tree.specs.Forest.{name_at}
-use Rattle.dom_traversal.proofs.Chains.{above-along}
+use Rattle.dom_traversal.proofs.Climbing.{other_key}
 use Rattle.dom_traversal.proofs.Counts.{Once-forest, Has-forest, above-itself}
-use Rattle.dom_traversal.proofs.Lists.{In, In-from, is_in-from}
-use Rattle.dom_traversal.proofs.Shapes.{above-parent, above-present}
+use Rattle.dom_range_ops.proofs.DeletionHeights.{height-up, height-root, root-alone, raise-up, level-apart, first-apart}
 use Rattle.dom_range_ops.proofs.DeletionPlaces.{alone-is}
 use Rattle.dom_range_ops.proofs.ends.outermost_apart.Goals as goal
 
-pub up-init : goal.up-init
-up-init c =
-    let f = c.args.forest.now in
-    record { node = c.requires.first_is_node; above = above-itself f.trees (name_at f.names c.args.first) (c.nodes_stand_once.ensures.once c.args.first c.requires.first_is_node); apart = c.requires.apart }
+pub returns-in_default-clause-above : goal.returns-in_default-clause-above
+returns-in_default-clause-above c = above-itself c.args.forest.now.trees (name_at c.args.forest.now.names c.args.first) (c.nodes_stand_once.ensures.once c.args.first c.requires.first_is_node)
 
 pub returns-in_default-clause-alone : goal.returns-in_default-clause-alone
 returns-in_default-clause-alone c =
     let f = c.args.forest.now in
     let e = c.nodes_stand_once.ensures in
-    alone-is f.trees (Once-forest f e.once e.only) (name_at f.names c.args.last) (name_at f.names c.up.low) (Has-forest f e.once c.up.low c.up.invariant.node) (Has-forest f e.once c.args.last c.requires.last_is_node) c.up.invariant.apart (inl (sym c.in_default.ensures.value))
+    alone-is f.trees (Once-forest f e.once e.only) (name_at f.names c.args.last) (name_at f.names c.args.first) (Has-forest f e.once c.args.first c.requires.first_is_node) (Has-forest f e.once c.args.last c.requires.last_is_node) c.requires.apart (inl (sym c.in_default.ensures.value))
 
-pub returns-then-is_inclusive_ancestor-clause-alone : goal.returns-then-is_inclusive_ancestor-clause-alone
-returns-then-is_inclusive_ancestor-clause-alone c =
+pub raise-low-requires-clause-deep : goal.raise-low-requires-clause-deep
+raise-low-requires-clause-deep c =
     let f = c.args.forest.now in
     let e = c.nodes_stand_once.ensures in
-    alone-is f.trees (Once-forest f e.once e.only) (name_at f.names c.args.last) (name_at f.names c.up.low) (Has-forest f e.once c.up.low c.up.invariant.node) (Has-forest f e.once c.args.last c.requires.last_is_node) c.up.invariant.apart (inr (name_at f.names c.in-Some.above, sym c.in-Some.ensures.value, sym c.if-is_inclusive_ancestor.ensures))
+    let up = height-up f e.once e.only c.args.first c.in-Some.parent c.requires.first_is_node c.in-Some.ensures.value in
+    omega (arith, up, c.climb_together-gauge.ensures.first_above)
+
+pub up-init : goal.up-init
+up-init c =
+    let f = c.args.forest.now in
+    let e = c.nodes_stand_once.ensures in
+    let g = c.climb_together-gauge.ensures in
+    let low = c.raise-low.ensures in
+    let other = c.raise-other.ensures in
+    let up = height-up f e.once e.only c.args.first c.in-Some.parent c.requires.first_is_node c.in-Some.ensures.value in
+    record {
+      node = low.node;
+      other_is_node = other.node;
+      above = low.above;
+      apart = first-apart f e.once e.only c.raise-low.result c.args.first c.args.last c.requires.first_is_node c.requires.last_is_node low.above c.requires.apart
+          (elim g.root [
+            | inl root ↦ inl (omega (arith, root, low.height))
+            | inr root ↦ inr (omega (arith, root, low.height, other.height, up, g.difference))
+          ]);
+      beside = other.above;
+      level = omega (arith, low.height, other.height, up, g.difference);
+    }
+
+pub returns-in_default-parent-clause-alone : goal.returns-in_default-parent-clause-alone
+returns-in_default-parent-clause-alone c =
+    let f = c.args.forest.now in
+    let e = c.nodes_stand_once.ensures in
+    alone-is f.trees (Once-forest f e.once e.only) (name_at f.names c.args.last) (name_at f.names c.up.low) (Has-forest f e.once c.up.low c.up.invariant.node) (Has-forest f e.once c.args.last c.requires.last_is_node) c.up.invariant.apart (inl (sym c.in_default-parent.ensures.value))
+
+pub returns-then-eq-clause-alone : goal.returns-then-eq-clause-alone
+returns-then-eq-clause-alone c =
+    let f = c.args.forest.now in
+    let e = c.nodes_stand_once.ensures in
+    let same = eqb-true c.in-Some-parent.above c.up.other (sym c.if-eq.ensures) in
+    let above = ap (λ k. is_inclusive_ancestor f.trees (name_at f.names k) (name_at f.names c.args.last)) same ∙ c.up.invariant.beside in
+    alone-is f.trees (Once-forest f e.once e.only) (name_at f.names c.args.last) (name_at f.names c.up.low) (Has-forest f e.once c.up.low c.up.invariant.node) (Has-forest f e.once c.args.last c.requires.last_is_node) c.up.invariant.apart
+    (inr (name_at f.names c.in-Some-parent.above, sym c.in-Some-parent.ensures.value, above))
+
+pub returns-in_default-parent-2-clause-above : goal.returns-in_default-parent-2-clause-above
+returns-in_default-parent-2-clause-above c =
+    let e = c.nodes_stand_once.ensures in
+    raise-up c.args.forest.now e.once e.only c.up.low c.in-Some-parent.above c.args.first c.up.invariant.node c.requires.first_is_node c.in-Some-parent.ensures.value c.up.invariant.above
+
+pub returns-in_default-parent-2-clause-alone : goal.returns-in_default-parent-2-clause-alone
+returns-in_default-parent-2-clause-alone c =
+    let f = c.args.forest.now in
+    let e = c.nodes_stand_once.ensures in
+    let node = c.in-Some-parent.ensures.node c.in-Some-parent.above refl in
+    let up = height-up f e.once e.only c.up.low c.in-Some-parent.above c.up.invariant.node c.in-Some-parent.ensures.value in
+    let root = height-root f e.once e.only c.up.other c.up.invariant.other_is_node c.in_default-parent-2.ensures.value in
+    let other = other_key f e.distinct c.in-Some-parent.above c.up.other node c.up.invariant.other_is_node (sym c.if-eq.ensures) in
+    let apart = level-apart f e.once e.only c.in-Some-parent.above c.up.other c.args.last c.requires.last_is_node c.up.invariant.beside (omega (arith, up, c.up.invariant.level)) other in
+    alone-is f.trees (Once-forest f e.once e.only) (name_at f.names c.args.last) (name_at f.names c.in-Some-parent.above) (Has-forest f e.once c.in-Some-parent.above node) (Has-forest f e.once c.args.last c.requires.last_is_node) apart
+    (inl (root-alone f e.once e.only c.in-Some-parent.above node (omega (arith, up, root, c.up.invariant.level))))
 
 pub up-smaller : goal.up-smaller
 up-smaller c =
-    let f = c.args.forest.now in
     let e = c.nodes_stand_once.ensures in
-    let longer = (above-parent f.trees (name_at f.names c.up.low) (name_at f.names c.in-Some.above) (Once-forest f e.once e.only) (Has-forest f e.once c.up.low c.up.invariant.node) (sym c.in-Some.ensures.value)).0 in
-    omega (arith, ap (length {A = NodeName}) longer)
+    let up = height-up c.args.forest.now e.once e.only c.up.low c.in-Some-parent.above c.up.invariant.node c.in-Some-parent.ensures.value in
+    omega (arith, up)
 
 pub up-preserved : goal.up-preserved
 up-preserved c =
     let f = c.args.forest.now in
     let e = c.nodes_stand_once.ensures in
-    let once = Once-forest f e.once e.only in
-    let low = name_at f.names c.up.low in
-    let above = name_at f.names c.in-Some.above in
-    let first = name_at f.names c.args.first in
-    let is = above-parent f.trees low above once (Has-forest f e.once c.up.low c.up.invariant.node) (sym c.in-Some.ensures.value) in
-    let i : In above (inclusive_ancestors f.trees low) = subst (In above) (sym is.0) (inr (subst (In above) (sym (above-present f.trees above is.1).1) (inl refl))) in
+    let node = c.in-Some-parent.ensures.node c.in-Some-parent.above refl in
+    let up = height-up f e.once e.only c.up.low c.in-Some-parent.above c.up.invariant.node c.in-Some-parent.ensures.value in
+    let over = height-up f e.once e.only c.up.other c.in-Some-parent-2.beside c.up.invariant.other_is_node c.in-Some-parent-2.ensures.value in
+    let other = other_key f e.distinct c.in-Some-parent.above c.up.other node c.up.invariant.other_is_node (sym c.if-eq.ensures) in
     record {
-      node = c.in-Some.ensures.node c.in-Some.above refl;
-      above = is_in-from above (inclusive_ancestors f.trees first) (above-along f.trees above low first once (Has-forest f e.once c.args.first c.requires.first_is_node) i (In-from low (inclusive_ancestors f.trees first) c.up.invariant.above));
-      apart = sym c.if-is_inclusive_ancestor.ensures;
+      node = node;
+      other_is_node = c.in-Some-parent-2.ensures.node c.in-Some-parent-2.beside refl;
+      above = raise-up f e.once e.only c.up.low c.in-Some-parent.above c.args.first c.up.invariant.node c.requires.first_is_node c.in-Some-parent.ensures.value c.up.invariant.above;
+      apart = level-apart f e.once e.only c.in-Some-parent.above c.up.other c.args.last c.requires.last_is_node c.up.invariant.beside (omega (arith, up, c.up.invariant.level)) other;
+      beside = raise-up f e.once e.only c.up.other c.in-Some-parent-2.beside c.args.last c.up.invariant.other_is_node c.requires.last_is_node c.in-Some-parent-2.ensures.value c.up.invariant.beside;
+      level = omega (arith, up, over, c.up.invariant.level);
     }

@@ -1,14 +1,18 @@
-use Rattle.std.proofs.Common.{◌≡◌, ◌<◌, length, true, false}
-use Rattle.dom_model.specs.Tree.{inclusive_ancestors, is_inclusive_ancestor}
+use Rattle.std.proofs.Common.{◌≡◌, ◌<◌, ◌+◌, length, true, false}
+use Rattle.dom_model.specs.Tree.{is_inclusive_ancestor}
 use Rattle.dom_tree.specs.Forest.{name_at}
+use Rattle.dom_range_ops.specs.Deletions.{height_at}
 use Rattle.dom_range_ops.proofs.ends.outermost_apart.Given as goal
 
 abbrev pub invariant-up : goal.invariant-up
 invariant-up l = record {
   node : l.low < length l.forest.names;
+  other_is_node : l.other < length l.forest.names;
   above : is_inclusive_ancestor l.forest.trees (name_at l.forest.names l.low) (name_at l.forest.names l.fn.first) ≡ true;
   apart : is_inclusive_ancestor l.forest.trees (name_at l.forest.names l.low) (name_at l.forest.names l.fn.last) ≡ false;
+  beside : is_inclusive_ancestor l.forest.trees (name_at l.forest.names l.other) (name_at l.forest.names l.fn.last) ≡ true;
+  level : height_at l.forest l.low ≡ height_at l.forest l.other + 1;
 }
 
 abbrev pub decreases-up : goal.decreases-up
-decreases-up l = length (inclusive_ancestors l.forest.trees (name_at l.forest.names l.low))
+decreases-up l = height_at l.forest l.low

@@ -1,0 +1,101 @@
+-- Going up from keys' nodes, by how many nodes stand above them.
+use Rattle.std.proofs.Common.{◌≡◌, ◌⊎◌, inl, inr, ℕ, ◌+◌, ◌<◌, ◌≤◌, true, false, List, [], ◌∷◌, ◌++◌, length, Option, Some, None, refl, sym, ap, subst, ◌∙◌, arith, length-append}
+use Rattle.std.proofs.lemmas.Bool.{false_from_ne_true}
+use Rattle.dom_base.specs.declared.NodeName.{NodeName}
+use Rattle.dom_model.specs.Names.{name_eq, items_before}
+use Rattle.dom_model.specs.Tree.{Trees, parent_of, inclusive_ancestors, is_inclusive_ancestor}
+use Rattle.dom_tree.specs.Forest.{NamedTrees, name_at}
+use Rattle.dom_traversal.proofs.Chains.{above-split, above-chain, above-along}
+use Rattle.dom_traversal.proofs.Counts.{StandOnce, StandAlone, Once-forest, Has-forest}
+use Rattle.dom_traversal.proofs.Lists.{In, In-from, is_in-from}
+use Rattle.dom_traversal.proofs.Shapes.{Once, Has, Has-above, above-parent, above-present, above-root}
+use Rattle.dom_range_ops.specs.Deletions.{height_at}
+
+-- ---- names
+
+module _ (ts : Trees) (once : Once ts) where
+  -- what is above a node is no higher than it is deep
+  above-less : (a x : NodeName) → Has ts x → In a (inclusive_ancestors ts x) → length (inclusive_ancestors ts a) ≤ length (inclusive_ancestors ts x)
+  above-less a x h i =
+      let long = ap (length {A = NodeName}) (above-split ts a x once h i) ∙ length-append (items_before name_eq a (inclusive_ancestors ts x)) (inclusive_ancestors ts a) in
+      omega (arith, long)
+
+  -- a list that another one ends with, of the same length
+  same-end : (front xs ys : List NodeName) → ys ≡ front ++ xs → length xs ≡ length ys → ys ≡ xs
+  same-end [] xs ys e l = e
+  same-end (z ∷ front) xs ys e l = let long = ap (length {A = NodeName}) e ∙ length-append (z ∷ front) xs in absurd (omega (arith, long, l))
+
+  -- a node above another one that is as deep is that one
+  level-above : (a b : NodeName) → Has ts b → In a (inclusive_ancestors ts b) → length (inclusive_ancestors ts a) ≡ length (inclusive_ancestors ts b) → a ≡ b
+  level-above a b h i level =
+      let k = Has-above ts a b once h i in
+      let path = same-end (items_before name_eq a (inclusive_ancestors ts b)) (inclusive_ancestors ts a) (inclusive_ancestors ts b) (above-split ts a b once h i) level in
+      let pa = above-present ts a k in
+      let pb = above-present ts b h in
+      let heads : b ∷ pb.0 ≡ a ∷ pa.0 = sym pb.1 ∙ (path ∙ pa.1) in
+      let same : b ≡ a = cc in
+      sym same
+
+  -- so are two nodes above one
+  level-same : (a b x : NodeName) → Has ts x → In a (inclusive_ancestors ts x) → In b (inclusive_ancestors ts x) → length (inclusive_ancestors ts a) ≡ length (inclusive_ancestors ts b) → a ≡ b
+  level-same a b x h i j level = elim (above-chain ts a b x once h i j) [
+    | inl k ↦ level-above a b (Has-above ts b x once h j) k level
+    | inr k ↦ sym (level-above b a (Has-above ts a x once h i) k (sym level))
+  ]
+
+-- ---- keys
+
+module _ (f : NamedTrees) (once : StandOnce f) (only : StandAlone f) where
+  -- each node has itself
+  pub height-node : (k : ℕ) → k < length f.names → 0 < height_at f k
+  height-node k node = let long = ap (length {A = NodeName}) (above-present f.trees (name_at f.names k) (Has-forest f once k node)).1 in omega (arith, long)
+
+  -- a parent has one fewer
+  pub height-up : (k p : ℕ) → k < length f.names → Some (name_at f.names p) ≡ parent_of f.trees (name_at f.names k) → height_at f k ≡ height_at f p + 1
+  height-up k p node e =
+      let long = ap (length {A = NodeName}) (above-parent f.trees (name_at f.names k) (name_at f.names p) (Once-forest f once only) (Has-forest f once k node) (sym e)).0 in
+      omega (arith, long)
+
+  -- a root has itself alone
+  pub height-root : (k : ℕ) → k < length f.names → None ≡ parent_of f.trees (name_at f.names k) → height_at f k ≡ 1
+  height-root k node e = ap (length {A = NodeName}) (above-root f.trees (name_at f.names k) (Has-forest f once k node) (sym e))
+
+  -- and nothing else has
+  pub root-alone : (k : ℕ) → k < length f.names → height_at f k ≡ 1 → parent_of f.trees (name_at f.names k) ≡ None
+  root-alone k node e = by (parent_of f.trees (name_at f.names k)) refl
+    where
+      by : (o : Option NodeName) → parent_of f.trees (name_at f.names k) ≡ o → parent_of f.trees (name_at f.names k) ≡ None
+      by None is = is
+      by (Some p) is =
+          let path = above-parent f.trees (name_at f.names k) p (Once-forest f once only) (Has-forest f once k node) is in
+          let long = ap (length {A = NodeName}) path.0 in
+          let more = ap (length {A = NodeName}) (above-present f.trees p path.1).1 in
+          absurd (omega (arith, long, more, e))
+
+  -- a parent of what is above a node is above it
+  pub raise-up : (k p x : ℕ) → k < length f.names → x < length f.names → Some (name_at f.names p) ≡ parent_of f.trees (name_at f.names k)
+      → is_inclusive_ancestor f.trees (name_at f.names k) (name_at f.names x) ≡ true → is_inclusive_ancestor f.trees (name_at f.names p) (name_at f.names x) ≡ true
+  raise-up k p x node at_x e up =
+      let single = Once-forest f once only in
+      let is = above-parent f.trees (name_at f.names k) (name_at f.names p) single (Has-forest f once k node) (sym e) in
+      let i : In (name_at f.names p) (inclusive_ancestors f.trees (name_at f.names k)) = subst (In (name_at f.names p)) (sym is.0) (inr (subst (In (name_at f.names p)) (sym (above-present f.trees (name_at f.names p) is.1).1) (inl refl))) in
+      is_in-from (name_at f.names p) (inclusive_ancestors f.trees (name_at f.names x))
+      (above-along f.trees (name_at f.names p) (name_at f.names k) (name_at f.names x) single (Has-forest f once x at_x) i (In-from (name_at f.names k) (inclusive_ancestors f.trees (name_at f.names x)) up))
+
+  -- a node as deep as another one that is above x is not above x, where it is another one
+  pub level-apart : (k j x : ℕ) → x < length f.names → is_inclusive_ancestor f.trees (name_at f.names j) (name_at f.names x) ≡ true → height_at f k ≡ height_at f j → (name_at f.names k ≡ name_at f.names j → ⊥)
+      → is_inclusive_ancestor f.trees (name_at f.names k) (name_at f.names x) ≡ false
+  level-apart k j x at_x above level other =
+      let path = inclusive_ancestors f.trees (name_at f.names x) in
+      false_from_ne_true (is_inclusive_ancestor f.trees (name_at f.names k) (name_at f.names x))
+      (λ t. other (level-same f.trees (Once-forest f once only) (name_at f.names k) (name_at f.names j) (name_at f.names x) (Has-forest f once x at_x) (In-from (name_at f.names k) path t) (In-from (name_at f.names j) path above) level))
+
+  -- what is above x as deep as x, or deeper than y, is not above y, where x is not
+  pub first-apart : (k x y : ℕ) → x < length f.names → y < length f.names → is_inclusive_ancestor f.trees (name_at f.names k) (name_at f.names x) ≡ true → is_inclusive_ancestor f.trees (name_at f.names x) (name_at f.names y) ≡ false
+      → (height_at f k ≡ height_at f x) ⊎ (height_at f y < height_at f k) → is_inclusive_ancestor f.trees (name_at f.names k) (name_at f.names y) ≡ false
+  first-apart k x y at_x at_y up apart (inl level) =
+      let same = level-above f.trees (Once-forest f once only) (name_at f.names k) (name_at f.names x) (Has-forest f once x at_x) (In-from (name_at f.names k) (inclusive_ancestors f.trees (name_at f.names x)) up) level in
+      ap (λ z. is_inclusive_ancestor f.trees z (name_at f.names y)) same ∙ apart
+  first-apart k x y at_x at_y up apart (inr deep) =
+      false_from_ne_true (is_inclusive_ancestor f.trees (name_at f.names k) (name_at f.names y))
+      (λ t. let less = above-less f.trees (Once-forest f once only) (name_at f.names k) (name_at f.names y) (Has-forest f once y at_y) (In-from (name_at f.names k) (inclusive_ancestors f.trees (name_at f.names y)) t) in omega (arith, less, deep))
