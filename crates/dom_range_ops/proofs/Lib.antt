@@ -18,3 +18,4 @@ pub mod PieceRuns
 pub mod PiecePaths
 pub mod PieceSteps
 pub mod PieceLaws
+pub mod PieceOwn

@@ -56,7 +56,7 @@ module _ (ts : Trees) (owned : AreOwned ts) (o : Owner) (r : Range NodeName) (en
       ∙ ap (λ k. if is_text (kind_of own y) then slice_range (node_in own y).text (cut_start r y) (if name_eq y r.end.node then r.end.offset else k) else []) is.size
 
   -- whether a node of the tree is contained
-  contained-own : (y : NodeName) → Has ts y → root_of ts y ≡ root_of ts r.start.node → y.owner ≡ o → is_contained ts r y ≡ is_contained own r y
+  pub contained-own : (y : NodeName) → Has ts y → root_of ts y ≡ root_of ts r.start.node → y.owner ≡ o → is_contained ts r y ≡ is_contained own r y
   contained-own y h root e =
       let mine : IsOwnIn ts owned ends.once o y = record { owner = e; there = h } in
       let at_start : IsOwnIn ts owned ends.once o r.start.node = record { owner = start; there = ends.start } in
