@@ -66,14 +66,14 @@ module _ (f : NamedTrees) (once : StandOnce f) (only : StandAlone f) (owned : Ar
       let g : Has (trees_of_owner o f.trees) x = subst (λ us. Has us x) (sym own_is) h in
       (has_owner o (trees_of_owner o f.trees) (own_trees f.trees owned o).1 x g, has_all o f.trees x g)
 
-  start-there : (r.start.node.owner ≡ o) × Has f.trees r.start.node
+  pub start-there : (r.start.node.owner ≡ o) × Has f.trees r.start.node
   start-there = there r.start.node (Has-names ts r.start.node (In-from r.start.node (names_of (nodes ts)) ends.start))
 
-  end-there : (r.end.node.owner ≡ o) × Has f.trees r.end.node
+  pub end-there : (r.end.node.owner ≡ o) × Has f.trees r.end.node
   end-there = there r.end.node (Has-names ts r.end.node (In-from r.end.node (names_of (nodes ts)) ends.end))
 
   -- both ends are nodes of one tree
-  one-tree : HasOneTree f.trees r
+  pub one-tree : HasOneTree f.trees r
   one-tree =
       let single = Once-forest f once only in
       let same = same_root-own f.trees owned single o r.start.node r.end.node (record { owner = start-there.0; there = start-there.1 }) (record { owner = end-there.0; there = end-there.1 }) in

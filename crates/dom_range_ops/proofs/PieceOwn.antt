@@ -1,19 +1,27 @@
 -- The pieces of an owner's range are the same among all trees and among the owner's own.
-use Rattle.std.proofs.Common.{◌≡◌, inl, inr, ℕ, Bool, true, not, ◌&&◌, ◌||◌, List, [], ◌∷◌, ◌++◌, refl, sym, ap, subst, ◌∙◌}
+use Rattle.std.proofs.Common.{◌≡◌, inl, inr, ℕ, ◌<◌, ◌≤◌, length, Bool, not, ◌&&◌, ◌||◌, List, [], ◌∷◌, refl, sym, ap, subst, ◌∙◌}
 use Rattle.std.specs.Prelude.{find, unwrap_or, if◌then◌else◌}
 use Rattle.std.proofs.lemmas.Bool.{cases_Bool}
 use Rattle.dom_base.specs.declared.NodeName.{NodeName}
 use Rattle.dom_base.specs.declared.Owner.{Owner}
+use Rattle.dom_isolation.specs.Bounds.{IsWithin}
 use Rattle.dom_isolation.specs.Tables.{HasEnds}
 use Rattle.dom_model.specs.Extract.{Pieces, nothing, whole, cut, clone, is_partly_contained, cut_start, cut_end, common_ancestor, is_in_one_data, pieces_among, pieces_of}
 use Rattle.dom_model.specs.Names.{name_eq, is_in}
 use Rattle.dom_model.specs.Ranges.{Range, is_collapsed, is_contained}
-use Rattle.dom_model.specs.Tree.{Trees, none, tree, Node, has_data, inclusive_ancestors, is_inclusive_ancestor, inclusive_descendants, root_of, subtree, trees_below}
+use Rattle.dom_model.specs.Tree.{Trees, none, tree, Node, has_data, inclusive_ancestors, is_inclusive_ancestor, inclusive_descendants, length_of, root_of, subtree, trees_below}
 use Rattle.dom_tree.proofs.Owned.{read_own, stays_own}
+use Rattle.dom_ranges.specs.declared.table.Points.{Points}
+use Rattle.dom_tree.specs.Forest.{NamedTrees}
 use Rattle.dom_tree.specs.Owners.{AreOwned, trees_of_owner}
 use Rattle.dom_traversal.proofs.Children.{In-names}
+use Rattle.dom_traversal.proofs.Counts.{StandOnce, StandAlone}
 use Rattle.dom_traversal.proofs.Lists.{In, is_in-from}
 use Rattle.dom_traversal.proofs.Shapes.{Has, Has-subtree, Has-above, above-present, above-from_below, subtree-present}
+use Rattle.dom_range_ops.specs.Deletions.{AreLeaves}
+use Rattle.dom_range_ops.specs.Pieces.{AreSpanned}
+use Rattle.dom_range_ops.specs.Texts.{range_at_points}
+use Rattle.dom_range_ops.proofs.DocTexts.{are-ends, start-there, end-there, one-tree}
 use Rattle.dom_range_ops.proofs.OneTree.{HasOneTree, root-path}
 use Rattle.dom_range_ops.proofs.OwnTexts.{contained-own}
 
@@ -111,3 +119,22 @@ module _ (ts : Trees) (owned : AreOwned ts) (o : Owner) (r : Range NodeName) (en
       ∙ (ap (λ (us : Trees). pieces_among own r (trees_below us)) (read_own ts owned o c owner).alone ∙ ap (λ (x : NodeName). pieces_among own r (trees_below (subtree own x))) common-own) in
       ap (λ (n : Node). all (name_eq r.start.node r.end.node && has_data n.kind) (pieces_among ts r (trees_below (subtree ts c)))) (read_own ts owned o r.start.node start).node
       ∙ ap (all (is_in_one_data own r)) below
+
+-- ---- by keys
+
+module _ (f : NamedTrees) (once : StandOnce f) (only : StandAlone f) (owned : AreOwned f.trees) (o : Owner) (ts : Trees) (own_is : trees_of_owner o f.trees ≡ ts) (points : Points) (r : Range NodeName) (is : r ≡ range_at_points f.names points) (ends : HasEnds ts r) where
+  -- what is asked of a range between two points holds where it does of the owner's range
+  pub are-spanned : points.start.0 < length f.names → points.end.0 < length f.names → IsWithin ts r.end → AreLeaves f points → AreSpanned f points
+  are-spanned start end fits leaves =
+      let size = (read_own f.trees owned o r.end.node (end-there f once only owned o ts own_is points r is ends).0).size ∙ ap (λ us. length_of us r.end.node) own_is in
+      record {
+        ends = are-ends f once only owned o ts own_is points r is ends start end;
+        within = subst (λ (s : Range NodeName). s.end.offset ≤ length_of f.trees s.end.node) is (subst (λ n. r.end.offset ≤ n) (sym size) fits);
+        leaves = leaves;
+      }
+
+  -- the pieces between the points are those of the owner's range
+  pub pieces-points : pieces_of f.trees (range_at_points f.names points) ≡ pieces_of ts r
+  pieces-points =
+      ap (pieces_of f.trees) (sym is)
+      ∙ (pieces-own f.trees owned o r (one-tree f once only owned o ts own_is points r is ends) (start-there f once only owned o ts own_is points r is ends).0 (end-there f once only owned o ts own_is points r is ends).0 ∙ ap (λ us. pieces_of us r) own_is)
