@@ -40,3 +40,4 @@ pub mod PiecePaths
 pub mod PieceSteps
 pub mod PieceLaws
 pub mod DeletionHeights
+pub mod PieceOwn

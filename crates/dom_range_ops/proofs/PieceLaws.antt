@@ -25,7 +25,7 @@ use Rattle.dom_range_ops.proofs.PieceLevels.{Level, in-front, in-back}
 use Rattle.dom_range_ops.proofs.PieceMiddle.{IsRange, PartAt, at_start, at_end, end-last, Follows, follows, precedes, ordered-items, reversed-items, begins, stops}
 use Rattle.dom_range_ops.proofs.PieceParts.{Course, at_top, inside, course}
 use Rattle.dom_range_ops.proofs.PieceRuns.{from-kids, up-to-first}
-use Rattle.dom_range_ops.proofs.PieceSides.{last-member}
+use Rattle.dom_range_ops.proofs.PieceSides.{last-member, tail-same}
 
 -- the first that passes a test
 find-there : (p : NodeName → Bool) (xs : List NodeName) (x : NodeName) (rest : List NodeName) → ((y : NodeName) → In y xs → p y ≡ false) → p x ≡ true → find p (xs ++ x ∷ rest) ≡ Some x
@@ -39,10 +39,7 @@ last-above ts once rest x path h e y last a (inl same) = subst (λ z. In y (incl
 last-above ts once rest x [] h e y last a (inr i) = absurd i
 last-above ts once rest x (p ∷ path) h e y last a (inr i) =
     let up = above-parent ts x p once h (ap (λ xs. first_of (drop 1 xs)) e) in
-    last-above ts once rest p path up.1 (tail-same (inclusive_ancestors ts p) ((p ∷ path) ++ rest) (sym up.0 ∙ e)) y last a i
-  where
-    tail-same : (xs ys : List NodeName) → x ∷ xs ≡ x ∷ ys → xs ≡ ys
-    tail-same xs ys e = cc
+    last-above ts once rest p path up.1 (tail-same x (inclusive_ancestors ts p) ((p ∷ path) ++ rest) (sym up.0 ∙ e)) y last a i
 
 module _ (ts : Trees) (r : Range NodeName) (is : IsRange ts r) (c : NodeName) (rest start_path end_path : List NodeName) (parts : PartAt ts r c rest start_path end_path) where
   -- ---- the lowest common inclusive ancestor

@@ -8,12 +8,16 @@ use Rattle.dom_model.specs.Place.{Boundary, is_before}
 use Rattle.dom_model.specs.Ranges.{Range, at, is_contained}
 use Rattle.dom_model.specs.Tree.{Trees, kind_of, has_data, children_of, inclusive_ancestors, is_inclusive_ancestor, inclusive_descendants, length_of, subtree}
 use Rattle.dom_traversal.proofs.Children.{In-names, Has-names, child-of_parent}
-use Rattle.dom_traversal.proofs.Lists.{In, In-left, is_in-from}
+use Rattle.dom_traversal.proofs.Lists.{In, In-left, is_in-from, no_last}
 use Rattle.dom_traversal.proofs.Shapes.{Has, Once, Has-subtree, above-parent, above-present, above-from_below, below-from_above}
 use Rattle.dom_range_ops.specs.Pieces.{whole_item}
 use Rattle.dom_range_ops.proofs.PieceItems.{node_items, items-whole, items-out}
 use Rattle.dom_range_ops.proofs.PieceLevels.{IsBehind, IsAhead, above-start, above-end, behind-off, ahead-off}
-use Rattle.dom_range_ops.proofs.PieceSides.{IsSide, last-member}
+use Rattle.dom_range_ops.proofs.PieceSides.{IsSide, last-member, tail-same}
+
+-- lists that are the same begin with the same item
+first-same : (x y : NodeName) (xs ys : List NodeName) → x ∷ xs ≡ y ∷ ys → x ≡ y
+first-same x y xs ys e = cc
 
 -- nothing is both, where the second is not
 and-no : (b : Bool) → b && false ≡ false
@@ -122,10 +126,7 @@ module _ (ts : Trees) (once : Once ts) (c : NodeName) (rest : List NodeName) whe
       subst (λ z. In z (children_of ts c)) (same_Some x y last) (child-of_parent ts x c once h (ap (λ xs. first_of (drop 1 xs)) e)).1
   last-child x (p ∷ path) h e y last =
       let up = above-parent ts x p once h (ap (λ xs. first_of (drop 1 xs)) e) in
-      last-child p path up.1 (tail-same (inclusive_ancestors ts p) ((p ∷ path) ++ c ∷ rest) (sym up.0 ∙ e)) y last
-    where
-      tail-same : (xs ys : List NodeName) → x ∷ xs ≡ x ∷ ys → xs ≡ ys
-      tail-same xs ys e = cc
+      last-child p path up.1 (tail-same x (inclusive_ancestors ts p) ((p ∷ path) ++ c ∷ rest) (sym up.0 ∙ e)) y last
 
   -- an end is at the common ancestor, or in the tree of this child of it, from which a path leads down to it
   pub data Course (b : Boundary NodeName) (path : List NodeName) : Type 0 where
@@ -134,22 +135,12 @@ module _ (ts : Trees) (once : Once ts) (c : NodeName) (rest : List NodeName) whe
 
   pub course : (b : Boundary NodeName) (path : List NodeName) → Has ts b.node → inclusive_ancestors ts b.node ≡ path ++ c ∷ rest → Course b path
   course b [] h e = at_top refl (first-same b.node c (above-present ts b.node h).0 rest (sym (above-present ts b.node h).1 ∙ e))
-    where
-      first-same : (x y : NodeName) (xs ys : List NodeName) → x ∷ xs ≡ y ∷ ys → x ≡ y
-      first-same x y xs ys e = cc
   course b (x ∷ path) h e =
       let same : b.node ≡ x = first-same b.node x (above-present ts b.node h).0 (path ++ c ∷ rest) (sym (above-present ts b.node h).1 ∙ e) in
       by (last_of (x ∷ path)) refl same
     where
-      first-same : (x y : NodeName) (xs ys : List NodeName) → x ∷ xs ≡ y ∷ ys → x ≡ y
-      first-same x y xs ys e = cc
-
       by : (o : Option NodeName) → last_of (x ∷ path) ≡ o → b.node ≡ x → Course b (x ∷ path)
-      by None none same = absurd (no-last x path none)
-        where
-          no-last : (z : NodeName) (zs : List NodeName) → last_of (z ∷ zs) ≡ None → ⊥
-          no-last z [] f = cc
-          no-last z (w ∷ ws) f = no-last w ws f
+      by None none same = let off : x ∷ path ≡ [] = no_last (x ∷ path) none in cc
       by (Some y) last same =
           let i : In y (inclusive_ancestors ts b.node) = subst (In y) (sym e) (In-left y (x ∷ path) (c ∷ rest) (last-member x y path last)) in
           inside y path (ap (λ z. z ∷ path) (sym same)) last (last-child x path (subst (Has ts) same h) (ap (inclusive_ancestors ts) (sym same) ∙ e) y last)

@@ -8,7 +8,6 @@ use Rattle.std.proofs.lemmas.Option.{same_Some, none-some}
 use Rattle.dom_base.specs.declared.NodeName.{NodeName}
 use Rattle.dom_model.specs.Names.{last_of}
 use Rattle.dom_model.specs.Tree.{inclusive_ancestors, root_of}
-use Rattle.dom_observers.specs.Naming.{IsKey, AreAll}
 use Rattle.dom_ranges.specs.declared.table.Points.{Points}
 use Rattle.dom_traversal.proofs.Climbing.{TellApart}
 use Rattle.dom_traversal.proofs.Counts.{StandOnce, StandAlone, Has-forest}
@@ -19,11 +18,6 @@ use Rattle.dom_range_ops.specs.Pieces.{EndAlike, ArePaths}
 use Rattle.dom_range_ops.specs.Texts.{AreEnds}
 
 -- ---- what holds of all keys of a list
-
--- by either word
-pub all-keys : (names : List NodeName) (ks : List ℕ) → AreAll (IsKey names) ks → AllByRecursion (λ k. k < length names) ks
-all-keys names [] all = tt
-all-keys names (k ∷ ks) all = (all.0, all-keys names ks all.1)
 
 -- of one of them
 pub all-at : (P : ℕ → Type 0) (ks : List ℕ) (i : ℕ) → AllByRecursion P ks → i < length ks → P (get_or ks i 0)

@@ -24,6 +24,10 @@ use Rattle.dom_range_ops.specs.Pieces.{Item, whole_item, cut_item, clone_item, e
 use Rattle.dom_range_ops.proofs.PieceItems.{node_items, items-partly}
 use Rattle.dom_range_ops.proofs.PieceLevels.{IsBehind, IsAhead, Level, in-front, in-back, self-in}
 
+-- lists that begin with the same item go on alike
+pub tail-same : (x : NodeName) (xs ys : List NodeName) → x ∷ xs ≡ x ∷ ys → xs ≡ ys
+tail-same x xs ys e = cc
+
 -- a last item is a member
 pub last-member : (x y : NodeName) (xs : List NodeName) → last_of (x ∷ xs) ≡ Some y → In y (x ∷ xs)
 last-member x y [] e = inl (sym (same_Some x y e))
@@ -123,9 +127,6 @@ module _ (ts : Trees) (r : Range NodeName) (once : Once ts) (b : Boundary NodeNa
         ∙ (regroup (heads ts before (p ∷ path)) (wholes_if before (items_before name_eq x (children_of ts p))) (node_items ts r x) (wholes_if behind (items_after name_eq x (children_of ts p))) (tails ts behind (p ∷ path)) p
         ∙ ap (λ xs. heads ts before (x ∷ p ∷ path) ++ (node_items ts r x ++ (wholes_if behind (items_after name_eq x xs) ++ end_item ∷ tails ts behind (p ∷ path)))) (sym (ap (λ o. option_map_or (children_of ts) o (x ∷ [])) parent))))
       where
-        tail-same : (y : NodeName) (xs ys : List NodeName) → y ∷ xs ≡ y ∷ ys → xs ≡ ys
-        tail-same y xs ys e = cc
-
         below-point : (q z : NodeName) → Has ts q → Has ts z → In q (inclusive_ancestors ts z) → In b.node (inclusive_descendants ts z) → Has (subtree ts q) b.node
         below-point q z at_q at_z i j =
             let stands = Has-names (subtree ts z) b.node j in

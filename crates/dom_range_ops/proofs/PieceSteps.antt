@@ -73,11 +73,6 @@ pub side-some : (ts : Trees) (r : Range NodeName) (b : Boundary NodeName) (befor
 side-some ts r b before behind names [] l = absurd (omega (arith, l))
 side-some ts r b before behind names (k ∷ ks) l = refl
 
--- along one that is
-pub side-none : (ts : Trees) (r : Range NodeName) (b : Boundary NodeName) (before behind : Bool) (names : List NodeName) (ks : List ℕ) → length ks ≡ 0 → side_items ts r b before behind (map (name_at names) ks) ≡ []
-side-none ts r b before behind names [] e = refl
-side-none ts r b before behind names (k ∷ ks) e = absurd (omega (arith, e))
-
 -- the last name of a path, by the last key
 pub last-named : (names : List NodeName) (ks : List ℕ) (k : ℕ) → slice_get ks (length ks - 1) ≡ Some k → last_of (map (name_at names) ks) ≡ Some (name_at names k)
 last-named names [] k e = cc

@@ -36,7 +36,7 @@ pub(super) fn push_siblings(
     Ok(())
 }
 
-/// The first children of a node, where they are taken, and the others, where they are.
+/// The children of a node in front of an offset, where they are taken, and those from it on, where they are.
 pub(super) fn push_children(
     pieces: &mut Vec<Piece>,
     forest: &Forest,
@@ -47,15 +47,45 @@ pub(super) fn push_children(
     requires { point.0 < length forest.now.names }
     ensures { OnOk result (Adds forest.now.names pieces.old.items pieces.new.items (wholes_if before (take point.1 (children_of forest.now.trees (name_at forest.now.names point.0))) ++ wholes_if behind (drop point.1 (children_of forest.now.trees (name_at forest.now.names point.0))))) }
 {
-    forest.nodes_stand_once();
     let (node, offset) = point;
-    if before {
-        let until = child_at(forest, node, offset);
-        push_siblings(pieces, forest, forest.first(node), until)?;
+    push_front(pieces, forest, node, offset, before)?;
+    push_back(pieces, forest, node, offset, behind)
+}
+
+/// The children of a node in front of an offset, where they are taken.
+fn push_front(
+    pieces: &mut Vec<Piece>,
+    forest: &Forest,
+    node: Key,
+    offset: usize,
+    taken: bool,
+) -> Result<(), AllocError>
+    requires { node < length forest.now.names }
+    ensures { OnOk result (Adds forest.now.names pieces.old.items pieces.new.items (wholes_if taken (take offset (children_of forest.now.trees (name_at forest.now.names node))))) }
+{
+    forest.nodes_stand_once();
+    if !taken {
+        return Ok(());
     }
-    if behind {
-        let from = child_at(forest, node, offset);
-        push_siblings(pieces, forest, from, None)?;
+    let until = child_at(forest, node, offset);
+    push_siblings(pieces, forest, forest.first(node), until)
+}
+
+/// The children of a node from an offset on, where they are taken.
+fn push_back(
+    pieces: &mut Vec<Piece>,
+    forest: &Forest,
+    node: Key,
+    offset: usize,
+    taken: bool,
+) -> Result<(), AllocError>
+    requires { node < length forest.now.names }
+    ensures { OnOk result (Adds forest.now.names pieces.old.items pieces.new.items (wholes_if taken (drop offset (children_of forest.now.trees (name_at forest.now.names node))))) }
+{
+    forest.nodes_stand_once();
+    if !taken {
+        return Ok(());
     }
-    Ok(())
+    let from = child_at(forest, node, offset);
+    push_siblings(pieces, forest, from, None)
 }

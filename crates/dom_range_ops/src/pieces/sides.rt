@@ -67,18 +67,18 @@ fn push_reversed(
     ensures { OnOk result (Adds forest.now.names pieces.old.items pieces.new.items (items_of (pieces_of forest.now.trees (range_at_points forest.now.names points.now)))) }
 {
     forest.nodes_stand_once();
-    let start = Side {
+    let bare_start = Side {
         point: points.start,
         before: false,
         behind: false,
     };
-    let end = Side {
+    let bare_end = Side {
         point: points.end,
         before: false,
         behind: false,
     };
-    push_side(pieces, forest, points, end_path, end)?;
-    push_side(pieces, forest, points, start_path, start)
+    push_side(pieces, forest, points, end_path, bare_end)?;
+    push_side(pieces, forest, points, start_path, bare_start)
 }
 
 /// The same where it does not: what is behind the start in its tree, what is between, and what is in front of the end in
