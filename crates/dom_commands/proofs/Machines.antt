@@ -28,14 +28,14 @@ use Rattle.dom_mutation.specs.Doc.{DocState}
 use Rattle.dom_dispatch.specs.Named.{IsListenerAt}
 use Rattle.dom_commands.specs.Handled.{IsHandled}
 use Rattle.dom_commands.specs.Heard.{heard, own_listeners}
-use Rattle.dom_commands.specs.Machine.{MachineNow, machine_now, IsSound, HasFirstNodes, HasRangeEnds, AreAtNodes, BeginsWith, KeepsNames, KeepsListeners}
+use Rattle.dom_commands.specs.Machine.{MachineNow, machine_now, IsSound, HasFirstNodes, HasLoneShadowRoots, HasRangeEnds, AreAtNodes, BeginsWith, KeepsNames, KeepsListeners}
 use Rattle.dom_commands.specs.Sorts.{is_plain}
 use Rattle.dom_commands.proofs.Bounded.{bounded-unheard, first_nodes-unheard}
 use Rattle.dom_commands.proofs.Handling.{opened-part}
 use Rattle.dom_commands.proofs.Heard.{FitsIn, there-heard, part-heard}
 use Rattle.dom_commands.proofs.HeardCommands.{IsNew, handled-heard}
 use Rattle.dom_commands.proofs.Listening.{OwnersAreThere, fits-own, at-kept, own-kept}
-use Rattle.dom_commands.proofs.Ranging.{range_ends-unheard}
+use Rattle.dom_commands.proofs.Ranging.{range_ends-unheard, shadow_roots-unheard}
 
 -- the same names
 pub begins_same : (names : List NodeName) → BeginsWith names names
@@ -105,6 +105,11 @@ seen_first_nodes s ls m seen sound there =
 pub seen_range_ends : (s : DocState) (ls : List (Listener ℕ)) (m : MachineNow) → machine_now s ls ≡ m → IsSound m → OwnersAreThere s.names s.world → HasRangeEnds s.world
 seen_range_ends s ls m seen sound there =
     range_ends-unheard (own_listeners s.names ls) s.world (fits-own s.names s.world there ls (seen_at s ls m seen sound)) (λ o. ((subst IsSound (sym seen) sound).whole.tables o).ranges)
+
+-- and no shadow root has a parent
+pub seen_shadow_roots : (s : DocState) (ls : List (Listener ℕ)) (m : MachineNow) → machine_now s ls ≡ m → IsSound m → OwnersAreThere s.names s.world → HasLoneShadowRoots s.world
+seen_shadow_roots s ls m seen sound there =
+    shadow_roots-unheard (own_listeners s.names ls) s.world (fits-own s.names s.world there ls (seen_at s ls m seen sound)) (seen_reached s ls m seen sound)
 
 -- ---- lines
 

@@ -16,6 +16,7 @@ use Rattle.dom_isolation.specs.Laws.{IsReached}
 use Rattle.dom_isolation.specs.Tables.{IsNodeIn, EndsIn, IsWhole}
 use Rattle.dom_isolation.specs.Worlds.{IsThere, task_owner}
 use Rattle.dom_mutation.specs.Doc.{DocState}
+use Rattle.dom_range_ops.specs.Extractions.{ShadowRootsHaveNoParent}
 use Rattle.dom_dispatch.specs.declared.event.LogLine.{LogLine}
 use Rattle.dom_dispatch.specs.Dispatches.{line_in}
 use Rattle.dom_dispatch.specs.Named.{IsListenerAt, line_named}
@@ -50,6 +51,10 @@ HasFirstNodes w = (o : Owner) → IsThere w o → IsNodeIn (part_of w o).trees (
 -- both ends of each live range are at nodes of its owner, which have one root (DOM Standard, 5.3: range's root)
 abbrev pub HasRangeEnds : World → Type 0
 HasRangeEnds w = (o : Owner) → AllByRecursion (EndsIn (part_of w o).trees) (part_of w o).ranges
+
+-- no owner's shadow root has a parent (DOM Standard, 4.2.2 Shadow tree)
+abbrev pub HasLoneShadowRoots : World → Type 0
+HasLoneShadowRoots w = (o : Owner) → ShadowRootsHaveNoParent (part_of w o).trees
 
 -- the owners of tasks are there
 abbrev pub AreThere : World → List Task → Type 0

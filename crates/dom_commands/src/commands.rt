@@ -7,7 +7,7 @@ ghost use Rattle.dom_isolation.specs.Bounds.{IsBounded};
 ghost use Rattle.dom_printer.specs.Replies.{value_view};
 ghost use Rattle.dom_reader.specs.Views.{command_view};
 ghost use Rattle.dom_commands.specs.Handled.{IsDone, IsHandled};
-ghost use Rattle.dom_commands.specs.Machine.{HasFirstNodes, HasRangeEnds, KeepsNames};
+ghost use Rattle.dom_commands.specs.Machine.{HasFirstNodes, HasLoneShadowRoots, HasRangeEnds, KeepsNames};
 ghost use Rattle.dom_commands.specs.Sorts.{is_plain, is_question, is_range};
 
 mod attributes;
@@ -55,6 +55,7 @@ impl State {
         requires bounds { IsBounded self.old.world }
         requires first { HasFirstNodes self.old.world }
         requires ends { HasRangeEnds self.old.world }
+        requires roots { HasLoneShadowRoots self.old.world }
         ensures handled { IsHandled owner (command_view command) self.old.world self.new.world out.old.items out.new.items result }
         ensures names { KeepsNames self.old.names self.new.names result }
     {
@@ -94,6 +95,7 @@ impl State {
         requires bounds { IsBounded self.old.world }
         requires first { HasFirstNodes self.old.world }
         requires ends { HasRangeEnds self.old.world }
+        requires roots { HasLoneShadowRoots self.old.world }
         ensures handled { IsHandled owner (command_view command) self.old.world self.new.world out.old.items out.new.items result }
         ensures names { KeepsNames self.old.names self.new.names result }
     {

@@ -119,7 +119,7 @@ slot-none w i x f = from (parent_at w x) refl
         ap (λ o. option_and_then (λ c. slot_in (shadow_tree w c) (node_at w x)) (option_and_then (component_at w) o)) e ∙ ap (option_and_then (λ c. slot_in (shadow_tree w c) (node_at w x))) none_at
 
 -- Kinds.
-shadow-kind : (k : Kind) → is_shadow k ≡ true → k ≡ Shadow
+pub shadow-kind : (k : Kind) → is_shadow k ≡ true → k ≡ Shadow
 shadow-kind Shadow h = refl
 shadow-kind Document h = absurd (true≢false (sym h))
 shadow-kind Fragment h = absurd (true≢false (sym h))

@@ -6,7 +6,7 @@ ghost use Rattle.dom_isolation.specs.Bounds.{IsBounded};
 ghost use Rattle.dom_tree.specs.Forest.{name_at};
 ghost use Rattle.dom_printer.specs.Replies.{boundary_view};
 ghost use Rattle.dom_reader.specs.Views.{command_view, spelled_view};
-ghost use Rattle.dom_commands.specs.Machine.{HasFirstNodes, HasRangeEnds, KeepsNames};
+ghost use Rattle.dom_commands.specs.Machine.{HasFirstNodes, HasLoneShadowRoots, HasRangeEnds, KeepsNames};
 ghost use Rattle.dom_commands.specs.Handled.{IsHandled};
 ghost use Rattle.dom_commands.specs.Sorts.{is_range};
 
@@ -30,6 +30,7 @@ impl State {
         requires bounds { IsBounded self.old.world }
         requires first { HasFirstNodes self.old.world }
         requires ends { HasRangeEnds self.old.world }
+        requires roots { HasLoneShadowRoots self.old.world }
         ensures handled { IsHandled owner (command_view command) self.old.world self.new.world out.old.items out.new.items result }
         ensures names { KeepsNames self.old.names self.new.names result }
     {
@@ -168,6 +169,7 @@ impl State {
     fn extract(&mut self, owner: Owner, number: u32, out: &mut Vec<u8>) -> Result<(), Fault>
         requires bounds { IsBounded self.old.world }
         requires ends { HasRangeEnds self.old.world }
+        requires roots { HasLoneShadowRoots self.old.world }
         ensures handled { IsHandled owner (extract_command number) self.old.world self.new.world out.old.items out.new.items result }
         ensures names { KeepsNames self.old.names self.new.names result }
     {

@@ -2,7 +2,7 @@ use Rattle.std.proofs.Common.{subst}
 use Rattle.dom_reader.specs.Views.{command_view}
 use Rattle.dom_commands.specs.Handled.{IsHandled}
 use Rattle.dom_commands.specs.Machine.{MachineNow, machine_now}
-use Rattle.dom_commands.proofs.Machines.{plain_handled, kept_at, seen_at, seen_reached, seen_bounds, seen_first_nodes, seen_range_ends}
+use Rattle.dom_commands.proofs.Machines.{plain_handled, kept_at, seen_at, seen_reached, seen_bounds, seen_first_nodes, seen_range_ends, seen_shadow_roots}
 use Rattle.dom_commands.proofs.machine.Machine.perform_plain.Goals as goal
 
 pub perform-requires-clause-bounds : goal.perform-requires-clause-bounds
@@ -13,6 +13,9 @@ perform-requires-clause-first c = seen_first_nodes c.self.inside.state c.self.in
 
 pub perform-requires-clause-ends : goal.perform-requires-clause-ends
 perform-requires-clause-ends c = seen_range_ends c.self.inside.state c.self.inside.listeners c.args.self.now c.self.view_is c.requires.sound c.names_tell_nodes.ensures.there
+
+pub perform-requires-clause-roots : goal.perform-requires-clause-roots
+perform-requires-clause-roots c = seen_shadow_roots c.self.inside.state c.self.inside.listeners c.args.self.now c.self.view_is c.requires.sound c.names_tell_nodes.ensures.there
 
 pub returns-clause-handled : goal.returns-clause-handled
 returns-clause-handled c =
