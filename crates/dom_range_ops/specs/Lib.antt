@@ -3,3 +3,4 @@ pub mod Points
 pub mod Pieces
 pub mod Takings
 pub mod Deletions
+pub mod Extractions

@@ -3,6 +3,7 @@
 
 mod cloning;
 mod ends;
+mod extracting;
 mod pieces;
 mod points;
 mod taking;
