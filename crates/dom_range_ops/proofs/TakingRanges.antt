@@ -21,7 +21,7 @@ use Rattle.dom_isolation.proofs.TableSteps.{There}
 use Rattle.dom_isolation.proofs.Tests.{by_cases, either_way, which_way}
 use Rattle.dom_isolation.proofs.TreeChangeLaws.{nodes-subtree, times-below}
 use Rattle.dom_isolation.proofs.Trees.{IsUnique, times-here, times-more, times-subtree}
-use Rattle.dom_model.proofs.OwnerLaws.{name_eq-same, name_eq-true}
+use Rattle.dom_model.proofs.OwnerLaws.{name_eq-same}
 use Rattle.dom_model.specs.Extract.{Pieces, nothing, whole, cut, clone, is_partly_contained, cut_start, cut_end, pieces_among, pieces_of, common_ancestor, is_in_one_data, new_fragment_node}
 use Rattle.dom_model.specs.Names.{name_eq}
 use Rattle.dom_model.specs.Part.{Part, next_name}
@@ -31,6 +31,7 @@ use Rattle.dom_model.specs.Steps.{make, part_step}
 use Rattle.dom_model.specs.Tree.{Trees, none, tree, Node, node_in, kind_of, has_data, is_shadow, subtree, trees_below, parent_of, root_of, is_inclusive_ancestor}
 use Rattle.dom_model.specs.TreeChanges.{with_name}
 use Rattle.dom_range_ops.proofs.TakingParts.{taken-of}
+use Rattle.dom_tree.proofs.Names.{name_eq-true}
 use Rattle.dom_range_ops.specs.Pieces.{Item, whole_item, cut_item, clone_item, end_item, items_of, made_by}
 use Rattle.dom_range_ops.specs.Extractions.{ShadowRootsHaveNoParent}
 use Rattle.dom_range_ops.specs.Takings.{MayBeTaken, MayTake}
@@ -45,18 +46,18 @@ partly-same false true e = absurd (true≢false (sym e))
 module _ (ts : Trees) (r : Range NodeName) (unique : IsUnique ts) (start : 1 ≤ times_in ts r.start.node) (end : 1 ≤ times_in ts r.end.node) (one_root : same_root ts r.start.node r.end.node ≡ true) where
   -- a root above one node is above another one of its tree
   root-up : (x y z : NodeName) → 1 ≤ times_in ts x → 1 ≤ times_in ts z → parent_of ts x ≡ None → root_of ts y ≡ root_of ts z → is_inclusive_ancestor ts x y ≡ true → is_inclusive_ancestor ts x z ≡ true
-  root-up x y z t there none same up =
-      let is : x ≡ root_of ts z = sym (root-itself ts x unique t none) ∙ root-one ts unique x y up ∙ same in
+  root-up x y z t there top same up =
+      let is : x ≡ root_of ts z = sym (root-itself ts x unique t top) ∙ root-one ts unique x y up ∙ same in
       ap (λ a. is_inclusive_ancestor ts a z) is ∙ root-above ts z there
 
   partly-below : (x : NodeName) → 1 ≤ times_in ts x → is_partly_contained ts r x ≡ true → parent_of ts x ≡ None → ⊥
-  partly-below x t partly none =
+  partly-below x t partly top =
       let same : root_of ts r.start.node ≡ root_of ts r.end.node = name_eq-true (root_of ts r.start.node) (root_of ts r.end.node) one_root in
       let both : is_inclusive_ancestor ts x r.start.node ≡ is_inclusive_ancestor ts x r.end.node =
       by_cases (is_inclusive_ancestor ts x r.start.node)
-      (λ a. a ∙ sym (root-up x r.start.node r.end.node t end none same a))
+      (λ a. a ∙ sym (root-up x r.start.node r.end.node t end top same a))
       (λ a. by_cases (is_inclusive_ancestor ts x r.end.node)
-      (λ b. absurd (true≢false (sym (root-up x r.end.node r.start.node t start none (sym same) b) ∙ a)))
+      (λ b. absurd (true≢false (sym (root-up x r.end.node r.start.node t start top (sym same) b) ∙ a)))
       (λ b. a ∙ sym b)) in
       true≢false (sym partly ∙ partly-same (is_inclusive_ancestor ts x r.start.node) (is_inclusive_ancestor ts x r.end.node) both)
 
