@@ -1,5 +1,5 @@
 -- The steps of an extraction, one after another.
-use Rattle.std.proofs.Common.{zero, suc, ◌≡◌, ◌<◌, ◌≤◌, ℕ, ◌+◌, List, [], ◌∷◌, ◌++◌, length, map, is_some, true, refl, sym, ap, ◌∙◌, subst, arith, append_assoc, length-append}
+use Rattle.std.proofs.Common.{suc, ◌≡◌, ◌<◌, ℕ, List, [], ◌∷◌, ◌++◌, length, map, is_some, true, refl, sym, ap, ◌∙◌, subst, arith, append_assoc, length-append}
 use Rattle.std.specs.List.{AllByRecursion}
 use Rattle.std.proofs.Math.Seq.{get_or-append_seam}
 use Rattle.dom_base.specs.declared.NodeName.{NodeName}
@@ -7,14 +7,12 @@ use Rattle.dom_base.specs.declared.Owner.{Owner}
 use Rattle.dom_base.specs.declared.Owner.TheVariants.{Page}
 use Rattle.dom_isolation.specs.Worlds.{IsPart}
 use Rattle.dom_model.proofs.PartLaws.{owner-part_of}
-use Rattle.dom_model.specs.Changes.{Plan, ◌and_then◌, doing}
-use Rattle.dom_model.specs.Extract.{both_at}
+use Rattle.dom_model.specs.Changes.{◌and_then◌, doing}
 use Rattle.dom_model.specs.Names.{node_of}
 use Rattle.dom_model.specs.Part.{Part, next_name, range_at}
-use Rattle.dom_model.specs.Place.{Boundary}
 use Rattle.dom_model.specs.Ranges.{Range}
 use Rattle.dom_model.specs.Steps.{make, set_range, part_step}
-use Rattle.dom_model.specs.Tree.{Trees, Node}
+use Rattle.dom_model.specs.Tree.{Node}
 use Rattle.dom_model.specs.World.{World, part_of}
 use Rattle.dom_mutation.specs.Doc.{DocState, made, stepped, name_in, owner_in}
 use Rattle.dom_mutation.specs.Hosting.{IsAlone, PlansOwn}

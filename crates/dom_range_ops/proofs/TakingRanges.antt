@@ -1,5 +1,5 @@
 -- What an extraction takes of a live range may be taken into its fragment.
-use Rattle.std.proofs.Common.{suc, ◌≡◌, ◌≤◌, ℕ, ◌+◌, Bool, true, false, not, ◌&&◌, ◌||◌, true≢false, List, [], ◌∷◌, ◌++◌, None, refl, sym, ap, ◌∙◌, arith}
+use Rattle.std.proofs.Common.{suc, ◌≡◌, ◌≤◌, ◌+◌, Bool, true, false, not, ◌&&◌, ◌||◌, true≢false, [], ◌∷◌, None, refl, sym, ap, ◌∙◌, arith}
 use Rattle.std.specs.Prelude.{if◌then◌else◌}
 use Rattle.std.specs.List.{AllByRecursion}
 use Rattle.dom_base.specs.declared.NodeName.{NodeName}
@@ -22,7 +22,7 @@ use Rattle.dom_isolation.proofs.Tests.{by_cases, either_way, which_way}
 use Rattle.dom_isolation.proofs.TreeChangeLaws.{nodes-subtree, times-below}
 use Rattle.dom_isolation.proofs.Trees.{IsUnique, times-here, times-more, times-subtree}
 use Rattle.dom_model.proofs.OwnerLaws.{name_eq-same}
-use Rattle.dom_model.specs.Extract.{Pieces, nothing, whole, cut, clone, is_partly_contained, cut_start, cut_end, pieces_among, pieces_of, common_ancestor, is_in_one_data, new_fragment_node}
+use Rattle.dom_model.specs.Extract.{Pieces, nothing, whole, cut, clone, is_partly_contained, cut_start, cut_end, pieces_among, pieces_of, common_ancestor, is_in_one_data}
 use Rattle.dom_model.specs.Names.{name_eq}
 use Rattle.dom_model.specs.Part.{Part, next_name}
 use Rattle.dom_model.specs.Place.{same_root}
@@ -76,10 +76,11 @@ nodes-read ts u = each ts (λ y m. m) (λ y t. read-all ts y u t)
     each none there f = tt
     each (tree n c r) there f =
         let same = name_eq-same n.name in
-        let more = times-more n c r in
-        ((f n.name (there n.name (let g = times-here n c r n.name same in omega arith))).0 same,
-        each c (λ y m. there y (let g = more y in omega arith)) (λ y t. (f y t).1),
-        each r (λ y m. there y (let g = more y in omega arith)) (λ y t. (f y t).2))
+        let more = times-more n c r in (
+          (f n.name (there n.name (let g = times-here n c r n.name same in omega arith))).0 same,
+          each c (λ y m. there y (let g = more y in omega arith)) (λ y t. (f y t).1),
+          each r (λ y m. there y (let g = more y in omega arith)) (λ y t. (f y t).2),
+        )
 
 below-read : (P : Node → Type 0) (ts : Trees) → AllNodes P ts → AllNodes P (trees_below ts)
 below-read P none h = tt

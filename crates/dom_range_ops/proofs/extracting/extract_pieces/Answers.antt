@@ -1,4 +1,4 @@
-use Rattle.std.proofs.Common.{◌≡◌, ◌<◌, ◌∷◌, ◌++◌, [], List, length, true, arith, sym, ap, ◌∙◌, subst}
+use Rattle.std.proofs.Common.{◌≡◌, true, arith, ap, ◌∙◌, subst}
 use Rattle.dom_base.specs.declared.NodeName.{NodeName}
 use Rattle.dom_base.specs.declared.Owner.{Owner}
 use Rattle.dom_model.specs.Changes.{doing}
@@ -7,7 +7,7 @@ use Rattle.dom_model.specs.Part.{next_name}
 use Rattle.dom_model.specs.Ranges.{at}
 use Rattle.dom_model.specs.Steps.{make, set_range}
 use Rattle.dom_model.specs.World.{part_of, is_there}
-use Rattle.dom_mutation.specs.Doc.{DocState, made, stepped, name_in, owner_in}
+use Rattle.dom_mutation.specs.Doc.{DocState, made, stepped, name_in}
 use Rattle.dom_mutation.specs.Hosting.{IsAlone}
 use Rattle.dom_range_ops.proofs.TakingDocs.{name-kept, node-kept}
 use Rattle.dom_range_ops.proofs.TakingExtracts.{into-node, into-owner, pieces-kept, may-after, names-then, range-then, extracted}
