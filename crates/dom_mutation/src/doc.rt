@@ -147,6 +147,14 @@ impl Doc {
         table_of(&self.tables, owner).is_some()
     }
 
+    /// How many nodes an owner has (own rule).
+    pub fn node_count(&self, owner: Owner) -> usize
+        requires { is_there self.now.world owner ≡ true }
+        ensures { result ≡ (part_of self.now.world owner).node_count }
+    {
+        self.forest.node_count(owner)
+    }
+
     /// Makes a node with an owner's next number, in a tree of its own.
     pub fn add(&mut self, owner: Owner, node: NodeData) -> Result<Key, Fault>
         requires owner_is_there { is_there self.old.world owner ≡ true }

@@ -22,6 +22,9 @@ pub mod TakingStacks
 pub mod TakingDocs
 pub mod TakingPieces
 pub mod TakingLoops
+pub mod TakingRanges
+pub mod InsertedRanges
+pub mod TakingExtracts
 pub mod DeletionPlaces
 pub mod DeletionOrder
 pub mod DeletionSteps

@@ -1,17 +1,19 @@
 -- The steps that take pieces are those that take their items, one after another.
-use Rattle.std.proofs.Common.{◌≡◌, [], ◌∷◌, ◌++◌, List, refl, sym, ap, ◌∙◌, append_assoc}
+use Rattle.std.proofs.Common.{◌≡◌, [], ◌∷◌, ◌++◌, List, refl, sym, ap, ◌∙◌, append_assoc, ℕ}
 use Rattle.std.specs.Prelude.{◌-◌, None}
 use Rattle.std.proofs.lemmas.List.{append-nil}
 use Rattle.dom_base.specs.declared.NodeName.{NodeName}
 use Rattle.dom_isolation.proofs.PlanPlaces.{after-append}
-use Rattle.dom_model.specs.Changes.{Plan, ◌and_then◌, observed, inserting}
-use Rattle.dom_model.specs.Extract.{Pieces, nothing, whole, cut, clone, clone_part, making_below, taking}
+use Rattle.dom_model.specs.Changes.{Plan, ◌and_then◌, doing, observed, inserting}
+use Rattle.dom_model.specs.Extract.{Pieces, nothing, whole, cut, clone, clone_part, making_below, taking, pieces_of, new_fragment_node, own_document, both_at, new_place, extracting}
 use Rattle.dom_model.specs.Part.{Part, next_name}
-use Rattle.dom_model.specs.Steps.{after}
+use Rattle.dom_model.specs.Ranges.{Range}
+use Rattle.dom_model.specs.Steps.{after, make, set_range}
 use Rattle.dom_model.specs.TextChanges.{replacing_data}
 use Rattle.dom_model.specs.Tree.{node_in}
 use Rattle.dom_model.specs.TreeChanges.{with_name}
 use Rattle.dom_range_ops.specs.Pieces.{Item, end_item, items_of}
+use Rattle.dom_range_ops.specs.Extractions.{extracting_items}
 use Rattle.dom_range_ops.specs.Takings.{top_of, taking_items}
 
 -- three plans in turn
@@ -64,3 +66,12 @@ items-all into pieces p =
     ap (λ items. taking_items into [] items p) (sym (append-nil (items_of pieces)))
     ∙ items-taking into pieces [] [] p
     ∙ append-nil (taking into pieces p)
+
+-- so the steps of an extraction are those with the items of its pieces
+pub items-extracting : (k : ℕ) (r : Range NodeName) (p : Part) → extracting_items k r.start.node (new_place p.trees r) (items_of (pieces_of p.trees r)) p ≡ extracting k r p
+items-extracting k r p =
+    let into = next_name p in
+    let first = doing (make (new_fragment_node into (own_document p.trees r.start.node))) in
+    let pieces = pieces_of p.trees r in
+    then-first (first and_then taking_items into [] (items_of pieces)) (first and_then taking into pieces) (doing (set_range k (both_at (new_place p.trees r)))) p
+    (then-same first (taking_items into [] (items_of pieces)) (taking into pieces) p (items-all into pieces))

@@ -28,7 +28,7 @@ use Rattle.dom_range_ops.specs.declared.pieces.Piece.{Piece}
 use Rattle.dom_range_ops.specs.declared.pieces.Piece.TheVariants.{Whole, Cut, Clone, End}
 
 -- the steps for an item that may be taken are in its owner's part
-plans-item : (o : Owner) (into top : NodeName) (p : Part) (item : Item) → IsPart p → p.owner ≡ o → MayBeTaken into p.trees item → PlansOwn o (taking_item top item)
+pub plans-item : (o : Owner) (into top : NodeName) (p : Part) (item : Item) → IsPart p → p.owner ≡ o → MayBeTaken into p.trees item → PlansOwn o (taking_item top item)
 plans-item o into top p (whole_item x) i is h = plans_inserting o observed x top None (i.owned x (has_node-times p.trees x h.there) ∙ is)
 plans-item o into top p (cut_item x from to) i is h = λ q own.
     let n = clone_part (next_name q) from to (node_in q.trees x) in
@@ -64,7 +64,7 @@ pub progress-first : (d : DocState) (into : ℕ) (pieces : List Piece) → AllBy
 progress-first d into pieces nodes may = record { more = []; longer = sym (append-nil d.names); own = tt; nodes = nodes; may = may; names = refl; world = refl }
 
 -- a piece of nodes that stay is the same item
-item-same : (d e : DocState) (more : List NodeName) → e.names ≡ d.names ++ more → (piece : Piece) → IsPieceOf d.names piece → item_in e.names piece ≡ item_in d.names piece
+pub item-same : (d e : DocState) (more : List NodeName) → e.names ≡ d.names ++ more → (piece : Piece) → IsPieceOf d.names piece → item_in e.names piece ≡ item_in d.names piece
 item-same d e more names (Whole x) h = ap (λ y. whole_item y) (name-kept d e more x names h)
 item-same d e more names (Cut x from to) h = ap (λ y. cut_item y from to) (name-kept d e more x names h)
 item-same d e more names (Clone x) h = ap (λ y. clone_item y) (name-kept d e more x names h)

@@ -34,7 +34,7 @@ pub old-of : (into : NodeName) (p : Part) (x : NodeName) → IsPart p → IsTake
 old-of into p x i t = record { there = has_node-times p.trees x t.there; alone = λ z k. inside-no_ancestor p.trees x z i.unique (t.apart z k) }
 
 -- and back
-taken-of : (into : NodeName) (p : Part) (x : NodeName) → OldIn into.number p x → IsTaken into p.trees x
+pub taken-of : (into : NodeName) (p : Part) (x : NodeName) → OldIn into.number p x → IsTaken into p.trees x
 taken-of into p x o =
     record {
       there = times-has_node p.trees x o.there;

@@ -4,3 +4,4 @@ pub mod Pieces
 pub mod Insertions
 pub mod Takings
 pub mod Deletions
+pub mod Extractions

@@ -45,12 +45,7 @@ pub(crate) fn clone_units(
 }
 
 /// What a node holds, but for its code units, with these.
-fn data_with(
-    alloc: Global,
-    forest: &Forest,
-    key: Key,
-    text: DomStr,
-) -> Result<NodeData, AllocError>
+fn data_with(alloc: Global, forest: &Forest, key: Key, text: DomStr) -> Result<NodeData, AllocError>
     requires { key < length forest.now.names }
     ensures value { IfOk result (λ copy. (x : Name) → node_from forest.now.names x copy ≡ record (node_in forest.now.trees (name_at forest.now.names key)) { name = x; text = text.items }) }
     ensures kind { IfOk result (λ copy. copy.kind ≡ kind_of forest.now.trees (name_at forest.now.names key)) }

@@ -7,6 +7,7 @@ mod contained;
 mod deleting;
 mod ends;
 mod inserting;
+mod extracting;
 mod pieces;
 mod points;
 mod taking;

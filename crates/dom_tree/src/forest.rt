@@ -82,6 +82,14 @@ impl Forest {
         Ok(key)
     }
 
+    /// How many nodes an owner has (own rule).
+    pub fn node_count(&self, owner: Owner) -> usize
+        ensures { result ≡ count_of owner self.now.names }
+    {
+        let keys = self.keys.of(owner);
+        keys.len()
+    }
+
     /// The key of the node of this name, if there is one (own rule). It is found by its number in its owner's list.
     pub fn find(&self, name: NodeName) -> Option<Key>
         ensures found { ForSome result (λ k. slice_get self.now.names k ≡ Some name) }

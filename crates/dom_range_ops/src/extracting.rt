@@ -1,0 +1,110 @@
+//! The extraction of the contents of a live range (DOM Standard, concept: extract a live range).
+ghost use Rattle.std.specs.Prelude.{◌≡◌, suc, ◌<◌, ◌++◌, ◌∷◌, [], length, map, true, is_some, IfOk, IfErr, OnOk};
+ghost use Rattle.std.specs.List.{AllByRecursion};
+ghost use Rattle.std.specs.Option.{option_map, ForSome};
+ghost use Rattle.dom_model.specs.Changes.{doing};
+ghost use Rattle.dom_model.specs.Extract.{own_document, new_fragment_node};
+ghost use Rattle.dom_model.specs.Part.{range_at, next_name};
+ghost use Rattle.dom_model.specs.Ranges.{at};
+ghost use Rattle.dom_model.specs.Steps.{make, part_step};
+ghost use Rattle.dom_model.specs.Tree.{kind_of, is_document};
+ghost use Rattle.dom_model.specs.World.{part_of, is_there};
+ghost use Rattle.dom_mutation.specs.Doc.{made, name_in, owner_in, trees_in};
+ghost use Rattle.dom_range_ops.specs.Extractions.{extracting_items};
+ghost use Rattle.dom_range_ops.specs.Pieces.{item_in, made_by};
+ghost use Rattle.dom_range_ops.specs.Takings.{new_names, MayTake, IsPieceOf};
+ghost use Rattle.dom_tree.specs.Forest.{name_at};
+
+use crate::pieces::Piece;
+use crate::taking::take_pieces;
+use dom_base::{Fault, Kind, Owner};
+use dom_mutation::Doc;
+use dom_ranges::Points;
+use dom_tree::{Forest, NodeData};
+use indexmap::IndexMap;
+use node_arena::Key;
+use std::alloc::Global;
+
+/// Extracts pieces that were found of a live range whose start is at a node: a fragment is made with the start's node
+/// document, gets the pieces, and is the answer; the range is then collapsed at its new place (DOM Standard, concept: extract
+/// a live range). It is refused only where memory is refused.
+pub(crate) fn extract_pieces(
+    alloc: Global,
+    doc: &mut Doc,
+    owner: Owner,
+    number: u32,
+    start: Key,
+    place: (Key, usize),
+    pieces: &[Piece],
+) -> Result<Key, Fault>
+    requires there { is_some (range_at (part_of doc.old.world owner) number) ≡ true }
+    requires start_is_node { start < length doc.old.names }
+    requires start_owner { owner_in doc.old start ≡ owner }
+    requires place_is_node { place.0 < length doc.old.names }
+    requires place_owner { owner_in doc.old place.0 ≡ owner }
+    requires pieces_are_nodes { AllByRecursion (IsPieceOf doc.old.names) pieces.now }
+    requires may_take { MayTake (part_step (part_of doc.old.world owner) (make (new_fragment_node (next_name (part_of doc.old.world owner)) (own_document (part_of doc.old.world owner).trees (name_in doc.old start))))) (next_name (part_of doc.old.world owner)) [] (map (item_in doc.old.names) pieces.now) }
+    ensures key { IfOk result (λ key. key ≡ length doc.old.names) }
+    ensures names { OnOk result (doc.new.names ≡ doc.old.names ++ new_names owner (part_of doc.old.world owner).node_count (suc (made_by (map (item_in doc.old.names) pieces.now)))) }
+    ensures world { OnOk result (doc.new.world ≡ made owner (extracting_items number (name_in doc.old start) (at (name_in doc.old place.0) place.1) (map (item_in doc.old.names) pieces.now)) doc.old.world) }
+    ensures other { IfErr result (λ fault. fault ≡ Fault.Memory) }
+{
+    doc.laws();
+    let document = own_document(doc, start);
+    let into = add_fragment(alloc, doc, owner, document)?;
+    doc.laws();
+    take_pieces(alloc, doc, into, pieces)?;
+    let (node, offset) = place;
+    let points = Points {
+        start: (node, offset),
+        end: (node, offset),
+    };
+    doc.range_put(owner, number, points);
+    Ok(into)
+}
+
+/// The node document of a node, which is its own where it is a document.
+fn own_document(doc: &Doc, node: Key) -> Option<Key>
+    requires { node < length doc.now.names }
+    ensures value { option_map (name_in doc.now) result ≡ own_document (trees_in doc.now node) (name_in doc.now node) }
+    ensures node { ForSome result (λ k. k < length doc.now.names) }
+{
+    let forest = doc.forest();
+    if is_document(forest, node) {
+        return Some(node);
+    }
+    forest.document(node)
+}
+
+/// Whether a node is a document.
+fn is_document(forest: &Forest, key: Key) -> bool
+    requires { key < length forest.now.names }
+    ensures { result ≡ is_document (kind_of forest.now.trees (name_at forest.now.names key)) }
+{
+    matches!(forest.kind(key), Kind::Document)
+}
+
+/// A new fragment of an owner, with a node document.
+fn add_fragment(
+    alloc: Global,
+    doc: &mut Doc,
+    owner: Owner,
+    document: Option<Key>,
+) -> Result<Key, Fault>
+    requires owner_is_there { is_there doc.old.world owner ≡ true }
+    requires document_is_node { ForSome document (λ k. k < length doc.old.names) }
+    requires limited { (part_of doc.old.world owner).node_count < 1000000 }
+    ensures key { IfOk result (λ key. key ≡ length doc.old.names) }
+    ensures names { OnOk result (doc.new.names ≡ doc.old.names ++ next_name (part_of doc.old.world owner) ∷ []) }
+    ensures world { OnOk result (doc.new.world ≡ made owner (doing (make (new_fragment_node (next_name (part_of doc.old.world owner)) (option_map (name_in doc.old) document)))) doc.old.world) }
+    ensures other { IfErr result (λ fault. fault ≡ Fault.Memory) }
+{
+    let fragment = NodeData {
+        kind: Kind::Fragment,
+        element: String::new(alloc),
+        attributes: IndexMap::new(alloc),
+        text: Vec::new(alloc),
+        document,
+    };
+    doc.add(owner, fragment)
+}

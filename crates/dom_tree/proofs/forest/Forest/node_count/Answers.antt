@@ -1,0 +1,9 @@
+use Rattle.std.proofs.Common.{ℕ, length, ap, ◌∙◌}
+use Rattle.dom_tree.specs.Forest.{NamedTrees, count_of}
+use Rattle.dom_tree.proofs.forest.Forest.node_count.Goals as goal
+
+pub returns : goal.returns
+returns c =
+    ap (length {A = ℕ}) c.of-keys.ensures
+    ∙ c.self.invariant.counted c.args.owner
+    ∙ ap (λ (f : NamedTrees). count_of c.args.owner f.names) c.self.view_is
