@@ -1,6 +1,5 @@
 -- Tests of the entries of a table, and of the listeners that these are.
-use Rattle.std.proofs.Common.{◌≡◌, Bool, true, false, ◌&&◌, ◌||◌, List, [], ◌∷◌, filter, map, refl, ap, ◌∙◌, sym, true≢false}
-use Rattle.std.specs.List.{list_any}
+use Rattle.std.proofs.Common.{◌≡◌, Bool, true, false, ◌&&◌, List, [], ◌∷◌, filter, map, refl, ap, ◌∙◌, sym, true≢false}
 use Rattle.std.proofs.lemmas.Bool.{cond-true, cond-false}
 use Rattle.dom_isolation.proofs.Tests.{by_cases}
 
@@ -10,11 +9,6 @@ and-first true b h = refl
 and-first false b h = absurd (true≢false (sym h))
 
 module _ {X Y : Type 0} (p : Y → Bool) (f : X → Y) where
-  -- whether one of them passes
-  pub any-mapped : (xs : List X) → list_any (λ x. p (f x)) xs ≡ list_any p (map f xs)
-  any-mapped [] = refl
-  any-mapped (x ∷ xs) = ap (λ b. p (f x) || b) (any-mapped xs)
-
   -- those that pass
   pub kept-mapped : (xs : List X) → map f (filter (λ x. p (f x)) xs) ≡ filter p (map f xs)
   kept-mapped [] = refl
