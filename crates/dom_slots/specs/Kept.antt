@@ -12,8 +12,7 @@ use Rattle.dom_slots.specs.Shadows.{shadows, shadow_trees, slot_at}
 use Rattle.dom_slots.specs.Steps.{step_node, left_by, StepHasNodes, IsStepFrom}
 use Rattle.dom_slots.specs.Tables.{SlotTable, IsTableOf}
 
--- A step that was begun, with the parent that a node had which is placed or removed, and the slot of the step's node at that
--- time.
+-- A step that was begun, with the parent of a node that it places or removes and the slot of its node, both at that time.
 pub record BegunStep : Type 0 where
   pub step : Step
   pub left : Option ℕ
@@ -43,7 +42,7 @@ pub record AreSlotsOf (f : NamedTrees) (s : SlotsNow) : Type 0 where
   pub hosts : HostsAreNodes f.names s.hosts
   pub table : IsTableOf f s.hosts s.table
 
--- a step that was just begun: with the parent that its node is to leave, if it moves one, and with the slot that its node has
+-- a step that was just begun: with the parent that a node has which it moves, and with the slot that its node has
 pub record IsBegun (f : NamedTrees) (hosts : List ShadowHost) (step : Step) (b : BegunStep) : Type 0 where
   pub stands : StandsOnce f
   pub same : b.step ≡ step

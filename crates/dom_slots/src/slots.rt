@@ -25,8 +25,7 @@ struct Attached {
     owner: Owner,
 }
 
-/// A step that was begun, with the parent that a node had which is placed or removed, and the slot that the step's node
-/// then had.
+/// A step that was begun, with the parent of a node that it places or removes and the slot of its node, both at that time.
 #[derive(Clone, Copy)]
 struct Begun {
     step: Step,
