@@ -8,11 +8,18 @@ use Rattle.dom_tree.specs.Forest.{NamedTrees, name_at}
 use Rattle.dom_slots.specs.Hosts.{ShadowHost}
 use Rattle.dom_slots.specs.Kept.{BegunStep, SlotsNow, AreSlotsOf, IsBegun, IsEndOf}
 use Rattle.dom_slots.specs.Shadows.{shadows, shadow_trees, slot_at, assigned_at, is_changed_at, signalled_by}
-use Rattle.dom_slots.specs.Steps.{StepHasNodes, IsStepFrom, step_node, around_of, is_move, step_signals}
+use Rattle.dom_slots.specs.Steps.{StepHasNodes, IsStepFrom, step_node, around_of, is_move, left_by, step_signals}
 use Rattle.dom_slots.specs.declared.step.Step.{Step}
+use Rattle.dom_slots.specs.declared.step.Step.TheVariants.{Place, Removal, Attribute}
 use Rattle.dom_slots.specs.Tables.{SlotTable, list_of, has_other_list, IsTableOf}
 use Rattle.dom_slots.proofs.Hosted.{AreDistinct}
 use Rattle.dom_slots.proofs.Signalled.{list_eq-named}
+
+-- the node of a step is a node
+pub node-within : (names : List NodeName) (step : Step) → StepHasNodes names step → step_node step < length names
+node-within names (Place x parent before) nodes = nodes.0
+node-within names (Removal x) nodes = nodes
+node-within names (Attribute x) nodes = nodes
 
 -- tables differ at a node just where what is assigned to it does
 pub changed-told : (f : NamedTrees) (apart : AreDistinct f.names) (hosts : List ShadowHost) (was : Trees) (old new : SlotTable)
@@ -45,6 +52,8 @@ step-ends old new before after step b names nodes slots hosts table begun is mov
     let there : new ≡ here = λ j. record { names = names j; trees = new.trees } in
     let done : IsEndOf old.trees here mine b = record {
       begun = refl;
+      stands = is.stands;
+      left_is = is.left ∙ ap (left_by old.names old.trees) (sym is.same);
       nodes = subst (StepHasNodes old.names) (sym is.same) nodes;
       left = is.left_node;
       slot_node = is.slot_node;

@@ -1,6 +1,6 @@
 -- Hosts by their keys and by their names, and the slot of a node by the way in which it is looked for.
-use Rattle.std.proofs.Common.{◌≡◌, inl, inr, ℕ, ◌<◌, false, ◌||◌, List, [], ◌∷◌, length, Option, Some, None, refl, sym, ap, ◌∙◌}
-use Rattle.std.specs.Prelude.{nat_eq, find, option_to_list}
+use Rattle.std.proofs.Common.{◌≡◌, inl, inr, ℕ, ◌<◌, Bool, true, false, ◌||◌, List, [], ◌∷◌, length, Option, Some, None, refl, sym, ap, ◌∙◌}
+use Rattle.std.specs.Prelude.{nat_eq, not, find, is_some, is_none, option_to_list}
 use Rattle.std.specs.Option.{option_map, option_and_then, option_eq, ForSome}
 use Rattle.std.proofs.lemmas.Bool.{cases_Bool, eqb-true, eq-eqb, both_ways}
 use Rattle.dom_base.specs.declared.NodeName.{NodeName}
@@ -12,6 +12,19 @@ use Rattle.dom_traversal.proofs.Lists.{name_eq-from, name_eq-other}
 use Rattle.node_arena.specs.contracts.key.KeyPartialEq.TheImpl as KeyImpl
 use Rattle.dom_slots.specs.Hosts.{ShadowHost, HostsAreNodes, host_of_root, root_of_host, host_named, root_named}
 use Rattle.dom_slots.specs.Shadows.{ShadowTrees, slot_at}
+
+-- a value that is there has a name
+pub is_some-named : {X Y : Type 0} (f : X → Y) (o : Option X) → is_some o ≡ is_some (option_map f o)
+is_some-named f None = refl
+is_some-named f (Some x) = refl
+
+-- so one that is not there has none, as the code tests it
+pub is_none-named : {X Y : Type 0} (f : X → Y) (o : Option X) (named : Option Y) (b : Bool) → is_some o ≡ not b → option_map f o ≡ named → b ≡ is_none named
+is_none-named f o named b told is = twice b ∙ ap not (sym told ∙ (is_some-named f o ∙ ap is_some is))
+  where
+    twice : (x : Bool) → x ≡ not (not x)
+    twice true = refl
+    twice false = refl
 
 -- names tell nodes apart
 abbrev pub AreDistinct : List NodeName → Type 0

@@ -1,5 +1,5 @@
 -- Where there are no hosts, nothing is assigned and no slot is signalled.
-use Rattle.std.proofs.Common.{◌≡◌, Bool, true, false, ◌&&◌, List, [], ◌∷◌, ◌++◌, Option, None, Some, filter, refl, sym, ap, ◌∙◌}
+use Rattle.std.proofs.Common.{◌≡◌, Bool, false, ◌&&◌, List, [], ◌∷◌, ◌++◌, Option, None, Some, filter, refl, sym, ap, ◌∙◌}
 use Rattle.std.specs.Prelude.{ℕ, if◌then◌else◌, is_some, option_to_list}
 use Rattle.std.specs.Option.{option_map_or}
 use Rattle.dom_tree.specs.Forest.{name_at}
@@ -10,15 +10,11 @@ use Rattle.dom_model.specs.Tree.{Trees, node_in, root_of, subtree}
 use Rattle.dom_slots.specs.Shadows.{ShadowTrees, shadow_trees, slot_at, assigned_at, is_changed_at, is_bare_at, signals_at}
 use Rattle.dom_slots.specs.Steps.{step_node, around_of, is_move, step_signals}
 use Rattle.dom_slots.specs.declared.step.Step.{Step}
+use Rattle.dom_slots.proofs.Choices.{third-fails}
 
 filter_none : (p : NodeName → Bool) → ((x : NodeName) → p x ≡ false) → (xs : List NodeName) → filter p xs ≡ []
 filter_none p h [] = refl
 filter_none p h (x ∷ xs) = rw (h x) (filter_none p h xs)
-
-no_choice : (a b c : Bool) → c ≡ false → (a && (b && c)) ≡ false
-no_choice true true c e = e
-no_choice true false c e = refl
-no_choice false b c e = refl
 
 -- around any node
 hostless-around : (names : List NodeName) (was now : Trees) (x around : NodeName) (is_move : Bool) → [] ≡ signals_at (shadow_trees names was []) (shadow_trees names now []) x around is_move
@@ -28,7 +24,7 @@ hostless-around names was now x around is_move =
     let p : NodeName → Bool = is_changed_at s t in
     let own = option_to_list (slot_at s x) ++ option_to_list (slot_at t x) in
     let others = slots_among (subtree now (root_of now around)) ++ slots_among (subtree now x) in
-    let bare : (is_move && is_bare_at t around) ≡ false = no_choice is_move (is_slot_element (node_in now around)) (is_some (t.host_of (root_of now around)) && is_empty (assigned_at t around)) refl in
+    let bare : (is_move && is_bare_at t around) ≡ false = third-fails is_move (is_slot_element (node_in now around)) (is_some (t.host_of (root_of now around)) && is_empty (assigned_at t around)) refl in
     sym (ap (λ xs. distinct name_eq (xs ++ (if is_move && is_bare_at t around then around ∷ [] else []) ++ filter p others)) (filter_none p (λ y. refl) own)
     ∙ (ap (λ (b : Bool). distinct name_eq ([] ++ (if b then around ∷ [] else []) ++ filter p others)) bare
     ∙ ap (distinct name_eq) (filter_none p (λ y. refl) others)))

@@ -1,4 +1,5 @@
 pub mod Kept
+pub mod Choices
 pub mod Shown
 pub mod Named
 pub mod Walks
@@ -13,3 +14,9 @@ pub mod Hostless
 pub mod Attaching
 pub mod Recast
 pub mod Added
+pub mod Rooted
+pub mod Grafts
+pub mod Settled
+pub mod Moved
+pub mod Attributed
+pub mod Apart

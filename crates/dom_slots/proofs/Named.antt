@@ -36,7 +36,7 @@ in_names m (n ∷ ns) (inl e) = inl (ap (λ (k : Node). k.name) e)
 in_names m (n ∷ ns) (inr h) = inr (in_names m ns h)
 
 -- the nodes of a node's tree are nodes of the trees
-in_tree : (ts : Trees) (x : NodeName) (m : Node) → InNodes m (nodes (subtree ts x)) → InNodes m (nodes ts)
+pub in_tree : (ts : Trees) (x : NodeName) (m : Node) → InNodes m (nodes (subtree ts x)) → InNodes m (nodes ts)
 in_tree none x m h = h
 in_tree (tree n c r) x m h = elim (cases_Bool (name_eq n.name x)) [
   | inl e ↦ by (in_parts m (n ∷ nodes c) [] (rw e at h))

@@ -35,19 +35,19 @@ keeps_if b h keeps = record {
 
 -- ---- what is read of trees whose nodes were changed
 
-module _ (h : Node → Node) (keeps : KeepsSlots h) where
-  nodes_recast : (ts : Trees) → nodes (map_nodes h ts) ≡ map h (nodes ts)
+module _ (h : Node → Node) (name : (n : Node) → (h n).name ≡ n.name) where
+  pub nodes_recast : (ts : Trees) → nodes (map_nodes h ts) ≡ map h (nodes ts)
   nodes_recast none = refl
   nodes_recast (tree n c r) = rw (nodes_recast c, nodes_recast r) (ap (λ ns. h n ∷ ns) (sym (map-append h (nodes c) (nodes r))))
 
-  path_recast : (ts : Trees) (x : NodeName) → inclusive_ancestors (map_nodes h ts) x ≡ inclusive_ancestors ts x
+  pub path_recast : (ts : Trees) (x : NodeName) → inclusive_ancestors (map_nodes h ts) x ≡ inclusive_ancestors ts x
   path_recast none x = refl
-  path_recast (tree n c r) x = rw (keeps.name n, path_recast c x, path_recast r x) refl
+  path_recast (tree n c r) x = rw (name n, path_recast c x, path_recast r x) refl
 
-  subtree_recast : (ts : Trees) (x : NodeName) → subtree (map_nodes h ts) x ≡ map_nodes h (subtree ts x)
+  pub subtree_recast : (ts : Trees) (x : NodeName) → subtree (map_nodes h ts) x ≡ map_nodes h (subtree ts x)
   subtree_recast none x = refl
   subtree_recast (tree n c r) x =
-      (λ j. if name_eq (keeps.name n j) x then tree (h n) (map_nodes h c) none else or_else (subtree_recast c x j) (subtree_recast r x j))
+      (λ j. if name_eq (name n j) x then tree (h n) (map_nodes h c) none else or_else (subtree_recast c x j) (subtree_recast r x j))
       ∙ (ap (λ t. if name_eq n.name x then tree (h n) (map_nodes h c) none else t) (either (subtree c x)) ∙ chosen (name_eq n.name x))
     where
       either : (t : Trees) → or_else (map_nodes h t) (map_nodes h (subtree r x)) ≡ map_nodes h (or_else t (subtree r x))
@@ -60,16 +60,16 @@ module _ (h : Node → Node) (keeps : KeepsSlots h) where
 
   roots_recast : (ts : Trees) → names_of (roots (map_nodes h ts)) ≡ names_of (roots ts)
   roots_recast none = refl
-  roots_recast (tree n c r) = λ j. keeps.name n j ∷ roots_recast r j
+  roots_recast (tree n c r) = λ j. name n j ∷ roots_recast r j
 
-  children_recast : (ts : Trees) (x : NodeName) → children_of (map_nodes h ts) x ≡ children_of ts x
+  pub children_recast : (ts : Trees) (x : NodeName) → children_of (map_nodes h ts) x ≡ children_of ts x
   children_recast ts x = ap (λ t. names_of (roots (trees_below t))) (subtree_recast ts x) ∙ below (subtree ts x)
     where
       below : (t : Trees) → names_of (roots (trees_below (map_nodes h t))) ≡ names_of (roots (trees_below t))
       below none = refl
       below (tree n c r) = roots_recast c
 
-  found_recast : (p : Node → Bool) → ((n : Node) → p (h n) ≡ p n) → (ns : List Node) → find p (map h ns) ≡ option_map h (find p ns)
+  pub found_recast : (p : Node → Bool) → ((n : Node) → p (h n) ≡ p n) → (ns : List Node) → find p (map h ns) ≡ option_map h (find p ns)
   found_recast p same [] = refl
   found_recast p same (n ∷ ns) = (λ j. if same n j then Some (h n) else found_recast p same ns j) ∙ chosen (p n)
     where
@@ -77,6 +77,7 @@ module _ (h : Node → Node) (keeps : KeepsSlots h) where
       chosen true = refl
       chosen false = refl
 
+module _ (h : Node → Node) (keeps : KeepsSlots h) where
   slottable_recast : (n : Node) → slottable_name (h n) ≡ slottable_name n
   slottable_recast n = λ j. slottable_name record { name = n.name; kind = keeps.kind n j; element = []; attributes = keeps.attributes n j; text = []; document = None }
 
@@ -87,8 +88,8 @@ module _ (h : Node → Node) (keeps : KeepsSlots h) where
   looks_recast : (ts : Trees) (x : NodeName) → slottable_name (node_in (map_nodes h ts) x) ≡ slottable_name (node_in ts x)
   looks_recast ts x =
       let named : Node → Bool = λ n. name_eq n.name x in
-      ap (λ ns. slottable_name (unwrap_or (find named ns) (no_node x))) (nodes_recast ts)
-      ∙ (ap (λ o. slottable_name (unwrap_or o (no_node x))) (found_recast named (λ n. ap (λ y. name_eq y x) (keeps.name n)) (nodes ts)) ∙ chosen (find named (nodes ts)))
+      ap (λ ns. slottable_name (unwrap_or (find named ns) (no_node x))) (nodes_recast h keeps.name ts)
+      ∙ (ap (λ o. slottable_name (unwrap_or o (no_node x))) (found_recast h keeps.name named (λ n. ap (λ y. name_eq y x) (keeps.name n)) (nodes ts)) ∙ chosen (find named (nodes ts)))
     where
       chosen : (o : Option Node) → slottable_name (unwrap_or (option_map h o) (no_node x)) ≡ slottable_name (unwrap_or o (no_node x))
       chosen None = refl
@@ -99,9 +100,9 @@ module _ (h : Node → Node) (keeps : KeepsSlots h) where
       → option_map (λ (n : Node). n.name) (find (has_slot_name name) (nodes (subtree (map_nodes h ts) r))) ≡ option_map (λ (n : Node). n.name) (find (has_slot_name name) (nodes (subtree ts r)))
   first_recast ts r name =
       let named : Option Node → Option NodeName = option_map (λ (n : Node). n.name) in
-      ap (λ t. named (find (has_slot_name name) (nodes t))) (subtree_recast ts r)
-      ∙ (ap (λ ns. named (find (has_slot_name name) ns)) (nodes_recast (subtree ts r))
-      ∙ (ap named (found_recast (has_slot_name name) (slot_recast name) (nodes (subtree ts r))) ∙ chosen (find (has_slot_name name) (nodes (subtree ts r)))))
+      ap (λ t. named (find (has_slot_name name) (nodes t))) (subtree_recast h keeps.name ts r)
+      ∙ (ap (λ ns. named (find (has_slot_name name) ns)) (nodes_recast h keeps.name (subtree ts r))
+      ∙ (ap named (found_recast h keeps.name (has_slot_name name) (slot_recast name) (nodes (subtree ts r))) ∙ chosen (find (has_slot_name name) (nodes (subtree ts r)))))
     where
       chosen : (o : Option Node) → option_map (λ (n : Node). n.name) (option_map h o) ≡ option_map (λ (n : Node). n.name) o
       chosen None = refl
@@ -119,12 +120,12 @@ module _ (h : Node → Node) (keeps : KeepsSlots h) where
     assigned_slot : (x : NodeName) → slot_at now x ≡ slot_at was x
     assigned_slot x =
         λ j.
-        option_and_then (λ r. option_and_then (λ name. first_recast ts r name j) (looks_recast ts x j)) (option_and_then (root_named names hosts) (first_of (drop 1 (path_recast ts x j))))
+        option_and_then (λ r. option_and_then (λ name. first_recast ts r name j) (looks_recast ts x j)) (option_and_then (root_named names hosts) (first_of (drop 1 (path_recast h keeps.name ts x j))))
 
     pub assigned-recast : (y : NodeName) → assigned_at now y ≡ assigned_at was y
     assigned-recast y =
         λ j.
-        option_map_or (λ host. filter (λ x. is_in name_eq y (option_to_list (assigned_slot x j))) (children_recast ts host j)) (host_named names hosts (unwrap_or (Rattle.dom_model.specs.Names.last_of (path_recast ts y j)) y)) []
+        option_map_or (λ host. filter (λ x. is_in name_eq y (option_to_list (assigned_slot x j))) (children_recast h keeps.name ts host j)) (host_named names hosts (unwrap_or (Rattle.dom_model.specs.Names.last_of (path_recast h keeps.name ts y j)) y)) []
 
 -- the slots of a forest stay those of it
 pub slots-recast : (f g : NamedTrees) (s : SlotsNow) (h : Node → Node) → KeepsSlots h → g.names ≡ f.names → g.trees ≡ map_nodes h f.trees → AreSlotsOf f s → AreSlotsOf g s

@@ -12,7 +12,7 @@ use Rattle.dom_slots.specs.Shadows.{shadows, shadow_trees, slot_at}
 use Rattle.dom_slots.specs.Steps.{step_node, left_by, StepHasNodes, IsStepFrom}
 use Rattle.dom_slots.specs.Tables.{SlotTable, IsTableOf}
 
--- A step that was begun, with the parent from which a node is removed, and the slot of the step's node at that time.
+-- A step that was begun, with the parent of a node that it places or removes and the slot of its node, both at that time.
 pub record BegunStep : Type 0 where
   pub step : Step
   pub left : Option ℕ
@@ -42,8 +42,9 @@ pub record AreSlotsOf (f : NamedTrees) (s : SlotsNow) : Type 0 where
   pub hosts : HostsAreNodes f.names s.hosts
   pub table : IsTableOf f s.hosts s.table
 
--- a step that was just begun: of a removal with the parent that is to be left, and with the slot that its node has
+-- a step that was just begun: with the parent that a node has which it moves, and with the slot that its node has
 pub record IsBegun (f : NamedTrees) (hosts : List ShadowHost) (step : Step) (b : BegunStep) : Type 0 where
+  pub stands : StandsOnce f
   pub same : b.step ≡ step
   pub left : option_map (name_at f.names) b.left ≡ left_by f.names f.trees step
   pub left_node : ForSome b.left (λ k. k < length f.names)
@@ -53,7 +54,9 @@ pub record IsBegun (f : NamedTrees) (hosts : List ShadowHost) (step : Step) (b :
 -- a step was begun when the trees of a forest were others, and this step alone made them what they are
 pub record IsEndOf (was : Trees) (f : NamedTrees) (s : SlotsNow) (b : BegunStep) : Type 0 where
   pub begun : s.begun ≡ Some b
+  pub stands : StandsOnce record { names = f.names; trees = was }
   pub nodes : StepHasNodes f.names b.step
+  pub left_is : option_map (name_at f.names) b.left ≡ left_by f.names was b.step
   pub left : ForSome b.left (λ k. k < length f.names)
   pub slot_node : ForSome b.slot (λ k. k < length f.names)
   pub slot : option_map (name_at f.names) b.slot ≡ slot_at (shadow_trees f.names was s.hosts) (name_at f.names (step_node b.step))

@@ -1,9 +1,9 @@
 -- Elementary steps, and the slots that they signal.
-use Rattle.std.specs.Prelude.{◌≡◌, ℕ, ◌<◌, Bool, true, false, List, [], length, Option, Some, None, option_map}
+use Rattle.std.specs.Prelude.{◌≡◌, ℕ, ◌<◌, Bool, true, false, ◌&&◌, List, [], length, Option, Some, None, option_map, is_none}
 use Rattle.std.specs.Option.{option_map_or, ForSome}
 use Rattle.dom_base.specs.declared.NodeName.{NodeName}
 use Rattle.dom_model.specs.Names.{Word, DomString}
-use Rattle.dom_model.specs.Tree.{Trees, parent_of}
+use Rattle.dom_model.specs.Tree.{Trees, parent_of, root_of}
 use Rattle.dom_model.specs.TreeChanges.{placed, taken_out, change_node, with_attribute}
 use Rattle.dom_tree.specs.Forest.{name_at}
 use Rattle.dom_slots.specs.declared.step.Step.{Step}
@@ -28,9 +28,9 @@ around_of (Place x parent before) left = Some parent
 around_of (Removal x) left = left
 around_of (Attribute x) left = Some x
 
--- the parent from which a node is removed
+-- the parent that a node has before it is placed or removed
 abbrev pub left_by : List NodeName → Trees → Step → Option NodeName
-left_by names ts (Place x parent before) = None
+left_by names ts (Place x parent before) = parent_of ts (name_at names x)
 left_by names ts (Removal x) = parent_of ts (name_at names x)
 left_by names ts (Attribute x) = None
 
@@ -50,3 +50,12 @@ IsStepFrom names was now (Attribute x) left = (a : Word) × (v : Option DomStrin
 abbrev pub step_signals : List NodeName → ShadowTrees → ShadowTrees → Step → Option ℕ → List NodeName
 step_signals names was now step left =
     option_map_or (λ around. signals_at was now (name_at names (step_node step)) (name_at names around) (is_move step)) (around_of step left) []
+
+-- whether a node, if there is one, is no host and stands in no shadow tree
+abbrev pub is_outside : ShadowTrees → Option NodeName → Bool
+is_outside s o = option_map_or (λ p. is_none (s.shadow_of p) && is_none (s.host_of (root_of s.trees p))) o true
+
+-- whether a step of x, which left this parent if one, was made away from hosts and shadow trees: x is no shadow root, and
+-- neither the parent that it left nor the one that it has now is a host or stands in a shadow tree (own rule)
+abbrev pub is_apart : ShadowTrees → NodeName → Option NodeName → Bool
+is_apart s x left = is_none (s.host_of x) && (is_outside s left && is_outside s (parent_of s.trees x))

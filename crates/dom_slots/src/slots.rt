@@ -6,6 +6,7 @@ ghost use Rattle.dom_tree.specs.Forest.{NamedTrees, name_at};
 ghost use Rattle.dom_slots.specs.Hosts.{host_of_root, root_of_host};
 ghost use Rattle.dom_slots.specs.Kept.{AreSlotsOf, StandsOnce};
 
+mod apart;
 mod assigned;
 mod signals;
 
@@ -24,7 +25,7 @@ struct Attached {
     owner: Owner,
 }
 
-/// A step that was begun, with the parent from which a node is removed, and the slot that the step's node then had.
+/// A step that was begun, with the parent of a node that it places or removes and the slot of its node, both at that time.
 #[derive(Clone, Copy)]
 struct Begun {
     step: Step,

@@ -34,10 +34,11 @@ impl Slots {
         ensures table { OnOk result (self.new.table ≡ self.old.table) }
         ensures begun { OnOk result ((b : BegunStep) × (self.new.begun ≡ Some b) × IsBegun forest.now self.old.hosts step b) }
     {
+        forest.nodes_stand_once();
         let kept = step;
         let left = match step {
-            Step::Removal(node) => forest.parent(node),
-            _ => None,
+            Step::Place(node, _, _) | Step::Removal(node) => forest.parent(node),
+            Step::Attribute(_) => None,
         };
         let slot = self.slot_now(forest, step.node());
         self.begun = Some(Begun {
@@ -49,7 +50,10 @@ impl Slots {
     }
 
     /// The slots that a step signals which has been done since it was begun, in order (own rule; DOM Standard, concept:
-    /// signal a slot change). Then no step is begun. A value to which memory was refused is only dropped.
+    /// signal a slot change). Then no step is begun. A value to which memory was refused is only dropped. Where there is no
+    /// host this costs one look. A step away from hosts and shadow trees costs a look at its node and at the parents that
+    /// the node left and has now, with the ways up to their roots; no list is made. Any other step costs a walk through all
+    /// shadow trees and the children of their hosts.
     pub fn end(&mut self, forest: &Forest) -> Result<Vec<Key>, AllocError>
         requires { (was : Trees) × (b : BegunStep) × IsEndOf was forest.now self.old b }
         ensures value { (was : Trees) (b : BegunStep) → IsEndOf was forest.now self.old b → IfOk result (λ keys. map (name_at forest.now.names) keys.items ≡ step_signals forest.now.names (shadow_trees forest.now.names was self.old.hosts) (shadows forest.now self.old.hosts) b.step b.left) }
@@ -63,10 +67,15 @@ impl Slots {
             self.begun = None;
             return Ok(Vec::new(self.alloc));
         }
-        let now = self.table_of(forest)?;
-        let was = mem::replace(&mut self.table, now);
         match self.begun.take() {
-            Some(begun) => self.signals(forest, &was, begun),
+            Some(begun) if self.is_apart(forest, begun.step, begun.left) => {
+                Ok(Vec::new(self.alloc))
+            }
+            Some(begun) => {
+                let now = self.table_of(forest)?;
+                let was = mem::replace(&mut self.table, now);
+                self.signals(forest, &was, begun)
+            }
             None => Ok(Vec::new(self.alloc)),
         }
     }

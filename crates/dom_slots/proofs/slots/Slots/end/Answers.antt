@@ -1,13 +1,17 @@
-use Rattle.std.proofs.Common.{◌≡◌, ℕ, ◌<◌, Bool, Some, List, [], ◌∷◌, length, map, refl, sym, ap, subst, ◌∙◌, arith}
+use Rattle.std.proofs.Common.{◌≡◌, ℕ, ◌<◌, Bool, true, Option, Some, List, [], ◌∷◌, length, map, refl, sym, ap, subst, ◌∙◌, arith}
 use Rattle.std.specs.Prelude.{IfOk}
 use Rattle.std.specs.Option.{option_map}
+use Rattle.std.proofs.lemmas.Option.{same_Some}
 use Rattle.dom_base.specs.declared.NodeName.{NodeName}
-use Rattle.dom_tree.specs.Forest.{name_at}
+use Rattle.dom_tree.specs.Forest.{NamedTrees, name_at}
+use Rattle.dom_slots.specs.declared.slots.Begun.{Begun}
 use Rattle.dom_slots.specs.Fields.{hosts_in, begun_in}
-use Rattle.dom_slots.specs.Kept.{SlotsNow, IsEndOf}
+use Rattle.dom_slots.specs.Hosts.{ShadowHost}
+use Rattle.dom_slots.specs.Kept.{BegunStep, SlotsNow, AreSlotsOf, IsEndOf}
 use Rattle.dom_slots.specs.Shadows.{shadows, shadow_trees, is_changed_at}
-use Rattle.dom_slots.specs.Steps.{step_signals}
-use Rattle.dom_slots.specs.Tables.{SlotTable, has_other_list}
+use Rattle.dom_slots.specs.Steps.{step_node, step_signals, is_apart}
+use Rattle.dom_slots.specs.Tables.{SlotTable, has_other_list, IsTableOf}
+use Rattle.dom_slots.proofs.Apart.{apart-slots, apart-signals}
 use Rattle.dom_slots.proofs.Ended.{changed-told, told_by, told-signals}
 use Rattle.dom_slots.proofs.Hostless.{hostless-signals}
 use Rattle.dom_slots.proofs.slots.Slots.end.Goals as goal
@@ -17,22 +21,57 @@ length-zero : {X : Type 0} (xs : List X) → length xs ≡ 0 → xs ≡ []
 length-zero [] e = refl
 length-zero (x ∷ xs) e = absurd (omega (arith, e))
 
+-- what was taken is what was begun
+begun-same : (o : Option Begun) (d : Begun) (b : BegunStep) → o ≡ Some d → option_map begun_in o ≡ Some b → begun_in d ≡ b
+begun-same o d b is e = same_Some (begun_in d) b (sym (ap (option_map begun_in) is) ∙ e)
+
+-- the test of what is held is that of what is seen
+begun-apart : (f : NamedTrees) (hosts seen : List ShadowHost) (d b : BegunStep) → hosts ≡ seen → d ≡ b
+    → true ≡ is_apart (shadows f hosts) (name_at f.names (step_node d.step)) (option_map (name_at f.names) d.left)
+    → is_apart (shadows f seen) (name_at f.names (step_node b.step)) (option_map (name_at f.names) b.left) ≡ true
+begun-apart f hosts seen d b are same told =
+    sym (told ∙ (λ j. is_apart (shadows f (are j)) (name_at f.names (step_node (same j).step)) (option_map (name_at f.names) (same j).left)))
+
 pub returns-in-Some-clause-value : goal.returns-in-Some-clause-value
 returns-in-Some-clause-value c =
+    λ was b h.
+    let f = c.args.forest.now in
+    let s = c.args.self.now in
+    let hosts_are : hosts_in c.self.inside.hosts.entries ≡ s.hosts = ap (λ (t : SlotsNow). t.hosts) c.self.view_is in
+    let same : begun_in c.in-Some.begun ≡ b =
+    begun-same c.take.result c.in-Some.begun b c.in-Some.is (ap (option_map begun_in) c.take.ensures.value ∙ (ap (λ (t : SlotsNow). t.begun) c.self.view_is ∙ h.begun)) in
+    let apart = begun-apart f (hosts_in c.self.inside.hosts.entries) s.hosts (begun_in c.in-Some.begun) b hosts_are same c.if-is_apart.ensures in
+    ap (map (name_at f.names)) c.new-in-Some.ensures.items ∙ apart-signals was f s b h record { once = c.nodes_stand_once.ensures.once; only = c.nodes_stand_once.ensures.only } apart
+
+pub returns-in-Some-clause-slots : goal.returns-in-Some-clause-slots
+returns-in-Some-clause-slots c =
+    let f = c.args.forest.now in
+    let s = c.args.self.now in
+    let was = c.requires.0 in
+    let b = c.requires.1 in
+    let h = c.requires.2 in
+    let hosts_are : hosts_in c.self.inside.hosts.entries ≡ s.hosts = ap (λ (t : SlotsNow). t.hosts) c.self.view_is in
+    let same : begun_in c.in-Some.begun ≡ b =
+    begun-same c.take.result c.in-Some.begun b c.in-Some.is (ap (option_map begun_in) c.take.ensures.value ∙ (ap (λ (t : SlotsNow). t.begun) c.self.view_is ∙ h.begun)) in
+    let apart = begun-apart f (hosts_in c.self.inside.hosts.entries) s.hosts (begun_in c.in-Some.begun) b hosts_are same c.if-is_apart.ensures in
+    let are = apart-slots was f s b h record { once = c.nodes_stand_once.ensures.once; only = c.nodes_stand_once.ensures.only } apart in
+    subst (λ (t : SlotsNow). AreSlotsOf f record { hosts = t.hosts; table = t.table; begun = option_map begun_in c.take.new.self }) (sym c.self.view_is) record { hosts = are.hosts; table = are.table }
+
+pub returns-in_ok-now-in-Some-2-clause-value : goal.returns-in_ok-now-in-Some-2-clause-value
+returns-in_ok-now-in-Some-2-clause-value c =
     λ was b h.
     let f = c.args.forest.now in
     let s = c.args.self.now in
     let hosts = s.hosts in
     let p : NodeName → Bool = is_changed_at (shadow_trees f.names was hosts) (shadows f hosts) in
     let hosts_are : hosts_in c.self.inside.hosts.entries ≡ hosts = ap (λ (t : SlotsNow). t.hosts) c.self.view_is in
-    let found : Some (begun_in c.in-Some.begun) ≡ Some b =
-    sym (ap (option_map begun_in) (sym c.take.ensures.value ∙ c.in-Some.is)) ∙ (ap (λ (t : SlotsNow). t.begun) c.self.view_is ∙ h.begun) in
-    let same : begun_in c.in-Some.begun ≡ b = cc in
+    let same : begun_in c.in-Some.begun ≡ b =
+    begun-same c.take.result c.in-Some.begun b c.in-Some.is (ap (option_map begun_in) c.take.ensures.value ∙ (ap (λ (t : SlotsNow). t.begun) c.self.view_is ∙ h.begun)) in
     let mine : IsEndOf was f s (begun_in c.in-Some.begun) = subst (IsEndOf was f s) (sym same) h in
     let old_is : c.replace-was.result ≡ s.table = c.replace-was.ensures.value ∙ ap (λ (t : SlotsNow). t.table) c.self.view_is in
     let told : (k : ℕ) → k < length f.names → p (name_at f.names k) ≡ has_other_list c.replace-was.result c.replace-was.new.dest k = λ k node.
-    changed-told f c.nodes_stand_once.ensures.distinct hosts was s.table c.in_ok-now.now h.slots.table c.in_ok-now.ensures k node
-    ∙ (ap (λ (t : SlotTable). has_other_list t c.in_ok-now.now k) (sym old_is) ∙ ap (λ (t : SlotTable). has_other_list c.replace-was.result t k) (sym c.replace-was.ensures.after)) in
+    changed-told f c.nodes_stand_once.ensures.distinct hosts was s.table c.in_ok-now-in-Some-2.now h.slots.table (subst (λ hs. IsTableOf f hs c.in_ok-now-in-Some-2.now) hosts_are c.in_ok-now-in-Some-2.ensures) k node
+    ∙ (ap (λ (t : SlotTable). has_other_list t c.in_ok-now-in-Some-2.now k) (sym old_is) ∙ ap (λ (t : SlotTable). has_other_list c.replace-was.result t k) (sym c.replace-was.ensures.after)) in
     let value : IfOk c.signals.result (λ keys. map (name_at f.names) keys.items ≡ told_by f (hosts_in c.self.inside.hosts.entries) p (begun_in c.in-Some.begun)) = c.signals.ensures.value p told in
     subst (λ d. IfOk c.signals.result (λ keys. map (name_at f.names) keys.items ≡ step_signals f.names (shadow_trees f.names was hosts) (shadows f hosts) d.step d.left)) same
     (subst (λ xs. IfOk c.signals.result (λ keys. map (name_at f.names) keys.items ≡ xs)) (ap (λ hs. told_by f hs p (begun_in c.in-Some.begun)) hosts_are ∙ told-signals was f s (begun_in c.in-Some.begun) mine) value)

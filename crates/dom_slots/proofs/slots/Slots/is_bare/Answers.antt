@@ -1,6 +1,6 @@
-use Rattle.std.proofs.Common.{◌≡◌, ℕ, Bool, true, false, ◌&&◌, ◌==◌, [], ◌∷◌, List, length, map, refl, sym, ap, ◌∙◌, true≢false, suc, arith}
+use Rattle.std.proofs.Common.{◌≡◌, ℕ, ◌&&◌, ◌==◌, [], ◌∷◌, List, length, map, refl, sym, ap, ◌∙◌, true≢false, suc, arith}
 use Rattle.std.proofs.lemmas.Bool.{ne_eqb}
-use Rattle.std.specs.Prelude.{is_some, Option, Some, None}
+use Rattle.std.specs.Prelude.{is_some}
 use Rattle.std.specs.Option.{option_map}
 use Rattle.dom_base.specs.declared.NodeName.{NodeName}
 use Rattle.dom_model.specs.Names.{is_empty}
@@ -11,27 +11,15 @@ use Rattle.dom_slots.specs.Hosts.{host_named}
 use Rattle.dom_slots.specs.Kept.{SlotsNow}
 use Rattle.dom_slots.specs.Shadows.{shadows, assigned_at}
 use Rattle.dom_slots.specs.Tables.{list_of}
-use Rattle.dom_slots.proofs.Hosted.{host-named}
+use Rattle.dom_slots.proofs.Choices.{all-three, second-fails}
+use Rattle.dom_slots.proofs.Hosted.{is_some-named, host-named}
 use Rattle.dom_slots.proofs.slots.Slots.is_bare.Goals as goal
 use Rattle.dom_slots.proofs.slots.Slots.is_bare.Goals.{then-is_slot, else-is_slot}
-
--- a value that is there has a name
-is_some-named : {X Y : Type 0} (f : X → Y) (o : Option X) → is_some o ≡ is_some (option_map f o)
-is_some-named f None = refl
-is_some-named f (Some x) = refl
 
 -- a list without items has no names
 is_empty-named : (names : List NodeName) (ks : List ℕ) → (length ks == 0) ≡ is_empty (map (name_at names) ks)
 is_empty-named names [] = refl
 is_empty-named names (k ∷ ks) = ne_eqb (suc (length ks)) 0 (λ e. omega arith)
-
--- three tests
-all_three : (a b e : Bool) → a ≡ true → b ≡ true → e ≡ (a && (b && e))
-all_three a b e p q = ap (λ x. true && (x && e)) (sym q) ∙ ap (λ x. x && (b && e)) (sym p)
-
-second_fails : (a b e : Bool) → b ≡ false → false ≡ (a && (b && e))
-second_fails true b e q = ap (λ x. x && e) (sym q)
-second_fails false b e q = refl
 
 pub returns-then-is_some : goal.returns-then-is_some
 returns-then-is_some c =
@@ -45,7 +33,7 @@ returns-then-is_some c =
       | then-is_slot w ↦
           let hosted : option_map (name_at f.names) w.host_of.result ≡ host_named f.names hosts (root_of f.trees y) =
           ap (option_map (name_at f.names)) w.host_of.ensures ∙ (host-named f.names c.nodes_stand_once.ensures.distinct hosts c.requires.slots.hosts w.root.result w.root.ensures.node ∙ ap (host_named f.names hosts) w.root.ensures.value) in
-          empty ∙ all_three (is_slot_element (node_in f.trees y)) (is_some (host_named f.names hosts (root_of f.trees y))) (is_empty (assigned_at (shadows f hosts) y)) (sym w.if-is_slot.ensures)
+          empty ∙ all-three (is_slot_element (node_in f.trees y)) (is_some (host_named f.names hosts (root_of f.trees y))) (is_empty (assigned_at (shadows f hosts) y)) (sym w.if-is_slot.ensures)
           (sym (ap is_some hosted) ∙ (sym (is_some-named (name_at f.names) w.host_of.result) ∙ (sym w.is_some.ensures ∙ (sym w.value-is ∙ c.if-is_some.true))))
       | else-is_slot w ↦ absurd (true≢false (sym c.if-is_some.true ∙ (w.value-is ∙ w.if-is_slot.false)))
     ]
@@ -60,7 +48,7 @@ returns-else-is_some c =
       | then-is_slot w ↦
           let hosted : option_map (name_at f.names) w.host_of.result ≡ host_named f.names hosts (root_of f.trees y) =
           ap (option_map (name_at f.names)) w.host_of.ensures ∙ (host-named f.names c.nodes_stand_once.ensures.distinct hosts c.requires.slots.hosts w.root.result w.root.ensures.node ∙ ap (host_named f.names hosts) w.root.ensures.value) in
-          c.if-is_some.false ∙ second_fails (is_slot_element (node_in f.trees y)) (is_some (host_named f.names hosts (root_of f.trees y))) (is_empty (assigned_at (shadows f hosts) y))
+          c.if-is_some.false ∙ second-fails (is_slot_element (node_in f.trees y)) (is_some (host_named f.names hosts (root_of f.trees y))) (is_empty (assigned_at (shadows f hosts) y))
           (sym (ap is_some hosted) ∙ (sym (is_some-named (name_at f.names) w.host_of.result) ∙ (sym w.is_some.ensures ∙ (sym w.value-is ∙ c.if-is_some.false))))
       | else-is_slot w ↦ c.if-is_some.false ∙ ap (λ b. b && rest) w.if-is_slot.ensures
     ]

@@ -1,0 +1,86 @@
+-- A node whose attributes are changed away from hosts and shadow trees leaves all that is assigned.
+use Rattle.std.proofs.Common.{◌≡◌, ◌⊎◌, inl, inr, Bool, true, false, List, [], ◌∷◌, None, Some, refl, sym, ap, subst, ◌∙◌}
+use Rattle.std.specs.Prelude.{drop, find, if◌then◌else◌, unwrap_or}
+use Rattle.std.specs.Option.{option_map}
+use Rattle.std.proofs.lemmas.Bool.{cases_Bool}
+use Rattle.dom_base.specs.declared.NodeName.{NodeName}
+use Rattle.dom_model.specs.Names.{name_eq, first_of, last_of}
+use Rattle.dom_model.specs.Tree.{Trees, none, tree, Node, nodes, no_node, node_in, subtree, parent_of, root_of, children_of}
+use Rattle.dom_model.specs.TreeChanges.{map_nodes, change_node}
+use Rattle.dom_traversal.proofs.Children.{parent-of_child}
+use Rattle.dom_traversal.proofs.Lists.{In, name_eq-true, name_eq-other}
+use Rattle.dom_traversal.proofs.Shapes.{Has, has_or_not}
+use Rattle.dom_slots.specs.Hosts.{ShadowHost, host_named}
+use Rattle.dom_slots.proofs.Moved.{IsAside, root-aside}
+use Rattle.dom_slots.proofs.Recast.{nodes_recast, path_recast, subtree_recast, children_recast, found_recast}
+use Rattle.dom_slots.proofs.Rooted.{root-within}
+use Rattle.dom_slots.proofs.Settled.{IsSettled, KeepsHosts, KeepsAssigned, host-has_root, assigned-unhosted, assigned-settled}
+
+module _ (x : NodeName) (g : Node → Node) (keeps : (n : Node) → (g n).name ≡ n.name) where
+  abbrev changed : Node → Node
+  changed n = if name_eq n.name x then g n else n
+
+  changed_name : (n : Node) → (changed n).name ≡ n.name
+  changed_name n = by (name_eq n.name x)
+    where
+      by : (b : Bool) → (if b then g n else n).name ≡ n.name
+      by true = keeps n
+      by false = refl
+
+  -- the node has the parent that it had
+  pub parent-changed : (ts : Trees) (y : NodeName) → parent_of (change_node g x ts) y ≡ parent_of ts y
+  parent-changed ts y = ap (λ path. first_of (drop 1 path)) (path_recast changed changed_name ts y)
+
+  -- trees without it stay
+  changed_off : (ts : Trees) → (Has ts x → ⊥) → map_nodes changed ts ≡ ts
+  changed_off none off = refl
+  changed_off (tree n c r) off = rw (name_eq-other n.name x (λ e. off (inl e)), changed_off c (λ i. off (inr (inl i))), changed_off r (λ i. off (inr (inr i)))) refl
+
+  -- so do other nodes
+  found_off : (y : NodeName) → (y ≡ x → ⊥) → (ns : List Node) → option_map changed (find (λ n. name_eq n.name y) ns) ≡ find (λ n. name_eq n.name y) ns
+  found_off y other [] = refl
+  found_off y other (n ∷ ns) = elim (cases_Bool (name_eq n.name y)) [
+    | inl e ↦ rw (e, name_eq-other n.name x (λ same. other (sym (name_eq-true n.name y e) ∙ same))) refl
+    | inr e ↦ rw e (found_off y other ns)
+  ]
+
+  node_off : (ts : Trees) (y : NodeName) → (y ≡ x → ⊥) → node_in (change_node g x ts) y ≡ node_in ts y
+  node_off ts y other =
+      let named : Node → Bool = λ n. name_eq n.name y in
+      ap (λ ns. unwrap_or (find named ns) (no_node y)) (nodes_recast changed changed_name ts)
+      ∙ ap (λ o. unwrap_or o (no_node y)) (found_recast changed changed_name named (λ n. ap (λ z. name_eq z y) (changed_name n)) (nodes ts) ∙ found_off y other (nodes ts))
+
+  module _ (names : List NodeName) (hosts : List ShadowHost) (was : Trees) (aside : IsAside names hosts x was (change_node g x was)) (at_was : Has was x) (at_now : Has (change_node g x was) x) where
+    abbrev now : Trees
+    now = change_node g x was
+
+    root_same : (y : NodeName) → root_of was y ≡ root_of now y
+    root_same y = ap (λ path. unwrap_or (last_of path) y) (sym (path_recast changed changed_name was y))
+
+    settled : (y : NodeName) → Has was y → IsSettled was now y ⊎ ((host_named names hosts (root_of was y) ≡ None) × (host_named names hosts (root_of now y) ≡ None))
+    settled y h = elim (has_or_not (subtree was (root_of was y)) x) [
+      | inl i ↦
+          let none_was : host_named names hosts (root_of was y) ≡ None =
+          ap (host_named names hosts) (sym (root-within was aside.once_was y x h i) ∙ root_same x) ∙ root-aside names hosts x was now aside at_now in
+          inr (none_was, ap (host_named names hosts) (sym (root_same y)) ∙ none_was)
+      | inr away ↦ inl record { root = root_same y; tree = sym (subtree_recast changed changed_name was (root_of was y) ∙ changed_off (subtree was (root_of was y)) away) }
+    ]
+
+    child_other : (r h c : NodeName) → host_named names hosts r ≡ Some h → In c (children_of was h) → c ≡ x → ⊥
+    child_other r h c e i same =
+        let up : parent_of was x ≡ Some h = subst (λ z. parent_of was z ≡ Some h) same (parent-of_child was h c aside.once_was (aside.stands r h e).0 i).0 in
+        host-has_root names hosts r h e (aside.parent h (parent-changed was x ∙ up)).0
+
+    keeps_hosts : KeepsHosts names hosts was now
+    keeps_hosts = record {
+      stands = aside.stands;
+      children = λ r h e. sym (children_recast changed changed_name was h);
+      contents = λ r h c e i. sym (node_off was c (child_other r h c e i));
+    }
+
+    -- all that is assigned stays
+    pub changed-keeps : KeepsAssigned names hosts was now
+    changed-keeps y h k = elim (settled y h) [
+      | inl s ↦ assigned-settled names hosts was now aside.once_was aside.once_now y h k s keeps_hosts
+      | inr e ↦ assigned-unhosted names hosts was now aside.once_was aside.once_now y e.0 e.1
+    ]

@@ -1,0 +1,173 @@
+-- A tree that is moved away from hosts and shadow trees leaves all that is assigned.
+use Rattle.std.proofs.Common.{◌≡◌, ◌⊎◌, inl, inr, ◌+◌, length, List, Option, None, Some, refl, sym, ap, subst, ◌∙◌, arith, length-append}
+use Rattle.std.specs.Prelude.{unwrap_or}
+use Rattle.dom_base.specs.declared.NodeName.{NodeName}
+use Rattle.dom_model.specs.Names.{name_eq, items_before, last_of}
+use Rattle.dom_model.specs.Tree.{Trees, none, tree, Node, nodes, roots, names_of, node_in, trees_below, subtree, inclusive_ancestors, parent_of, root_of, children_of}
+use Rattle.dom_traversal.proofs.Chains.{above-split}
+use Rattle.dom_traversal.proofs.Children.{parent-of_child}
+use Rattle.dom_traversal.proofs.Lists.{In}
+use Rattle.dom_traversal.proofs.Shapes.{Has, Once, has_or_not, subtree-here, subtree-present, above-from_below, above-parent}
+use Rattle.dom_slots.specs.Hosts.{ShadowHost, host_named, root_named}
+use Rattle.dom_slots.proofs.Grafts.{Spot, grafted, Has-grafted, above-others, tree-others, tree-own, Alike, Alike-others}
+use Rattle.dom_slots.proofs.Named.{InNodes, in_tree, node_in-self}
+use Rattle.dom_slots.proofs.Rooted.{root-alone, root-parent, root-below, root-of_root, in-tree_of_root, root-within}
+use Rattle.dom_slots.proofs.Settled.{IsSettled, KeepsHosts, KeepsAssigned, host-has_root, assigned-unhosted, assigned-settled}
+
+-- a node that is no host and stands in no shadow tree, if there is one
+abbrev pub Outside : List NodeName → List ShadowHost → Trees → Option NodeName → Type 0
+Outside names hosts ts o = (p : NodeName) → o ≡ Some p → (root_named names hosts p ≡ None) × (host_named names hosts (root_of ts p) ≡ None)
+
+-- a step of x that is made away from hosts and shadow trees
+pub record IsAside (names : List NodeName) (hosts : List ShadowHost) (x : NodeName) (was now : Trees) : Type 0 where
+  pub once_was : Once was
+  pub once_now : Once now
+  pub node : host_named names hosts x ≡ None
+  pub left : Outside names hosts now (parent_of was x)
+  pub parent : Outside names hosts now (parent_of now x)
+  pub stands : (r h : NodeName) → host_named names hosts r ≡ Some h → Has was h × Has now h
+
+-- the root of x has no host afterwards
+pub root-aside : (names : List NodeName) (hosts : List ShadowHost) (x : NodeName) (was now : Trees) → IsAside names hosts x was now → Has now x → host_named names hosts (root_of now x) ≡ None
+root-aside names hosts x was now aside at = by (parent_of now x) refl
+  where
+    by : (o : Option NodeName) → parent_of now x ≡ o → host_named names hosts (root_of now x) ≡ None
+    by None e = ap (host_named names hosts) (root-alone now x at e) ∙ aside.node
+    by (Some p) e = ap (host_named names hosts) (root-parent now aside.once_now x p at e) ∙ (aside.parent p e).1
+
+-- the node of a name is the root of its tree
+node-of_tree : (ts : Trees) → Once ts → (c : NodeName) → Has ts c → (n : Node) × (b : Trees) × (subtree ts c ≡ tree n b none) × (node_in ts c ≡ n)
+node-of_tree ts once c h =
+    let w = subtree-present ts c h in
+    let inside : InNodes w.0 (nodes (subtree ts c)) = subst (λ (us : Trees). InNodes w.0 (nodes us)) (sym w.2) (inl refl) in
+    (w.0, w.1, w.2, ap (node_in ts) (sym w.3) ∙ node_in-self ts once w.0 (in_tree ts c w.0 inside))
+
+-- no node stands above its parent
+not-below : (ts : Trees) → Once ts → (x p : NodeName) → Has ts x → parent_of ts x ≡ Some p → Has (subtree ts x) p → ⊥
+not-below ts once x p h e i =
+    let up = above-parent ts x p once h e in
+    let round = above-split ts x p once up.1 (above-from_below ts x p once h i) in
+    let front = items_before name_eq x (inclusive_ancestors ts p) in
+    let long : length (inclusive_ancestors ts p) ≡ length front + length (inclusive_ancestors ts x) = ap (length {A = NodeName}) round ∙ length-append front (inclusive_ancestors ts x) in
+    omega (arith, long, ap (length {A = NodeName}) up.0)
+
+module _ (names : List NodeName) (hosts : List ShadowHost) (m : Node) (d us : Trees) (p q : Spot) (apart : (y : NodeName) → Has us y → Has (tree m d none) y → ⊥)
+    (aside : IsAside names hosts m.name (grafted m d p us) (grafted m d q us)) where
+  abbrev was : Trees
+  was = grafted m d p us
+
+  abbrev now : Trees
+  now = grafted m d q us
+
+  abbrev x : NodeName
+  x = m.name
+
+  -- the tree of x in both
+  own_tree : (spot : Spot) → subtree (grafted m d spot us) x ≡ tree m d none
+  own_tree spot = tree-own m d spot us x (λ h. apart x h (inl refl)) ∙ subtree-here m d none x refl
+
+  in_own : (spot : Spot) (y : NodeName) → Has (tree m d none) y → Has (subtree (grafted m d spot us) x) y
+  in_own spot y h = subst (λ (ts : Trees). Has ts y) (sym (own_tree spot)) h
+
+  -- other nodes have the roots that they had
+  root_same : (y : NodeName) → (Has (tree m d none) y → ⊥) → root_of was y ≡ root_of now y
+  root_same y off = ap (λ path. unwrap_or (last_of path) y) (above-others m d p us y off ∙ sym (above-others m d q us y off))
+
+  -- the root of x had no host before
+  root_was : host_named names hosts (root_of was x) ≡ None
+  root_was = by (parent_of was x) refl
+    where
+      by : (o : Option NodeName) → parent_of was x ≡ o → host_named names hosts (root_of was x) ≡ None
+      by None e = ap (host_named names hosts) (root-alone was x (Has-grafted m d p us) e) ∙ aside.node
+      by (Some a) e =
+          let off : Has (tree m d none) a → ⊥ = λ h. not-below was aside.once_was x a (Has-grafted m d p us) e (in_own p a h) in
+          ap (host_named names hosts) (root-parent was aside.once_was x a (Has-grafted m d p us) e ∙ root_same a off) ∙ (aside.left a e).1
+
+  root_now : host_named names hosts (root_of now x) ≡ None
+  root_now = root-aside names hosts x was now aside (Has-grafted m d q us)
+
+  -- each node stays in its tree, or it is in no shadow tree
+  placed_so : (y : NodeName) → Has was y → Has now y → IsSettled was now y ⊎ ((host_named names hosts (root_of was y) ≡ None) × (host_named names hosts (root_of now y) ≡ None))
+  placed_so y h g = elim (has_or_not (tree m d none) y) [
+    | inl i ↦ inr (
+      ap (host_named names hosts) (root-below was aside.once_was x y (Has-grafted m d p us) (in_own p y i)) ∙ root_was,
+      ap (host_named names hosts) (root-below now aside.once_now x y (Has-grafted m d q us) (in_own q y i)) ∙ root_now,
+    )
+    | inr off ↦ elim (has_or_not (subtree was (root_of was y)) x) [
+      | inl i ↦
+          let none_was : host_named names hosts (root_of was y) ≡ None = ap (host_named names hosts) (sym (root-within was aside.once_was y x h i)) ∙ root_was in
+          inr (none_was, ap (host_named names hosts) (sym (root_same y off)) ∙ none_was)
+      | inr away ↦ elim (has_or_not (subtree now (root_of was y)) x) [
+        | inl i ↦
+            let none_now : host_named names hosts (root_of now y) ≡ None =
+            ap (host_named names hosts) (sym (root-within now aside.once_now y x g (subst (λ z. Has (subtree now z) x) (root_same y off) i))) ∙ root_now in
+            inr (ap (host_named names hosts) (root_same y off) ∙ none_now, none_now)
+        | inr away_now ↦
+            let top : Has (tree m d none) (root_of was y) → ⊥ = λ i.
+            let same : root_of was (root_of was y) ≡ root_of was x = root-below was aside.once_was x (root_of was y) (Has-grafted m d p us) (in_own p (root_of was y) i) in
+            let root_is : root_of was x ≡ root_of was y = sym same ∙ root-of_root was aside.once_was y h in
+            away (subst (λ z. Has (subtree was z) x) root_is (in-tree_of_root was aside.once_was x (Has-grafted m d p us))) in
+            inl record { root = root_same y off; tree = tree-others m d p us (root_of was y) top away ∙ sym (tree-others m d q us (root_of was y) top away_now) }
+      ]
+    ]
+  ]
+
+  -- ---- hosts
+
+  -- a host is not the parent of x, before or after
+  parent_other : (spot : Spot) → Once (grafted m d spot us) → Outside names hosts now (parent_of (grafted m d spot us) x) → (r h : NodeName) → host_named names hosts r ≡ Some h → Has (grafted m d spot us) h
+      → In x (children_of (grafted m d spot us) h) → ⊥
+  parent_other spot once outside r h e at i = host-has_root names hosts r h e (outside h (parent-of_child (grafted m d spot us) h x once at i).0).0
+
+  alike_children : (ts vs : Trees) → Alike m d ts vs → (In x (names_of (roots (trees_below ts))) → ⊥) → names_of (roots (trees_below ts)) ≡ names_of (roots (trees_below vs))
+  alike_children none none alike off = refl
+  alike_children none (tree k b s) alike off = absurd alike
+  alike_children (tree n c r) none alike off = absurd alike
+  alike_children (tree n c r) (tree k b s) alike off = alike.1 off
+
+  children_same : (r h : NodeName) → host_named names hosts r ≡ Some h → children_of was h ≡ children_of now h
+  children_same r h e = elim (has_or_not (tree m d none) h) [
+    | inl i ↦ let off : Has us h → ⊥ = λ j. apart h j i in ap (λ (ts : Trees). names_of (roots (trees_below ts))) (tree-own m d p us h off ∙ sym (tree-own m d q us h off))
+    | inr off ↦
+        let at = aside.stands r h e in
+        alike_children (subtree was h) (subtree us h) (Alike-others m d p us h off) (parent_other p aside.once_was aside.left r h e at.0)
+        ∙ sym (alike_children (subtree now h) (subtree us h) (Alike-others m d q us h off) (parent_other q aside.once_now aside.parent r h e at.1))
+  ]
+
+  alike_roots : (n k : Node) (b c ts : Trees) → Alike m d (tree n b none) ts → Alike m d (tree k c none) ts → n ≡ k
+  alike_roots n k b c none e f = absurd e
+  alike_roots n k b c (tree l a t) e f = e.0 ∙ sym f.0
+
+  contents_same : (y : NodeName) → Has was y → Has now y → node_in was y ≡ node_in now y
+  contents_same y h g =
+      let v = node-of_tree was aside.once_was y h in
+      let w = node-of_tree now aside.once_now y g in
+      v.3 ∙ (elim (has_or_not (tree m d none) y) [
+        | inl i ↦ root_of_both v.0 w.0 v.1 w.1 (sym v.2 ∙ ((let off : Has us y → ⊥ = λ j. apart y j i in tree-own m d p us y off ∙ sym (tree-own m d q us y off)) ∙ w.2))
+        | inr off ↦
+            alike_roots v.0 w.0 v.1 w.1 (subtree us y) (subst (λ (ts : Trees). Alike m d ts (subtree us y)) v.2 (Alike-others m d p us y off))
+            (subst (λ (ts : Trees). Alike m d ts (subtree us y)) w.2 (Alike-others m d q us y off))
+      ] ∙ sym w.3)
+    where
+      first_root : Trees → Node
+      first_root none = m
+      first_root (tree n c r) = n
+
+      root_of_both : (n k : Node) (b c : Trees) → tree n b none ≡ tree k c none → n ≡ k
+      root_of_both n k b c e = ap first_root e
+
+  keeps_hosts : KeepsHosts names hosts was now
+  keeps_hosts = record {
+    stands = aside.stands;
+    children = children_same;
+    contents = λ r h c e i.
+        let at = aside.stands r h e in
+        contents_same c (parent-of_child was h c aside.once_was at.0 i).1 (parent-of_child now h c aside.once_now at.1 (subst (In c) (children_same r h e) i)).1;
+  }
+
+  -- so all that is assigned stays
+  pub moved-keeps : KeepsAssigned names hosts was now
+  moved-keeps y h g = elim (placed_so y h g) [
+    | inl s ↦ assigned-settled names hosts was now aside.once_was aside.once_now y h g s keeps_hosts
+    | inr e ↦ assigned-unhosted names hosts was now aside.once_was aside.once_now y e.0 e.1
+  ]

@@ -1,0 +1,43 @@
+//! Steps that are made away from hosts and shadow trees.
+ghost use Rattle.std.specs.Prelude.{◌≡◌, ◌<◌, length};
+ghost use Rattle.std.specs.Option.{option_map, ForSome};
+ghost use Rattle.dom_tree.specs.Forest.{name_at};
+ghost use Rattle.dom_slots.specs.Hosts.{HostsAreNodes};
+ghost use Rattle.dom_slots.specs.Shadows.{shadows};
+ghost use Rattle.dom_slots.specs.Steps.{StepHasNodes, step_node, is_outside, is_apart};
+
+use crate::Slots;
+use crate::step::Step;
+use dom_tree::Forest;
+use node_arena::Key;
+
+impl Slots {
+    /// Whether a step that is done was made away from hosts and shadow trees: its node is no shadow root, and neither the
+    /// parent that the node left nor the one that it has now is a host or stands in a shadow tree (own rule). It costs a
+    /// look at each of them and the ways up to their roots.
+    pub(super) fn is_apart(&self, forest: &Forest, step: Step, left: Option<Key>) -> bool
+        requires hosts { HostsAreNodes forest.now.names self.now.hosts }
+        requires nodes { StepHasNodes forest.now.names step }
+        requires left { ForSome left (λ k. k < length forest.now.names) }
+        ensures { result ≡ is_apart (shadows forest.now self.now.hosts) (name_at forest.now.names (step_node step)) (option_map (name_at forest.now.names) left) }
+    {
+        forest.nodes_stand_once();
+        let node = step.node();
+        self.host_of(node).is_none()
+            && self.is_outside(forest, left)
+            && self.is_outside(forest, forest.parent(node))
+    }
+
+    /// Whether a node, if there is one, is no host and stands in no shadow tree.
+    fn is_outside(&self, forest: &Forest, node: Option<Key>) -> bool
+        requires hosts { HostsAreNodes forest.now.names self.now.hosts }
+        requires node { ForSome node (λ k. k < length forest.now.names) }
+        ensures { result ≡ is_outside (shadows forest.now self.now.hosts) (option_map (name_at forest.now.names) node) }
+    {
+        forest.nodes_stand_once();
+        match node {
+            Some(key) => self.root_of(key).is_none() && self.host_of(forest.root(key)).is_none(),
+            None => true,
+        }
+    }
+}
