@@ -44,3 +44,4 @@ pub mod PieceSteps
 pub mod PieceLaws
 pub mod DeletionHeights
 pub mod PieceOwn
+pub mod ExtractedRanges

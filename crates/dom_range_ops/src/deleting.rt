@@ -81,7 +81,7 @@ fn delete_contents(alloc: Global, doc: &mut Doc, points: &Points) -> Result<(), 
 }
 
 /// Where a range of a document stands after its contents were taken.
-fn place_after(doc: &Doc, points: &Points) -> (Key, usize)
+pub(crate) fn place_after(doc: &Doc, points: &Points) -> (Key, usize)
     requires { IsRangeIn doc.now points.now }
     ensures value { at (name_in doc.now result.0) result.1 ≡ new_place (trees_in doc.now points.now.start.0) (range_at_points doc.now.names points.now) }
     ensures node { result.0 < length doc.now.names }

@@ -1,34 +1,98 @@
 //! The extraction of the contents of a live range (DOM Standard, concept: extract a live range).
-ghost use Rattle.std.specs.Prelude.{◌≡◌, suc, ◌<◌, ◌++◌, ◌∷◌, [], length, map, true, is_some, IfOk, IfErr, OnOk};
+ghost use Rattle.std.specs.Prelude.{◌≡◌, ◌⊎◌, suc, ◌<◌, ◌++◌, ◌∷◌, [], length, map, true, is_some, Some, None, IfOk, IfErr, OnOk};
 ghost use Rattle.std.specs.List.{AllByRecursion};
 ghost use Rattle.std.specs.Option.{option_map, ForSome};
+ghost use Rattle.dom_base.specs.declared.Refusal.{Refusal as RefusalOf};
+ghost use Rattle.dom_isolation.specs.Bounds.{HasBounds};
+ghost use Rattle.dom_isolation.specs.Tables.{HasEnds};
 ghost use Rattle.dom_model.specs.Changes.{doing};
-ghost use Rattle.dom_model.specs.Extract.{own_document, new_fragment_node};
+ghost use Rattle.dom_model.specs.CommandRefusals.{limit_on, of_range, past_limit};
+ghost use Rattle.dom_model.specs.Effects.{plan_of_range};
+ghost use Rattle.dom_model.specs.Extract.{own_document, new_fragment_node, pieces_of, made_by_extracting, extracting};
 ghost use Rattle.dom_model.specs.Part.{range_at, next_name};
 ghost use Rattle.dom_model.specs.Ranges.{at};
 ghost use Rattle.dom_model.specs.Steps.{make, part_step};
 ghost use Rattle.dom_model.specs.Tree.{kind_of, is_document};
 ghost use Rattle.dom_model.specs.World.{part_of, is_there};
 ghost use Rattle.dom_mutation.specs.Doc.{made, name_in, owner_in, trees_in};
-ghost use Rattle.dom_range_ops.specs.Extractions.{extracting_items};
-ghost use Rattle.dom_range_ops.specs.Pieces.{item_in, made_by};
+ghost use Rattle.dom_range_ops.specs.Extractions.{ShadowRootsHaveNoParent, extracting_items};
+ghost use Rattle.dom_range_ops.specs.Deletions.{IsRangeIn};
+ghost use Rattle.dom_range_ops.specs.Pieces.{item_in, items_of, made_by};
 ghost use Rattle.dom_range_ops.specs.Takings.{new_names, MayTake, IsPieceOf};
+ghost use Rattle.dom_range_ops.specs.Texts.{range_at_points};
 ghost use Rattle.dom_tree.specs.Forest.{name_at};
 
-use crate::pieces::Piece;
+use crate::deleting::place_after;
+use crate::pieces::{Piece, count_made, pieces_between};
 use crate::taking::take_pieces;
-use dom_base::{Fault, Kind, Owner};
+use dom_base::{Fault, Kind, MAX_NODES, Owner, Refusal};
 use dom_mutation::Doc;
 use dom_ranges::Points;
 use dom_tree::{Forest, NodeData};
 use indexmap::IndexMap;
 use node_arena::Key;
-use std::alloc::Global;
+use std::alloc::{AllocError, Global};
+
+/// Extracts what is in an owner's live range into a new fragment, and gives the fragment: each contained node is moved, a node that
+/// holds one end alone is cloned with what is taken from inside it, and of a Text or Comment at an end a clone gets the code units
+/// that it loses. The range is then collapsed (DOM Standard, concept: extract a live range). It is refused with `Limit` where the
+/// owner would have too many nodes, and then nothing is changed.
+pub fn extract(alloc: Global, doc: &mut Doc, owner: Owner, number: u32) -> Result<Key, Fault>
+    requires there { is_some (range_at (part_of doc.old.world owner) number) ≡ true }
+    requires ends { ForSome (range_at (part_of doc.old.world owner) number) (HasEnds (part_of doc.old.world owner).trees) }
+    requires bounds { HasBounds (part_of doc.old.world owner) }
+    requires roots { ShadowRootsHaveNoParent (part_of doc.old.world owner).trees }
+    ensures key { IfOk result (λ key. key ≡ length doc.old.names) }
+    ensures names { OnOk result (ForSome (range_at (part_of doc.old.world owner) number) (λ r. doc.new.names ≡ doc.old.names ++ new_names owner (part_of doc.old.world owner).node_count (made_by_extracting (part_of doc.old.world owner) r))) }
+    ensures world { OnOk result (doc.new.world ≡ made owner (λ p. plan_of_range p number (extracting number)) doc.old.world) }
+
+    // The limit is the only refusal, and changes nothing; nothing else but memory stops an extraction.
+    ensures refused { (r : RefusalOf) → result ≡ Err (Fault.Refused r) → of_range (part_of doc.old.world owner) number None (λ range. limit_on (part_of doc.old.world owner).node_count (made_by_extracting (part_of doc.old.world owner) range)) ≡ Some r }
+    ensures stopped { (r : RefusalOf) → of_range (part_of doc.old.world owner) number None (λ range. limit_on (part_of doc.old.world owner).node_count (made_by_extracting (part_of doc.old.world owner) range)) ≡ Some r → (result ≡ Err (Fault.Refused r)) ⊎ (result ≡ Err Fault.Memory) }
+    ensures unchanged { (r : RefusalOf) → result ≡ Err (Fault.Refused r) → doc.new ≡ doc.old }
+{
+    doc.laws();
+    doc.forest().nodes_stand_once();
+    let points = doc.range_points(owner, number);
+    let pieces = pieces_in(alloc, doc, &points)?;
+    if is_past_limit(doc, owner, count_made(&pieces)) {
+        return Err(Fault::Refused(Refusal::Limit));
+    }
+    let place = place_after(doc, &points);
+    extract_pieces(
+        alloc,
+        doc,
+        owner,
+        number,
+        points.start.0,
+        place,
+        pieces.as_slice(),
+    )
+}
+
+/// The pieces that an extraction takes of a range of a document, in tree order.
+fn pieces_in(alloc: Global, doc: &Doc, points: &Points) -> Result<Vec<Piece>, AllocError>
+    requires { IsRangeIn doc.now points.now }
+    ensures value { IfOk result (λ pieces. map (item_in doc.now.names) pieces.items ≡ items_of (pieces_of (trees_in doc.now points.now.start.0) (range_at_points doc.now.names points.now))) }
+    ensures nodes { IfOk result (λ pieces. AllByRecursion (IsPieceOf doc.now.names) pieces.items) }
+{
+    let forest = doc.forest();
+    forest.nodes_stand_once();
+    pieces_between(alloc, forest, points)
+}
+
+/// Whether an owner may not make so many clones, and a fragment.
+fn is_past_limit(doc: &Doc, owner: Owner, clones: usize) -> bool
+    requires { is_there doc.now.world owner ≡ true }
+    ensures { result ≡ past_limit (part_of doc.now.world owner).node_count (suc clones) }
+{
+    (MAX_NODES as usize).saturating_sub(doc.node_count(owner)) <= clones
+}
 
 /// Extracts pieces that were found of a live range whose start is at a node: a fragment is made with the start's node
 /// document, gets the pieces, and is the answer; the range is then collapsed at its new place (DOM Standard, concept: extract
 /// a live range). It is refused only where memory is refused.
-pub(crate) fn extract_pieces(
+fn extract_pieces(
     alloc: Global,
     doc: &mut Doc,
     owner: Owner,

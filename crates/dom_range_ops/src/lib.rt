@@ -6,13 +6,14 @@ mod cloning;
 mod contained;
 mod deleting;
 mod ends;
-mod inserting;
 mod extracting;
+mod inserting;
 mod pieces;
 mod points;
 mod taking;
 mod text;
 
 pub use deleting::delete;
+pub use extracting::extract;
 pub use inserting::insert_node;
 pub use text::range_text;

@@ -1,16 +1,19 @@
-use Rattle.std.proofs.Common.{◌≡◌, Err, [], ◌∷◌, refl, sym, ap, ◌∙◌}
+use Rattle.std.proofs.Common.{◌≡◌, true, Err, List, [], ◌∷◌, is_some, refl, sym, ap, ◌∙◌}
+use Rattle.dom_base.specs.declared.NodeName.{NodeName}
 use Rattle.std.proofs.lemmas.Result.{err_from_is_err_and}
 use Rattle.dom_model.specs.Command.{Command}
 use Rattle.dom_model.specs.Effects.{plan_of_range}
 use Rattle.dom_model.specs.Extract.{extracting}
 use Rattle.dom_model.specs.Output.{a_node}
-use Rattle.dom_model.specs.Part.{next_name}
+use Rattle.dom_model.specs.Part.{next_name, range_at}
+use Rattle.dom_model.specs.World.{part_of}
 use Rattle.dom_tree.specs.Forest.{name_at}
 use Rattle.dom_commands.specs.declared.admission.Named.TheVariants.{Range}
 use Rattle.dom_commands.proofs.Bounded.{bounded-inside}
 use Rattle.dom_commands.proofs.CommandPlans.{none_stopped}
-use Rattle.dom_commands.proofs.Handling.{refused, plans, faults}
+use Rattle.dom_commands.proofs.Handling.{refused, plans, faults, one_there}
 use Rattle.dom_commands.proofs.Namings.{naming-extract}
+use Rattle.dom_commands.proofs.Ranging.{extracted-name}
 use Rattle.dom_commands.proofs.state.State.extract.Goals as goal
 
 pub returns-in_err-admit-clause-handled : goal.returns-in_err-admit-clause-handled
@@ -20,7 +23,12 @@ returns-in_err-admit-clause-handled c =
 
 pub returns-clause-handled : goal.returns-clause-handled
 returns-clause-handled c =
-    plans c.self.inside.turn c.self.inside.doc c.args.self.now c.self.view_is c.args.owner (Command.extract c.args.number) (Range c.args.number ∷ []) (naming-extract c.args.number) (sym c.admit.ensures ∙ c.in_ok-admit.was) c.extract.new.doc.world c.accept.new.self.world
+    let d = c.self.inside.doc in
+    let o = c.args.owner in
+    let pass = sym c.admit.ensures ∙ c.in_ok-admit.was in
+    let known : is_some (range_at (part_of d.world o) c.args.number) ≡ true = rw (← c.self.view_is) at (one_there c.args.self.now.world o (Range c.args.number) pass) in
+    let fragment : name_at c.extract.new.doc.names c.in_ok-fragment.fragment ≡ next_name (part_of d.world o) = extracted-name d.names c.extract.new.doc.names d.world o c.args.number known c.in_ok-fragment.ensures.names c.in_ok-fragment.fragment c.in_ok-fragment.ensures.key in
+    plans c.self.inside.turn d c.args.self.now c.self.view_is o (Command.extract c.args.number) (Range c.args.number ∷ []) (naming-extract c.args.number) pass c.extract.new.doc.world c.accept.new.self.world
     (λ p. plan_of_range p c.args.number (extracting c.args.number)) (λ p. a_node (next_name p)) (a_node c.name-made.result) c.args.out.now.items c.accept.new.out.items c.accept.result refl
     (none_stopped c.in_ok-fragment.fragment _ c.in_ok-fragment.ensures.stopped) c.in_ok-fragment.ensures.world
-    (ap a_node (sym c.name-made.ensures.at ∙ ap (λ names. name_at names c.in_ok-fragment.fragment) c.forest.ensures.names ∙ c.in_ok-fragment.ensures.name)) c.accept.ensures.done
+    (ap a_node (sym c.name-made.ensures.at ∙ ap (λ (ns : List NodeName). name_at ns c.in_ok-fragment.fragment) c.forest.ensures.names ∙ fragment)) c.accept.ensures.done

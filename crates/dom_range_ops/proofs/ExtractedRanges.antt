@@ -1,0 +1,113 @@
+-- The extraction of a live range of a `Doc`: what its pieces are, that they may be taken, and what is left.
+use Rattle.std.proofs.Common.{◌≡◌, ◌<◌, ◌≤◌, ◌+◌, ℕ, suc, true, false, List, [], ◌∷◌, ◌++◌, length, map, Option, Some, None, Result, Ok, Err, sym, ap, subst, ◌∙◌, refl, arith}
+use Rattle.std.specs.Prelude.{OnOk}
+use Rattle.std.specs.List.{AllByRecursion}
+use Rattle.std.specs.Option.{ForSome, option_map_or}
+use Rattle.std.proofs.lemmas.Bool.{ltb-false}
+use Rattle.dom_base.specs.declared.NodeName.{NodeName}
+use Rattle.dom_base.specs.declared.Owner.{Owner}
+use Rattle.dom_base.specs.declared.Refusal.TheVariants.{Limit}
+use Rattle.dom_isolation.specs.Bounds.{HasBounds}
+use Rattle.dom_isolation.specs.Tables.{HasEnds}
+use Rattle.dom_isolation.specs.Worlds.{IsPart}
+use Rattle.dom_model.specs.CommandRefusals.{limit_on, of_range, past_limit}
+use Rattle.dom_model.specs.Effects.{plan_of_range}
+use Rattle.dom_model.specs.Extract.{pieces_of, clone_count, made_by_extracting, extracting, new_fragment_node, own_document, new_place}
+use Rattle.dom_model.specs.Part.{Part, range_at, next_name}
+use Rattle.dom_model.specs.Place.{Boundary}
+use Rattle.dom_model.specs.Ranges.{Range, at}
+use Rattle.dom_model.specs.Steps.{make, part_step}
+use Rattle.dom_model.specs.Validity.{first_refusal}
+use Rattle.dom_model.specs.World.{World, part_of}
+use Rattle.dom_model.specs.WorldSteps.{world_after}
+use Rattle.dom_mutation.specs.Doc.{DocState, made, name_in, owner_in, trees_in}
+use Rattle.dom_ranges.specs.declared.table.Points.{Points}
+use Rattle.dom_range_ops.specs.declared.pieces.Piece.{Piece}
+use Rattle.dom_range_ops.specs.declared.pieces.Piece.TheVariants.{Whole, Cut, Clone, End}
+use Rattle.dom_range_ops.specs.Extractions.{ShadowRootsHaveNoParent, extracting_items}
+use Rattle.dom_range_ops.specs.Pieces.{Item, item_in, items_of, made_by, IsPieceIn}
+use Rattle.dom_range_ops.specs.Takings.{new_names, MayTake, IsPieceOf}
+use Rattle.dom_range_ops.specs.Texts.{range_at_points}
+use Rattle.dom_range_ops.proofs.DeletionDocs.{IsOfPoints}
+use Rattle.dom_range_ops.proofs.PieceSteps.{made-pieces}
+use Rattle.dom_range_ops.proofs.TakingItems.{items-extracting}
+use Rattle.dom_range_ops.proofs.TakingRanges.{extract-may_take}
+
+-- what follows where a call was done
+pub if-done : {X E : Type 0} {P Q : Type 0} (m : Result X E) → (P → Q) → OnOk m P → OnOk m Q
+if-done (Ok x) f p = f p
+if-done (Err e) f p = tt
+
+-- pieces whose nodes are below a number are pieces of as many names
+pub pieces-of_names : (names : List NodeName) (pieces : List Piece) → AllByRecursion (IsPieceIn (length names)) pieces → AllByRecursion (IsPieceOf names) pieces
+pieces-of_names names [] h = tt
+pieces-of_names names (Whole x ∷ ps) h = (h.0, pieces-of_names names ps h.1)
+pieces-of_names names (Cut x from to ∷ ps) h = (h.0, pieces-of_names names ps h.1)
+pieces-of_names names (Clone x ∷ ps) h = (h.0, pieces-of_names names ps h.1)
+pieces-of_names names (End ∷ ps) h = (tt, pieces-of_names names ps h.1)
+
+-- In a state: the points of an owner's live range, and its pieces.
+module _ (d : DocState) (o : Owner) (k : ℕ) (points : Points) (here : IsOfPoints d o k points) (pieces : List Piece)
+    (value : map (item_in d.names) pieces ≡ items_of (pieces_of (trees_in d points.start.0) (range_at_points d.names points))) where
+  abbrev p : Part
+  p = part_of d.world o
+
+  abbrev r : Range NodeName
+  r = range_at_points d.names points
+
+  abbrev items : List Item
+  items = map (item_in d.names) pieces
+
+  -- the pieces of the owner's range
+  pub own-items : map (item_in d.names) pieces ≡ items_of (pieces_of (part_of d.world o).trees (range_at_points d.names points))
+  own-items = value ∙ ap (λ q. items_of (pieces_of (part_of d.world q).trees r)) here.owner
+
+  -- they ask for as many nodes as the range's
+  pub made-own : suc (made_by (map (item_in d.names) pieces)) ≡ made_by_extracting (part_of d.world o) (range_at_points d.names points)
+  made-own = ap suc (ap made_by own-items ∙ made-pieces (pieces_of p.trees r))
+
+  -- the limit that they keep or not is the command's
+  pub limit-own : (more : ℕ) → more ≡ made_by (map (item_in d.names) pieces) →
+      of_range (part_of d.world o) k None (λ range. limit_on (part_of d.world o).node_count (made_by_extracting (part_of d.world o) range)) ≡ limit_on (part_of d.world o).node_count (suc more)
+  limit-own more is =
+      ap (λ (m : Option (Range NodeName)). option_map_or (λ range. limit_on p.node_count (made_by_extracting p range)) m None) here.there
+      ∙ ap (limit_on p.node_count) (sym (ap suc is ∙ made-own))
+
+  -- so is the refusal past it, and there is none where it is kept
+  pub limit-refused : (more : ℕ) → more ≡ made_by (map (item_in d.names) pieces) → past_limit (part_of d.world o).node_count (suc more) ≡ true →
+      of_range (part_of d.world o) k None (λ range. limit_on (part_of d.world o).node_count (made_by_extracting (part_of d.world o) range)) ≡ Some Limit
+  limit-refused more is past = limit-own more is ∙ ap (λ b. first_refusal ((b, Limit) ∷ [])) past
+
+  pub limit-kept : (more : ℕ) → more ≡ made_by (map (item_in d.names) pieces) → past_limit (part_of d.world o).node_count (suc more) ≡ false →
+      of_range (part_of d.world o) k None (λ range. limit_on (part_of d.world o).node_count (made_by_extracting (part_of d.world o) range)) ≡ None
+  limit-kept more is kept = limit-own more is ∙ ap (λ b. first_refusal ((b, Limit) ∷ [])) kept
+
+  -- they may be taken, where the limit is kept
+  pub own-may_take : IsPart (part_of d.world o) → HasBounds (part_of d.world o) → ShadowRootsHaveNoParent (part_of d.world o).trees → past_limit (part_of d.world o).node_count (suc (made_by (map (item_in d.names) pieces))) ≡ false →
+      MayTake (part_step (part_of d.world o) (make (new_fragment_node (next_name (part_of d.world o)) (own_document (part_of d.world o).trees (name_in d points.start.0))))) (next_name (part_of d.world o)) [] (map (item_in d.names) pieces)
+  own-may_take part bounds shadows few =
+      let n = new_fragment_node (next_name p) (own_document p.trees (name_in d points.start.0)) in
+      let ends = subst (λ q. HasEnds (part_of d.world q).trees r) here.owner here.range.ends in
+      let most = ltb-false 1000000 (p.node_count + suc (made_by items)) few in
+      let fits : suc p.node_count + made_by (items_of (pieces_of p.trees r)) ≤ 1000000 = subst (λ xs. suc p.node_count + made_by xs ≤ 1000000) own-items (omega arith) in
+      subst (λ xs. MayTake (part_step p (make n)) (next_name p) [] xs) (sym own-items) (extract-may_take p r part ends shadows n refl refl bounds fits)
+
+  -- the names that are given
+  pub names-own : (more : List NodeName) → more ≡ d.names ++ new_names o (part_of d.world o).node_count (suc (made_by (map (item_in d.names) pieces))) →
+      ForSome (range_at (part_of d.world o) k) (λ range. more ≡ d.names ++ new_names o (part_of d.world o).node_count (made_by_extracting (part_of d.world o) range))
+  names-own more is range there =
+      let both : Some r ≡ Some range = sym here.there ∙ there in
+      let same : r ≡ range = cc in
+      is ∙ ap (λ n. d.names ++ new_names o p.node_count n) (made-own ∙ ap (made_by_extracting p) same)
+
+  -- the world that is left
+  pub world-own : (place : Boundary NodeName) → place ≡ new_place (trees_in d points.start.0) (range_at_points d.names points) → (w : World) → w ≡ made o (extracting_items k (name_in d points.start.0) place (map (item_in d.names) pieces)) d.world →
+      w ≡ made o (λ q. plan_of_range q k (extracting k)) d.world
+  world-own place at_place w is =
+      let new : place ≡ new_place p.trees r = at_place ∙ ap (λ q. new_place (part_of d.world q).trees r) here.owner in
+      is
+      ∙ ap (world_after o d.world) (
+      ap (λ b. extracting_items k r.start.node b items p) new
+      ∙ ap (λ xs. extracting_items k r.start.node (new_place p.trees r) xs p) own-items
+      ∙ items-extracting k r p
+      ∙ sym (ap (λ (m : Option (Range NodeName)). option_map_or (λ range. extracting k range p) m []) here.there))
