@@ -1,5 +1,5 @@
 -- The extraction of a live range of a `Doc`: what its pieces are, that they may be taken, and what is left.
-use Rattle.std.proofs.Common.{◌≡◌, ◌<◌, ◌≤◌, ◌+◌, ℕ, suc, true, false, List, [], ◌∷◌, ◌++◌, length, map, Option, Some, None, Result, Ok, Err, sym, ap, subst, ◌∙◌, refl, arith}
+use Rattle.std.proofs.Common.{◌≡◌, ◌≤◌, ◌+◌, ℕ, suc, true, false, List, [], ◌∷◌, ◌++◌, length, map, Option, Some, None, Result, Ok, Err, sym, ap, subst, ◌∙◌, refl, arith}
 use Rattle.std.specs.Prelude.{OnOk}
 use Rattle.std.specs.List.{AllByRecursion}
 use Rattle.std.specs.Option.{ForSome, option_map_or}
@@ -12,15 +12,15 @@ use Rattle.dom_isolation.specs.Tables.{HasEnds}
 use Rattle.dom_isolation.specs.Worlds.{IsPart}
 use Rattle.dom_model.specs.CommandRefusals.{limit_on, of_range, past_limit}
 use Rattle.dom_model.specs.Effects.{plan_of_range}
-use Rattle.dom_model.specs.Extract.{pieces_of, clone_count, made_by_extracting, extracting, new_fragment_node, own_document, new_place}
+use Rattle.dom_model.specs.Extract.{pieces_of, made_by_extracting, extracting, new_fragment_node, own_document, new_place}
 use Rattle.dom_model.specs.Part.{Part, range_at, next_name}
 use Rattle.dom_model.specs.Place.{Boundary}
-use Rattle.dom_model.specs.Ranges.{Range, at}
+use Rattle.dom_model.specs.Ranges.{Range}
 use Rattle.dom_model.specs.Steps.{make, part_step}
 use Rattle.dom_model.specs.Validity.{first_refusal}
 use Rattle.dom_model.specs.World.{World, part_of}
 use Rattle.dom_model.specs.WorldSteps.{world_after}
-use Rattle.dom_mutation.specs.Doc.{DocState, made, name_in, owner_in, trees_in}
+use Rattle.dom_mutation.specs.Doc.{DocState, made, name_in, trees_in}
 use Rattle.dom_ranges.specs.declared.table.Points.{Points}
 use Rattle.dom_range_ops.specs.declared.pieces.Piece.{Piece}
 use Rattle.dom_range_ops.specs.declared.pieces.Piece.TheVariants.{Whole, Cut, Clone, End}

@@ -23,7 +23,6 @@ pub mod TakingDocs
 pub mod TakingPieces
 pub mod TakingLoops
 pub mod TakingRanges
-pub mod InsertedRanges
 pub mod TakingExtracts
 pub mod DeletionPlaces
 pub mod DeletionOrder

@@ -1,4 +1,4 @@
-use Rattle.std.proofs.Common.{List, map, length, sym, ap, subst, ◌∙◌}
+use Rattle.std.proofs.Common.{List, map, sym, ap, subst, ◌∙◌}
 use Rattle.std.specs.List.{AllByRecursion}
 use Rattle.dom_base.specs.declared.NodeName.{NodeName}
 use Rattle.dom_range_ops.specs.Pieces.{item_in, items_of}
