@@ -1,9 +1,11 @@
 -- What is asked for of live ranges by the operations on them, and what these do, from the keys of the nodes that they name.
-use Rattle.std.proofs.Common.{◌≡◌, ◌≤◌, ℕ, suc, true, List, [], ◌∷◌, ◌++◌, length, Option, Some, None, is_some, refl, sym, ap, subst, ◌∙◌}
+use Rattle.std.proofs.Common.{◌≡◌, ◌≤◌, ℕ, suc, true, false, List, [], ◌∷◌, ◌++◌, length, Option, Some, None, Result, Ok, Err, is_some, refl, sym, ap, subst, ◌∙◌}
 use Rattle.std.specs.Prelude.{take}
 use Rattle.std.specs.List.{AllByRecursion}
 use Rattle.std.proofs.Math.Seq.{get_or-append_seam}
 use Rattle.std.specs.Option.{ForSome, option_map_or}
+use Rattle.dom_base.specs.declared.Fault.{Fault}
+use Rattle.dom_base.specs.declared.Fault.TheVariants.{Refused, Memory}
 use Rattle.dom_base.specs.declared.NodeName.{NodeName}
 use Rattle.dom_base.specs.declared.Owner.{Owner}
 use Rattle.dom_base.specs.declared.Owner.TheVariants.{Page, Component}
@@ -35,7 +37,7 @@ use Rattle.dom_range_ops.specs.Insertions.{inserting_node, inserting_refusal}
 use Rattle.dom_range_ops.specs.Takings.{new_names}
 use Rattle.dom_tree.specs.Forest.{name_at}
 use Rattle.dom_commands.specs.Heard.{heard}
-use Rattle.dom_commands.specs.Machine.{BeginsWith, HasLoneShadowRoots, HasRangeEnds}
+use Rattle.dom_commands.specs.Machine.{BeginsWith, KeepsNames, HasLoneShadowRoots, HasRangeEnds}
 use Rattle.dom_commands.proofs.CommandPlans.{IsKey}
 use Rattle.dom_commands.proofs.Finding.{owner-named}
 use Rattle.dom_commands.proofs.Handling.{with_part-same}
@@ -72,6 +74,12 @@ lone-shadow_roots w r o x h = from (parent_of ts x) refl
 -- the listeners are left out
 pub shadow_roots-unheard : (of : Owner → List (Listener NodeName)) (w : World) → FitsIn of w → IsReached false (heard of w) → HasLoneShadowRoots w
 shadow_roots-unheard of w fits r o = subst (λ (p : Part). ShadowRootsHaveNoParent p.trees) (part-heard of w fits o) (lone-shadow_roots (heard of w) r o)
+
+-- names that stay in front of others are kept, however a command ends
+pub keeps_names : (names more : List NodeName) (r : Result (Unit {0}) Fault) → BeginsWith names more → KeepsNames names more r
+keeps_names names more (Ok x) h = h
+keeps_names names more (Err (Refused q)) h = h
+keeps_names names more (Err Memory) h = tt
 
 -- the text of a range is answered, and nothing is changed
 pub text_told : (w : World) (o : Owner) (k : ℕ) (text : DomString) → is_there w o ≡ true → is_some (range_at (part_of w o) k) ≡ true →

@@ -1,4 +1,4 @@
-use Rattle.std.proofs.Common.{◌≡◌, true, Err, List, [], ◌∷◌, is_some, refl, sym, ap, ◌∙◌}
+use Rattle.std.proofs.Common.{◌≡◌, true, Err, List, [], ◌∷◌, is_some, refl, sym, ap, subst, ◌∙◌}
 use Rattle.dom_base.specs.declared.NodeName.{NodeName}
 use Rattle.std.proofs.lemmas.Result.{err_from_is_err_and}
 use Rattle.dom_model.specs.Command.{Command}
@@ -7,13 +7,15 @@ use Rattle.dom_model.specs.Extract.{extracting}
 use Rattle.dom_model.specs.Output.{a_node}
 use Rattle.dom_model.specs.Part.{next_name, range_at}
 use Rattle.dom_model.specs.World.{part_of}
+use Rattle.dom_mutation.specs.Doc.{DocState}
 use Rattle.dom_tree.specs.Forest.{name_at}
+use Rattle.dom_commands.specs.Machine.{BeginsWith}
 use Rattle.dom_commands.specs.declared.admission.Named.TheVariants.{Range}
 use Rattle.dom_commands.proofs.Bounded.{bounded-inside}
 use Rattle.dom_commands.proofs.CommandPlans.{none_stopped}
 use Rattle.dom_commands.proofs.Handling.{refused, plans, faults, one_there}
 use Rattle.dom_commands.proofs.Namings.{naming-extract}
-use Rattle.dom_commands.proofs.Ranging.{extracted-name}
+use Rattle.dom_commands.proofs.Ranging.{extracted-name, extracted-kept, keeps_names}
 use Rattle.dom_commands.proofs.state.State.extract.Goals as goal
 
 pub returns-in_err-admit-clause-handled : goal.returns-in_err-admit-clause-handled
@@ -32,3 +34,13 @@ returns-clause-handled c =
     (λ p. plan_of_range p c.args.number (extracting c.args.number)) (λ p. a_node (next_name p)) (a_node c.name-made.result) c.args.out.now.items c.accept.new.out.items c.accept.result refl
     (none_stopped c.in_ok-fragment.fragment _ c.in_ok-fragment.ensures.stopped) c.in_ok-fragment.ensures.world
     (ap a_node (sym c.name-made.ensures.at ∙ ap (λ (ns : List NodeName). name_at ns c.in_ok-fragment.fragment) c.forest.ensures.names ∙ fragment)) c.accept.ensures.done
+
+pub returns-clause-names : goal.returns-clause-names
+returns-clause-names c =
+    let d = c.self.inside.doc in
+    let o = c.args.owner in
+    let pass = sym c.admit.ensures ∙ c.in_ok-admit.was in
+    let known : is_some (range_at (part_of d.world o) c.args.number) ≡ true = rw (← c.self.view_is) at (one_there c.args.self.now.world o (Range c.args.number) pass) in
+    let kept : BeginsWith d.names c.extract.new.doc.names = extracted-kept d.names c.extract.new.doc.names d.world o c.args.number known c.in_ok-fragment.ensures.names in
+    keeps_names c.args.self.now.names c.accept.new.self.names c.accept.result
+    (subst (λ (ns : List NodeName). BeginsWith c.args.self.now.names ns) (sym c.accept.ensures.names) (subst (λ (s : DocState). BeginsWith s.names c.extract.new.doc.names) c.self.view_is kept))
