@@ -136,3 +136,109 @@ range_in_one_text = record {
       codes "p ! unknown" ∷
       [];
 }
+
+-- a start that has come to stand behind its end: what is behind it in its tree is taken
+abbrev pub extract_behind_start : Example
+extract_behind_start = record {
+  lines =
+      codes "p new element p" ∷
+      codes "p new element b" ∷
+      codes "p new text \"abcd\"" ∷
+      codes "p new element c" ∷
+      codes "p new element d" ∷
+      codes "p new element x" ∷
+      codes "p append n1 n2" ∷
+      codes "p append n2 n3" ∷
+      codes "p append n2 n4" ∷
+      codes "p append n4 n5" ∷
+      codes "p append n1 n6" ∷
+      codes "p range-new" ∷
+      codes "p range-start r0 n3 2" ∷
+      codes "p range-end r0 n1 1" ∷
+      codes "p insert n1 n6 n2" ∷
+      codes "p range-get r0" ∷
+      codes "p extract r0" ∷
+      codes "p tree n7" ∷
+      codes "p tree n1" ∷
+      codes "p range-get r0" ∷
+      [];
+  answers =
+      codes "p ok n1" ∷
+      codes "p ok n2" ∷
+      codes "p ok n3" ∷
+      codes "p ok n4" ∷
+      codes "p ok n5" ∷
+      codes "p ok n6" ∷
+      codes "p ok" ∷
+      codes "p ok" ∷
+      codes "p ok" ∷
+      codes "p ok" ∷
+      codes "p ok" ∷
+      codes "p ok r0" ∷
+      codes "p ok" ∷
+      codes "p ok" ∷
+      codes "p ok" ∷
+      codes "p ok n3 2 n1 1" ∷
+      codes "p ok n7" ∷
+      codes "p ok (n7 fragment (n8 element b (n9 text \"cd\") (n4 element c (n5 element d))))" ∷
+      codes "p ok (n1 element p (n6 element x) (n2 element b (n3 text \"ab\")))" ∷
+      codes "p ok n1 2 n1 2" ∷
+      [];
+}
+
+-- both ends below children of the common ancestor, the start behind the end: the start's side comes first
+abbrev pub extract_both_sides : Example
+extract_both_sides = record {
+  lines =
+      codes "p new element p" ∷
+      codes "p new element a" ∷
+      codes "p new text \"t1\"" ∷
+      codes "p new element b" ∷
+      codes "p new text \"in b\"" ∷
+      codes "p new element x" ∷
+      codes "p append n1 n2" ∷
+      codes "p append n1 n3" ∷
+      codes "p append n1 n4" ∷
+      codes "p append n4 n5" ∷
+      codes "p append n1 n6" ∷
+      codes "p range-new" ∷
+      codes "p range-start r0 n4 0" ∷
+      codes "p range-end r0 n1 3" ∷
+      codes "p insert n1 n6 n2" ∷
+      codes "p new text \"t2\"" ∷
+      codes "p insert n1 n7 n4" ∷
+      codes "p range-get r0" ∷
+      codes "p normalize n1" ∷
+      codes "p range-get r0" ∷
+      codes "p extract r0" ∷
+      codes "p tree n8" ∷
+      codes "p tree n1" ∷
+      codes "p range-get r0" ∷
+      [];
+  answers =
+      codes "p ok n1" ∷
+      codes "p ok n2" ∷
+      codes "p ok n3" ∷
+      codes "p ok n4" ∷
+      codes "p ok n5" ∷
+      codes "p ok n6" ∷
+      codes "p ok" ∷
+      codes "p ok" ∷
+      codes "p ok" ∷
+      codes "p ok" ∷
+      codes "p ok" ∷
+      codes "p ok r0" ∷
+      codes "p ok" ∷
+      codes "p ok" ∷
+      codes "p ok" ∷
+      codes "p ok n7" ∷
+      codes "p ok" ∷
+      codes "p ok n4 0 n1 3" ∷
+      codes "p ok" ∷
+      codes "p ok n4 0 n3 2" ∷
+      codes "p ok n8" ∷
+      codes "p ok (n8 fragment (n9 element b (n5 text \"in b\")) (n10 text \"t1\"))" ∷
+      codes "p ok (n1 element p (n6 element x) (n2 element a) (n3 text \"t2\") (n4 element b))" ∷
+      codes "p ok n1 4 n1 4" ∷
+      [];
+}
