@@ -171,14 +171,6 @@ held_tasks names ts tables held tasks due = record {
   numbered = held.numbered;
 }
 
--- ---- limits
-
-pub limit_count : (n m : ℕ) → m ≡ n → n ≤ 1000000 → (n ≡ 1000000) ↔ (past_limit m 1 ≡ true)
-limit_count n m same few = (
-  λ e. ap (λ k. past_limit k 1) (same ∙ e),
-  λ h. let more = ltb-true 1000000 (n + 1) (ap (λ k. past_limit k 1) (sym same) ∙ h) in omega arith,
-)
-
 -- ---- one node more
 
 limited_more : (names : List NodeName) (o p : Owner) (n : ℕ) → count_of o names ≤ 1000000 → count_of p names ≤ 1000000 → count_of o names ≢ 1000000 → count_of p (names ++ node_of o n ∷ []) ≤ 1000000
@@ -377,26 +369,3 @@ first_held g tables n is one names trees =
     (subst (λ ns. IsHeld ns g.trees first) (sym names)
     (subst (λ ts. IsHeld (node_of Page 0 ∷ []) ts first) (sym trees)
     (held_more [] none first (empty_held tables.ranges one.no_ranges) Page refl n is (λ k less. absurd (omega arith)) (λ e. omega arith) (no_slots_of (named_trees (node_of Page 0 ∷ []) (with_node n none))))))
-
--- when there is no room for one node more
-limit_at : (names : List NodeName) (ts : Trees) (tables : AllTables) → IsHeld names ts tables → (o : Owner) → is_there (world_from names ts tables) o ≡ true
-    → (count_of o names ≡ 1000000) ↔ (past_limit (part_of (world_from names ts tables) o).node_count 1 ≡ true)
-limit_at names ts tables held o there =
-    let count : (part_of (world_from names ts tables) o).node_count ≡ count_of o names = ap (λ (p : Part). p.node_count) (part_at (contents names ts tables) o there) in
-    limit_count (count_of o names) (part_of (world_from names ts tables) o).node_count count (held.limited o)
-
--- no owner has more nodes than it may
-pub within_limit : (names : List NodeName) (ts : Trees) {tables : AllTables} → IsHeld names ts tables → (o : Owner) → past_limit (part_of (world_from names ts tables) o).node_count 0 ≡ false
-within_limit names ts {tables} held o = elim (cases_Bool (is_there (world_from names ts tables) o)) [
-  | inl there ↦
-      let count : (part_of (world_from names ts tables) o).node_count ≡ count_of o names = ap (λ (p : Part). p.node_count) (part_at (contents names ts tables) o there) in
-      let few = held.limited o in
-      false_from_ne_true _ (λ h. let more = ltb-true 1000000 (count_of o names + 0) (ap (λ n. past_limit n 0) (sym count) ∙ h) in omega arith)
-  | inr off ↦ ap (λ (p : Part). past_limit p.node_count 0) (part_off (contents names ts tables) o off)
-]
-
-pub limit_held : (f : NamedTrees) {tables : AllTables} (d : DocState) → state_from f.names f.trees tables ≡ d → IsHeld f.names f.trees tables → (o : Owner) → is_there d.world o ≡ true
-    → {P : Type 0} → (P ↔ (count_of o f.names ≡ 1000000)) → P ↔ (past_limit (part_of d.world o).node_count 1 ≡ true)
-limit_held f {tables} d is_d held o there {P} limit =
-    subst (λ (e : DocState). is_there e.world o ≡ true → P ↔ (past_limit (part_of e.world o).node_count 1 ≡ true)) is_d
-    (λ h. let both = limit_at f.names f.trees tables held o h in (λ p. both.0 (limit.0 p), λ e. limit.1 (both.1 e))) there

@@ -5,6 +5,7 @@ pub mod Leaving
 pub mod Quiet
 pub mod Numbers
 pub mod Held
+pub mod Limits
 pub mod Observed
 pub mod Observing
 pub mod Records

@@ -24,7 +24,8 @@ use Rattle.dom_mutation.specs.Doc.{DocState, own_tables, world_from, state_from,
 use Rattle.dom_mutation.proofs.Places.{set_items, push_items}
 use Rattle.dom_tree.specs.Owners.{AreOwned}
 use Rattle.dom_mutation.proofs.Own.{moved_own}
-use Rattle.dom_mutation.proofs.Held.{table_there, limit_count}
+use Rattle.dom_mutation.proofs.Held.{table_there}
+use Rattle.dom_mutation.proofs.Limits.{limit_count}
 use Rattle.dom_mutation.proofs.Shown.{table_at}
 use Rattle.dom_mutation.proofs.Cursors.{iterators_in, walkers_in, iterator_effect_new, walker_effect_new, has_iterator, has_walker, there_iterator, there_walker, with_own, makes_read, makes_set, held_set}
 

@@ -1,7 +1,8 @@
 use Rattle.std.proofs.Common.{refl}
 use Rattle.dom_tree.specs.Forest.{node_from}
 use Rattle.dom_mutation.specs.Doc.{all_tables}
-use Rattle.dom_mutation.proofs.Held.{added_held, limit_held, not_added}
+use Rattle.dom_mutation.proofs.Held.{added_held, not_added}
+use Rattle.dom_mutation.proofs.Limits.{limit_held}
 use Rattle.dom_mutation.proofs.doc.Doc.add.Goals as goal
 
 pub invariant_of-self : goal.invariant_of-self

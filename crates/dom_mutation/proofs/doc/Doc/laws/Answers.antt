@@ -12,7 +12,8 @@ use Rattle.dom_mutation.specs.Hosting.{IsAlone}
 use Rattle.dom_tree.specs.Owners.{AreOf}
 use Rattle.dom_tree.proofs.Owned.{AreOf-own}
 use Rattle.dom_model.specs.CommandRefusals.{past_limit}
-use Rattle.dom_mutation.proofs.Held.{are_hosts, within_limit}
+use Rattle.dom_mutation.proofs.Held.{are_hosts}
+use Rattle.dom_mutation.proofs.Limits.{within_limit}
 use Rattle.dom_mutation.proofs.OwnSteps.{hosted_alone}
 use Rattle.dom_mutation.proofs.RangedStates.{part_everywhere}
 use Rattle.dom_mutation.proofs.Shown.{known, shown, own_in_part, owner_there}
