@@ -1,5 +1,5 @@
--- What stands before the start of a range is not contained in it: the first children of its start node, or those up to a node
--- above it.
+-- What the start of a range does not come before: its start node with the first children, or a node above it with those up to
+-- the one that holds the start.
 use Rattle.std.proofs.Common.{zero, suc, ◌≡◌, ◌≤◌, ◌<◌, ℕ, ◌+◌, ◌*◌, Bool, true, false, ◌&&◌, ◌||◌, eqb, List, [], ◌∷◌, ◌++◌, map, take, Some, None, option_map, unwrap_or, refl, sym, ap, ◌∙◌, arith, true≢false, subst}
 use Rattle.std.specs.Prelude.{nat_lt, ◌==◌}
 use Rattle.std.specs.List.{AllByRecursion}
@@ -8,15 +8,16 @@ use Rattle.std.proofs.lemmas.Bool.{cond-true, cond-false, ltb-true, eqb-true, fa
 use Rattle.dom_base.specs.declared.NodeName.{NodeName}
 use Rattle.dom_model.specs.Names.{name_eq, is_in, items_before}
 use Rattle.dom_model.specs.Place.{place_from, list_before, boundary_place, is_before}
-use Rattle.dom_model.specs.Ranges.{Range, at, is_contained}
-use Rattle.dom_model.specs.Tree.{Trees, none, tree, Node, names_of, roots, subtree, or_else, trees_below, children_of, parent_of, is_inclusive_ancestor, length_of}
+use Rattle.dom_model.specs.Ranges.{Range, at}
+use Rattle.dom_model.specs.Tree.{Trees, none, tree, Node, names_of, roots, subtree, or_else, trees_below, children_of, parent_of, is_inclusive_ancestor}
 use Rattle.dom_model.proofs.OwnerLaws.{name_eq-same}
 use Rattle.dom_isolation.specs.Worlds.{times_in}
 use Rattle.dom_isolation.proofs.Descents.{ancestor-inside}
 use Rattle.dom_isolation.proofs.Insides.{parent-there, or_else-none}
 use Rattle.dom_isolation.proofs.Kids.{root-below}
 use Rattle.dom_isolation.proofs.Lists.{all-then}
-use Rattle.dom_isolation.proofs.TableRecords.{inside-alone}
+use Rattle.dom_isolation.proofs.Roots.{self-above, parent-above}
+use Rattle.dom_isolation.proofs.TableRecords.{inside-alone, above-above}
 use Rattle.dom_isolation.proofs.Tests.{by_cases, or-later}
 use Rattle.dom_isolation.proofs.TreeChangeLaws.{HasRoot, subtree-here, subtree-elsewhere, times-below}
 use Rattle.dom_isolation.proofs.Trees.{IsUnique, by_times, times-here, times-elsewhere, times-more, times-subtree, subtree-absent, name_eq-sym, name_eq-true, root-there}
@@ -196,10 +197,6 @@ before-same t xs ys h = step (nat_lt t t) (t == t) (false_from_ne_true (nat_lt t
     step false true e = h
     step false false e = refl
 
--- What is not contained, since it does not come after the start.
-not-contained : (ts : Trees) (r : Range NodeName) (x : NodeName) → is_before ts r.start (at x 0) ≡ false → is_contained ts r x ≡ false
-not-contained ts r x h = ap (λ b. b && is_before ts (at x (length_of ts x)) r.end) h
-
 -- the place of a boundary
 place-is : (ts : Trees) (x : NodeName) (path : List ℕ) (i : ℕ) → place_from 0 ts x ≡ Some path → boundary_place ts (at x i) ≡ map odd path ++ (2 * i) ∷ []
 place-is ts x path i h = ap (λ o. map odd (unwrap_or o []) ++ (2 * i) ∷ []) h
@@ -209,10 +206,11 @@ map-two : (xs ys : List ℕ) (zs : List ℕ) → map odd (xs ++ ys) ++ zs ≡ ma
 map-two [] ys zs = refl
 map-two (x ∷ xs) ys zs = ap (λ l. odd x ∷ l) (map-two xs ys zs)
 
--- A node q, some children of it and a start that does not come before them: neither they nor q are contained.
+-- An inclusive ancestor q of the start node, and some children of it: the start does not come before them, nor before q.
 pub record IsSpared (ts : Trees) (r : Range NodeName) (q : NodeName) (xs : List NodeName) : Type 0 where
-  pub parent : is_contained ts r q ≡ false
-  pub children : AllByRecursion (λ x. is_contained ts r x ≡ false) xs
+  pub above : is_inclusive_ancestor ts q r.start.node ≡ true
+  pub parent : is_before ts r.start (at q 0) ≡ false
+  pub children : AllByRecursion (λ x. is_before ts r.start (at x 0) ≡ false) xs
 
 -- the place of a child
 child-place : (ts : Trees) (q : NodeName) (path : List ℕ) → IsUnique ts → 1 ≤ times_in ts q → place_from 0 ts q ≡ Some path → (bound : ℕ) (x : NodeName) → IsRootAt 0 (trees_below (subtree ts q)) bound x → (i : ℕ) × (place_from 0 ts x ≡ Some (path ++ i ∷ [])) × (i ≤ bound)
@@ -228,20 +226,21 @@ spared-first ts r u t =
     let path = at_q.0 in
     let begins = place-is ts q path r.start.offset at_q.1 in
     record {
-      parent = not-contained ts r q (ap (λ a. list_before a (boundary_place ts (at q 0))) begins ∙ ap (list_before (map odd path ++ (2 * r.start.offset) ∷ [])) (place-is ts q path 0 at_q.1) ∙ before-common path ((2 * r.start.offset) ∷ []) (0 ∷ []) ∙ before-zero (2 * r.start.offset) []);
+      above = self-above ts q t;
+      parent = ap (λ a. list_before a (boundary_place ts (at q 0))) begins ∙ ap (list_before (map odd path ++ (2 * r.start.offset) ∷ [])) (place-is ts q path 0 at_q.1) ∙ before-common path ((2 * r.start.offset) ∷ []) (0 ∷ []) ∙ before-zero (2 * r.start.offset) [];
       children = from r.start.offset refl path at_q.1 begins;
     }
   where
-    from : (m : ℕ) → r.start.offset ≡ m → (path : List ℕ) → place_from 0 ts r.start.node ≡ Some path → boundary_place ts r.start ≡ map odd path ++ (2 * r.start.offset) ∷ [] → AllByRecursion (λ x. is_contained ts r x ≡ false) (take m (children_of ts r.start.node))
+    from : (m : ℕ) → r.start.offset ≡ m → (path : List ℕ) → place_from 0 ts r.start.node ≡ Some path → boundary_place ts r.start ≡ map odd path ++ (2 * r.start.offset) ∷ [] → AllByRecursion (λ x. is_before ts r.start (at x 0) ≡ false) (take m (children_of ts r.start.node))
     from zero e path p begins = tt
     from (suc m) e path p begins =
         let below = trees_below (subtree ts r.start.node) in
         let ub : IsUnique below = λ y. let a = times-below (subtree ts r.start.node) y in let b = times-subtree ts r.start.node y in let o = u y in omega arith in
-        all-then (IsRootAt 0 below m) (λ x. is_contained ts r x ≡ false)
+        all-then (IsRootAt 0 below m) (λ x. is_before ts r.start (at x 0) ≡ false)
         (λ x h. let c = child-place ts r.start.node path u t p m x h in
         let i = c.0 in let le = c.2 in
-        not-contained ts r x (ap (λ a. list_before a (boundary_place ts (at x 0))) begins ∙ ap (list_before (map odd path ++ (2 * r.start.offset) ∷ [])) (place-is ts x (path ++ i ∷ []) 0 c.1 ∙ map-two path (i ∷ []) (0 ∷ []))
-        ∙ before-common path ((2 * r.start.offset) ∷ []) (odd i ∷ 0 ∷ []) ∙ before-later (2 * r.start.offset) (odd i) [] (0 ∷ []) (omega arith)))
+        ap (λ a. list_before a (boundary_place ts (at x 0))) begins ∙ ap (list_before (map odd path ++ (2 * r.start.offset) ∷ [])) (place-is ts x (path ++ i ∷ []) 0 c.1 ∙ map-two path (i ∷ []) (0 ∷ []))
+        ∙ before-common path ((2 * r.start.offset) ∷ []) (odd i ∷ 0 ∷ []) ∙ before-later (2 * r.start.offset) (odd i) [] (0 ∷ []) (omega arith))
         (take (suc m) (names_of (roots below))) (roots-taken 0 below m ub)
 
 -- what stands in the tree of a node, and is another one, stands below it
@@ -275,12 +274,13 @@ spared-up_to ts r a q u e t above =
     let rest = tail.0 in
     let begins : boundary_place ts r.start ≡ map odd path ++ (odd j ∷ rest) = tail.1 in
     record {
-      parent = not-contained ts r q (ap (λ b. list_before b (boundary_place ts (at q 0))) begins ∙ ap (list_before (map odd path ++ (odd j ∷ rest))) (place-is ts q path 0 at_q.1) ∙ before-common path (odd j ∷ rest) (0 ∷ []) ∙ before-zero (odd j) rest);
-      children = all-then (IsRootAt 0 below j) (λ x. is_contained ts r x ≡ false)
+      above = above-above ts q a start u (parent-above ts a q u e) above;
+      parent = ap (λ b. list_before b (boundary_place ts (at q 0))) begins ∙ ap (list_before (map odd path ++ (odd j ∷ rest))) (place-is ts q path 0 at_q.1) ∙ before-common path (odd j ∷ rest) (0 ∷ []) ∙ before-zero (odd j) rest;
+      children = all-then (IsRootAt 0 below j) (λ x. is_before ts r.start (at x 0) ≡ false)
           (λ x h. let c = child-place ts q path u tq at_q.1 j x h in
           let i = c.0 in
-          not-contained ts r x (ap (λ b. list_before b (boundary_place ts (at x 0))) begins ∙ ap (list_before (map odd path ++ (odd j ∷ rest))) (place-is ts x (path ++ i ∷ []) 0 c.1 ∙ map-two path (i ∷ []) (0 ∷ []))
-          ∙ before-common path (odd j ∷ rest) (odd i ∷ 0 ∷ []) ∙ behind i j rest tail.2 c.2))
+          ap (λ b. list_before b (boundary_place ts (at x 0))) begins ∙ ap (list_before (map odd path ++ (odd j ∷ rest))) (place-is ts x (path ++ i ∷ []) 0 c.1 ∙ map-two path (i ∷ []) (0 ∷ []))
+          ∙ before-common path (odd j ∷ rest) (odd i ∷ 0 ∷ []) ∙ behind i j rest tail.2 c.2)
           (items_before name_eq a (names_of (roots below)) ++ a ∷ []) up.2;
     }
   where

@@ -6,7 +6,7 @@ use Rattle.std.specs.List.{AllByRecursion}
 use Rattle.std.proofs.lemmas.Bool.{cond-true, cond-false}
 use Rattle.dom_base.specs.declared.NodeName.{NodeName}
 use Rattle.dom_model.specs.Names.{name_eq, is_in, items_before}
-use Rattle.dom_model.specs.Tree.{Trees, none, tree, Node, nodes, names_of, roots, subtree, or_else, inclusive_ancestors, inclusive_descendants, is_inclusive_ancestor, on_top}
+use Rattle.dom_model.specs.Tree.{Trees, none, tree, Node, nodes, names_of, roots, subtree, or_else, trees_below, inclusive_ancestors, inclusive_descendants, is_inclusive_ancestor, on_top}
 use Rattle.dom_model.specs.TreeChanges.{without, put_before, put_below, placed, with_node}
 use Rattle.dom_model.proofs.OwnerLaws.{name_eq-same}
 use Rattle.dom_isolation.specs.Worlds.{times_in}
@@ -49,6 +49,12 @@ ancestor-inside (tree n c r) a z h =
 -- and the other way round
 pub inside-ancestor : (ts : Trees) (a z : NodeName) → IsUnique ts → 1 ≤ inside ts a z → is_inclusive_ancestor ts a z ≡ true
 inside-ancestor ts a z u h = by_cases (is_inclusive_ancestor ts a z) (λ e. e) (λ e. absurd (let k = inside-no_ancestor ts a z u e in omega arith))
+
+-- below roots stands no more than in their trees
+pub inside-below : (ts : Trees) (a z : NodeName) → inside (trees_below ts) a z ≤ inside ts a z
+inside-below none a z = omega arith
+inside-below (tree n c r) a z =
+    by_cases (name_eq n.name a) (λ e. let i = inside-here n c r a z e in let t = inside-times c a z in let m = times-more n c none z in omega arith) (λ e. let i = inside-elsewhere n c r a z e in omega arith)
 
 -- What stands below a root that is taken out, and what is left, is all.
 inside-parted : (ts : Trees) (y a z : NodeName) → IsUnique ts → HasRoot ts y → inside (without y ts) a z + inside (subtree ts y) a z ≡ inside ts a z

@@ -25,6 +25,7 @@ pub mod ForeignNames
 pub mod TreeChangeLaws
 pub mod PartSteps
 pub mod Plans
+pub mod FitPieces
 pub mod PlanCommands
 pub mod PlainWords
 pub mod WorldParts

@@ -6,26 +6,26 @@ use Rattle.std.specs.Option.{option_map_or, option_and_then, option_flatten}
 use Rattle.std.proofs.lemmas.Bool.{cond-true, cond-false}
 use Rattle.dom_base.specs.declared.NodeName.{NodeName}
 use Rattle.dom_model.specs.Names.{name_eq, last_of}
-use Rattle.dom_model.specs.Tree.{Trees, none, tree, Node, node_in, kind_of, is_text, is_fragment, has_data, subtree, trees_below, children_of, parent_of, root_of, index_of, length_of, inclusive_ancestors, is_inclusive_ancestor}
+use Rattle.dom_model.specs.Tree.{Trees, Node, node_in, kind_of, is_text, is_fragment, has_data, subtree, children_of, parent_of, root_of, index_of, length_of, inclusive_ancestors, is_inclusive_ancestor}
 use Rattle.dom_model.specs.TreeChanges.{with_name}
 use Rattle.dom_model.specs.Part.{Part, next_name, range_at}
 use Rattle.dom_model.specs.Place.{Boundary}
-use Rattle.dom_model.specs.Ranges.{Range, at, from_to, is_collapsed, is_contained}
+use Rattle.dom_model.specs.Ranges.{Range, at, from_to, is_collapsed}
 use Rattle.dom_model.specs.Steps.{Step, make, set_range, part_step, after}
 use Rattle.dom_model.specs.Changes.{◌and_then◌, in_turn, doing, steps_of, observed, removing, inserting, reference_for, pre_inserting}
 use Rattle.dom_model.specs.TextChanges.{replacing_data, splitting}
-use Rattle.dom_model.specs.Extract.{Pieces, nothing, whole, cut, clone, cut_start, cut_end, pieces_of, pieces_among, is_partly_contained, common_ancestor, is_in_one_data, clone_part, making_below, taking, new_fragment_node, own_document, new_place, behind_node, both_at, extracting}
+use Rattle.dom_model.specs.Extract.{Pieces, nothing, whole, cut, clone, cut_start, cut_end, pieces_of, common_ancestor, is_in_one_data, clone_part, making_below, taking, new_fragment_node, own_document, new_place, behind_node, both_at, extracting}
 use Rattle.dom_model.specs.RangeOps.{cutting_data, outermost_contained, deleting_contents, deleting, insertion_parent, start_reference, ending_at, inserting_before, inserting_at, inserting_into_range}
-use Rattle.dom_model.proofs.OwnerLaws.{name_eq-same}
 use Rattle.dom_isolation.specs.Worlds.{times_in, IsPart}
 use Rattle.dom_isolation.specs.Tables.{EndsIn, HasEnds, HasTables}
 use Rattle.dom_isolation.proofs.Lists.{all-filter}
 use Rattle.dom_isolation.proofs.Tests.{by_cases, either_way}
-use Rattle.dom_isolation.proofs.Trees.{by_times, times-here, times-subtree, times-more, ancestors-there}
-use Rattle.dom_isolation.proofs.TreeChangeLaws.{times-below}
+use Rattle.dom_isolation.proofs.Trees.{by_times, times-subtree, ancestors-there}
+use Rattle.dom_isolation.proofs.TreeChangeLaws.{times-below, nodes-named}
 use Rattle.dom_isolation.proofs.PartSteps.{next-absent}
 use Rattle.dom_isolation.proofs.KindCommands.{has_node-times}
 use Rattle.dom_isolation.proofs.Plans.{AllWhole}
+use Rattle.dom_isolation.proofs.FitPieces.{fit-then, common_below, whole-pieces}
 use Rattle.dom_isolation.proofs.TableSteps.{There}
 use Rattle.dom_isolation.proofs.TableRecords.{IfSome, last-all, tables-after, all-get}
 use Rattle.dom_isolation.proofs.Insides.{inside, inside-times, parent-there}
@@ -51,10 +51,7 @@ old-still count into p q h c x o = record { there = still c x o.there; alone = �
 
 -- of all pieces
 pub whole-then : (P Q : NodeName → Type 0) → ((x : NodeName) → P x → Q x) → (pieces : Pieces) → AllWhole P pieces → AllWhole Q pieces
-whole-then P Q f nothing h = tt
-whole-then P Q f (whole x rest) h = (f x h.0, whole-then P Q f rest h.1)
-whole-then P Q f (cut x from to rest) h = (f x h.0, whole-then P Q f rest h.1)
-whole-then P Q f (clone x inner rest) h = (f x h.0, whole-then P Q f inner h.1, whole-then P Q f rest h.2)
+whole-then P Q f pieces h = fit-then P P P Q Q Q f f f pieces h
 
 -- what is placed below a new node that itself went below another one
 pub changed-inner : (into new : NodeName) (p q r : Part) → times_in p.trees new ≡ 0 → Changed (Some into) p q → Changed (Some new) q r → Changed (Some into) p r
@@ -120,25 +117,12 @@ pub old-there : (p : Part) → IsPart p → (x : NodeName) → There p x → Old
 old-there p i x t =
     record { there = t; alone = λ z h. let a = inside-times p.trees x z in by_times (times_in p.trees z) (λ e. omega arith) (λ e. absurd (let b = i.numbered z e in omega arith)) }
 
--- the pieces of trees that are there
-pub among-there : (P : NodeName → Type 0) (ts : Trees) (range : Range NodeName) (us : Trees) → ((y : NodeName) → 1 ≤ times_in us y → P y) → AllWhole P (pieces_among ts range us)
-among-there P ts range none h = tt
-among-there P ts range (tree n c r) h =
-    let others = among-there P ts range r (λ y k. h y (let m = times-more n c r y in omega arith)) in
-    let inner = among-there P ts range c (λ y k. h y (let m = times-more n c r y in omega arith)) in
-    let here : P n.name = h n.name (let g = times-here n c r n.name (name_eq-same n.name) in omega arith) in
-    either_way (AllWhole P) (is_contained ts range n.name) (whole n.name (pieces_among ts range r)) _ (here, others)
-    (either_way (AllWhole P) (not (is_partly_contained ts range n.name)) (pieces_among ts range r) _ others
-    (either_way (AllWhole P) (has_data n.kind) (cut n.name (cut_start range n.name) (cut_end ts range n.name) (pieces_among ts range r)) (clone n.name (pieces_among ts range c) (pieces_among ts range r)) (here, others) (here, inner, others)))
-
 -- the pieces of a range
 pub pieces-there : (p : Part) (range : Range NodeName) → There p range.start.node → AllWhole (There p) (pieces_of p.trees range)
 pieces-there p range t =
     let ts = p.trees in
-    let below = trees_below (subtree ts (common_ancestor ts range)) in
-    either_way (AllWhole (There p)) (is_collapsed name_eq range) nothing _ tt
-    (either_way (AllWhole (There p)) (is_in_one_data ts range) (cut range.start.node range.start.offset range.end.offset nothing) _ (t, tt)
-    (among-there (There p) ts range below (λ y h. let a = times-below (subtree ts (common_ancestor ts range)) y in let b = times-subtree ts (common_ancestor ts range) y in omega arith)))
+    let top = subtree ts (common_ancestor ts range) in
+    whole-pieces (There p) ts range (λ e. t) (nodes-named (There p) (common_below ts range) (λ y h. let a = times-below top y in let b = times-subtree ts (common_ancestor ts range) y in omega arith))
 
 -- a node, or another one
 or-there : (p : Part) (o : Option NodeName) (x : NodeName) → IfSome (There p) o → There p x → There p (unwrap_or o x)

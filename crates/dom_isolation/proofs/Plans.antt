@@ -18,12 +18,16 @@ use Rattle.dom_model.specs.Extract.{Pieces, nothing, whole, cut, clone, cut_star
 use Rattle.dom_model.specs.RangeOps.{cutting_data, outermost_contained, deleting_contents, deleting, insertion_parent, start_reference, ending_at, inserting_before, inserting_at, inserting_into_range}
 use Rattle.dom_isolation.proofs.Lists.{all-append, all-from, all-then}
 
--- the nodes that an extraction takes, or clones
+-- What is known of the nodes of pieces: W of those that are taken whole, C of those that are cut, K of those that are cloned.
+abbrev pub AreFit : (NodeName → Type 0) → (NodeName → Type 0) → (NodeName → Type 0) → Pieces → Type 0
+AreFit W C K nothing = ⊤
+AreFit W C K (whole x rest) = W x × AreFit W C K rest
+AreFit W C K (cut x from to rest) = C x × AreFit W C K rest
+AreFit W C K (clone x inner rest) = K x × AreFit W C K inner × AreFit W C K rest
+
+-- one thing of all of them
 abbrev pub AllWhole : (NodeName → Type 0) → Pieces → Type 0
-AllWhole P nothing = ⊤
-AllWhole P (whole x rest) = P x × AllWhole P rest
-AllWhole P (cut x from to rest) = P x × AllWhole P rest
-AllWhole P (clone x inside rest) = P x × AllWhole P inside × AllWhole P rest
+AllWhole P = AreFit P P P
 
 -- What is asked of an invariant of parts, of the steps that are to keep it, and of the nodes that may be placed: steps do
 -- keep it, and the steps that plans make are such, each for what plans know of it.

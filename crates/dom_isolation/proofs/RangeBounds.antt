@@ -1,6 +1,5 @@
 -- Extractions and deletions of ranges' contents keep the ends of ranges within their nodes.
 use Rattle.std.proofs.Common.{◌≡◌, ◌≤◌, ℕ, ◌-◌, true, List, [], ◌∷◌, ◌++◌, Option, Some, None, refl, sym, ap, ◌∙◌, arith, subst}
-use Rattle.std.specs.Prelude.{⊤}
 use Rattle.std.specs.List.{AllByRecursion}
 use Rattle.dom_base.specs.declared.NodeName.{NodeName}
 use Rattle.dom_model.specs.Names.{name_eq}
@@ -23,24 +22,11 @@ use Rattle.dom_isolation.proofs.PlanChildren.{IsChild, IsNot, child-inserting, c
 use Rattle.dom_isolation.proofs.PlanPlaces.{Changed, MayGo, still, after-append, leads-then, leads-eased, leads-one, leads-inserting}
 use Rattle.dom_isolation.proofs.PlanTexts.{new-there, next-not, new-may, leads-replacing_data}
 use Rattle.dom_isolation.proofs.PlanContents.{OldIn, old-may, old-still, whole-then, changed-inner, leads-making_below, leads-taking}
-use Rattle.dom_isolation.proofs.Plans.{AllWhole}
+use Rattle.dom_isolation.proofs.Plans.{AreFit, AllWhole}
+use Rattle.dom_isolation.proofs.FitPieces.{fit-then}
 use Rattle.dom_isolation.proofs.TableSteps.{There}
 
--- Extraction: what is known of pieces.
-abbrev pub AreFit : (NodeName → Type 0) → (NodeName → Type 0) → (NodeName → Type 0) → Pieces → Type 0
-AreFit W C K nothing = ⊤
-AreFit W C K (whole x rest) = W x × AreFit W C K rest
-AreFit W C K (cut x from to rest) = C x × AreFit W C K rest
-AreFit W C K (clone x inner rest) = K x × AreFit W C K inner × AreFit W C K rest
-
--- what follows for each
-fit-then : (W C K W' C' K' : NodeName → Type 0) → ((x : NodeName) → W x → W' x) → ((x : NodeName) → C x → C' x) → ((x : NodeName) → K x → K' x) → (pieces : Pieces) → AreFit W C K pieces → AreFit W' C' K' pieces
-fit-then W C K W' C' K' f g k nothing h = tt
-fit-then W C K W' C' K' f g k (whole x rest) h = (f x h.0, fit-then W C K W' C' K' f g k rest h.1)
-fit-then W C K W' C' K' f g k (cut x from to rest) h = (g x h.0, fit-then W C K W' C' K' f g k rest h.1)
-fit-then W C K W' C' K' f g k (clone x inner rest) h = (k x h.0, fit-then W C K W' C' K' f g k inner h.1, fit-then W C K W' C' K' f g k rest h.2)
-
--- pieces of data are of Texts and Comments, and other clones are not
+-- Extraction: pieces of data are of Texts and Comments, and other clones are not.
 abbrev pub IsData : Part → NodeName → Type 0
 IsData p x = There p x × (has_data (kind_of p.trees x) ≡ true)
 

@@ -22,13 +22,13 @@ use Rattle.dom_isolation.proofs.NodesRead.{length-kids}
 use Rattle.dom_isolation.proofs.PlanBounds.{IsOpen}
 use Rattle.dom_isolation.proofs.PlanChildren.{IsChild}
 use Rattle.dom_isolation.proofs.RangeBounds.{AreChildren}
-use Rattle.dom_isolation.proofs.Roots.{all-in, root-above}
+use Rattle.dom_isolation.proofs.Roots.{all-in, self-above, root-above}
 use Rattle.dom_isolation.proofs.TableSteps.{There}
 use Rattle.dom_isolation.proofs.TableRecords.{IfSome, last-all, before-all, inside-alone}
 use Rattle.dom_isolation.proofs.Lists.{all-append, all-then}
 use Rattle.dom_isolation.proofs.Tests.{by_cases, or-later}
 use Rattle.dom_isolation.proofs.TextBounds.{children-among, kids-open}
-use Rattle.dom_isolation.proofs.Trees.{IsUnique, name_eq-true, name_eq-sym, ancestors-root, ancestors-there, ancestors-present, times-here}
+use Rattle.dom_isolation.proofs.Trees.{IsUnique, name_eq-true, name_eq-sym, ancestors-root, ancestors-there, times-here}
 
 -- Some children of a node before which a boundary does not come: so many that it is within the node, and they are spared.
 pub record IsRoomAt (p : Part) (r : Range NodeName) (b : Boundary NodeName) : Type 0 where
@@ -133,14 +133,9 @@ room-outer p r i h t te one apart =
     (Rattle.dom_isolation.proofs.Trees.all-both (There p) (λ a. root_of ts a ≡ root_of ts start) (inclusive_ancestors ts start) (ancestors-there ts start) (ancestors-root ts i.unique start)) (listed-each (inclusive_ancestors ts start)) in
     let G : NodeName → Type 0 = λ a. F a × (outside a ≡ true) in
     let kept : AllByRecursion G above = Rattle.dom_isolation.proofs.TableRecords.all-kept F outside (inclusive_ancestors ts start) all in
-    let own : G start = (((t, refl), self), ap not apart) in
+    let own : G start = (((t, refl), self-above ts start t), ap not apart) in
     chosen (last_of above) (last-all G above kept) own
   where
-    self : is_inclusive_ancestor p.trees r.start.node r.start.node ≡ true
-    self =
-        let at = ancestors-present p.trees r.start.node t in
-        ap (is_in name_eq r.start.node) at.1 ∙ Rattle.dom_isolation.proofs.Tests.or-first (name_eq r.start.node r.start.node) (is_in name_eq r.start.node at.0) (Rattle.dom_model.proofs.OwnerLaws.name_eq-same r.start.node)
-
     placed : (a : NodeName) → There p a → root_of p.trees a ≡ root_of p.trees r.start.node → is_inclusive_ancestor p.trees a r.start.node ≡ true → not (is_inclusive_ancestor p.trees a r.end.node) ≡ true → (o : Option NodeName) → parent_of p.trees a ≡ o → IsRoomAt p r (at (unwrap_or o a) (suc (index_of p.trees a)))
     placed a ta same up out None e =
         let ts = p.trees in

@@ -2,26 +2,32 @@
 use Rattle.std.proofs.Common.{◌≡◌, ◌≤◌, ℕ, ◌-◌, Bool, true, false, not, ◌&&◌, List, [], ◌∷◌, ◌++◌, length, Some, None, refl, sym, ap, ◌∙◌, arith, true≢false, subst}
 use Rattle.std.specs.Prelude.{if◌then◌else◌, min}
 use Rattle.std.specs.List.{AllByRecursion}
-use Rattle.std.proofs.lemmas.Bool.{cond-true, cond-false, and_parts}
+use Rattle.std.proofs.lemmas.Bool.{cond-true, cond-false, and_parts, not-true}
 use Rattle.dom_base.specs.declared.NodeName.{NodeName}
-use Rattle.dom_model.specs.Names.{DomString, name_eq, is_in}
+use Rattle.dom_model.specs.Names.{DomString, name_eq}
 use Rattle.dom_model.specs.Tree.{Trees, none, tree, Node, node_in, kind_of, has_data, subtree, trees_below, length_of, is_inclusive_ancestor, names_of, nodes}
 use Rattle.dom_model.specs.TreeChanges.{with_name}
 use Rattle.dom_model.specs.Output.{character_data}
 use Rattle.dom_model.specs.Part.{Part, next_name}
-use Rattle.dom_model.specs.Place.{Boundary, same_root}
-use Rattle.dom_model.specs.Ranges.{Range, is_collapsed, is_contained}
+use Rattle.dom_model.specs.Place.{Boundary, is_before, same_root}
+use Rattle.dom_model.specs.Ranges.{Range, at, is_collapsed, is_contained}
 use Rattle.dom_model.specs.Steps.{Step, make, set_range, queue_record, part_step, after}
 use Rattle.dom_model.specs.Changes.{Plan, ◌and_then◌, in_turn, doing, steps_of, observed, removing, inserting}
 use Rattle.dom_model.specs.TextChanges.{replacing_data}
-use Rattle.dom_model.specs.Extract.{Pieces, nothing, whole, cut, clone, cut_start, cut_end, pieces_of, pieces_among, is_partly_contained, common_ancestor, is_in_one_data, clone_part, making_below, taking, new_fragment_node, own_document, new_place, both_at, extracting}
+use Rattle.dom_model.specs.Extract.{Pieces, nothing, cut, tree_holding, cut_start, cut_end, pieces_of, common_ancestor, is_in_one_data, clone_part, making_below, taking, new_fragment_node, own_document, new_place, both_at, extracting}
 use Rattle.dom_model.specs.RangeOps.{cutting_data, outermost_contained, deleting_contents, deleting}
 use Rattle.dom_model.proofs.OwnerLaws.{name_eq-same}
 use Rattle.dom_isolation.specs.Worlds.{times_in, IsPart, AllNodes}
 use Rattle.dom_isolation.proofs.Bounds.{Under, reach, nowhere, HasRoom, room-make, room-set}
 use Rattle.dom_isolation.proofs.Bounds as bounds
 use Rattle.dom_isolation.proofs.Contained.{IsSpared}
+use Rattle.dom_isolation.proofs.Descents.{inside-ancestor, inside-below}
+use Rattle.dom_isolation.proofs.FitPieces.{IsClonable, common_below, fit-apart, fit-pieces}
+use Rattle.dom_isolation.proofs.Insides.{inside, inside-here, inside-without}
 use Rattle.dom_isolation.proofs.Kids.{kids}
+use Rattle.dom_isolation.proofs.Plans.{AreFit}
+use Rattle.dom_isolation.proofs.Roots.{self-above, above-parent}
+use Rattle.dom_isolation.proofs.TableRecords.{above-above}
 use Rattle.dom_isolation.proofs.NodesRead.{length-data, node-with_node, node-new, read-all}
 use Rattle.dom_isolation.proofs.Lists.{all-then, all-passed}
 use Rattle.dom_isolation.proofs.PartSteps.{next-absent}
@@ -29,14 +35,14 @@ use Rattle.dom_isolation.proofs.PlanBounds.{room-then, room-removals, room-repla
 use Rattle.dom_isolation.proofs.PlanPlaces.{Changed, MayGo, still, after-append, leads-one, leads-nothing, leads-inserting}
 use Rattle.dom_isolation.proofs.PlanTexts.{new-there, next-not, new-may, leads-removals, leads-replacing_data}
 use Rattle.dom_isolation.proofs.PlanContents.{OldIn, old-there, whole-then, leads-making_below, pieces-there, leads-taking}
-use Rattle.dom_isolation.proofs.PlanChildren.{IsChild, IsNot, child-removals, child-replacing_data, child-make}
-use Rattle.dom_isolation.proofs.RangeBounds.{AreChildren, AreFit, Misses, IsData, IsOpenIn, fits-still, room-taking}
+use Rattle.dom_isolation.proofs.PlanChildren.{IsChild, IsNot, child-removals, child-replacing_data, child-make, child-parent}
+use Rattle.dom_isolation.proofs.RangeBounds.{AreChildren, Misses, IsData, IsOpenIn, fits-still, room-taking}
 use Rattle.dom_isolation.proofs.RangeEnds.{room-at, above-kids, room-place_new}
 use Rattle.dom_isolation.proofs.TableSteps.{There}
-use Rattle.dom_isolation.proofs.Tests.{by_cases, either_way, which_way, or-first}
+use Rattle.dom_isolation.proofs.Tests.{by_cases, either_way, which_way}
 use Rattle.dom_isolation.proofs.TextBounds.{replaced-here}
-use Rattle.dom_isolation.proofs.TreeChangeLaws.{nodes-subtree, times-below}
-use Rattle.dom_isolation.proofs.Trees.{IsUnique, ancestors-present, name_eq-true, times-here, times-more, times-subtree}
+use Rattle.dom_isolation.proofs.TreeChangeLaws.{nodes-subtree, nodes-then, nodes-named}
+use Rattle.dom_isolation.proofs.Trees.{IsUnique, name_eq-true}
 
 -- What is asked of a range: its ends are nodes of one tree, and its start is within its node.
 pub record IsProper (p : Part) (r : Range NodeName) : Type 0 where
@@ -44,10 +50,6 @@ pub record IsProper (p : Part) (r : Range NodeName) : Type 0 where
   pub end : There p r.end.node
   pub one_tree : same_root p.trees r.start.node r.end.node ≡ true
   pub within : r.start.offset ≤ length_of p.trees r.start.node
-
--- a node is its own inclusive ancestor
-self-above : (ts : Trees) (x : NodeName) → 1 ≤ times_in ts x → is_inclusive_ancestor ts x x ≡ true
-self-above ts x t = let at = ancestors-present ts x t in ap (is_in name_eq x) at.1 ∙ or-first (name_eq x x) (is_in name_eq x at.0) (name_eq-same x)
 
 -- a number is not zero and more
 zero_one : (k : ℕ) → k ≡ 0 → 1 ≤ k → ⊥
@@ -110,10 +112,10 @@ children-left xs y zs q i d c = (each xs d c.0, still (leads-removals observed z
     each [] d h = tt
     each (x ∷ xs) d h = let m = heads x xs zs d in (child-removals x y observed zs q i m.0 h.0, each xs m.1 h.1)
 
--- what is contained is none of the spared
-contained-not : (ts : Trees) (r : Range NodeName) (z : NodeName) → is_contained ts r z ≡ true → (xs : List NodeName) → AllByRecursion (λ x. is_contained ts r x ≡ false) xs → AllByRecursion (λ x. IsNot x z) xs
-contained-not ts r z h xs s =
-    all-then (λ x. is_contained ts r x ≡ false) (λ x. IsNot x z) (λ x g. by_cases (name_eq z x) (λ e. absurd (true≢false (sym h ∙ ap (is_contained ts r) (name_eq-true z x e) ∙ g))) (λ e. e)) xs s
+-- what begins behind the start is none of the nodes before which the start does not come
+early-not : (ts : Trees) (r : Range NodeName) (z : NodeName) → is_before ts r.start (at z 0) ≡ true → (xs : List NodeName) → AllByRecursion (λ x. is_before ts r.start (at x 0) ≡ false) xs → AllByRecursion (λ x. IsNot x z) xs
+early-not ts r z h xs s =
+    all-then (λ x. is_before ts r.start (at x 0) ≡ false) (λ x. IsNot x z) (λ x g. by_cases (name_eq z x) (λ e. absurd (true≢false (sym h ∙ ap (λ y. is_before ts r.start (at y 0)) (name_eq-true z x e) ∙ g))) (λ e. e)) xs s
 
 -- The last step: the range gets its new place.
 room-last : (p q : Part) (k : ℕ) (b : Boundary NodeName) → b.offset ≤ length_of q.trees b.node → HasRoom nowhere q → HasRoom nowhere (part_step q (set_range k (both_at b)))
@@ -168,7 +170,7 @@ room-deleting k r p i g h =
         let two = in_turn (removing observed) gone q in
         let lq = leads-removals observed gone q a.part in
         let s = after q two in
-        let missing = all-then (λ z. is_contained ts r z ≡ true) (λ z. AllByRecursion (λ x. IsNot x z) xs) (λ z c. contained-not ts r z c xs room.spared.children) gone
+        let missing = all-then (λ z. is_contained ts r z ≡ true) (λ z. AllByRecursion (λ x. IsNot x z) xs) (λ z c. early-not ts r z (and_parts (is_before ts r.start (at z 0)) _ c).0 xs room.spared.children) gone
         (all-passed (λ z. is_contained ts r z ≡ true) _ (λ z c. (and_parts (is_contained ts r z) _ c).0) (names_of (nodes ts))) in
         let cs = children-left xs y gone q a.part missing a.children in
         let rs = room-removals nowhere observed gone q a.part a.room in
@@ -184,50 +186,72 @@ room-deleting k r p i g h =
         subst (λ steps. HasRoom nowhere (after p steps) × (b.offset ≤ length_of (after p steps).trees b.node)) (sym plan)
         (subst (λ (v : Part). HasRoom nowhere v × (b.offset ≤ length_of v.trees b.node)) (sym end) (c.room, room-at p (after sr three) r b room c.part opened c.children))
 
--- Extraction. Each node of the trees is the one that is read under its name.
-all-read : (ts : Trees) → IsUnique ts → AllNodes (λ n. n ≡ node_in ts n.name) ts
-all-read ts u = diagonal ts (there ts (λ y m. m)) (λ y t. read-all ts y u t)
+-- Extraction. Each node of the trees is there, and is the one that is read under its name.
+all-read : (ts : Trees) → IsUnique ts → AllNodes (λ n. (1 ≤ times_in ts n.name) × (n ≡ node_in ts n.name)) ts
+all-read ts u = diagonal ts (nodes-named (λ y. 1 ≤ times_in ts y) ts (λ y m. m)) (λ y t. read-all ts y u t)
   where
-    there : (us : Trees) → ((y : NodeName) → 1 ≤ times_in us y → 1 ≤ times_in ts y) → AllNodes (λ n. 1 ≤ times_in ts n.name) us
-    there none f = tt
-    there (tree n c r) f =
-        (f n.name (let g = times-here n c r n.name (name_eq-same n.name) in omega arith), there c (λ y m. f y (let g = times-more n c r y in omega arith)), there r (λ y m. f y (let g = times-more n c r y in omega arith)))
-
-    diagonal : (us : Trees) → AllNodes (λ n. 1 ≤ times_in ts n.name) us → ((y : NodeName) → 1 ≤ times_in ts y → AllNodes (λ n. name_eq n.name y ≡ true → n ≡ node_in ts y) us) → AllNodes (λ n. n ≡ node_in ts n.name) us
+    diagonal : (us : Trees) → AllNodes (λ n. 1 ≤ times_in ts n.name) us → ((y : NodeName) → 1 ≤ times_in ts y → AllNodes (λ n. name_eq n.name y ≡ true → n ≡ node_in ts y) us) → AllNodes (λ n. (1 ≤ times_in ts n.name) × (n ≡ node_in ts n.name)) us
     diagonal none h f = tt
-    diagonal (tree n c r) h f = ((f n.name h.0).0 (name_eq-same n.name), diagonal c h.1 (λ y t. (f y t).1), diagonal r h.2 (λ y t. (f y t).2))
-
--- the pieces of trees
-fit-among : (p : Part) (xs : List NodeName) (y : NodeName) (r : Range NodeName) → IsSpared p.trees r y xs → (us : Trees) → AllNodes (λ n. n ≡ node_in p.trees n.name) us → ((z : NodeName) → 1 ≤ times_in us z → There p z) → AreFit (Misses xs y) (IsData p) (IsOpenIn p) (pieces_among p.trees r us)
-fit-among p xs y r s none a f = tt
-fit-among p xs y r s (tree n c e) a f =
-    let ts = p.trees in
-    let others = fit-among p xs y r s e a.2 (λ z m. f z (let g = times-more n c e z in omega arith)) in
-    let inner = fit-among p xs y r s c a.1 (λ z m. f z (let g = times-more n c e z in omega arith)) in
-    let t = f n.name (let g = times-here n c e n.name (name_eq-same n.name) in omega arith) in
-    let P = AreFit (Misses xs y) (IsData p) (IsOpenIn p) in
-    which_way P (is_contained ts r n.name) (whole n.name (pieces_among ts r e)) (if not (is_partly_contained ts r n.name) then pieces_among ts r e else (if has_data n.kind then cut n.name (cut_start r n.name) (cut_end ts r n.name) (pieces_among ts r e) else clone n.name (pieces_among ts r c) (pieces_among ts r e)))
-    (λ k. ((by_cases (name_eq n.name y) (λ m. absurd (true≢false (sym k ∙ ap (is_contained ts r) (name_eq-true n.name y m) ∙ s.parent))) (λ m. m), contained-not ts r n.name k xs s.children), others))
-    (λ k. either_way P (not (is_partly_contained ts r n.name)) (pieces_among ts r e) _ others
-    (which_way P (has_data n.kind) (cut n.name (cut_start r n.name) (cut_end ts r n.name) (pieces_among ts r e)) (clone n.name (pieces_among ts r c) (pieces_among ts r e))
-    (λ d. ((t, sym (ap (λ (m : Node). has_data m.kind) a.0) ∙ d), others)) (λ d. ((t, sym (ap (λ (m : Node). has_data m.kind) a.0) ∙ d), inner, others))))
+    diagonal (tree n c r) h f = ((h.0, (f n.name h.0).0 (name_eq-same n.name)), diagonal c h.1 (λ y t. (f y t).1), diagonal r h.2 (λ y t. (f y t).2))
 
 -- the trees below a node
 below-read : (P : Node → Type 0) (ts : Trees) → AllNodes P ts → AllNodes P (trees_below ts)
 below-read P none h = tt
 below-read P (tree n c r) h = h.1
 
--- the pieces of a range
-fit-pieces : (p : Part) (xs : List NodeName) (y : NodeName) (r : Range NodeName) → IsPart p → There p r.start.node → IsSpared p.trees r y xs → AreFit (Misses xs y) (IsData p) (IsOpenIn p) (pieces_of p.trees r)
-fit-pieces p xs y r i t s =
+-- A node in a tree whose root is an inclusive ancestor of a range's end node, and not of its start node.
+record IsHeld (ts : Trees) (r : Range NodeName) (z : NodeName) : Type 0 where
+  root : NodeName
+  above : is_inclusive_ancestor ts root r.end.node ≡ true
+  apart : is_inclusive_ancestor ts root r.start.node ≡ false
+  over : is_inclusive_ancestor ts root z ≡ true
+
+-- so is each node of the tree that holds the end alone
+all-held : (ts : Trees) (r : Range NodeName) → IsUnique ts → (us : Trees) → ((a z : NodeName) → inside us a z ≤ inside ts a z) → AllNodes (λ n. IsHeld ts r n.name) (tree_holding ts r.end.node r.start.node us)
+all-held ts r u none f = tt
+all-held ts r u (tree n c e) f =
+    let has_end = is_inclusive_ancestor ts n.name r.end.node in
+    let has_start = is_inclusive_ancestor ts n.name r.start.node in
+    which_way (AllNodes (λ m. IsHeld ts r m.name)) (has_end && not has_start) (tree n c none) (tree_holding ts r.end.node r.start.node e)
+    (λ k. let both = and_parts has_end (not has_start) k in
+    nodes-named (IsHeld ts r) (tree n c none) (λ z m. record {
+      root = n.name;
+      above = both.0;
+      apart = not-true has_start both.1;
+      over = inside-ancestor ts n.name z u (let i = inside-here n c e n.name z (name_eq-same n.name) in let j = f n.name z in omega arith);
+    }))
+    (λ k. all-held ts r u e (λ a z. let j = f a z in omega arith))
+
+-- where such a node is not above the end, it is none of the children of a node above the start, nor that node
+held-misses : (p : Part) (xs : List NodeName) (y : NodeName) (r : Range NodeName) → IsPart p → AreChildren xs y p → is_inclusive_ancestor p.trees y r.start.node ≡ true → (z : NodeName) → IsHeld p.trees r z → is_inclusive_ancestor p.trees z r.end.node ≡ false → Misses xs y z
+held-misses p xs y r i c above z h g =
     let ts = p.trees in
-    let P = AreFit (Misses xs y) (IsData p) (IsOpenIn p) in
+    let root = h.root in
+    let lower : name_eq root z ≡ false = by_cases (name_eq root z) (λ e. absurd (true≢false (sym h.above ∙ ap (λ a. is_inclusive_ancestor ts a r.end.node) (name_eq-true root z e) ∙ g))) (λ e. e) in
+    let not_over : is_inclusive_ancestor ts root y ≡ true → ⊥ = λ k. true≢false (sym (above-above ts root y r.start.node i.unique k above) ∙ h.apart) in (
+      by_cases (name_eq z y) (λ e. absurd (not_over (subst (λ a. is_inclusive_ancestor ts root a ≡ true) (name_eq-true z y e) h.over))) (λ e. e),
+      all-then (λ x. IsChild x y p) (λ x. IsNot x z)
+          (λ x k. by_cases (name_eq z x)
+          (λ e. let same = name_eq-true z x e in
+          absurd (not_over (above-parent ts root x y i.unique (child-parent p x y i k) (subst (λ a. is_inclusive_ancestor ts root a ≡ true) same h.over) (subst (λ a. name_eq root a ≡ false) same lower))))
+          (λ e. e))
+          xs c.0,
+    )
+
+-- the pieces of a range
+fit-range : (p : Part) (xs : List NodeName) (y : NodeName) (r : Range NodeName) → IsPart p → There p r.start.node → IsSpared p.trees r y xs → AreChildren xs y p → AreFit (Misses xs y) (IsData p) (IsOpenIn p) (pieces_of p.trees r)
+fit-range p xs y r i t s c =
+    let ts = p.trees in
+    let W = Misses xs y in
     let a = common_ancestor ts r in
-    let below = trees_below (subtree ts a) in
-    either_way P (is_collapsed name_eq r) nothing _ tt
-    (which_way P (is_in_one_data ts r) (cut r.start.node r.start.offset r.end.offset nothing) (pieces_among ts r below)
-    (λ e. ((t, (and_parts (name_eq r.start.node r.end.node) (has_data (kind_of ts r.start.node)) e).1), tt))
-    (λ e. fit-among p xs y r s below (below-read (λ n. n ≡ node_in ts n.name) (subtree ts a) (nodes-subtree (λ n. n ≡ node_in ts n.name) ts a (all-read ts i.unique))) (λ z m. let b = times-below (subtree ts a) z in let c = times-subtree ts a z in omega arith)))
+    let below = common_below ts r in
+    let Read : Node → Type 0 = λ n. (1 ≤ times_in ts n.name) × (n ≡ node_in ts n.name) in
+    let clonable = nodes-then Read (IsClonable (IsData p) (IsOpenIn p)) (λ n h. let kind = sym (ap (λ (m : Node). has_data m.kind) h.1) in ((λ d. (h.0, kind ∙ d)), (λ d. (h.0, kind ∙ d)))) below
+    (below-read Read (subtree ts a) (nodes-subtree Read ts a (all-read ts i.unique))) in
+    let early = nodes-named (λ z. is_before ts r.start (at z 0) ≡ true → W z) below (λ z m k. early-not ts r z k (y ∷ xs) (s.parent, s.children)) in
+    let held = all-held ts r i.unique below (λ x z. let b = inside-below (subtree ts a) x z in let w = inside-without ts a x z in omega arith) in
+    let last = nodes-then (λ n. IsHeld ts r n.name) (λ n. is_inclusive_ancestor ts n.name r.end.node ≡ false → W n.name) (λ n h. held-misses p xs y r i c s.above n.name h) (tree_holding ts r.end.node r.start.node below) held in
+    fit-pieces W (IsData p) (IsOpenIn p) ts r (λ e. (t, (and_parts (name_eq r.start.node r.end.node) (has_data (kind_of ts r.start.node)) e).1)) (fit-apart W (IsData p) (IsOpenIn p) ts r clonable early last)
 
 -- pieces that were there before a new node are old
 pieces-old : (p q : Part) → Changed None p q → IsPart p → (pieces : Pieces) → Rattle.dom_isolation.proofs.Plans.AllWhole (There p) pieces → Rattle.dom_isolation.proofs.Plans.AllWhole (OldIn p.node_count q) pieces
@@ -288,7 +312,7 @@ room-extracting k r p i g h =
         let kc = room.children in
         let kids_q : AreChildren room.held b.node q = (all-then (λ x. IsChild x b.node p) (λ x. IsChild x b.node q) (λ x m. child-make x b.node n p m) room.held kc.0, still c b.node kc.1) in
         let old = pieces-old p q c i pieces (pieces-there p r g.start) in
-        let fit = fits-still room.held b.node p q c pieces (fit-pieces p room.held b.node r i g.start room.spared) in
+        let fit = fits-still room.held b.node p q c pieces (fit-range p room.held b.node r i g.start room.spared kc) in
         let le : p.node_count ≤ (next_name p).number = omega arith in
         let taken = room-taking room.held b.node p.node_count pieces (next_name p) q c.part c.count (new-there p n) opened le old fit (room-make nowhere p n i h) kids_q in
         let l = leads-taking p.node_count pieces (next_name p) q c.part c.count (new-there p n) le old in

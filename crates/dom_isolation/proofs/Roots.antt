@@ -78,6 +78,18 @@ ancestors-step (tree n c r) x y u h =
         all ∙ ap (λ p. p ++ n.name ∷ []) behind
         ∙ ap (λ p. x ∷ p) (sym (cond-false (name_eq n.name y) (y ∷ []) (on_top (inclusive_ancestors c y) n.name (inclusive_ancestors r y)) other ∙ ap (λ p. on_top p n.name (inclusive_ancestors r y)) rest.1))
 
+-- a node is an inclusive ancestor of itself
+pub self-above : (ts : Trees) (x : NodeName) → 1 ≤ times_in ts x → is_inclusive_ancestor ts x x ≡ true
+self-above ts x t = let at = ancestors-present ts x t in ap (is_in name_eq x) at.1 ∙ or-first (name_eq x x) (is_in name_eq x at.0) (name_eq-same x)
+
+-- a parent is one of its child
+pub parent-above : (ts : Trees) (x y : NodeName) → IsUnique ts → parent_of ts x ≡ Some y → is_inclusive_ancestor ts y x ≡ true
+parent-above ts x y u h = ap (is_in name_eq y) (ancestors-step ts x y u h) ∙ or-second (name_eq y x) (is_inclusive_ancestor ts y y) (self-above ts y (parent-there ts x y h))
+
+-- an ancestor of a child is an inclusive ancestor of its parent
+pub above-parent : (ts : Trees) (a x y : NodeName) → IsUnique ts → parent_of ts x ≡ Some y → is_inclusive_ancestor ts a x ≡ true → name_eq a x ≡ false → is_inclusive_ancestor ts a y ≡ true
+above-parent ts a x y u h k d = or-later (name_eq a x) (is_inclusive_ancestor ts a y) d (sym (ap (is_in name_eq a) (ancestors-step ts x y u h)) ∙ k)
+
 -- a parent does not stand in its child's tree
 pub parent-apart : (ts : Trees) (x y : NodeName) → IsUnique ts → parent_of ts x ≡ Some y → inside ts x y ≡ 0
 parent-apart none x y u h = cc
@@ -121,9 +133,7 @@ root-one ts u a z h = all-in (λ y. root_of ts y ≡ root_of ts z) a (inclusive_
 
 -- so a child has its parent's
 pub root-parent_of : (ts : Trees) → IsUnique ts → (x y : NodeName) → parent_of ts x ≡ Some y → root_of ts y ≡ root_of ts x
-root-parent_of ts u x y h =
-    let at = ancestors-present ts y (parent-there ts x y h) in
-    root-one ts u y x (ap (is_in name_eq y) (ancestors-step ts x y u h ∙ ap (λ p. x ∷ p) at.1) ∙ or-second (name_eq y x) (is_in name_eq y (y ∷ at.0)) (or-first (name_eq y y) (is_in name_eq y at.0) (name_eq-same y)))
+root-parent_of ts u x y h = root-one ts u y x (parent-above ts x y u h)
 
 -- one root, as the model tests it
 pub roots-equal : (ts : Trees) (a b : NodeName) → same_root ts a b ≡ true → root_of ts a ≡ root_of ts b

@@ -1,5 +1,5 @@
 -- An accepted command of a component places no shadow root.
-use Rattle.std.proofs.Common.{◌≡◌, ℕ, ◌≤◌, Bool, true, false, not, ◌&&◌, List, [], ◌∷◌, ◌++◌, find, filter, drop, unwrap_or, Option, Some, None, refl, sym, ap, ◌∙◌, arith, true≢false, subst}
+use Rattle.std.proofs.Common.{◌≡◌, ℕ, ◌≤◌, Bool, true, false, not, ◌&&◌, List, [], ◌∷◌, ◌++◌, find, filter, drop, unwrap_or, Option, Some, None, refl, sym, ap, ◌∙◌, arith, true≢false}
 use Rattle.std.specs.Prelude.{if◌then◌else◌}
 use Rattle.std.specs.List.{AllByRecursion}
 use Rattle.std.specs.Option.{option_map_or, option_or}
@@ -12,21 +12,21 @@ use Rattle.dom_model.specs.Names.{name_eq}
 use Rattle.dom_model.specs.Tree.{Trees, none, tree, Node, nodes, names_of, roots, no_node, kind_of, has_data, is_inclusive_ancestor, child_nodes, subtree, trees_below}
 use Rattle.dom_model.specs.Command.{Command, Spelled}
 use Rattle.dom_model.specs.Part.{Part, range_at}
-use Rattle.dom_model.specs.Ranges.{Range, is_collapsed, is_contained}
+use Rattle.dom_model.specs.Ranges.{Range}
 use Rattle.dom_model.specs.Validity.{first_refusal, has_parent, may_be_parent, may_be_inserted, placing_tests, insertion_refusal, replacement_refusal}
 use Rattle.dom_model.specs.CommandNames.{named}
 use Rattle.dom_model.specs.CommandRefusals.{own_refusal, limit_on, made_by_insert_node}
 use Rattle.dom_model.specs.RangeOps.{cannot_take_node, insert_node_refusal, insertion_parent, start_reference}
-use Rattle.dom_model.specs.Extract.{nothing, whole, cut, clone, is_partly_contained, cut_start, cut_end, pieces_among, pieces_of, common_ancestor, is_in_one_data}
+use Rattle.dom_model.specs.Extract.{pieces_of, common_ancestor}
 use Rattle.dom_model.specs.Effects.{Effect, effect}
-use Rattle.dom_model.specs.Output.{nothing}
 use Rattle.std.proofs.lemmas.List.Folds.{find-append}
 use Rattle.dom_isolation.specs.Worlds.{times_in, IsShadowAt}
-use Rattle.dom_isolation.proofs.Tests.{by_cases, either_way}
+use Rattle.dom_isolation.proofs.Tests.{by_cases}
 use Rattle.dom_isolation.proofs.Trees.{name_eq-true, root-there, times-here, times-elsewhere, times-more, by_times}
-use Rattle.dom_isolation.proofs.TreeChangeLaws.{nodes-listed, root-below_none}
+use Rattle.dom_isolation.proofs.TreeChangeLaws.{nodes-listed, nodes-named, root-below_none}
 use Rattle.dom_isolation.proofs.PartSteps.{Allowed, IsOwn, own-step, next-other}
 use Rattle.dom_isolation.proofs.Plans.{AllWhole, IsKept}
+use Rattle.dom_isolation.proofs.FitPieces.{common_below, whole-pieces}
 use Rattle.dom_isolation.proofs.Acceptance.{or-none, next-test}
 use Rattle.dom_isolation.proofs.PlanCommands.{Makes, MayDo, made-effect}
 
@@ -115,18 +115,6 @@ module _ (r : NodeName) where
   absent-other (tree n c rest) h =
       (by_cases (name_eq n.name r) (λ e. absurd (let g = times-here n c rest r e in omega arith)) (λ e. e), absent-other rest (let g = times-more n c rest r in omega arith))
 
-  -- the pieces of trees in which r is not
-  whole-among : (ts : Trees) (range : Range NodeName) (us : Trees) → times_in us r ≡ 0 → AllWhole (IsOther r) (pieces_among ts range us)
-  whole-among ts range none h = tt
-  whole-among ts range (tree n c rest) h =
-      let more = times-more n c rest r in
-      let others = whole-among ts range rest (omega arith) in
-      let inside = whole-among ts range c (omega arith) in
-      let other : IsOther r n.name = by_cases (name_eq n.name r) (λ e. absurd (let g = times-here n c rest r e in omega arith)) (λ e. e) in
-      either_way (AllWhole (IsOther r)) (is_contained ts range n.name) (whole n.name (pieces_among ts range rest)) _ (other, others)
-      (either_way (AllWhole (IsOther r)) (not (is_partly_contained ts range n.name)) (pieces_among ts range rest) _ others
-      (either_way (AllWhole (IsOther r)) (has_data n.kind) (cut n.name (cut_start range n.name) (cut_end ts range n.name) (pieces_among ts range rest)) (clone n.name (pieces_among ts range c) (pieces_among ts range rest)) (other, others) (other, inside, others)))
-
   -- a Text or a Comment is no shadow root
   data-other : (p : Part) → IsOwn r p → (x y : NodeName) → is_in_data p x y ≡ true → IsOther r x
   data-other p o x y h =
@@ -137,12 +125,10 @@ module _ (r : NodeName) where
   whole-of : (p : Part) → IsOwn r p → (range : Range NodeName) → AllWhole (IsOther r) (pieces_of p.trees range)
   whole-of p o range =
       let ts = p.trees in
-      let below = trees_below (subtree ts (common_ancestor ts range)) in
-      let one = cut range.start.node range.start.offset range.end.offset nothing in
-      either_way (AllWhole (IsOther r)) (is_collapsed name_eq range) nothing _ tt
-      (by_cases (is_in_one_data ts range)
-      (λ e. subst (AllWhole (IsOther r)) (sym (cond-true (is_in_one_data ts range) one (pieces_among ts range below) e)) (data-other p o range.start.node range.end.node e, tt))
-      (λ e. subst (AllWhole (IsOther r)) (sym (cond-false (is_in_one_data ts range) one (pieces_among ts range below) e)) (whole-among ts range below (root-below_none ts o.part.unique r o.root.alone (common_ancestor ts range)))))
+      let below = common_below ts range in
+      let absent : times_in below r ≡ 0 = root-below_none ts o.part.unique r o.root.alone (common_ancestor ts range) in
+      whole-pieces (IsOther r) ts range (data-other p o range.start.node range.end.node)
+      (nodes-named (IsOther r) below (λ y h. by_cases (name_eq y r) (λ e. absurd (let same = ap (times_in below) (name_eq-true y r e) in omega arith)) (λ e. e)))
 
   -- The rules of plans, for a part with its shadow root r, which no step places.
   pub shadow-rules : IsKept (IsOwn r) (Allowed r) (IsOther r)

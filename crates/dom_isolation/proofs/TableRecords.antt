@@ -180,6 +180,15 @@ pub inside-alone : (ts : Trees) (x y : NodeName) → IsUnique ts → inside ts x
 inside-alone ts x y u =
     by_times (times_in ts x) (λ z. let a = inside-absent ts x y z in omega arith) (λ z. inside-nested ts x x y u (root-there (subtree ts x) x (root-subtree ts x z)))
 
+-- an inclusive ancestor of an inclusive ancestor is one
+pub above-above : (ts : Trees) (a y z : NodeName) → IsUnique ts → is_inclusive_ancestor ts a y ≡ true → is_inclusive_ancestor ts y z ≡ true → is_inclusive_ancestor ts a z ≡ true
+above-above ts a y z u h k =
+    let over = ancestor-inside ts a y h in
+    let under = ancestor-inside ts y z k in
+    let alone = inside-alone ts a y u in
+    let nested = inside-nested ts a y z u (omega arith) in
+    let all = times-inside ts a z in inside-ancestor ts a z u (omega arith)
+
 -- an iterator before the removal of a node, as it is after it
 iterator-left : (ts : Trees) (x : NodeName) (i : Iterator) → IsUnique ts → IsUnique (taken_out x ts) → Grows ts (taken_out x ts) → IsIteratorIn ts i → IsIteratorIn (taken_out x ts) (adjusted_iterator ts x i)
 iterator-left ts x i u v g h =

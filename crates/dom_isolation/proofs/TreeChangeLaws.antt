@@ -7,6 +7,7 @@ use Rattle.dom_base.specs.declared.NodeName.{NodeName}
 use Rattle.dom_model.specs.Names.{name_eq, name_before, is_in}
 use Rattle.dom_model.specs.Tree.{Trees, none, tree, Node, nodes, names_of, roots, subtree, or_else, trees_below}
 use Rattle.dom_model.specs.TreeChanges.{followed_by, without, is_given, put_before, put_below, put_root, taken_out, placed, with_node, map_nodes}
+use Rattle.dom_model.proofs.OwnerLaws.{name_eq-same}
 use Rattle.dom_isolation.specs.Worlds.{times_in, AllNodes}
 use Rattle.dom_isolation.proofs.Lists.{all-append}
 use Rattle.dom_isolation.proofs.Tests.{by_cases, or-later, or-first, or-second}
@@ -219,6 +220,14 @@ module _ (P : Node → Type 0) where
 pub nodes-then : (P Q : Node → Type 0) → ((n : Node) → P n → Q n) → (ts : Trees) → AllNodes P ts → AllNodes Q ts
 nodes-then P Q f none h = tt
 nodes-then P Q f (tree n c r) h = (f n h.0, nodes-then P Q f c h.1, nodes-then P Q f r h.2)
+
+-- what holds of each name that is there
+pub nodes-named : (P : NodeName → Type 0) (ts : Trees) → ((x : NodeName) → 1 ≤ times_in ts x → P x) → AllNodes (λ n. P n.name) ts
+nodes-named P none f = tt
+nodes-named P (tree n c r) f =
+    let below = nodes-named P c (λ x h. f x (let g = times-more n c r x in omega arith)) in
+    let behind = nodes-named P r (λ x h. f x (let g = times-more n c r x in omega arith)) in
+    (f n.name (let g = times-here n c r n.name (name_eq-same n.name) in omega arith), below, behind)
 
 -- Roots.
 abbrev pub HasRoot : Trees → NodeName → Type 0
