@@ -2,9 +2,9 @@
 use Rattle.std.proofs.Common.{◌≡◌, inl, inr, ℕ, Bool, true, false, List, [], ◌∷◌, ◌++◌, map, drop, Some, refl, sym, ap, subst, ◌∙◌, append_assoc}
 use Rattle.std.specs.Prelude.{filter, find, unwrap_or}
 use Rattle.dom_base.specs.declared.NodeName.{NodeName}
-use Rattle.dom_model.specs.Extract.{Pieces, common_ancestor, tree_holding, all_whole, ◌followed_by◌, pieces_behind, pieces_in_front, pieces_apart}
+use Rattle.dom_model.specs.Extract.{common_ancestor, tree_holding, all_whole, ◌followed_by◌, pieces_behind, pieces_in_front, pieces_apart}
 use Rattle.dom_model.specs.Names.{first_of, last_of}
-use Rattle.dom_model.specs.Place.{Boundary, is_before}
+use Rattle.dom_model.specs.Place.{is_before}
 use Rattle.dom_model.specs.Ranges.{Range, is_contained}
 use Rattle.dom_model.specs.Tree.{Trees, children_of, inclusive_ancestors, is_inclusive_ancestor, trees_below, subtree}
 use Rattle.dom_ranges.specs.declared.table.Points.{Points}
@@ -17,8 +17,7 @@ use Rattle.dom_tree.specs.Forest.{NamedTrees, name_at}
 use Rattle.dom_range_ops.specs.Pieces.{items_of, whole_item, AreSpanned, ArePaths, side_items, from_sibling, up_to, first_behind, first_from}
 use Rattle.dom_range_ops.specs.Texts.{range_at_points, nodes_around}
 use Rattle.dom_range_ops.proofs.PieceItems.{items-followed, items-whole}
-use Rattle.dom_range_ops.proofs.PieceLevels.{Level}
-use Rattle.dom_range_ops.proofs.PieceMiddle.{IsRange, PartAt, start_course, end_course, at_start, at_end, below-leaves, Follows, follows, between-contained}
+use Rattle.dom_range_ops.proofs.PieceMiddle.{IsRange, PartAt, start_course, end_course, at_start, at_end, below-leaves, follows, between-contained}
 use Rattle.dom_range_ops.proofs.PieceParts.{Course, at_top, inside, kid-off, begins, stops, side-held}
 use Rattle.dom_range_ops.proofs.PieceRuns.{from-kids, up-to-first}
 use Rattle.dom_range_ops.proofs.PieceSides.{last-member, tail-same}
@@ -57,7 +56,7 @@ module _ (ts : Trees) (r : Range NodeName) (is : IsRange ts r) (c : NodeName) (r
       let above = last-above ts is.once (c ∷ rest) r.start.node more is.start (parts.start ∙ ap (λ xs. xs ++ c ∷ rest) whole) y (ap last_of (sym whole) ∙ last) a (subst (In a) whole i) in
       In-not y (inclusive_ancestors ts r.end.node) (start-apart y among last) (above-along ts y a r.end.node is.once is.end above j))
 
-  pub common-is : common_ancestor ts r ≡ c
+  common-is : common_ancestor ts r ≡ c
   common-is =
       ap (λ xs. unwrap_or (find (λ a. is_inclusive_ancestor ts a r.end.node) xs) r.start.node) parts.start
       ∙ ap (λ o. unwrap_or o r.start.node)

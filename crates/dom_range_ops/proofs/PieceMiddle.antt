@@ -19,7 +19,7 @@ use Rattle.dom_range_ops.proofs.OneTree.{root-above, root-path}
 use Rattle.dom_range_ops.proofs.Between.{Splits, two-splits}
 use Rattle.dom_range_ops.proofs.Sides.{before-less, before-turned}
 use Rattle.dom_range_ops.proofs.PieceLevels.{Level, above-start, above-end, in-front, in-back, self-in}
-use Rattle.dom_range_ops.proofs.PieceParts.{Course, course, level, middle-last, kid-stands, front-kid, middle-kid, back-kid, is-ahead, is-behind}
+use Rattle.dom_range_ops.proofs.PieceParts.{Course, course, level, middle-last, kid-stands, middle-kid, is-ahead, is-behind}
 
 -- nothing is both, where the second is not
 and-no : (b : Bool) → b && false ≡ false

@@ -81,7 +81,7 @@ module _ (ts : Trees) (once : Once ts) (c : NodeName) (rest : List NodeName) whe
 
   -- ---- how it parts the children
 
-  abbrev pub kids : List NodeName
+  abbrev kids : List NodeName
   kids = children_of ts c
 
   pub level : (b : Boundary NodeName) (path : List NodeName) → Course b path → Level ts once c b
@@ -102,13 +102,13 @@ module _ (ts : Trees) (once : Once ts) (c : NodeName) (rest : List NodeName) whe
 
     -- one in front of the end, and one behind it
     module _ (b : Boundary NodeName) (l : Level ts once c b) (z : NodeName) where
-      pub front-kid : In z l.front → In z kids
+      front-kid : In z l.front → In z kids
       front-kid i = subst (In z) (sym l.kids) (In-left z l.front (l.middle ++ l.back) i)
 
       pub middle-kid : In z l.middle → In z kids
       middle-kid i = subst (In z) (sym l.kids) (In-right z l.front (l.middle ++ l.back) (In-left z l.middle l.back i))
 
-      pub back-kid : In z l.back → In z kids
+      back-kid : In z l.back → In z kids
       back-kid i = subst (In z) (sym l.kids) (In-right z l.front (l.middle ++ l.back) (In-right z l.middle l.back i))
 
       pub is-ahead : In z l.front → IsAhead ts once b z

@@ -12,7 +12,7 @@ use Rattle.dom_base.specs.declared.NodeName.{NodeName}
 use Rattle.dom_model.specs.Names.{name_eq, first_of, last_of, items_before, items_after}
 use Rattle.dom_model.specs.Place.{Boundary, is_before}
 use Rattle.dom_model.specs.Ranges.{at}
-use Rattle.dom_model.specs.Tree.{Trees, kind_of, has_data, children_of, inclusive_ancestors, is_inclusive_ancestor, inclusive_descendants, length_of, subtree}
+use Rattle.dom_model.specs.Tree.{Trees, kind_of, has_data, children_of, inclusive_ancestors, inclusive_descendants, length_of, subtree}
 use Rattle.dom_traversal.proofs.Chains.{above-along}
 use Rattle.dom_traversal.proofs.Children.{In-names, Has-names, child-of_parent}
 use Rattle.dom_traversal.proofs.Lists.{In, In-left, In-right, is_in-from, split_at}

@@ -1,4 +1,4 @@
-use Rattle.std.proofs.Common.{[], ◌∷◌, ◌++◌, map, take, drop, sym, ap, subst}
+use Rattle.std.proofs.Common.{[], ◌∷◌, ◌++◌, map, take, drop, sym, subst}
 use Rattle.std.specs.Prelude.{if◌then◌else◌}
 use Rattle.std.proofs.lemmas.Bool.{cond-false}
 use Rattle.dom_model.specs.Tree.{children_of, kind_of, has_data, length_of}
