@@ -6,12 +6,12 @@ use Rattle.std.proofs.lemmas.List.Concat.{flat_map-cons}
 use Rattle.dom_base.specs.declared.NodeName.{NodeName}
 use Rattle.dom_base.specs.declared.Owner.{Owner}
 use Rattle.dom_model.specs.Names.{name_eq}
-use Rattle.dom_model.specs.Place.{is_before, same_root}
+use Rattle.dom_model.specs.Place.{is_before}
 use Rattle.dom_model.specs.Ranges.{Range, at, is_contained}
 use Rattle.dom_model.specs.Extract.{cut_start, cut_end}
 use Rattle.dom_model.specs.RangeOps.{range_text_of, text_part}
 use Rattle.dom_model.specs.Tree.{Trees, Node, node_in, kind_of, is_text, inclusive_descendants, root_of, length_of}
-use Rattle.dom_mutation.proofs.OwnOrder.{IsOwnIn, is_before-own, same_root-own, has_own, once_trees}
+use Rattle.dom_mutation.proofs.OwnOrder.{is_before-own, same_root-own, has_own, once_trees}
 use Rattle.dom_tree.proofs.Owned.{read_own, stays_own}
 use Rattle.dom_tree.specs.Owners.{AreOwned, trees_of_owner}
 use Rattle.dom_traversal.proofs.Children.{Has-names}
@@ -55,17 +55,20 @@ module _ (ts : Trees) (owned : AreOwned ts) (o : Owner) (r : Range NodeName) (en
       ap (λ (n : Node). if is_text n.kind then slice_range n.text (cut_start r y) (cut_end ts r y) else []) is.node
       ∙ ap (λ k. if is_text (kind_of own y) then slice_range (node_in own y).text (cut_start r y) (if name_eq y r.end.node then r.end.offset else k) else []) is.size
 
-  -- whether a node of the tree is contained
+  -- whether a node of the tree is behind the start
+  pub behind-own : (y : NodeName) → Has ts y → root_of ts y ≡ root_of ts r.start.node → y.owner ≡ o → is_before ts r.start (at y 0) ≡ is_before own r.start (at y 0)
+  behind-own y h root e =
+      is_before-own ts owned ends.once o r.start (at y 0) (record { owner = start; there = ends.start }) (record { owner = e; there = h }) (name_eq-from (root_of ts r.start.node) (root_of ts y) (sym root))
+
+  -- and in front of the end
+  pub in_front-own : (y : NodeName) → Has ts y → root_of ts y ≡ root_of ts r.start.node → y.owner ≡ o → is_before ts (at y (length_of ts y)) r.end ≡ is_before own (at y (length_of own y)) r.end
+  in_front-own y h root e =
+      is_before-own ts owned ends.once o (at y (length_of ts y)) r.end (record { owner = e; there = h }) (record { owner = end; there = ends.end }) (ap (λ z. name_eq z (root_of ts r.end.node)) root ∙ ends.one_root)
+      ∙ ap (λ k. is_before own (at y k) r.end) (read_own ts owned o y e).size
+
+  -- so whether it is contained
   pub contained-own : (y : NodeName) → Has ts y → root_of ts y ≡ root_of ts r.start.node → y.owner ≡ o → is_contained ts r y ≡ is_contained own r y
-  contained-own y h root e =
-      let mine : IsOwnIn ts owned ends.once o y = record { owner = e; there = h } in
-      let at_start : IsOwnIn ts owned ends.once o r.start.node = record { owner = start; there = ends.start } in
-      let at_end : IsOwnIn ts owned ends.once o r.end.node = record { owner = end; there = ends.end } in
-      let is = read_own ts owned o y e in
-      let same_end : same_root ts y r.end.node ≡ true = ap (λ z. name_eq z (root_of ts r.end.node)) root ∙ ends.one_root in
-      ap (λ b. b && is_before ts (at y (length_of ts y)) r.end) (is_before-own ts owned ends.once o r.start (at y 0) at_start mine (name_eq-from (root_of ts r.start.node) (root_of ts y) (sym root)))
-      ∙ (ap (λ b. is_before own r.start (at y 0) && b) (is_before-own ts owned ends.once o (at y (length_of ts y)) r.end mine at_end same_end)
-      ∙ ap (λ k. is_before own r.start (at y 0) && is_before own (at y k) r.end) is.size)
+  contained-own y h root e = ap (λ b. b && is_before ts (at y (length_of ts y)) r.end) (behind-own y h root e) ∙ ap (λ b. is_before own r.start (at y 0) && b) (in_front-own y h root e)
 
   -- the nodes of the tree
   pub around-own : nodes_around ts r ≡ nodes_around own r

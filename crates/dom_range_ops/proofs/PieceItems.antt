@@ -1,20 +1,32 @@
 -- The items of the pieces of trees, node by node.
-use Rattle.std.proofs.Common.{◌≡◌, inl, inr, Bool, true, false, not, List, [], ◌∷◌, ◌++◌, refl, sym, ap, subst, ◌∙◌, append_assoc}
+use Rattle.std.proofs.Common.{◌≡◌, inl, inr, ℕ, Bool, true, false, List, [], ◌∷◌, ◌++◌, map, refl, sym, ap, subst, ◌∙◌, append_assoc}
 use Rattle.std.specs.Prelude.{if◌then◌else◌}
 use Rattle.std.specs.List.{flat_map}
 use Rattle.std.proofs.lemmas.List.{append-nil}
 use Rattle.std.proofs.lemmas.List.Concat.{flat_map-cons}
 use Rattle.dom_base.specs.declared.NodeName.{NodeName}
-use Rattle.dom_model.specs.Extract.{Pieces, whole, cut, clone, is_partly_contained, cut_start, cut_end, pieces_among}
-use Rattle.dom_model.specs.Ranges.{Range, is_contained}
-use Rattle.dom_model.specs.Tree.{Trees, none, tree, Node, nodes, names_of, roots, subtree, trees_below, children_of, kind_of, has_data}
+use Rattle.dom_model.specs.Extract.{Pieces, nothing, whole, cut, clone, pieces_along, all_whole, ◌followed_by◌}
+use Rattle.dom_model.specs.Tree.{Trees, none, tree, Node, nodes, names_of, roots, subtree, trees_below, children_of, is_inclusive_ancestor, kind_of, has_data}
 use Rattle.dom_slots.proofs.Named.{InNodes, node_in-self}
 use Rattle.dom_traversal.proofs.Lists.{In}
 use Rattle.dom_traversal.proofs.Shapes.{Has, Once, subtree-here, subtree-below, subtree-beside, subtree-present, subtree-within, Once-subtree}
-use Rattle.dom_range_ops.specs.Pieces.{Item, whole_item, cut_item, clone_item, end_item, items_of}
+use Rattle.dom_range_ops.specs.Pieces.{Item, whole_item, cut_item, clone_item, end_item, items_of, wholes_if}
+
+-- those of some pieces and then others
+pub items-followed : (a b : Pieces) → items_of (a followed_by b) ≡ items_of a ++ items_of b
+items-followed nothing b = refl
+items-followed (whole x rest) b = ap (λ xs. whole_item x ∷ xs) (items-followed rest b)
+items-followed (cut x from to rest) b = ap (λ xs. cut_item x from to ∷ xs) (items-followed rest b)
+items-followed (clone x inside rest) b =
+    ap (λ xs. clone_item x ∷ (items_of inside ++ end_item ∷ xs)) (items-followed rest b) ∙ ap (λ xs. clone_item x ∷ xs) (sym (append_assoc (items_of inside) (end_item ∷ items_of rest) (items_of b)))
+
+-- those of nodes as they are
+pub items-whole : (xs : List NodeName) → items_of (all_whole xs) ≡ map whole_item xs
+items-whole [] = refl
+items-whole (x ∷ xs) = ap (λ ys. whole_item x ∷ ys) (items-whole xs)
 
 -- functions that agree at each member
-pub flat-same : (f g : NodeName → List Item) (xs : List NodeName) → ((y : NodeName) → In y xs → f y ≡ g y) → flat_map f xs ≡ flat_map g xs
+flat-same : (f g : NodeName → List Item) (xs : List NodeName) → ((y : NodeName) → In y xs → f y ≡ g y) → flat_map f xs ≡ flat_map g xs
 flat-same f g [] h = refl
 flat-same f g (x ∷ xs) h =
     flat_map-cons f x xs
@@ -22,7 +34,7 @@ flat-same f g (x ∷ xs) h =
     ∙ (ap (λ ys. g x ++ ys) (flat-same f g xs (λ y i. h y (inr i))) ∙ sym (flat_map-cons g x xs)))
 
 -- a root stands in its trees
-root-there : (d : Trees) (x : NodeName) → In x (names_of (roots d)) → Has d x
+pub root-there : (d : Trees) (x : NodeName) → In x (names_of (roots d)) → Has d x
 root-there none x i = i
 root-there (tree n c rest) x (inl e) = inl (sym e)
 root-there (tree n c rest) x (inr i) = inr (inr (root-there rest x i))
@@ -48,122 +60,95 @@ node-there (tree m d s) x n c once (inl e) is = inl (top-is n m c d (sym is ∙ 
 node-there (tree m d s) x n c once (inr (inl h)) is = inr (node-left n (nodes d) (nodes s) (node-there d x n c once.3 h (sym (subtree-below m d s x once h) ∙ is)))
 node-there (tree m d s) x n c once (inr (inr h)) is = inr (node-right n (nodes d) (nodes s) (node-there s x n c once.4 h (sym (subtree-beside m d s x once h) ∙ is)))
 
-module _ (ts : Trees) (r : Range NodeName) where
+module _ (ts : Trees) (p : NodeName) (once : Once ts) (h : Has ts p) where
+  -- what is below a node stands once
+  pub once-below : Once (trees_below (subtree ts p))
+  once-below =
+      let w = subtree-present ts p h in
+      let all : Once (tree w.0 w.1 none) = subst Once w.2 (Once-subtree ts p once h) in
+      subst (λ (us : Trees). Once (trees_below us)) (sym w.2) all.3
+
+  -- there the tree of a child is the child's tree
+  pub child-tree : (y : NodeName) → In y (children_of ts p) → subtree (trees_below (subtree ts p)) y ≡ subtree ts y
+  child-tree y i =
+      let w = subtree-present ts p h in
+      let all : Once (tree w.0 w.1 none) = subst Once w.2 (Once-subtree ts p once h) in
+      let there : Has w.1 y = root-there w.1 y (subst (λ (us : Trees). In y (names_of (roots (trees_below us)))) w.2 i) in
+      ap (λ (us : Trees). subtree (trees_below us) y) w.2
+      ∙ (sym (subtree-below w.0 w.1 none y all there) ∙ (ap (λ (us : Trees). subtree us y) (sym w.2) ∙ subtree-within ts p y once h (subst (λ (us : Trees). Has us y) (sym w.2) (inr (inl there)))))
+
+module _ (ts : Trees) (x : NodeName) (taken : NodeName → Bool) (from to : ℕ) where
+  -- the items of some trees
+  abbrev along : Trees → List Item
+  along us = items_of (pieces_along ts x taken from to us)
+
   -- the items of a node, where those of its children are given
-  abbrev pub items_with : Bool → Bool → Bool → NodeName → List Item → List Item
-  items_with contained partly has_units x inside =
-      if contained then whole_item x ∷ []
-      else (if not partly then []
-      else (if has_units then cut_item x (cut_start r x) (cut_end ts r x) ∷ []
-      else clone_item x ∷ (inside ++ end_item ∷ [])))
+  abbrev items_with : Bool → Bool → Bool → NodeName → List Item → List Item
+  items_with above passes has_units y inside =
+      if above then (if has_units then cut_item y from to ∷ [] else clone_item y ∷ (inside ++ end_item ∷ [])) else wholes_if passes (y ∷ [])
 
   -- those of a first tree and of the trees behind it
-  tree-items : (n : Node) (c rest : Trees)
-      → items_of (pieces_among ts r (tree n c rest))
-      ≡ items_with (is_contained ts r n.name) (is_partly_contained ts r n.name) (has_data n.kind) n.name (items_of (pieces_among ts r c)) ++ items_of (pieces_among ts r rest)
-  tree-items n c rest = by (is_contained ts r n.name) (is_partly_contained ts r n.name) (has_data n.kind)
+  tree-items : (n : Node) (c rest : Trees) → along (tree n c rest) ≡ items_with (is_inclusive_ancestor ts n.name x) (taken n.name) (has_data n.kind) n.name (along c) ++ along rest
+  tree-items n c rest = by (is_inclusive_ancestor ts n.name x) (taken n.name) (has_data n.kind)
     where
-      x : NodeName
-      x = n.name
+      y : NodeName
+      y = n.name
 
       inside : Pieces
-      inside = pieces_among ts r c
+      inside = pieces_along ts x taken from to c
 
       others : Pieces
-      others = pieces_among ts r rest
+      others = pieces_along ts x taken from to rest
 
-      by : (contained partly has_units : Bool)
-          → items_of (if contained then whole x others else (if not partly then others else (if has_units then cut x (cut_start r x) (cut_end ts r x) others else clone x inside others)))
-          ≡ items_with contained partly has_units x (items_of inside) ++ items_of others
-      by true partly has_units = refl
+      by : (above passes has_units : Bool)
+          → items_of (if above then (if has_units then cut y from to others else clone y inside others) else (if passes then whole y others else others)) ≡ items_with above passes has_units y (items_of inside) ++ items_of others
+      by true passes true = refl
+      by true passes false = ap (λ xs. clone_item y ∷ xs) (sym (append_assoc (items_of inside) (end_item ∷ []) (items_of others)))
+      by false true has_units = refl
       by false false has_units = refl
-      by false true true = refl
-      by false true false = ap (λ xs. clone_item x ∷ xs) (sym (append_assoc (items_of inside) (end_item ∷ []) (items_of others)))
 
   -- the items of a node's tree
   abbrev pub node_items : NodeName → List Item
-  node_items x = items_of (pieces_among ts r (subtree ts x))
+  node_items y = along (subtree ts y)
 
   -- those of trees, tree by tree
-  roots-items : (d : Trees) → Once d → items_of (pieces_among ts r d) ≡ flat_map (λ y. items_of (pieces_among ts r (subtree d y))) (names_of (roots d))
+  roots-items : (d : Trees) → Once d → along d ≡ flat_map (λ y. along (subtree d y)) (names_of (roots d))
   roots-items none once = refl
   roots-items (tree n c rest) once =
-      let f : NodeName → List Item = λ y. items_of (pieces_among ts r (subtree (tree n c rest) y)) in
-      let g : NodeName → List Item = λ y. items_of (pieces_among ts r (subtree rest y)) in
-      let alone : items_of (pieces_among ts r (tree n c none)) ≡ items_with (is_contained ts r n.name) (is_partly_contained ts r n.name) (has_data n.kind) n.name (items_of (pieces_among ts r c)) =
-      tree-items n c none ∙ append-nil (items_with (is_contained ts r n.name) (is_partly_contained ts r n.name) (has_data n.kind) n.name (items_of (pieces_among ts r c))) in
-      let first : f n.name ≡ items_with (is_contained ts r n.name) (is_partly_contained ts r n.name) (has_data n.kind) n.name (items_of (pieces_among ts r c)) =
-      ap (λ us. items_of (pieces_among ts r us)) (subtree-here n c rest n.name refl) ∙ alone in
+      let f : NodeName → List Item = λ y. along (subtree (tree n c rest) y) in
+      let g : NodeName → List Item = λ y. along (subtree rest y) in
+      let own : List Item = items_with (is_inclusive_ancestor ts n.name x) (taken n.name) (has_data n.kind) n.name (along c) in
+      let first : f n.name ≡ own = ap along (subtree-here n c rest n.name refl) ∙ (tree-items n c none ∙ append-nil own) in
       let others : flat_map f (names_of (roots rest)) ≡ flat_map g (names_of (roots rest)) =
-      flat-same f g (names_of (roots rest)) (λ y i. ap (λ us. items_of (pieces_among ts r us)) (subtree-beside n c rest y once (root-there rest y i))) in
+      flat-same f g (names_of (roots rest)) (λ y i. ap along (subtree-beside n c rest y once (root-there rest y i))) in
       tree-items n c rest
-      ∙ (ap (λ xs. xs ++ items_of (pieces_among ts r rest)) (sym first)
-      ∙ (ap (λ xs. f n.name ++ xs) (roots-items rest once.4 ∙ sym others) ∙ sym (flat_map-cons f n.name (names_of (roots rest)))))
+      ∙ (ap (λ xs. xs ++ along rest) (sym first) ∙ (ap (λ xs. f n.name ++ xs) (roots-items rest once.4 ∙ sym others) ∙ sym (flat_map-cons f n.name (names_of (roots rest)))))
 
-  -- a node's tree
-  record IsTree (x : NodeName) : Type 0 where
-    node : Node
-    below : Trees
-    shape : subtree ts x ≡ tree node below none
-    name : node.name ≡ x
-    kind : kind_of ts x ≡ node.kind
+  module _ (once : Once ts) (y : NodeName) (h : Has ts y) where
+    -- those of all that is below a node, child by child
+    below-items : along (trees_below (subtree ts y)) ≡ flat_map node_items (children_of ts y)
+    below-items =
+        roots-items (trees_below (subtree ts y)) (once-below ts y once h)
+        ∙ flat-same (λ z. along (subtree (trees_below (subtree ts y)) z)) node_items (children_of ts y) (λ z i. ap along (child-tree ts y once h z i))
 
-  tree-at : (x : NodeName) → Once ts → Has ts x → IsTree x
-  tree-at x once h =
-      let w = subtree-present ts x h in
-      let among : InNodes w.0 (nodes ts) = node-there ts x w.0 w.1 once h w.2 in
-      record {
-        node = w.0;
-        below = w.1;
-        shape = w.2;
-        name = w.3;
-        kind = ap (λ (y : NodeName). kind_of ts y) (sym w.3) ∙ ap (λ (m : Node). m.kind) (node_in-self ts once w.0 among);
-      }
+    -- those of a node, by whether it is above the path's end and whether it passes the test
+    items-at : node_items y ≡ items_with (is_inclusive_ancestor ts y x) (taken y) (has_data (kind_of ts y)) y (flat_map node_items (children_of ts y))
+    items-at =
+        let w = subtree-present ts y h in
+        let kind : has_data w.0.kind ≡ has_data (kind_of ts y) =
+        ap (λ (m : Node). has_data m.kind) (sym (node_in-self ts once w.0 (node-there ts y w.0 w.1 once h w.2))) ∙ ap (λ (z : NodeName). has_data (kind_of ts z)) w.3 in
+        let all = λ (z : NodeName) (b : Bool) (xs : List Item). items_with (is_inclusive_ancestor ts z x) (taken z) b z xs in
+        ap along w.2
+        ∙ (tree-items w.0 w.1 none
+        ∙ (append-nil (all w.0.name (has_data w.0.kind) (along w.1))
+        ∙ (ap (λ z. all z (has_data w.0.kind) (along w.1)) w.3
+        ∙ (ap (λ b. all y b (along w.1)) kind
+        ∙ ap (all y (has_data (kind_of ts y))) (sym (ap (λ (us : Trees). along (trees_below us)) w.2) ∙ below-items)))))
 
-  -- those of all that is below a node, child by child
-  pub below-items : (p : NodeName) → Once ts → Has ts p → items_of (pieces_among ts r (trees_below (subtree ts p))) ≡ flat_map node_items (children_of ts p)
-  below-items p once h =
-      let w = tree-at p once h in
-      let inner : Once (tree w.node w.below none) = subst Once w.shape (Once-subtree ts p once h) in
-      let f : NodeName → List Item = λ y. items_of (pieces_among ts r (subtree w.below y)) in
-      let below : (y : NodeName) → In y (names_of (roots w.below)) → subtree w.below y ≡ subtree ts y =
-      λ y i.
-      let there = root-there w.below y i in
-      sym (subtree-below w.node w.below none y inner there) ∙ (ap (λ (us : Trees). subtree us y) (sym w.shape) ∙ subtree-within ts p y once h (subst (λ (us : Trees). Has us y) (sym w.shape) (inr (inl there)))) in
-      ap (λ (us : Trees). items_of (pieces_among ts r (trees_below us))) w.shape
-      ∙ (roots-items w.below inner.3
-      ∙ (flat-same f node_items (names_of (roots w.below)) (λ y i. ap (λ us. items_of (pieces_among ts r us)) (below y i))
-      ∙ ap (λ (us : Trees). flat_map node_items (names_of (roots (trees_below us)))) (sym w.shape)))
+    -- a node beside the path is taken as it is where it passes the test, else not at all
+    pub items-beside : is_inclusive_ancestor ts y x ≡ false → node_items y ≡ wholes_if (taken y) (y ∷ [])
+    items-beside e = items-at ∙ ap (λ b. items_with b (taken y) (has_data (kind_of ts y)) y (flat_map node_items (children_of ts y))) e
 
-  -- those of a node, by what it is to the range
-  pub items-at : (x : NodeName) → Once ts → Has ts x
-      → node_items x ≡ items_with (is_contained ts r x) (is_partly_contained ts r x) (has_data (kind_of ts x)) x (flat_map node_items (children_of ts x))
-  items-at x once h =
-      let w = tree-at x once h in
-      let all = λ (y : NodeName) (b : Bool) (xs : List Item). items_with (is_contained ts r y) (is_partly_contained ts r y) b y xs in
-      ap (λ us. items_of (pieces_among ts r us)) w.shape
-      ∙ (tree-items w.node w.below none
-      ∙ (append-nil (all w.node.name (has_data w.node.kind) (items_of (pieces_among ts r w.below)))
-      ∙ (ap (λ y. all y (has_data w.node.kind) (items_of (pieces_among ts r w.below))) w.name
-      ∙ (ap (λ k. all x (has_data k) (items_of (pieces_among ts r w.below))) (sym w.kind)
-      ∙ ap (all x (has_data (kind_of ts x))) (sym (ap (λ (us : Trees). items_of (pieces_among ts r (trees_below us))) w.shape) ∙ below-items x once h)))))
-
-  module _ (once : Once ts) (x : NodeName) (h : Has ts x) where
-    -- a contained node is taken as it is
-    pub items-whole : is_contained ts r x ≡ true → node_items x ≡ whole_item x ∷ []
-    items-whole e = items-at x once h ∙ ap (λ b. items_with b (is_partly_contained ts r x) (has_data (kind_of ts x)) x (flat_map node_items (children_of ts x))) e
-
-    -- of what is neither contained nor partly contained nothing is taken
-    pub items-out : is_contained ts r x ≡ false → is_partly_contained ts r x ≡ false → node_items x ≡ []
-    items-out e f =
-        items-at x once h
-        ∙ (ap (λ b. items_with b (is_partly_contained ts r x) (has_data (kind_of ts x)) x (flat_map node_items (children_of ts x))) e
-        ∙ ap (λ b. items_with false b (has_data (kind_of ts x)) x (flat_map node_items (children_of ts x))) f)
-
-    -- of a partly contained node a clone is made, with what is taken of its children
-    pub items-partly : is_contained ts r x ≡ false → is_partly_contained ts r x ≡ true
-        → node_items x ≡ (if has_data (kind_of ts x) then cut_item x (cut_start r x) (cut_end ts r x) ∷ [] else clone_item x ∷ (flat_map node_items (children_of ts x) ++ end_item ∷ []))
-    items-partly e f =
-        items-at x once h
-        ∙ (ap (λ b. items_with b (is_partly_contained ts r x) (has_data (kind_of ts x)) x (flat_map node_items (children_of ts x))) e
-        ∙ ap (λ b. items_with false b (has_data (kind_of ts x)) x (flat_map node_items (children_of ts x))) f)
+    -- of a node of the path a clone is made, with what is taken of its children, or of a part of its data
+    pub items-on : is_inclusive_ancestor ts y x ≡ true → node_items y ≡ (if has_data (kind_of ts y) then cut_item y from to ∷ [] else clone_item y ∷ (flat_map node_items (children_of ts y) ++ end_item ∷ []))
+    items-on e = items-at ∙ ap (λ b. items_with b (taken y) (has_data (kind_of ts y)) y (flat_map node_items (children_of ts y))) e

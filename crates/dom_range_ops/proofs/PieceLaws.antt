@@ -1,29 +1,24 @@
 -- The items of the pieces of a range, by the paths from its ends.
-use Rattle.std.proofs.Common.{◌≡◌, inl, inr, ℕ, Bool, true, false, true≢false, List, [], ◌∷◌, ◌++◌, map, drop, Some, refl, sym, ap, subst, ◌∙◌, arith, append_assoc}
-use Rattle.std.specs.Prelude.{find, unwrap_or, if◌then◌else◌}
-use Rattle.std.specs.List.{flat_map}
-use Rattle.std.proofs.lemmas.Bool.{cond-false, le-ltb}
+use Rattle.std.proofs.Common.{◌≡◌, inl, inr, ℕ, Bool, true, false, List, [], ◌∷◌, ◌++◌, map, drop, Some, refl, sym, ap, subst, ◌∙◌, append_assoc}
+use Rattle.std.specs.Prelude.{filter, find, unwrap_or}
 use Rattle.dom_base.specs.declared.NodeName.{NodeName}
-use Rattle.dom_model.specs.Extract.{Pieces, nothing, cut, common_ancestor, is_in_one_data, pieces_among, pieces_of}
-use Rattle.dom_model.specs.Names.{name_eq, first_of, last_of}
+use Rattle.dom_model.specs.Extract.{common_ancestor, tree_holding, all_whole, ◌followed_by◌, pieces_behind, pieces_in_front, pieces_apart}
+use Rattle.dom_model.specs.Names.{first_of, last_of}
 use Rattle.dom_model.specs.Place.{is_before}
-use Rattle.dom_model.specs.Ranges.{Range, is_collapsed}
-use Rattle.dom_model.specs.Tree.{Trees, children_of, inclusive_ancestors, is_inclusive_ancestor, inclusive_descendants, trees_below, subtree}
-use Rattle.dom_ranges.proofs.Before.{before-same}
+use Rattle.dom_model.specs.Ranges.{Range, is_contained}
+use Rattle.dom_model.specs.Tree.{Trees, children_of, inclusive_ancestors, is_inclusive_ancestor, trees_below, subtree}
 use Rattle.dom_ranges.specs.declared.table.Points.{Points}
 use Rattle.dom_slots.proofs.Siblings.{children-single}
 use Rattle.dom_traversal.proofs.Chains.{above-along}
-use Rattle.dom_traversal.proofs.Children.{In-names}
 use Rattle.dom_traversal.proofs.Counts.{StandOnce, StandAlone, Once-forest, Has-forest}
-use Rattle.dom_traversal.proofs.Lists.{In, In-left, In-right, In-parts, Single, Single-right, is_in-from, is_in-not}
-use Rattle.dom_traversal.proofs.Shapes.{Has, Once, Has-above, above-parent, below-from_above}
+use Rattle.dom_traversal.proofs.Lists.{In, In-left, In-right, In-not, Single, Single-right, is_in-from, is_in-not}
+use Rattle.dom_traversal.proofs.Shapes.{Has, Once, Has-above, above-parent}
 use Rattle.dom_tree.specs.Forest.{NamedTrees, name_at}
-use Rattle.dom_range_ops.specs.Pieces.{items_of, AreSpanned, ArePaths, side_items, wholes_if, from_sibling, up_to, first_behind, first_from}
+use Rattle.dom_range_ops.specs.Pieces.{items_of, whole_item, AreSpanned, ArePaths, side_items, from_sibling, up_to, first_behind, first_from}
 use Rattle.dom_range_ops.specs.Texts.{range_at_points, nodes_around}
-use Rattle.dom_range_ops.proofs.PieceItems.{node_items, below-items}
-use Rattle.dom_range_ops.proofs.PieceLevels.{Level, in-front, in-back}
-use Rattle.dom_range_ops.proofs.PieceMiddle.{IsRange, PartAt, at_start, at_end, end-last, Follows, follows, precedes, ordered-items, reversed-items, begins, stops}
-use Rattle.dom_range_ops.proofs.PieceParts.{Course, at_top, inside, course}
+use Rattle.dom_range_ops.proofs.PieceItems.{items-followed, items-whole}
+use Rattle.dom_range_ops.proofs.PieceMiddle.{IsRange, PartAt, start_course, end_course, at_start, at_end, below-leaves, follows, between-contained}
+use Rattle.dom_range_ops.proofs.PieceParts.{Course, at_top, inside, kid-off, begins, stops, side-held}
 use Rattle.dom_range_ops.proofs.PieceRuns.{from-kids, up-to-first}
 use Rattle.dom_range_ops.proofs.PieceSides.{last-member, tail-same}
 
@@ -44,73 +39,66 @@ last-above ts once rest x (p ∷ path) h e y last a (inr i) =
 module _ (ts : Trees) (r : Range NodeName) (is : IsRange ts r) (c : NodeName) (rest start_path end_path : List NodeName) (parts : PartAt ts r c rest start_path end_path) where
   -- ---- the lowest common inclusive ancestor
 
-  -- the end is in the tree of no child of it but the last of its path
-  end-apart : (y : NodeName) → In y (children_of ts c) → last_of start_path ≡ Some y → In r.end.node (inclusive_descendants ts y) → ⊥
-  end-apart y among last i = elim (In-parts y l.front (l.middle ++ l.back) (subst (In y) l.kids among)) [
-    | inl j ↦ true≢false (sym ((in-front ts is.once c parts.there r.end l y r.end.node j i).before r.end.offset) ∙ same)
-    | inr g ↦ elim (In-parts y l.middle l.back g) [
-      | inl j ↦ parts.apart y last (end-last ts r is c rest start_path end_path parts y j).0
-      | inr j ↦ true≢false (sym ((in-back ts is.once c parts.there r.end l y r.end.node j i).after r.end.offset) ∙ same)
-    ]
-  ]
-    where
-      l : Level ts is.once c r.end
-      l = at_end ts r is c rest start_path end_path parts
+  -- the last node of the start's path is not above the end
+  start-apart : (y : NodeName) → In y (children_of ts c) → last_of start_path ≡ Some y → is_inclusive_ancestor ts y r.end.node ≡ false
+  start-apart y i last = kid-off ts is.once c rest parts.there r.end end_path (end_course ts r is c rest start_path end_path parts) is.end y i (parts.apart y last)
 
-      same : is_before ts r.end r.end ≡ false
-      same = before-same ts r.end.node r.end.node r.end.offset r.end.offset refl ∙ le-ltb r.end.offset r.end.offset (omega arith)
+  -- nor is that of the end's above the start
+  end-apart : (y : NodeName) → In y (children_of ts c) → last_of end_path ≡ Some y → is_inclusive_ancestor ts y r.start.node ≡ false
+  end-apart y i last = kid-off ts is.once c rest parts.there r.start start_path (start_course ts r is c rest start_path end_path parts) is.start y i (λ same. parts.apart y same last)
 
   -- no node of the start's path is above the end
   path-off : Course ts is.once c rest r.start start_path → (a : NodeName) → In a start_path → is_inclusive_ancestor ts a r.end.node ≡ false
-  path-off (at_top none same) a i = absurd (subst (In a) none i)
+  path-off (at_top empty same) a i = absurd (subst (In a) empty i)
   path-off (inside y more whole last among below) a i =
       is_in-not a (inclusive_ancestors ts r.end.node)
       (λ j.
       let above = last-above ts is.once (c ∷ rest) r.start.node more is.start (parts.start ∙ ap (λ xs. xs ++ c ∷ rest) whole) y (ap last_of (sym whole) ∙ last) a (subst (In a) whole i) in
-      let all = above-along ts y a r.end.node is.once is.end above j in
-      end-apart y among last (In-names (subtree ts y) r.end.node (below-from_above ts y r.end.node is.once is.end all)))
+      In-not y (inclusive_ancestors ts r.end.node) (start-apart y among last) (above-along ts y a r.end.node is.once is.end above j))
 
   common-is : common_ancestor ts r ≡ c
   common-is =
       ap (λ xs. unwrap_or (find (λ a. is_inclusive_ancestor ts a r.end.node) xs) r.start.node) parts.start
       ∙ ap (λ o. unwrap_or o r.start.node)
-      (find-there (λ a. is_inclusive_ancestor ts a r.end.node) start_path c rest (path-off (course ts is.once c rest r.start start_path is.start parts.start))
+      (find-there (λ a. is_inclusive_ancestor ts a r.end.node) start_path c rest (path-off (start_course ts r is c rest start_path end_path parts))
       (is_in-from c (inclusive_ancestors ts r.end.node) (subst (In c) (sym parts.end) (In-right c end_path (c ∷ rest) (inl refl)))))
-
-  -- so what is taken is taken of its children
-  pub pieces-below : is_collapsed name_eq r ≡ false → is_in_one_data ts r ≡ false → items_of (pieces_of ts r) ≡ flat_map (node_items ts r) (children_of ts c)
-  pieces-below spread wide =
-      let below = λ (x : NodeName). pieces_among ts r (trees_below (subtree ts x)) in
-      let one : Pieces = cut r.start.node r.start.offset r.end.offset nothing in
-      ap items_of (cond-false (is_collapsed name_eq r) nothing (if is_in_one_data ts r then one else below (common_ancestor ts r)) spread ∙ (cond-false (is_in_one_data ts r) one (below (common_ancestor ts r)) wide ∙ ap below common-is))
-      ∙ below-items ts r c is.once parts.there
 
   -- ---- the run between
 
-  -- it is what is between
-  run-is : (o : Follows ts r is c rest start_path end_path parts) → up_to (first_from ts r.end end_path) (from_sibling ts (first_behind ts r.start start_path)) ≡ o.between
-  run-is o =
+  -- it is what is contained
+  pub run-is : is_before ts r.end r.start ≡ false → up_to (first_from ts r.end end_path) (from_sibling ts (first_behind ts r.start start_path)) ≡ filter (is_contained ts r) (children_of ts (common_ancestor ts r))
+  run-is ordered =
+      let o = follows ts r is c rest start_path end_path parts ordered in
       let s = at_start ts r is c rest start_path end_path parts in
       let e = at_end ts r is c rest start_path end_path parts in
       let whole : children_of ts c ≡ (s.front ++ s.middle) ++ s.back = s.kids ∙ sym (append_assoc s.front s.middle s.back) in
       let single = Single-right (s.front ++ s.middle) s.back (subst Single whole (children-single ts c is.once parts.there)) in
       ap (up_to (first_from ts r.end end_path))
-      (from-kids ts is.once c parts.there (s.front ++ s.middle) s.back whole (first_behind ts r.start start_path) (begins ts r is c rest start_path end_path parts r.start start_path (course ts is.once c rest r.start start_path is.start parts.start)) ∙ o.back)
-      ∙ up-to-first o.between (e.middle ++ e.back) (subst Single o.back single) (first_from ts r.end end_path) (stops ts r is c rest start_path end_path parts r.end end_path (course ts is.once c rest r.end end_path is.end parts.end))
+      (from-kids ts is.once c parts.there (s.front ++ s.middle) s.back whole (first_behind ts r.start start_path) (begins ts is.once c rest parts.there r.start start_path (start_course ts r is c rest start_path end_path parts)) ∙ o.back)
+      ∙ (up-to-first o.between (e.middle ++ e.back) (subst Single o.back single) (first_from ts r.end end_path) (stops ts is.once c rest parts.there r.end end_path (end_course ts r is c rest start_path end_path parts))
+      ∙ (sym (between-contained ts r is c rest start_path end_path parts o) ∙ ap (λ x. filter (is_contained ts r) (children_of ts x)) (sym common-is)))
 
   -- ---- the whole
 
-  pub items-ordered : is_collapsed name_eq r ≡ false → is_in_one_data ts r ≡ false → is_before ts r.end r.start ≡ false
-      → items_of (pieces_of ts r)
-      ≡ side_items ts r r.start false true start_path ++ (wholes_if true (up_to (first_from ts r.end end_path) (from_sibling ts (first_behind ts r.start start_path))) ++ side_items ts r r.end true false end_path)
-  items-ordered spread wide ordered =
-      let o = follows ts r is c rest start_path end_path parts ordered in
-      pieces-below spread wide
-      ∙ (ordered-items ts r is c rest start_path end_path parts o
-      ∙ ap (λ xs. side_items ts r r.start false true start_path ++ (wholes_if true xs ++ side_items ts r r.end true false end_path)) (sym (run-is o)))
-
-  pub items-reversed : is_collapsed name_eq r ≡ false → is_in_one_data ts r ≡ false → is_before ts r.end r.start ≡ true → items_of (pieces_of ts r) ≡ side_items ts r r.end false false end_path ++ side_items ts r r.start false false start_path
-  items-reversed spread wide reversed = pieces-below spread wide ∙ reversed-items ts r is c rest start_path end_path parts (precedes ts r is c rest start_path end_path parts reversed)
+  -- the start's side, the contained children, and the end's side
+  pub items-apart : items_of (pieces_apart ts r)
+      ≡ side_items ts r.start true start_path ++ (map whole_item (filter (is_contained ts r) (children_of ts (common_ancestor ts r))) ++ side_items ts r.end false end_path)
+  items-apart =
+      let below = trees_below (subtree ts (common_ancestor ts r)) in
+      let contained = filter (is_contained ts r) (children_of ts (common_ancestor ts r)) in
+      let first = pieces_behind ts r.start (tree_holding ts r.start.node r.end.node below) in
+      let later = pieces_in_front ts r.end (tree_holding ts r.end.node r.start.node below) in
+      let leaves = below-leaves ts r is c rest start_path end_path parts in
+      let first_is : items_of first ≡ side_items ts r.start true start_path =
+      ap (λ (x : NodeName). items_of (pieces_behind ts r.start (tree_holding ts r.start.node r.end.node (trees_below (subtree ts x))))) common-is
+      ∙ side-held ts is.once c rest parts.there r.start start_path is.start parts.start r.end.node start-apart leaves true in
+      let later_is : items_of later ≡ side_items ts r.end false end_path =
+      ap (λ (x : NodeName). items_of (pieces_in_front ts r.end (tree_holding ts r.end.node r.start.node (trees_below (subtree ts x))))) common-is
+      ∙ side-held ts is.once c rest parts.there r.end end_path is.end parts.end r.start.node end-apart leaves false in
+      items-followed first (all_whole contained followed_by later)
+      ∙ (ap (λ xs. xs ++ items_of (all_whole contained followed_by later)) first_is
+      ∙ ap (λ xs. side_items ts r.start true start_path ++ xs)
+      (items-followed (all_whole contained) later ∙ (ap (λ xs. xs ++ items_of later) (items-whole contained) ∙ ap (λ xs. map whole_item contained ++ xs) later_is)))
 
 -- ---- by keys
 

@@ -1,29 +1,31 @@
 -- The pieces of an owner's range are the same among all trees and among the owner's own.
-use Rattle.std.proofs.Common.{◌≡◌, inl, inr, ℕ, ◌<◌, ◌≤◌, length, Bool, not, ◌&&◌, ◌||◌, List, [], ◌∷◌, refl, sym, ap, subst, ◌∙◌}
-use Rattle.std.specs.Prelude.{find, unwrap_or, if◌then◌else◌}
+use Rattle.std.proofs.Common.{◌≡◌, inl, inr, ℕ, ◌<◌, ◌≤◌, length, Bool, true, false, not, ◌&&◌, List, [], ◌∷◌, refl, sym, ap, subst, ◌∙◌}
+use Rattle.std.specs.Prelude.{filter, find, unwrap_or, if◌then◌else◌}
 use Rattle.std.proofs.lemmas.Bool.{cases_Bool}
 use Rattle.dom_base.specs.declared.NodeName.{NodeName}
 use Rattle.dom_base.specs.declared.Owner.{Owner}
 use Rattle.dom_isolation.specs.Bounds.{IsWithin}
 use Rattle.dom_isolation.specs.Tables.{HasEnds}
-use Rattle.dom_model.specs.Extract.{Pieces, nothing, whole, cut, clone, is_partly_contained, cut_start, cut_end, common_ancestor, is_in_one_data, pieces_among, pieces_of}
+use Rattle.dom_model.specs.Extract.{Pieces, nothing, whole, cut, clone, pieces_along, pieces_behind, pieces_in_front, tree_holding, all_whole, ◌followed_by◌, common_ancestor, is_in_one_data, pieces_apart, pieces_of}
 use Rattle.dom_model.specs.Names.{name_eq, is_in}
-use Rattle.dom_model.specs.Ranges.{Range, is_collapsed, is_contained}
-use Rattle.dom_model.specs.Tree.{Trees, none, tree, Node, has_data, inclusive_ancestors, is_inclusive_ancestor, inclusive_descendants, length_of, root_of, subtree, trees_below}
+use Rattle.dom_model.specs.Place.{is_before}
+use Rattle.dom_model.specs.Ranges.{Range, at, is_collapsed, is_contained}
+use Rattle.dom_model.specs.Tree.{Trees, none, tree, Node, names_of, roots, has_data, inclusive_ancestors, is_inclusive_ancestor, inclusive_descendants, length_of, root_of, subtree, trees_below}
 use Rattle.dom_tree.proofs.Owned.{read_own, stays_own}
 use Rattle.dom_ranges.specs.declared.table.Points.{Points}
 use Rattle.dom_tree.specs.Forest.{NamedTrees}
 use Rattle.dom_tree.specs.Owners.{AreOwned, trees_of_owner}
 use Rattle.dom_traversal.proofs.Children.{In-names}
 use Rattle.dom_traversal.proofs.Counts.{StandOnce, StandAlone}
-use Rattle.dom_traversal.proofs.Lists.{In, is_in-from}
+use Rattle.dom_traversal.proofs.Lists.{In, filter-same, is_in-from}
 use Rattle.dom_traversal.proofs.Shapes.{Has, Has-subtree, Has-above, above-present, above-from_below, subtree-present}
 use Rattle.dom_range_ops.specs.Deletions.{AreLeaves}
 use Rattle.dom_range_ops.specs.Pieces.{AreSpanned}
 use Rattle.dom_range_ops.specs.Texts.{range_at_points}
 use Rattle.dom_range_ops.proofs.DocTexts.{are-ends, start-there, end-there, one-tree}
 use Rattle.dom_range_ops.proofs.OneTree.{HasOneTree, root-path}
-use Rattle.dom_range_ops.proofs.OwnTexts.{contained-own}
+use Rattle.dom_range_ops.proofs.OwnTexts.{behind-own, in_front-own, contained-own}
+use Rattle.dom_range_ops.proofs.PieceItems.{root-there}
 
 -- what is found is a member
 found-in : (p : NodeName → Bool) (d : NodeName) (xs all : List NodeName) → ((x : NodeName) → In x xs → In x all) → In d all → In (unwrap_or (find p xs) d) all
@@ -32,6 +34,17 @@ found-in p d (x ∷ xs) all among i = elim (cases_Bool (p x)) [
   | inl e ↦ rw e (among x (inl refl))
   | inr e ↦ rw e (found-in p d xs all (λ y j. among y (inr j)) i)
 ]
+
+-- a node of the tree that holds one node alone is one of the trees
+holding-in : (ts : Trees) (x other : NodeName) (d : Trees) (y : NodeName) → Has (tree_holding ts x other d) y → Has d y
+holding-in ts x other none y h = h
+holding-in ts x other (tree n c rest) y h = by (holding-in ts x other rest y) (is_inclusive_ancestor ts n.name x && not (is_inclusive_ancestor ts n.name other)) h
+  where
+    by : (Has (tree_holding ts x other rest) y → Has rest y) → (b : Bool) → Has (if b then tree n c none else tree_holding ts x other rest) y → Has (tree n c rest) y
+    by others true (inl e) = inl e
+    by others true (inr (inl i)) = inr (inl i)
+    by others true (inr (inr i)) = absurd i
+    by others false i = inr (inr (others i))
 
 module _ (ts : Trees) (owned : AreOwned ts) (o : Owner) (r : Range NodeName) (ends : HasOneTree ts r) (start : r.start.node.owner ≡ o) (end : r.end.node.owner ≡ o) where
   abbrev own : Trees
@@ -44,35 +57,49 @@ module _ (ts : Trees) (owned : AreOwned ts) (o : Owner) (r : Range NodeName) (en
   ends-own : (x : NodeName) → is_inclusive_ancestor ts x r.end.node ≡ is_inclusive_ancestor own x r.end.node
   ends-own x = ap (is_in name_eq x) (read_own ts owned o r.end.node end).path
 
-  -- so who is partly contained
-  partly-own : (x : NodeName) → is_partly_contained ts r x ≡ is_partly_contained own r x
-  partly-own x =
-      ap (λ a. (a && not (is_inclusive_ancestor ts x r.end.node)) || (is_inclusive_ancestor ts x r.end.node && not a)) (starts-own x)
-      ∙ ap (λ b. (is_inclusive_ancestor own x r.start.node && not b) || (b && not (is_inclusive_ancestor own x r.start.node))) (ends-own x)
-
   -- a node of the owner in the range's tree
   record IsNear (x : NodeName) : Type 0 where
     there : Has ts x
     root : root_of ts x ≡ root_of ts r.start.node
     owner : x.owner ≡ o
 
-  -- the pieces of such nodes
-  among-own : (d : Trees) → ((x : NodeName) → Has d x → IsNear x) → pieces_among ts r d ≡ pieces_among own r d
-  among-own none near = refl
-  among-own (tree n c rest) near =
-      let x = n.name in
-      let w = near x (inl refl) in
-      let pieces = λ (contained partly : Bool) (to : ℕ) (inside others : Pieces).
-      (if contained then whole x others else (if not partly then others else (if has_data n.kind then cut x (cut_start r x) to others else clone x inside others))) in
-      let contained = is_contained own r x in
-      let partly = is_partly_contained own r x in
-      let inside = pieces_among ts r c in
-      let others = pieces_among ts r rest in
-      ap (λ b. pieces b (is_partly_contained ts r x) (cut_end ts r x) inside others) (contained-own ts owned o r ends start end x w.there w.root w.owner)
-      ∙ (ap (λ b. pieces contained b (cut_end ts r x) inside others) (partly-own x)
-      ∙ (ap (λ k. pieces contained partly (if name_eq x r.end.node then r.end.offset else k) inside others) (read_own ts owned o x w.owner).size
-      ∙ (ap (λ q. pieces contained partly (cut_end own r x) q others) (among-own c (λ y h. near y (inr (inl h))))
-      ∙ ap (pieces contained partly (cut_end own r x) (pieces_among own r c)) (among-own rest (λ y h. near y (inr (inr h)))))))
+  -- pieces along the path to a node, where the same nodes are above it and pass the test
+  along-own : (x : NodeName) → ((y : NodeName) → is_inclusive_ancestor ts y x ≡ is_inclusive_ancestor own y x) → (p q : NodeName → Bool) (from to : ℕ) (d : Trees) → ((y : NodeName) → Has d y → p y ≡ q y) → pieces_along ts x p from to d ≡ pieces_along own x q from to d
+  along-own x above p q from to none same = refl
+  along-own x above p q from to (tree n c rest) same =
+      let pieces = λ (over passes : Bool) (inside others : Pieces).
+      (if over then (if has_data n.kind then cut n.name from to others else clone n.name inside others) else (if passes then whole n.name others else others)) in
+      let over = is_inclusive_ancestor own n.name x in
+      let inside = pieces_along ts x p from to c in
+      let others = pieces_along ts x p from to rest in
+      ap (λ b. pieces b (p n.name) inside others) (above n.name)
+      ∙ (ap (λ b. pieces over b inside others) (same n.name (inl refl))
+      ∙ (ap (λ i. pieces over (q n.name) i others) (along-own x above p q from to c (λ y h. same y (inr (inl h))))
+      ∙ ap (pieces over (q n.name) (pieces_along own x q from to c)) (along-own x above p q from to rest (λ y h. same y (inr (inr h))))))
+
+  -- what is behind the start in trees of such nodes
+  start-own : (d : Trees) → ((x : NodeName) → Has d x → IsNear x) → pieces_behind ts r.start d ≡ pieces_behind own r.start d
+  start-own d near =
+      let p = λ (x : NodeName). is_before ts r.start (at x 0) in
+      let q = λ (x : NodeName). is_before own r.start (at x 0) in
+      along-own r.start.node starts-own p q r.start.offset (length_of ts r.start.node) d (λ y h. let w = near y h in behind-own ts owned o r ends start end y w.there w.root w.owner)
+      ∙ ap (λ k. pieces_along own r.start.node q r.start.offset k d) (read_own ts owned o r.start.node start).size
+
+  -- and in front of the end
+  end-own : (d : Trees) → ((x : NodeName) → Has d x → IsNear x) → pieces_in_front ts r.end d ≡ pieces_in_front own r.end d
+  end-own d near =
+      along-own r.end.node ends-own (λ x. is_before ts (at x (length_of ts x)) r.end) (λ x. is_before own (at x (length_of own x)) r.end) 0 r.end.offset d
+      (λ y h. let w = near y h in in_front-own ts owned o r ends start end y w.there w.root w.owner)
+
+  -- the tree that holds one end alone
+  holding-own : (x other : NodeName) → ((y : NodeName) → is_inclusive_ancestor ts y x ≡ is_inclusive_ancestor own y x) → ((y : NodeName) → is_inclusive_ancestor ts y other ≡ is_inclusive_ancestor own y other) → (d : Trees)
+      → tree_holding ts x other d ≡ tree_holding own x other d
+  holding-own x other above apart none = refl
+  holding-own x other above apart (tree n c rest) =
+      let held = λ (a b : Bool) (others : Trees). (if a && not b then tree n c none else others) in
+      ap (λ a. held a (is_inclusive_ancestor ts n.name other) (tree_holding ts x other rest)) (above n.name)
+      ∙ (ap (λ b. held (is_inclusive_ancestor own n.name x) b (tree_holding ts x other rest)) (apart n.name)
+      ∙ ap (held (is_inclusive_ancestor own n.name x) (is_inclusive_ancestor own n.name other)) (holding-own x other above apart rest))
 
   -- the lowest common inclusive ancestor
   common-own : common_ancestor ts r ≡ common_ancestor own r
@@ -104,21 +131,37 @@ module _ (ts : Trees) (owned : AreOwned ts) (o : Owner) (r : Range NodeName) (en
         owner = (stays_own ts owned o c ((stays_own ts owned o r.start.node start).path c (is_in-from c path above))).inside x (is_in-from x (inclusive_descendants ts c) (In-names (subtree ts c) x deep));
       }
 
-  -- the pieces of the range
-  pub pieces-own : pieces_of ts r ≡ pieces_of own r
-  pieces-own =
+  -- the pieces of the range where no Text or Comment has both ends
+  apart-own : pieces_apart ts r ≡ pieces_apart own r
+  apart-own =
       let c = common_ancestor ts r in
       let path = inclusive_ancestors ts r.start.node in
       let own_start = subst (In r.start.node) (sym (above-present ts r.start.node ends.start).1) (inl refl) in
       let above : In c path = found-in (λ a. is_inclusive_ancestor ts a r.end.node) r.start.node path path (λ y i. i) own_start in
-      let owner = (stays_own ts owned o r.start.node start).path c (is_in-from c path above) in
+      let below = trees_below (subtree ts c) in
+      let same : below ≡ trees_below (subtree own (common_ancestor own r)) =
+      ap trees_below (read_own ts owned o c ((stays_own ts owned o r.start.node start).path c (is_in-from c path above))).alone ∙ ap (λ (x : NodeName). trees_below (subtree own x)) common-own in
+      let first : pieces_behind ts r.start (tree_holding ts r.start.node r.end.node below) ≡ pieces_behind own r.start (tree_holding own r.start.node r.end.node below) =
+      start-own (tree_holding ts r.start.node r.end.node below) (λ x h. common-near x (holding-in ts r.start.node r.end.node below x h))
+      ∙ ap (pieces_behind own r.start) (holding-own r.start.node r.end.node starts-own ends-own below) in
+      let middle : filter (is_contained ts r) (names_of (roots below)) ≡ filter (is_contained own r) (names_of (roots below)) =
+      filter-same (is_contained ts r) (is_contained own r) (names_of (roots below)) (λ y i. let w = common-near y (root-there below y i) in contained-own ts owned o r ends start end y w.there w.root w.owner) in
+      let later : pieces_in_front ts r.end (tree_holding ts r.end.node r.start.node below) ≡ pieces_in_front own r.end (tree_holding own r.end.node r.start.node below) =
+      end-own (tree_holding ts r.end.node r.start.node below) (λ x h. common-near x (holding-in ts r.end.node r.start.node below x h))
+      ∙ ap (pieces_in_front own r.end) (holding-own r.end.node r.start.node ends-own starts-own below) in
+      let own_pieces = λ (us : Trees). pieces_behind own r.start (tree_holding own r.start.node r.end.node us)
+      followed_by all_whole (filter (is_contained own r) (names_of (roots us)))
+      followed_by pieces_in_front own r.end (tree_holding own r.end.node r.start.node us) in
+      ap (λ q. q followed_by all_whole (filter (is_contained ts r) (names_of (roots below))) followed_by pieces_in_front ts r.end (tree_holding ts r.end.node r.start.node below)) first
+      ∙ (ap (λ xs. pieces_behind own r.start (tree_holding own r.start.node r.end.node below) followed_by all_whole xs followed_by pieces_in_front ts r.end (tree_holding ts r.end.node r.start.node below)) middle
+      ∙ (ap (λ q. pieces_behind own r.start (tree_holding own r.start.node r.end.node below) followed_by all_whole (filter (is_contained own r) (names_of (roots below))) followed_by q) later ∙ ap own_pieces same))
+
+  -- the pieces of the range
+  pub pieces-own : pieces_of ts r ≡ pieces_of own r
+  pieces-own =
       let one : Pieces = cut r.start.node r.start.offset r.end.offset nothing in
-      let all = λ (in_one : Bool) (below : Pieces). (if is_collapsed name_eq r then nothing else (if in_one then one else below)) in
-      let below : pieces_among ts r (trees_below (subtree ts c)) ≡ pieces_among own r (trees_below (subtree own (common_ancestor own r))) =
-      among-own (trees_below (subtree ts c)) common-near
-      ∙ (ap (λ (us : Trees). pieces_among own r (trees_below us)) (read_own ts owned o c owner).alone ∙ ap (λ (x : NodeName). pieces_among own r (trees_below (subtree own x))) common-own) in
-      ap (λ (n : Node). all (name_eq r.start.node r.end.node && has_data n.kind) (pieces_among ts r (trees_below (subtree ts c)))) (read_own ts owned o r.start.node start).node
-      ∙ ap (all (is_in_one_data own r)) below
+      let all = λ (in_one : Bool) (apart : Pieces). (if is_collapsed name_eq r then nothing else (if in_one then one else apart)) in
+      ap (λ (n : Node). all (name_eq r.start.node r.end.node && has_data n.kind) (pieces_apart ts r)) (read_own ts owned o r.start.node start).node ∙ ap (all (is_in_one_data own r)) apart-own
 
 -- ---- by keys
 

@@ -1,121 +1,54 @@
--- What is taken below the lowest common ancestor of the ends of a range: of the start's side, between, and of the end's side.
-use Rattle.std.proofs.Common.{◌≡◌, ◌≤◌, Bool, true, false, not, ◌&&◌, ◌||◌, List, [], ◌∷◌, ◌++◌, drop, Option, Some, None, refl, sym, ap, subst, ◌∙◌}
-use Rattle.std.proofs.lemmas.Option.{same_Some}
+-- What is taken of the child of the ends' lowest common ancestor in whose tree one of them is.
+use Rattle.std.proofs.Common.{◌≡◌, inl, inr, Bool, true, false, true≢false, not, ◌&&◌, List, [], ◌∷◌, ◌++◌, take, drop, Option, Some, None, refl, sym, ap, subst, ◌∙◌}
+use Rattle.std.specs.Option.{option_map_or}
+use Rattle.std.proofs.lemmas.Bool.{cases_Bool, cond-true, cond-false}
+use Rattle.std.proofs.lemmas.List.{take-append-drop}
+use Rattle.std.proofs.lemmas.Option.{same_Some, none-some}
 use Rattle.dom_base.specs.declared.NodeName.{NodeName}
-use Rattle.dom_model.specs.Extract.{is_partly_contained}
-use Rattle.dom_model.specs.Names.{first_of, last_of}
-use Rattle.dom_model.specs.Place.{Boundary, is_before}
-use Rattle.dom_model.specs.Ranges.{Range, at, is_contained}
-use Rattle.dom_model.specs.Tree.{Trees, kind_of, has_data, children_of, inclusive_ancestors, is_inclusive_ancestor, inclusive_descendants, length_of, subtree}
-use Rattle.dom_traversal.proofs.Children.{In-names, Has-names, child-of_parent}
-use Rattle.dom_traversal.proofs.Lists.{In, In-left, is_in-from, no_last}
-use Rattle.dom_traversal.proofs.Shapes.{Has, Once, Has-subtree, above-parent, above-present, above-from_below, below-from_above}
-use Rattle.dom_range_ops.specs.Pieces.{whole_item}
-use Rattle.dom_range_ops.proofs.PieceItems.{node_items, items-whole, items-out}
-use Rattle.dom_range_ops.proofs.PieceLevels.{IsBehind, IsAhead, above-start, above-end, behind-off, ahead-off}
-use Rattle.dom_range_ops.proofs.PieceSides.{IsSide, last-member, tail-same}
+use Rattle.dom_model.specs.Extract.{pieces_along, tree_holding}
+use Rattle.dom_model.specs.Names.{name_eq, first_of, last_of, items_before, items_after}
+use Rattle.dom_model.specs.Place.{Boundary}
+use Rattle.dom_model.specs.Tree.{Trees, none, tree, kind_of, has_data, names_of, roots, children_of, inclusive_ancestors, is_inclusive_ancestor, inclusive_descendants, siblings, next_sibling, subtree, trees_below}
+use Rattle.dom_traversal.proofs.Children.{In-names, Has-names, child-of_parent, parent-of_child}
+use Rattle.dom_traversal.proofs.Lists.{In, In-left, In-right, In-parts, is_in-from, no_last, same_or_not, split_at}
+use Rattle.dom_traversal.proofs.Shapes.{Has, Once, subtree-here, subtree-beside, above-parent, above-present, above-from_below, below-from_above}
+use Rattle.dom_range_ops.specs.Pieces.{Item, items_of, first_behind, first_from, side_items}
+use Rattle.dom_range_ops.proofs.PieceItems.{root-there, once-below, child-tree}
+use Rattle.dom_range_ops.proofs.PieceLevels.{IsBehind, IsAhead, Level, behind-off, ahead-off, in-front, in-back, self-in}
+use Rattle.dom_range_ops.proofs.PieceSides.{taken, from, to, side-is, last-member, tail-same}
 
 -- lists that are the same begin with the same item
 first-same : (x y : NodeName) (xs ys : List NodeName) → x ∷ xs ≡ y ∷ ys → x ≡ y
 first-same x y xs ys e = cc
 
--- nothing is both, where the second is not
-and-no : (b : Bool) → b && false ≡ false
-and-no true = refl
-and-no false = refl
+-- ---- the tree that holds one end alone
 
-module _ (ts : Trees) (r : Range NodeName) (once : Once ts) (start : Has ts r.start.node) (end : Has ts r.end.node) where
-  -- ---- one node
+module _ (ts : Trees) (x other : NodeName) where
+  abbrev holds : NodeName → Bool
+  holds z = is_inclusive_ancestor ts z x && not (is_inclusive_ancestor ts z other)
 
-  abbrev starts : NodeName → Bool
-  starts z = is_inclusive_ancestor ts z r.start.node
+  -- a node that is not above the end does not
+  holds-not : (z : NodeName) → is_inclusive_ancestor ts z x ≡ false → holds z ≡ false
+  holds-not z e = ap (λ t. t && not (is_inclusive_ancestor ts z other)) e
 
-  abbrev ends : NodeName → Bool
-  ends z = is_inclusive_ancestor ts z r.end.node
+  -- there is none where no root is above the end
+  none-held : (d : Trees) → ((z : NodeName) → In z (names_of (roots d)) → is_inclusive_ancestor ts z x ≡ false) → tree_holding ts x other d ≡ none
+  none-held none off = refl
+  none-held (tree n c rest) off =
+      cond-false (holds n.name) (tree n c none) (tree_holding ts x other rest) (holds-not n.name (off n.name (inl refl))) ∙ none-held rest (λ z i. off z (inr i))
 
-  -- what is not behind the start is not contained
-  not-start : (z : NodeName) → is_before ts r.start (at z 0) ≡ false → is_contained ts r z ≡ false
-  not-start z e = ap (λ b. b && is_before ts (at z (length_of ts z)) r.end) e
-
-  -- nor is what is not in front of the end
-  not-end : (z : NodeName) → is_before ts (at z (length_of ts z)) r.end ≡ false → is_contained ts r z ≡ false
-  not-end z e = ap (λ b. is_before ts r.start (at z 0) && b) e ∙ and-no (is_before ts r.start (at z 0))
-
-  -- whether a node is partly contained, by the ends below it
-  partly-is : (z : NodeName) (a b : Bool) → starts z ≡ a → ends z ≡ b → is_partly_contained ts r z ≡ ((a && not b) || (b && not a))
-  partly-is z a b e f = ap (λ v. (v && not (ends z)) || (ends z && not v)) e ∙ ap (λ v. (a && not v) || (v && not a)) f
-
-  -- of a node behind the start and in front of the end all is taken
-  pub between-items : (z : NodeName) → Has ts z → IsBehind ts once r.start z → IsAhead ts once r.end z → node_items ts r z ≡ whole_item z ∷ []
-  between-items z h a b = items-whole ts r once z h (ap (λ v. v && is_before ts (at z (length_of ts z)) r.end) (a.after 0) ∙ b.before (length_of ts z))
-
-  -- of one with no end below it that is not contained nothing is
-  out-items : (z : NodeName) → Has ts z → is_contained ts r z ≡ false → starts z ≡ false → ends z ≡ false → node_items ts r z ≡ []
-  out-items z h e a b = items-out ts r once z h e (partly-is z false false a b)
-
-  pub in-front-items : (z : NodeName) → Has ts z → IsAhead ts once r.start z → IsAhead ts once r.end z → node_items ts r z ≡ []
-  in-front-items z h a b = out-items z h (not-start z (a.apart 0)) (ahead-off ts once r.start z h start a) (ahead-off ts once r.end z h end b)
-
-  pub behind-items : (z : NodeName) → Has ts z → IsBehind ts once r.start z → IsBehind ts once r.end z → node_items ts r z ≡ []
-  behind-items z h a b = out-items z h (not-end z (b.apart (length_of ts z))) (behind-off ts once r.start z h start a) (behind-off ts once r.end z h end b)
-
-  pub turned-items : (z : NodeName) → Has ts z → IsAhead ts once r.start z → IsBehind ts once r.end z → node_items ts r z ≡ []
-  turned-items z h a b = out-items z h (not-start z (a.apart 0)) (ahead-off ts once r.start z h start a) (behind-off ts once r.end z h end b)
-
-  -- ---- the tree of a node below which one end is
-
-  -- a node of a tree stands in the trees
-  there : (y z : NodeName) → In z (inclusive_descendants ts y) → Has ts z
-  there y z i = Has-subtree ts y z once (Has-names (subtree ts y) z i)
-
-  -- it is above what is in its tree
-  above : (z x : NodeName) → Has ts z → In x (inclusive_descendants ts z) → is_inclusive_ancestor ts z x ≡ true
-  above z x h i = is_in-from z (inclusive_ancestors ts x) (above-from_below ts z x once h (Has-names (subtree ts z) x i))
-
-  -- in the tree of a node all are in front of the end
-  module _ (y : NodeName) (leaves : (x : NodeName) → In x (inclusive_descendants ts y) → has_data (kind_of ts x) ≡ true → children_of ts x ≡ []) (fits : r.end.offset ≤ length_of ts r.end.node) (h : Has ts y) where
-    pub start-side : ((z : NodeName) → In z (inclusive_descendants ts y) → IsAhead ts once r.end z) → IsSide ts r once r.start false true y
-    start-side far = record {
-      top_stands = h;
-      ahead = λ z i a. in-front-items z (there y z i) a (far z i);
-      later = λ z i a. between-items z (there y z i) a (far z i);
-      apart = λ z i j. not-start z (above-start ts once r.start z (there y z i) j);
-      partly = λ z i j. partly-is z true false (above z r.start.node (there y z i) j) (ahead-off ts once r.end z (there y z i) end (far z i));
-      leaves = leaves;
-    }
-
-    -- or behind it
-    pub start-turned : ((z : NodeName) → In z (inclusive_descendants ts y) → IsBehind ts once r.end z) → IsSide ts r once r.start false false y
-    start-turned far = record {
-      top_stands = h;
-      ahead = λ z i a. turned-items z (there y z i) a (far z i);
-      later = λ z i a. behind-items z (there y z i) a (far z i);
-      apart = λ z i j. not-start z (above-start ts once r.start z (there y z i) j);
-      partly = λ z i j. partly-is z true false (above z r.start.node (there y z i) j) (behind-off ts once r.end z (there y z i) end (far z i));
-      leaves = leaves;
-    }
-
-    -- or behind the start
-    pub end-side : ((z : NodeName) → In z (inclusive_descendants ts y) → IsBehind ts once r.start z) → IsSide ts r once r.end true false y
-    end-side far = record {
-      top_stands = h;
-      ahead = λ z i b. between-items z (there y z i) (far z i) b;
-      later = λ z i b. behind-items z (there y z i) (far z i) b;
-      apart = λ z i j. not-end z (above-end ts once r.end fits z (leaves z i) (there y z i) j);
-      partly = λ z i j. partly-is z false true (behind-off ts once r.start z (there y z i) start (far z i)) (above z r.end.node (there y z i) j);
-      leaves = leaves;
-    }
-
-    -- or in front of it
-    pub end-turned : ((z : NodeName) → In z (inclusive_descendants ts y) → IsAhead ts once r.start z) → IsSide ts r once r.end false false y
-    end-turned far = record {
-      top_stands = h;
-      ahead = λ z i b. in-front-items z (there y z i) (far z i) b;
-      later = λ z i b. turned-items z (there y z i) (far z i) b;
-      apart = λ z i j. not-end z (above-end ts once r.end fits z (leaves z i) (there y z i) j);
-      partly = λ z i j. partly-is z false true (ahead-off ts once r.start z (there y z i) start (far z i)) (above z r.end.node (there y z i) j);
-      leaves = leaves;
-    }
+  -- it is that of the one root that does
+  one-held : (d : Trees) → Once d → (y : NodeName) → In y (names_of (roots d)) → holds y ≡ true → ((z : NodeName) → In z (names_of (roots d)) → holds z ≡ true → z ≡ y) → tree_holding ts x other d ≡ subtree d y
+  one-held none once y i e only = absurd i
+  one-held (tree n c rest) once y i e only = elim (cases_Bool (holds n.name)) [
+    | inl t ↦ cond-true (holds n.name) (tree n c none) (tree_holding ts x other rest) t ∙ sym (subtree-here n c rest y (only n.name (inl refl) t))
+    | inr t ↦
+        cond-false (holds n.name) (tree n c none) (tree_holding ts x other rest) t
+        ∙ elim i [
+          | inl same ↦ absurd (true≢false (sym e ∙ (ap holds same ∙ t)))
+          | inr j ↦ one-held rest once.4 y j e (λ z k. only z (inr k)) ∙ sym (subtree-beside n c rest y once (root-there rest y j))
+        ]
+  ]
 
 -- ---- the path from an end to the common ancestor
 
@@ -140,8 +73,107 @@ module _ (ts : Trees) (once : Once ts) (c : NodeName) (rest : List NodeName) whe
       by (last_of (x ∷ path)) refl same
     where
       by : (o : Option NodeName) → last_of (x ∷ path) ≡ o → b.node ≡ x → Course b (x ∷ path)
-      by None none same = let off : x ∷ path ≡ [] = no_last (x ∷ path) none in cc
+      by None missing same = let off : x ∷ path ≡ [] = no_last (x ∷ path) missing in cc
       by (Some y) last same =
           let i : In y (inclusive_ancestors ts b.node) = subst (In y) (sym e) (In-left y (x ∷ path) (c ∷ rest) (last-member x y path last)) in
           inside y path (ap (λ z. z ∷ path) (sym same)) last (last-child x path (subst (Has ts) same h) (ap (inclusive_ancestors ts) (sym same) ∙ e) y last)
           (In-names (subtree ts y) b.node (below-from_above ts y b.node once h i))
+
+  -- ---- how it parts the children
+
+  abbrev kids : List NodeName
+  kids = children_of ts c
+
+  pub level : (b : Boundary NodeName) (path : List NodeName) → Course b path → Level ts once c b
+  level b path (at_top empty same) = record { front = take b.offset kids; middle = []; back = drop b.offset kids; kids = sym (take-append-drop b.offset kids); shape = inl record { same = same; none = refl; first = refl; later = refl } }
+  level b path (inside y more whole last i below) = record { front = items_before name_eq y kids; middle = y ∷ []; back = items_after name_eq y kids; kids = split_at y kids i; shape = inr record { child = y; alone = refl; inside = below } }
+
+  -- the child in the middle is the last of the path
+  pub middle-last : (b : Boundary NodeName) (path : List NodeName) (w : Course b path) (z : NodeName) → In z (level b path w).middle → (last_of path ≡ Some z) × In b.node (inclusive_descendants ts z)
+  unfolding level
+  middle-last b path (at_top empty same) z i = absurd i
+  middle-last b path (inside y more whole last among below) z (inl e) = (last ∙ ap Some (sym e), subst (λ x. In b.node (inclusive_descendants ts x)) (sym e) below)
+  middle-last b path (inside y more whole last among below) z (inr i) = absurd i
+
+  module _ (there : Has ts c) where
+    -- a child is a node
+    pub kid-stands : (z : NodeName) → In z kids → Has ts z
+    kid-stands z i = (parent-of_child ts c z once there i).1
+
+    -- one in front of the end, and one behind it
+    module _ (b : Boundary NodeName) (l : Level ts once c b) (z : NodeName) where
+      front-kid : In z l.front → In z kids
+      front-kid i = subst (In z) (sym l.kids) (In-left z l.front (l.middle ++ l.back) i)
+
+      pub middle-kid : In z l.middle → In z kids
+      middle-kid i = subst (In z) (sym l.kids) (In-right z l.front (l.middle ++ l.back) (In-left z l.middle l.back i))
+
+      back-kid : In z l.back → In z kids
+      back-kid i = subst (In z) (sym l.kids) (In-right z l.front (l.middle ++ l.back) (In-right z l.middle l.back i))
+
+      pub is-ahead : In z l.front → IsAhead ts once b z
+      is-ahead i = in-front ts once c there b l z z i (self-in ts once z (kid-stands z (front-kid i)))
+
+      pub is-behind : In z l.back → IsBehind ts once b z
+      is-behind i = in-back ts once c there b l z z i (self-in ts once z (kid-stands z (back-kid i)))
+
+    -- no other child than the last of the path is above the end
+    pub kid-off : (b : Boundary NodeName) (path : List NodeName) → Course b path → Has ts b.node → (z : NodeName) → In z kids → (last_of path ≡ Some z → ⊥) → is_inclusive_ancestor ts z b.node ≡ false
+    kid-off b path w h z i other =
+        let l = level b path w in
+        elim (In-parts z l.front (l.middle ++ l.back) (subst (In z) l.kids i)) [
+          | inl j ↦ ahead-off ts once b z (kid-stands z i) h (is-ahead b l z j)
+          | inr g ↦ elim (In-parts z l.middle l.back g) [
+            | inl j ↦ absurd (other (middle-last b path w z j).0)
+            | inr j ↦ behind-off ts once b z (kid-stands z i) h (is-behind b l z j)
+          ]
+        ]
+
+    -- ---- the children from the end on
+
+    -- the siblings of a child
+    kid-siblings : (y : NodeName) → In y kids → siblings ts y ≡ kids
+    kid-siblings y i = ap (λ o. option_map_or (children_of ts) o (y ∷ [])) (parent-of_child ts c y once there i).0
+
+    -- the first behind it
+    pub begins : (b : Boundary NodeName) (path : List NodeName) (w : Course b path) → first_behind ts b path ≡ first_of (level b path w).back
+    unfolding level
+    begins b path (at_top empty same) = ap (first_behind ts b) empty ∙ ap (λ x. first_of (drop b.offset (children_of ts x))) same
+    begins b path (inside y more whole last among below) =
+        ap (λ o. option_map_or (next_sibling ts) o (first_of (drop b.offset (children_of ts b.node)))) last ∙ ap (λ xs. first_of (items_after name_eq y xs)) (kid-siblings y among)
+
+    -- and the first that is not in front of it
+    pub stops : (b : Boundary NodeName) (path : List NodeName) (w : Course b path) → first_from ts b path ≡ first_of ((level b path w).middle ++ (level b path w).back)
+    unfolding level
+    stops b path (at_top empty same) = ap (first_from ts b) empty ∙ ap (λ x. first_of (drop b.offset (children_of ts x))) same
+    stops b path (inside y more whole last among below) = ap (λ o. option_map_or Some o (first_of (drop b.offset (children_of ts b.node)))) last
+
+    -- ---- what is taken
+
+    module _ (b : Boundary NodeName) (path : List NodeName) (h : Has ts b.node) (up : inclusive_ancestors ts b.node ≡ path ++ c ∷ rest)
+        (other : NodeName) (apart : (y : NodeName) → In y kids → last_of path ≡ Some y → is_inclusive_ancestor ts y other ≡ false)
+        (leaves : (y : NodeName) → In y kids → (x : NodeName) → In x (inclusive_descendants ts y) → has_data (kind_of ts x) ≡ true → children_of ts x ≡ []) where
+      -- what is taken of the child that holds the end and not the other one, behind the end or in front of it
+      pub side-held : (behind : Bool)
+          → items_of (pieces_along ts b.node (taken ts once b behind) (from ts once b behind) (to ts once b behind) (tree_holding ts b.node other (trees_below (subtree ts c)))) ≡ side_items ts b behind path
+      side-held behind = by (course b path h up)
+        where
+          below_c : Trees
+          below_c = trees_below (subtree ts c)
+
+          along : Trees → List Item
+          along us = items_of (pieces_along ts b.node (taken ts once b behind) (from ts once b behind) (to ts once b behind) us)
+
+          by : Course b path → along (tree_holding ts b.node other below_c) ≡ side_items ts b behind path
+          by (at_top empty same) =
+              ap along (none-held ts b.node other below_c (λ z i. kid-off b path (at_top empty same) h z i (λ last. none-some z (ap last_of (sym empty) ∙ last)))) ∙ ap (side_items ts b behind) (sym empty)
+          by (inside y more whole last among below) =
+              let above : is_inclusive_ancestor ts y b.node ≡ true = is_in-from y (inclusive_ancestors ts b.node) (above-from_below ts y b.node once (kid-stands y among) (Has-names (subtree ts y) b.node below)) in
+              let hold : holds ts b.node other y ≡ true = ap (λ t. t && not (is_inclusive_ancestor ts y other)) above ∙ ap not (apart y among last) in
+              let only : (z : NodeName) → In z kids → holds ts b.node other z ≡ true → z ≡ y =
+              λ z i t. elim (same_or_not z y) [
+                | inl e ↦ e
+                | inr off ↦ absurd (true≢false (sym t ∙ holds-not ts b.node other z (kid-off b path (inside y more whole last among below) h z i (λ l. off (same_Some z y (sym l ∙ last))))))
+              ] in
+              ap along (one-held ts b.node other below_c (once-below ts c once there) y among hold only ∙ child-tree ts c once there y among)
+              ∙ (side-is ts once b behind h y (kid-stands y among) (leaves y among) more (c ∷ rest) (up ∙ ap (λ xs. xs ++ c ∷ rest) whole) (ap last_of (sym whole) ∙ last) ∙ ap (side_items ts b behind) (sym whole))

@@ -1,12 +1,11 @@
 -- Steps along a path, and counts of pieces.
-use Rattle.std.proofs.Common.{◌≡◌, ℕ, suc, ◌+◌, ◌-◌, ◌<◌, ◌≤◌, Bool, List, [], ◌∷◌, ◌++◌, length, map, drop, get_or, Some, refl, sym, ap, ◌∙◌, append_assoc, arith, length-drop}
+use Rattle.std.proofs.Common.{◌≡◌, ℕ, suc, ◌+◌, ◌-◌, ◌<◌, ◌≤◌, Bool, not, List, [], ◌∷◌, ◌++◌, length, map, drop, get_or, Some, refl, sym, ap, ◌∙◌, append_assoc, arith, length-drop}
 use Rattle.std.specs.Prelude.{slice_get}
 use Rattle.std.proofs.Math.Seq.{drop-cons}
 use Rattle.dom_base.specs.declared.NodeName.{NodeName}
 use Rattle.dom_model.specs.Extract.{Pieces, nothing, whole, cut, clone, clone_count}
 use Rattle.dom_model.specs.Names.{name_eq, last_of, items_before, items_after}
 use Rattle.dom_model.specs.Place.{Boundary}
-use Rattle.dom_model.specs.Ranges.{Range}
 use Rattle.dom_model.specs.Tree.{Trees, children_of, siblings}
 use Rattle.dom_tree.specs.Forest.{name_at}
 use Rattle.dom_range_ops.specs.Pieces.{Item, whole_item, cut_item, clone_item, end_item, items_of, made_by, wholes_if, heads, tails, end_items, side_items}
@@ -68,10 +67,10 @@ module _ (ts : Trees) (names : List NodeName) (path : List ℕ) where
       by (k ∷ j ∷ ks) few = absurd (omega (arith, few))
 
 -- what is taken along a path that is not empty
-pub side-some : (ts : Trees) (r : Range NodeName) (b : Boundary NodeName) (before behind : Bool) (names : List NodeName) (ks : List ℕ) → 0 < length ks
-    → side_items ts r b before behind (map (name_at names) ks) ≡ heads ts before (map (name_at names) ks) ++ (end_items ts r b before behind ++ tails ts behind (map (name_at names) ks))
-side-some ts r b before behind names [] l = absurd (omega (arith, l))
-side-some ts r b before behind names (k ∷ ks) l = refl
+pub side-some : (ts : Trees) (b : Boundary NodeName) (behind : Bool) (names : List NodeName) (ks : List ℕ) → 0 < length ks
+    → side_items ts b behind (map (name_at names) ks) ≡ heads ts (not behind) (map (name_at names) ks) ++ (end_items ts b behind ++ tails ts behind (map (name_at names) ks))
+side-some ts b behind names [] l = absurd (omega (arith, l))
+side-some ts b behind names (k ∷ ks) l = refl
 
 -- the last name of a path, by the last key
 pub last-named : (names : List NodeName) (ks : List ℕ) (k : ℕ) → slice_get ks (length ks - 1) ≡ Some k → last_of (map (name_at names) ks) ≡ Some (name_at names k)

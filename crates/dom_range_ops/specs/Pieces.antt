@@ -1,12 +1,11 @@
--- What an extraction takes, as a list in tree order.
-use Rattle.std.specs.Prelude.{◌≡◌, ℕ, ◌<◌, suc, Bool, List, [], ◌∷◌, ◌++◌, map, length, take, drop, ◌-◌, ◌≤◌, slice_index, Option, Some, None, if◌then◌else◌}
+-- What an extraction takes, as a list.
+use Rattle.std.specs.Prelude.{◌≡◌, ℕ, ◌<◌, suc, Bool, not, List, [], ◌∷◌, ◌++◌, map, length, take, drop, ◌-◌, ◌≤◌, slice_index, Option, Some, None, if◌then◌else◌}
 use Rattle.std.specs.List.{AllByRecursion}
 use Rattle.std.specs.Option.{option_map_or}
 use Rattle.dom_base.specs.declared.NodeName.{NodeName}
-use Rattle.dom_model.specs.Extract.{Pieces, nothing, whole, cut, clone, cut_start, cut_end}
+use Rattle.dom_model.specs.Extract.{Pieces, nothing, whole, cut, clone}
 use Rattle.dom_model.specs.Names.{name_eq, first_of, last_of, items_before, items_after}
 use Rattle.dom_model.specs.Place.{Boundary}
-use Rattle.dom_model.specs.Ranges.{Range}
 use Rattle.dom_model.specs.Tree.{Trees, kind_of, has_data, children_of, siblings, next_sibling, inclusive_ancestors, length_of}
 use Rattle.dom_range_ops.specs.Deletions.{AreLeaves}
 use Rattle.dom_range_ops.specs.Texts.{AreEnds}
@@ -23,7 +22,7 @@ pub data Item : Type 0 where
   clone_item : NodeName → Item
   end_item : Item
 
--- the items of pieces, in tree order
+-- the items of pieces, in their order
 abbrev pub items_of : Pieces → List Item
 items_of nothing = []
 items_of (whole x rest) = whole_item x ∷ items_of rest
@@ -96,17 +95,18 @@ first_behind ts b path = option_map_or (next_sibling ts) (last_of path) (first_o
 abbrev pub first_from : Trees → Boundary NodeName → List NodeName → Option NodeName
 first_from ts b path = option_map_or Some (last_of path) (first_of (drop b.offset (children_of ts b.node)))
 
--- what is taken of the node of an end of a range: of data a part, else a clone with the children that are taken in front of the
--- offset and behind it
-abbrev pub end_items : Trees → Range NodeName → Boundary NodeName → Bool → Bool → List Item
-end_items ts r b before behind =
-    if has_data (kind_of ts b.node) then cut_item b.node (cut_start r b.node) (cut_end ts r b.node) ∷ []
-    else clone_item b.node ∷ (wholes_if before (take b.offset (children_of ts b.node)) ++ (wholes_if behind (drop b.offset (children_of ts b.node)) ++ end_item ∷ []))
+-- what is taken of the node of a boundary point, behind the point or else in front of it: of data a part, else a clone with the
+-- children there
+abbrev pub end_items : Trees → Boundary NodeName → Bool → List Item
+end_items ts b behind =
+    if has_data (kind_of ts b.node) then cut_item b.node (if behind then b.offset else 0) (if behind then length_of ts b.node else b.offset) ∷ []
+    else clone_item b.node ∷ (map whole_item (if behind then drop b.offset (children_of ts b.node) else take b.offset (children_of ts b.node)) ++ end_item ∷ [])
 
--- what is taken of the tree of the last node of a path from the node of an end; nothing where there is no path
-abbrev pub side_items : Trees → Range NodeName → Boundary NodeName → Bool → Bool → List NodeName → List Item
-side_items ts r b before behind [] = []
-side_items ts r b before behind (x ∷ path) = heads ts before (x ∷ path) ++ (end_items ts r b before behind ++ tails ts behind (x ∷ path))
+-- what is taken of the tree of the last node of a path from the node of a boundary point, behind the point or else in front of it;
+-- nothing where there is no path
+abbrev pub side_items : Trees → Boundary NodeName → Bool → List NodeName → List Item
+side_items ts b behind [] = []
+side_items ts b behind (x ∷ path) = heads ts (not behind) (x ∷ path) ++ (end_items ts b behind ++ tails ts behind (x ∷ path))
 
 -- how far two lists go until both go on alike up to their ends: from there on they are the same, and just before they differ
 pub record EndAlike (xs ys : List ℕ) (m n : ℕ) : Type 0 where

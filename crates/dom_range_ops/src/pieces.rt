@@ -1,9 +1,7 @@
 //! What an extraction takes of the tree of a live range (DOM Standard, concept: extract).
-ghost use Rattle.std.specs.Prelude.{◌≡◌, ◌∷◌, [], false, map, List, IfOk, if◌then◌else◌};
+ghost use Rattle.std.specs.Prelude.{◌≡◌, ◌∷◌, [], map, List, IfOk, if◌then◌else◌};
 ghost use Rattle.dom_base.specs.declared.NodeName.{NodeName as Name};
-ghost use Rattle.dom_model.specs.Extract.{pieces_of, is_in_one_data};
-ghost use Rattle.dom_model.specs.Names.{name_eq};
-ghost use Rattle.dom_model.specs.Ranges.{is_collapsed};
+ghost use Rattle.dom_model.specs.Extract.{pieces_of, pieces_apart};
 ghost use Rattle.dom_range_ops.specs.Pieces.{items_of, item_in, made_by, AreItems, AreSpanned};
 ghost use Rattle.dom_range_ops.specs.Texts.{range_at_points};
 
@@ -19,7 +17,7 @@ mod paths;
 mod runs;
 mod sides;
 
-/// A piece of what is extracted, in tree order.
+/// A piece of what is extracted.
 #[derive(Clone, Copy)]
 pub(crate) enum Piece {
     /// A node, as it is, with all below it.
@@ -32,7 +30,7 @@ pub(crate) enum Piece {
     End,
 }
 
-/// The pieces that an extraction takes of the tree of a range, in tree order (DOM Standard, concept: extract). The nodes
+/// The pieces that an extraction takes of the tree of a range, in order (DOM Standard, concept: extract). The nodes
 /// above the two ends are walked, and of their children those that are taken. It is refused where memory is refused.
 pub(crate) fn pieces_between(
     alloc: Global,
@@ -56,12 +54,10 @@ pub(crate) fn pieces_between(
     pieces_apart(alloc, forest, points)
 }
 
-/// The same of a range that is not collapsed and not in one Text or Comment.
+/// The same of a range with no end in a Text or Comment of both.
 fn pieces_apart(alloc: Global, forest: &Forest, points: &Points) -> Result<Vec<Piece>, AllocError>
-    requires spanned { AreSpanned forest.now points.now }
-    requires not_collapsed { is_collapsed name_eq (range_at_points forest.now.names points.now) ≡ false }
-    requires not_in_one_data { is_in_one_data forest.now.trees (range_at_points forest.now.names points.now) ≡ false }
-    ensures { IfOk result (λ pieces. AreItems forest.now.names pieces.items (items_of (pieces_of forest.now.trees (range_at_points forest.now.names points.now)))) }
+    requires { AreSpanned forest.now points.now }
+    ensures { IfOk result (λ pieces. AreItems forest.now.names pieces.items (items_of (pieces_apart forest.now.trees (range_at_points forest.now.names points.now)))) }
 {
     forest.nodes_stand_once();
     let start_path = inclusive_ancestors(alloc, forest, points.start.0)?;

@@ -1,8 +1,8 @@
 //! Runs of siblings that are taken as they are.
-ghost use Rattle.std.specs.Prelude.{◌≡◌, ◌<◌, ◌++◌, length, map, take, drop, None, OnOk};
+ghost use Rattle.std.specs.Prelude.{◌<◌, length, map, take, drop, OnOk, if◌then◌else◌};
 ghost use Rattle.std.specs.Option.{option_map, ForSome};
 ghost use Rattle.dom_model.specs.Tree.{children_of};
-ghost use Rattle.dom_range_ops.specs.Pieces.{Adds, whole_item, wholes_if, from_sibling, up_to};
+ghost use Rattle.dom_range_ops.specs.Pieces.{Adds, whole_item, from_sibling, up_to};
 ghost use Rattle.dom_tree.specs.Forest.{name_at};
 
 use super::Piece;
@@ -36,56 +36,21 @@ pub(super) fn push_siblings(
     Ok(())
 }
 
-/// The children of a node in front of an offset, where they are taken, and those from it on, where they are.
+/// The children of a node from an offset on, or else those in front of it.
 pub(super) fn push_children(
     pieces: &mut Vec<Piece>,
     forest: &Forest,
     point: (Key, usize),
-    before: bool,
     behind: bool,
 ) -> Result<(), AllocError>
     requires { point.0 < length forest.now.names }
-    ensures { OnOk result (Adds forest.now.names pieces.old.items pieces.new.items (wholes_if before (take point.1 (children_of forest.now.trees (name_at forest.now.names point.0))) ++ wholes_if behind (drop point.1 (children_of forest.now.trees (name_at forest.now.names point.0))))) }
+    ensures { OnOk result (Adds forest.now.names pieces.old.items pieces.new.items (map whole_item (if behind then drop point.1 (children_of forest.now.trees (name_at forest.now.names point.0)) else take point.1 (children_of forest.now.trees (name_at forest.now.names point.0))))) }
 {
+    forest.nodes_stand_once();
     let (node, offset) = point;
-    push_front(pieces, forest, node, offset, before)?;
-    push_back(pieces, forest, node, offset, behind)
-}
-
-/// The children of a node in front of an offset, where they are taken.
-fn push_front(
-    pieces: &mut Vec<Piece>,
-    forest: &Forest,
-    node: Key,
-    offset: usize,
-    taken: bool,
-) -> Result<(), AllocError>
-    requires { node < length forest.now.names }
-    ensures { OnOk result (Adds forest.now.names pieces.old.items pieces.new.items (wholes_if taken (take offset (children_of forest.now.trees (name_at forest.now.names node))))) }
-{
-    forest.nodes_stand_once();
-    if !taken {
-        return Ok(());
+    let first_behind = child_at(forest, node, offset);
+    if behind {
+        return push_siblings(pieces, forest, first_behind, None);
     }
-    let until = child_at(forest, node, offset);
-    push_siblings(pieces, forest, forest.first(node), until)
-}
-
-/// The children of a node from an offset on, where they are taken.
-fn push_back(
-    pieces: &mut Vec<Piece>,
-    forest: &Forest,
-    node: Key,
-    offset: usize,
-    taken: bool,
-) -> Result<(), AllocError>
-    requires { node < length forest.now.names }
-    ensures { OnOk result (Adds forest.now.names pieces.old.items pieces.new.items (wholes_if taken (drop offset (children_of forest.now.trees (name_at forest.now.names node))))) }
-{
-    forest.nodes_stand_once();
-    if !taken {
-        return Ok(());
-    }
-    let from = child_at(forest, node, offset);
-    push_siblings(pieces, forest, from, None)
+    push_siblings(pieces, forest, forest.first(node), first_behind)
 }

@@ -1,14 +1,13 @@
 //! What is taken on the side of each end of a range, and between the two.
-ghost use Rattle.std.specs.Prelude.{◌≡◌, ◌<◌, ◌++◌, ◌∷◌, [], length, map, true, false, OnOk};
+ghost use Rattle.std.specs.Prelude.{◌≡◌, ◌<◌, ◌++◌, ◌∷◌, [], length, map, filter, OnOk, if◌then◌else◌};
 ghost use Rattle.std.specs.List.{AllByRecursion};
 ghost use Rattle.std.specs.Option.{option_map, ForSome};
-ghost use Rattle.dom_model.specs.Extract.{pieces_of, is_in_one_data, cut_start, cut_end};
+ghost use Rattle.dom_model.specs.Extract.{pieces_apart, common_ancestor};
 ghost use Rattle.dom_model.specs.Names.{name_eq, items_before, items_after};
-ghost use Rattle.dom_model.specs.Place.{is_before as comes_before};
-ghost use Rattle.dom_model.specs.Ranges.{at, is_collapsed};
-ghost use Rattle.dom_model.specs.Tree.{children_of, siblings};
-ghost use Rattle.dom_range_ops.specs.Pieces.{Adds, AreSpanned, ArePaths, item_in, items_of, cut_item, clone_item, end_item, wholes_if, heads, tails, end_items, side_items, first_behind, first_from};
-ghost use Rattle.dom_range_ops.specs.Texts.{range_at_points, AreEnds};
+ghost use Rattle.dom_model.specs.Ranges.{at, is_contained};
+ghost use Rattle.dom_model.specs.Tree.{children_of, siblings, length_of};
+ghost use Rattle.dom_range_ops.specs.Pieces.{Adds, AreSpanned, ArePaths, items_of, whole_item, clone_item, end_item, wholes_if, heads, tails, end_items, side_items, first_behind, first_from};
+ghost use Rattle.dom_range_ops.specs.Texts.{range_at_points};
 ghost use Rattle.dom_tree.specs.Forest.{name_at};
 
 use super::Piece;
@@ -20,16 +19,16 @@ use dom_tree::Forest;
 use node_arena::Key;
 use std::alloc::AllocError;
 
-/// An end of a range, and which children beside the path down to it are taken: those in front of it, those behind it.
+/// An end of a range, and whether what is behind it is taken, or else what is in front of it.
 #[derive(Clone, Copy)]
 struct Side {
     point: (Key, usize),
-    before: bool,
     behind: bool,
 }
 
-/// The pieces of a range that is not collapsed and not in one Text or Comment, by the paths from its ends up to the
-/// children of their lowest common inclusive ancestor.
+/// The pieces of a range with no end in a Text or Comment of both, by the paths from its ends up to the children of their
+/// lowest common inclusive ancestor: what is behind the start in its child, the children between, and what is in front of
+/// the end in its child.
 pub(super) fn push_pieces(
     pieces: &mut Vec<Piece>,
     forest: &Forest,
@@ -38,81 +37,43 @@ pub(super) fn push_pieces(
     end_path: &[Key],
 ) -> Result<(), AllocError>
     requires spanned { AreSpanned forest.now points.now }
-    requires not_collapsed { is_collapsed name_eq (range_at_points forest.now.names points.now) ≡ false }
-    requires not_in_one_data { is_in_one_data forest.now.trees (range_at_points forest.now.names points.now) ≡ false }
     requires paths { ArePaths forest.now points.now start_path.now end_path.now }
-    ensures { OnOk result (Adds forest.now.names pieces.old.items pieces.new.items (items_of (pieces_of forest.now.trees (range_at_points forest.now.names points.now)))) }
-{
-    forest.nodes_stand_once();
-    if is_before(forest, points.end, points.start) {
-        return push_reversed(pieces, forest, points, start_path, end_path);
-    }
-    push_ordered(pieces, forest, points, start_path, end_path)
-}
-
-/// The same where the end comes before the start: nothing is contained, and bare clones are taken of the nodes of both
-/// paths.
-fn push_reversed(
-    pieces: &mut Vec<Piece>,
-    forest: &Forest,
-    points: &Points,
-    start_path: &[Key],
-    end_path: &[Key],
-) -> Result<(), AllocError>
-    requires spanned { AreSpanned forest.now points.now }
-    requires not_collapsed { is_collapsed name_eq (range_at_points forest.now.names points.now) ≡ false }
-    requires not_in_one_data { is_in_one_data forest.now.trees (range_at_points forest.now.names points.now) ≡ false }
-    requires paths { ArePaths forest.now points.now start_path.now end_path.now }
-    requires reversed { comes_before forest.now.trees (range_at_points forest.now.names points.now).end (range_at_points forest.now.names points.now).start ≡ true }
-    ensures { OnOk result (Adds forest.now.names pieces.old.items pieces.new.items (items_of (pieces_of forest.now.trees (range_at_points forest.now.names points.now)))) }
-{
-    forest.nodes_stand_once();
-    let bare_start = Side {
-        point: points.start,
-        before: false,
-        behind: false,
-    };
-    let bare_end = Side {
-        point: points.end,
-        before: false,
-        behind: false,
-    };
-    push_side(pieces, forest, points, end_path, bare_end)?;
-    push_side(pieces, forest, points, start_path, bare_start)
-}
-
-/// The same where it does not: what is behind the start in its tree, what is between, and what is in front of the end in
-/// its tree.
-fn push_ordered(
-    pieces: &mut Vec<Piece>,
-    forest: &Forest,
-    points: &Points,
-    start_path: &[Key],
-    end_path: &[Key],
-) -> Result<(), AllocError>
-    requires spanned { AreSpanned forest.now points.now }
-    requires not_collapsed { is_collapsed name_eq (range_at_points forest.now.names points.now) ≡ false }
-    requires not_in_one_data { is_in_one_data forest.now.trees (range_at_points forest.now.names points.now) ≡ false }
-    requires paths { ArePaths forest.now points.now start_path.now end_path.now }
-    requires ordered { comes_before forest.now.trees (range_at_points forest.now.names points.now).end (range_at_points forest.now.names points.now).start ≡ false }
-    ensures { OnOk result (Adds forest.now.names pieces.old.items pieces.new.items (items_of (pieces_of forest.now.trees (range_at_points forest.now.names points.now)))) }
+    ensures { OnOk result (Adds forest.now.names pieces.old.items pieces.new.items (items_of (pieces_apart forest.now.trees (range_at_points forest.now.names points.now)))) }
 {
     forest.nodes_stand_once();
     let start = Side {
         point: points.start,
-        before: false,
         behind: true,
     };
     let end = Side {
         point: points.end,
-        before: true,
         behind: false,
     };
-    push_side(pieces, forest, points, start_path, start)?;
+    push_side(pieces, forest, start_path, start)?;
+    push_between(pieces, forest, points, start_path, end_path)?;
+    push_side(pieces, forest, end_path, end)
+}
+
+/// The contained children of the lowest common inclusive ancestor: those between the two paths, and none where the end
+/// comes before the start.
+fn push_between(
+    pieces: &mut Vec<Piece>,
+    forest: &Forest,
+    points: &Points,
+    start_path: &[Key],
+    end_path: &[Key],
+) -> Result<(), AllocError>
+    requires spanned { AreSpanned forest.now points.now }
+    requires paths { ArePaths forest.now points.now start_path.now end_path.now }
+    ensures { OnOk result (Adds forest.now.names pieces.old.items pieces.new.items (map whole_item (filter (is_contained forest.now.trees (range_at_points forest.now.names points.now)) (children_of forest.now.trees (common_ancestor forest.now.trees (range_at_points forest.now.names points.now)))))) }
+{
+    forest.nodes_stand_once();
+    if is_before(forest, points.end, points.start) {
+        return Ok(());
+    }
     let from = first_behind(forest, points.start, start_path);
     let until = first_from(forest, points.end, end_path);
-    push_siblings(pieces, forest, from, until)?;
-    push_side(pieces, forest, points, end_path, end)
+    push_siblings(pieces, forest, from, until)
 }
 
 /// The first node behind a point among the children of the node above the last of a path up from it.
@@ -147,25 +108,19 @@ fn first_from(forest: &Forest, point: (Key, usize), path: &[Key]) -> Option<Key>
 fn push_side(
     pieces: &mut Vec<Piece>,
     forest: &Forest,
-    points: &Points,
     path: &[Key],
     side: Side,
 ) -> Result<(), AllocError>
-    requires ends { AreEnds forest.now points.now }
     requires point_is_node { side.point.0 < length forest.now.names }
     requires nodes { AllByRecursion (λ k. k < length forest.now.names) path.now }
-    ensures { OnOk result (Adds forest.now.names pieces.old.items pieces.new.items (side_items forest.now.trees (range_at_points forest.now.names points.now) (at (name_at forest.now.names side.point.0) side.point.1) side.before side.behind (map (name_at forest.now.names) path.now))) }
+    ensures { OnOk result (Adds forest.now.names pieces.old.items pieces.new.items (side_items forest.now.trees (at (name_at forest.now.names side.point.0) side.point.1) side.behind (map (name_at forest.now.names) path.now))) }
 {
-    let Side {
-        point,
-        before,
-        behind,
-    } = side;
     if path.is_empty() {
         return Ok(());
     }
-    push_heads(pieces, forest, path, before)?;
-    push_end(pieces, forest, points, point, before, behind)?;
+    let behind = side.behind;
+    push_heads(pieces, forest, path, !behind)?;
+    push_end(pieces, forest, side)?;
     push_tails(pieces, forest, path, behind)
 }
 
@@ -244,39 +199,31 @@ fn push_tail(
 }
 
 /// What is taken of the node of an end: a part of its data, or a clone with the children that are taken.
-fn push_end(
-    pieces: &mut Vec<Piece>,
-    forest: &Forest,
-    points: &Points,
-    point: (Key, usize),
-    before: bool,
-    behind: bool,
-) -> Result<(), AllocError>
-    requires ends { AreEnds forest.now points.now }
-    requires point_is_node { point.0 < length forest.now.names }
-    ensures { OnOk result (Adds forest.now.names pieces.old.items pieces.new.items (end_items forest.now.trees (range_at_points forest.now.names points.now) (at (name_at forest.now.names point.0) point.1) before behind)) }
+fn push_end(pieces: &mut Vec<Piece>, forest: &Forest, side: Side) -> Result<(), AllocError>
+    requires { side.point.0 < length forest.now.names }
+    ensures { OnOk result (Adds forest.now.names pieces.old.items pieces.new.items (end_items forest.now.trees (at (name_at forest.now.names side.point.0) side.point.1) side.behind)) }
 {
+    let Side { point, behind } = side;
     let node = point.0;
     if has_data(forest, node) {
-        pieces.push(cut_of(forest, points, node))?;
+        pieces.push(cut_of(forest, side))?;
         return Ok(());
     }
     pieces.push(Piece::Clone(node))?;
-    push_children(pieces, forest, point, before, behind)?;
+    push_children(pieces, forest, point, behind)?;
     pieces.push(Piece::End)?;
     Ok(())
 }
 
-/// The part of a Text or Comment between two points, where the points in other nodes are no limits.
-fn cut_of(forest: &Forest, points: &Points, key: Key) -> Piece
-    requires node { key < length forest.now.names }
-    requires ends { AreEnds forest.now points.now }
-    ensures { result ≡ Piece.Cut key (cut_start (range_at_points forest.now.names points.now) (name_at forest.now.names key)) (cut_end forest.now.trees (range_at_points forest.now.names points.now) (name_at forest.now.names key)) }
+/// The part of a Text or Comment behind an end, or else that in front of it.
+fn cut_of(forest: &Forest, side: Side) -> Piece
+    requires { side.point.0 < length forest.now.names }
+    ensures { result ≡ Piece.Cut side.point.0 (if side.behind then side.point.1 else 0) (if side.behind then length_of forest.now.trees (name_at forest.now.names side.point.0) else side.point.1) }
 {
-    forest.nodes_stand_once();
-    let (first, from) = points.start;
-    let (last, to) = points.end;
-    let start = if key == first { from } else { 0 };
-    let end = if key == last { to } else { forest.length(key) };
-    Piece::Cut(key, start, end)
+    let (node, offset) = side.point;
+    if side.behind {
+        Piece::Cut(node, offset, forest.length(node))
+    } else {
+        Piece::Cut(node, 0, offset)
+    }
 }

@@ -1,15 +1,33 @@
-use Rattle.std.proofs.Common.{take, drop}
+use Rattle.std.proofs.Common.{map, take, drop, sym, ap, subst, ◌∙◌}
+use Rattle.std.specs.Prelude.{if◌then◌else◌}
+use Rattle.std.specs.Option.{option_map}
 use Rattle.std.proofs.lemmas.Result.{on_ok_weaker}
 use Rattle.dom_model.specs.Tree.{children_of}
 use Rattle.dom_tree.specs.Forest.{name_at}
-use Rattle.dom_range_ops.specs.Pieces.{wholes_if}
-use Rattle.dom_range_ops.proofs.PieceRuns.{adds-on}
+use Rattle.dom_traversal.proofs.Counts.{Once-forest, Has-forest}
+use Rattle.dom_range_ops.specs.Pieces.{Adds, whole_item}
+use Rattle.dom_range_ops.proofs.PieceRuns.{run-before, run-behind}
 use Rattle.dom_range_ops.proofs.pieces.runs.push_children.Goals as goal
+
+pub returns-then-behind : goal.returns-then-behind
+returns-then-behind c =
+    let f = c.args.forest.now in
+    let e = c.nodes_stand_once.ensures in
+    let p = name_at f.names c.args.point.0 in
+    let n = c.args.point.1 in
+    let kids = children_of f.trees p in
+    let run = ap (map whole_item) (run-behind f.trees (Once-forest f e.once e.only) p (Has-forest f e.once c.args.point.0 c.requires) n (option_map (name_at f.names) c.child_at-first_behind.result) c.child_at-first_behind.ensures.value)
+    ∙ ap (λ b. map whole_item (if b then drop n kids else take n kids)) (sym c.if-behind.true) in
+    on_ok_weaker c.push_siblings.result (subst (Adds f.names c.args.pieces.now.items c.push_siblings.new.pieces.items) run) c.push_siblings.ensures
 
 pub returns : goal.returns
 returns c =
     let f = c.args.forest.now in
-    let kids = children_of f.trees (name_at f.names c.args.point.0) in
-    on_ok_weaker c.push_back.result
-    (λ h. adds-on f.names c.args.pieces.now.items c.push_front.new.pieces.items c.push_back.new.pieces.items (wholes_if c.args.before (take c.args.point.1 kids)) (wholes_if c.args.behind (drop c.args.point.1 kids)) c.in_ok-push_front.ensures h)
-    c.push_back.ensures
+    let e = c.nodes_stand_once.ensures in
+    let p = name_at f.names c.args.point.0 in
+    let n = c.args.point.1 in
+    let kids = children_of f.trees p in
+    let run = ap (map whole_item)
+    (run-before f.trees (Once-forest f e.once e.only) p (Has-forest f e.once c.args.point.0 c.requires) n (option_map (name_at f.names) c.first.result) (option_map (name_at f.names) c.child_at-first_behind.result) c.first.ensures.value c.child_at-first_behind.ensures.value)
+    ∙ ap (λ b. map whole_item (if b then drop n kids else take n kids)) (sym c.if-behind.false) in
+    on_ok_weaker c.push_siblings-2.result (subst (Adds f.names c.args.pieces.now.items c.push_siblings-2.new.pieces.items) run) c.push_siblings-2.ensures

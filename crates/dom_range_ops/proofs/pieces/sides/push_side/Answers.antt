@@ -1,10 +1,9 @@
-use Rattle.std.proofs.Common.{◌≡◌, length, map, sym, subst, ◌∙◌, arith, true≢false}
+use Rattle.std.proofs.Common.{◌≡◌, length, map, not, sym, subst, ◌∙◌, arith, true≢false}
 use Rattle.std.proofs.lemmas.Bool.{eq-eqb}
 use Rattle.std.proofs.lemmas.Result.{on_ok_weaker}
 use Rattle.dom_model.specs.Ranges.{at}
 use Rattle.dom_tree.specs.Forest.{name_at}
 use Rattle.dom_range_ops.specs.Pieces.{Adds, heads, tails, end_items}
-use Rattle.dom_range_ops.specs.Texts.{range_at_points}
 use Rattle.dom_range_ops.proofs.PieceRuns.{adds-on}
 use Rattle.dom_range_ops.proofs.PieceSteps.{side-some}
 use Rattle.dom_range_ops.proofs.pieces.sides.push_side.Goals as goal
@@ -12,14 +11,14 @@ use Rattle.dom_range_ops.proofs.pieces.sides.push_side.Goals as goal
 pub returns : goal.returns
 returns c =
     let f = c.args.forest.now in
-    let r = range_at_points f.names c.args.points.now in
     let b = at (name_at f.names c.args.side.point.0) c.args.side.point.1 in
+    let behind = c.args.side.behind in
     let path = c.args.path.now in
     let xs = map (name_at f.names) path in
     let old = c.args.pieces.now.items in
     let off = λ (none : length path ≡ 0). true≢false (sym (eq-eqb (length path) 0 none) ∙ sym c.if-is_empty.ensures) in
     on_ok_weaker c.push_tails.result
-    (λ h. subst (Adds f.names old c.push_tails.new.pieces.items) (sym (side-some f.trees r b c.args.side.before c.args.side.behind f.names path (omega (arith, off))))
-    (adds-on f.names old c.push_heads.new.pieces.items c.push_tails.new.pieces.items (heads f.trees c.args.side.before xs) _ c.in_ok-push_heads.ensures
-    (adds-on f.names c.push_heads.new.pieces.items c.push_end.new.pieces.items c.push_tails.new.pieces.items (end_items f.trees r b c.args.side.before c.args.side.behind) (tails f.trees c.args.side.behind xs) c.in_ok-push_end.ensures h)))
+    (λ h. subst (Adds f.names old c.push_tails.new.pieces.items) (sym (side-some f.trees b behind f.names path (omega (arith, off))))
+    (adds-on f.names old c.push_heads.new.pieces.items c.push_tails.new.pieces.items (heads f.trees (not behind) xs) _ c.in_ok-push_heads.ensures
+    (adds-on f.names c.push_heads.new.pieces.items c.push_end.new.pieces.items c.push_tails.new.pieces.items (end_items f.trees b behind) (tails f.trees behind xs) c.in_ok-push_end.ensures h)))
     c.push_tails.ensures

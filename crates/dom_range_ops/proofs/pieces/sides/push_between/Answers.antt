@@ -1,0 +1,39 @@
+use Rattle.std.proofs.Common.{map, sym, ap, subst, ◌∙◌}
+use Rattle.std.specs.Option.{option_map}
+use Rattle.std.proofs.lemmas.Result.{on_ok_weaker}
+use Rattle.dom_model.specs.Extract.{common_ancestor}
+use Rattle.dom_model.specs.Ranges.{is_contained}
+use Rattle.dom_model.specs.Tree.{children_of}
+use Rattle.dom_traversal.proofs.Lists.{filter-none}
+use Rattle.dom_tree.specs.Forest.{name_at}
+use Rattle.dom_range_ops.specs.Pieces.{Adds, whole_item, from_sibling, up_to, first_from}
+use Rattle.dom_range_ops.specs.Texts.{range_at_points}
+use Rattle.dom_range_ops.proofs.PieceLaws.{is-range, part-at, run-is}
+use Rattle.dom_range_ops.proofs.PieceMiddle.{none-contained}
+use Rattle.dom_range_ops.proofs.PieceRuns.{adds-none}
+use Rattle.dom_range_ops.proofs.pieces.sides.push_between.Goals as goal
+
+pub returns-then-is_before : goal.returns-then-is_before
+returns-then-is_before c =
+    let f = c.args.forest.now in
+    let r = range_at_points f.names c.args.points.now in
+    let old = c.args.pieces.now.items in
+    let kids = children_of f.trees (common_ancestor f.trees r) in
+    subst (Adds f.names old old) (sym (ap (map whole_item) (filter-none (is_contained f.trees r) kids (λ z i. none-contained f.trees r (sym c.if-is_before.ensures) z)))) (adds-none f.names old)
+
+pub returns : goal.returns
+returns c =
+    let f = c.args.forest.now in
+    let e = c.nodes_stand_once.ensures in
+    let points = c.args.points.now in
+    let r = range_at_points f.names points in
+    let w = c.requires.paths in
+    let start_path = map (name_at f.names) c.args.start_path.now in
+    let end_path = map (name_at f.names) c.args.end_path.now in
+    let old = c.args.pieces.now.items in
+    let from = option_map (name_at f.names) c.first_behind-from.result in
+    let run = ap (λ o. map whole_item (up_to o (from_sibling f.trees from))) c.first_from-until.ensures.value
+    ∙ (ap (λ o. map whole_item (up_to (first_from f.trees r.end end_path) (from_sibling f.trees o))) c.first_behind-from.ensures.value
+    ∙ ap (map whole_item)
+    (run-is f.trees r (is-range f e.once e.only points c.requires.spanned) w.top w.above start_path end_path (part-at f e.once e.only points c.requires.spanned c.args.start_path.now c.args.end_path.now w) (sym c.if-is_before.ensures))) in
+    on_ok_weaker c.push_siblings.result (subst (Adds f.names old c.push_siblings.new.pieces.items) run) c.push_siblings.ensures
