@@ -26,9 +26,9 @@ struct Side {
     behind: bool,
 }
 
-/// The pieces of a range that is neither collapsed nor in one Text or Comment, by the paths from its ends up to the children of their
-/// lowest common inclusive ancestor: what is behind the start in its child, the children between, and what is in front of
-/// the end in its child.
+/// The pieces of a range that is neither collapsed nor in one Text or Comment, by the paths from its ends up to the
+/// children of their lowest common inclusive ancestor: what is behind the start in its child, the children between, and
+/// what is in front of the end in its child.
 pub(super) fn push_pieces(
     pieces: &mut Vec<Piece>,
     forest: &Forest,
