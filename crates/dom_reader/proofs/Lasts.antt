@@ -1,8 +1,8 @@
 -- The last word of a line, where there is one more.
 use Rattle.std.proofs.Common.{◌≡◌, ℕ, List, [], ◌∷◌, Option, Some, None, refl, ◌∙◌}
-use Rattle.dom_reader.specs.declared.not_read.NotRead.{NotRead}
-use Rattle.dom_reader.specs.declared.not_read.NotRead.TheVariants.{Syntax, Memory}
-use Rattle.dom_reader.specs.Gives.{Fails}
+use Rattle.dom_words.specs.declared.not_read.NotRead.{NotRead}
+use Rattle.dom_words.specs.declared.not_read.NotRead.TheVariants.{Syntax, Memory}
+use Rattle.dom_words.specs.Gives.{Fails}
 use Rattle.dom_model.specs.Names.{Word}
 use Rattle.dom_text.specs.Readers.{at_end, next_word, last_as}
 

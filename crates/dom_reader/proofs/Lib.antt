@@ -1,6 +1,4 @@
-mod Digits
-mod Texts
-mod Loop
+mod Names
 mod Firsts
 mod Commas
 mod Lasts

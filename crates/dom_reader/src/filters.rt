@@ -5,16 +5,14 @@ ghost use Rattle.std.specs.List.{list_all};
 ghost use Rattle.std.specs.Char.{is_ascii_graphic};
 ghost use Rattle.dom_model.specs.Names.{is_name as spec_is_name};
 ghost use Rattle.dom_text.specs.Readers.{only_if, between_commas, take_name as spec_take_name, show_of_names, show_of as spec_show_of, name_filter_of as spec_name_filter_of, attribute_filter_of as spec_attribute_filter_of, last_as};
-ghost use Rattle.dom_reader.specs.Gives.{Gives};
+ghost use Rattle.dom_words.specs.Gives.{Gives};
 ghost use Rattle.dom_reader.specs.Views.{show_view, name_filter_view};
 ghost use Rattle.dom_reader.specs.Filters.{parts_view, name_behind as spec_name_behind};
 
-use crate::labels::is_name;
 use crate::line::{NameFilter, Show};
 use crate::nodes::behind;
-use crate::not_read::NotRead;
-use crate::words::{Words, text_of};
 use dom_base::Verdict;
+use dom_words::{NotRead, Words, is_name, text_of};
 use memchr::memchr;
 use std::alloc::Global;
 
@@ -84,7 +82,7 @@ fn show_of_parts(word: &[u8]) -> Option<Show>
 }
 
 /// The name behind this front.
-#[tactic(auto, using(crate::proofs::Texts::graphic_name))]
+#[tactic(auto, using(crate::proofs::Names::graphic_name))]
 fn name_behind<'a>(front: &[u8], word: &'a [u8]) -> Option<&'a [u8]>
     ensures read { option_map (λ x. x.now) result ≡ spec_name_behind front.now word.now }
     ensures graphic { IfSome result (λ x. IsTrue (list_all is_ascii_graphic x.now)) }
@@ -114,7 +112,7 @@ fn name_filter_of(alloc: Global, word: &[u8]) -> Result<NameFilter, NotRead>
 }
 
 /// A name as a text of its own.
-#[tactic(auto, using(crate::proofs::Texts::graphic_name))]
+#[tactic(auto, using(crate::proofs::Names::graphic_name))]
 fn name_of(alloc: Global, text: &[u8]) -> Result<String, NotRead>
     ensures { Gives string_bytes result (only_if (spec_is_name text.now) text.now) }
 {
@@ -146,30 +144,31 @@ fn attribute_filter_of(alloc: Global, word: &[u8]) -> Result<Vec<String>, NotRea
     names_of(alloc, names)
 }
 
-impl Words<'_> {
-    /// `skip=NAME` or `reject=NAME` as the line's last word, where there is one more.
-    pub fn last_name_filter(&mut self, alloc: Global) -> Result<Option<NameFilter>, NotRead>
-        ensures { Gives (option_map name_filter_view) result (last_as spec_name_filter_of self.old) }
-    {
-        if self.rest().is_empty() {
-            return Ok(None);
-        }
-        let word = self.word()?;
-        let filter = name_filter_of(alloc, word)?;
-        self.end()?;
-        Ok(Some(filter))
+/// `skip=NAME` or `reject=NAME` as the line's last word, where there is one more.
+pub fn last_name_filter(alloc: Global, words: &mut Words) -> Result<Option<NameFilter>, NotRead>
+    ensures { Gives (option_map name_filter_view) result (last_as spec_name_filter_of words.old) }
+{
+    if words.is_at_end() {
+        return Ok(None);
     }
+    let word = words.word()?;
+    let filter = name_filter_of(alloc, word)?;
+    words.end()?;
+    Ok(Some(filter))
+}
 
-    /// `filter=NAME,..` as the line's last word, where there is one more.
-    pub fn last_attribute_filter(&mut self, alloc: Global) -> Result<Option<Vec<String>>, NotRead>
-        ensures { Gives (option_map (λ names. map string_bytes names.items)) result (last_as spec_attribute_filter_of self.old) }
-    {
-        if self.rest().is_empty() {
-            return Ok(None);
-        }
-        let word = self.word()?;
-        let names = attribute_filter_of(alloc, word)?;
-        self.end()?;
-        Ok(Some(names))
+/// `filter=NAME,..` as the line's last word, where there is one more.
+pub fn last_attribute_filter(
+    alloc: Global,
+    words: &mut Words,
+) -> Result<Option<Vec<String>>, NotRead>
+    ensures { Gives (option_map (λ names. map string_bytes names.items)) result (last_as spec_attribute_filter_of words.old) }
+{
+    if words.is_at_end() {
+        return Ok(None);
     }
+    let word = words.word()?;
+    let names = attribute_filter_of(alloc, word)?;
+    words.end()?;
+    Ok(Some(names))
 }

@@ -1,19 +1,14 @@
-//! The line protocol's input: bytes cut into lines, and a line's bytes read as an owner's command. All own rules.
+//! The line protocol's input: bytes cut into lines, and a line's bytes read as an owner's command, by the words of
+//! `dom_words`. All own rules.
 #![tactic(auto)]
 
 mod commands;
 mod filters;
 mod keywords;
-mod labels;
 mod line;
 mod lookup;
 mod nodes;
-mod not_read;
-mod numbers;
 mod splitter;
-mod strings;
-mod vocabulary;
-mod words;
 
 ghost use Rattle.std.specs.Prelude.{◌≡◌, IfOk, IfErr};
 ghost use Rattle.dom_base.specs.declared.Refusal.TheVariants.{Syntax};
@@ -22,8 +17,8 @@ ghost use Rattle.dom_reader.specs.Views.{line_view};
 
 use crate::commands::command_at;
 use crate::nodes::owner_at;
-use crate::not_read::NotRead;
 use dom_base::{MAX_LINE, Owner, Refusal};
+use dom_words::NotRead;
 pub use line::{
     Command, EventWords, Filter, Line, ListenerWords, NameFilter, ObserveWords, Show, Spelled,
 };

@@ -4,13 +4,13 @@ ghost use Rattle.std.specs.Prelude.{◌≡◌, option_map, length, ◌≤◌};
 ghost use Rattle.std.specs.List.{prefix_len};
 ghost use Rattle.std.specs.Char.{is_ascii_digit};
 ghost use Rattle.dom_text.specs.Readers.{owner_of as spec_owner_of, page_node as spec_page_node, inner_node as spec_inner_node, behind as spec_behind, full_name_of as spec_full_name_of, spelled_of as spec_spelled_of};
-ghost use Rattle.dom_text.specs.Decode.{before_space, owner_at as spec_owner_at};
+ghost use Rattle.dom_text.specs.Decode.{before_space, node_at, owner_at as spec_owner_at};
+ghost use Rattle.dom_words.specs.Gives.{Takes};
 ghost use Rattle.dom_reader.specs.Views.{spelled_view};
 
 use crate::line::Spelled;
-use crate::numbers::{number_of, positive_of};
-use crate::words::word_at;
 use dom_base::Owner;
+use dom_words::{NotRead, Words, number_of, positive_of, word_at};
 
 /// The owner whose word this is (own rule): `p`, or `c` and a number from 1 without leading zeros.
 pub fn owner_of(word: &[u8]) -> Option<Owner>
@@ -84,7 +84,7 @@ fn full_name_of(text: &[u8]) -> Option<Spelled>
 }
 
 /// The node that the word names in a line of the owner.
-pub fn spelled_of(owner: Owner, word: &[u8]) -> Option<Spelled>
+fn spelled_of(owner: Owner, word: &[u8]) -> Option<Spelled>
     ensures { option_map spelled_view result ≡ spec_spelled_of owner word.now }
 {
     match word {
@@ -96,4 +96,12 @@ pub fn spelled_of(owner: Owner, word: &[u8]) -> Option<Spelled>
             _ => None,
         },
     }
+}
+
+/// The next word as a node, as a line of the owner names it.
+pub fn next_node(owner: Owner, words: &mut Words) -> Result<Spelled, NotRead>
+    ensures { Takes spelled_view result (node_at owner words.old) words.new }
+{
+    let word = words.word()?;
+    spelled_of(owner, word).ok_or(NotRead::Syntax)
 }

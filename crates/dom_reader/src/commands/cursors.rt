@@ -3,28 +3,28 @@
 ghost use Rattle.std.specs.Prelude.{◌≡◌};
 ghost use Rattle.dom_model.specs.Command as model;
 ghost use Rattle.dom_text.specs.Decode.{cursor_at, command_behind};
-ghost use Rattle.dom_reader.specs.Gives.{Gives};
+ghost use Rattle.dom_words.specs.Gives.{Gives};
 ghost use Rattle.dom_reader.specs.Filters.{filtered as spec_filtered};
 ghost use Rattle.dom_reader.specs.Keywords.{range_keyword, cursor_keyword};
 ghost use Rattle.dom_reader.specs.Views.{spelled_view, filter_view, command_view};
 
 use super::ended;
-use crate::filters::show_of;
+use crate::filters::{last_name_filter, show_of};
 use crate::keywords::{CursorWord, RangeWord};
 use crate::line::{Command, Filter, Spelled};
-use crate::not_read::NotRead;
-use crate::words::Words;
+use crate::nodes::next_node;
 use dom_base::Owner;
+use dom_words::{NotRead, Words};
 use std::alloc::Global;
 
 /// The words of an iterator or a walker: a root, what is shown, and perhaps a name.
 fn filtered(alloc: Global, owner: Owner, words: &mut Words) -> Result<(Spelled, Filter), NotRead>
     ensures { Gives (λ x. (spelled_view x.0, filter_view x.1)) result (spec_filtered owner words.old) }
 {
-    let root = words.node(owner)?;
+    let root = next_node(owner, words)?;
     let word = words.word()?;
     let shown = show_of(word).ok_or(NotRead::Syntax)?;
-    let named = words.last_name_filter(alloc)?;
+    let named = last_name_filter(alloc, words)?;
     Ok((root, Filter { shown, named }))
 }
 
@@ -51,11 +51,19 @@ pub fn range_command(word: RangeWord, owner: Owner, words: &mut Words) -> Result
     match word {
         RangeWord::New => ended(Command::RangeNew, words),
         RangeWord::Start => ended(
-            Command::RangeStart(words.numbered(b'r')?, words.node(owner)?, words.number()?),
+            Command::RangeStart(
+                words.numbered(b'r')?,
+                next_node(owner, words)?,
+                words.number()?,
+            ),
             words,
         ),
         RangeWord::End => ended(
-            Command::RangeEnd(words.numbered(b'r')?, words.node(owner)?, words.number()?),
+            Command::RangeEnd(
+                words.numbered(b'r')?,
+                next_node(owner, words)?,
+                words.number()?,
+            ),
             words,
         ),
         RangeWord::Collapse => ended(
@@ -68,7 +76,7 @@ pub fn range_command(word: RangeWord, owner: Owner, words: &mut Words) -> Result
         RangeWord::Extract => ended(Command::Extract(words.numbered(b'r')?), words),
         RangeWord::Delete => ended(Command::Delete(words.numbered(b'r')?), words),
         RangeWord::InsertNode => ended(
-            Command::InsertNode(words.numbered(b'r')?, words.node(owner)?),
+            Command::InsertNode(words.numbered(b'r')?, next_node(owner, words)?),
             words,
         ),
     }
@@ -95,7 +103,7 @@ pub fn cursor_command(
         ),
         CursorWord::WalkAt => ended(Command::WalkerAt(words.numbered(b'w')?), words),
         CursorWord::WalkSet => ended(
-            Command::WalkerSet(words.numbered(b'w')?, words.node(owner)?),
+            Command::WalkerSet(words.numbered(b'w')?, next_node(owner, words)?),
             words,
         ),
     }

@@ -2,23 +2,24 @@
 
 ghost use Rattle.std.specs.Prelude.{◌≡◌};
 ghost use Rattle.dom_text.specs.Decode.{listen_at, unlisten_at, dispatch_at, observe_at, command_behind};
-ghost use Rattle.dom_reader.specs.Gives.{Gives};
+ghost use Rattle.dom_words.specs.Gives.{Gives};
 ghost use Rattle.dom_reader.specs.Keywords.{event_keyword, observer_keyword};
 ghost use Rattle.dom_reader.specs.Views.{command_view};
 
 use super::ended;
+use crate::filters::last_attribute_filter;
 use crate::keywords::{EventWord, ObserverWord};
 use crate::line::{Command, EventWords, ListenerWords, ObserveWords};
-use crate::not_read::NotRead;
-use crate::words::Words;
+use crate::nodes::next_node;
 use dom_base::Owner;
+use dom_words::{NotRead, Words};
 use std::alloc::Global;
 
 /// The words of `listen`.
 fn listen(alloc: Global, owner: Owner, words: &mut Words) -> Result<Command, NotRead>
     ensures { Gives command_view result (listen_at owner words.old) }
 {
-    let node = words.node(owner)?;
+    let node = next_node(owner, words)?;
     let event = words.label(alloc)?;
     let label = words.label(alloc)?;
     let action = words.action()?;
@@ -37,7 +38,7 @@ fn listen(alloc: Global, owner: Owner, words: &mut Words) -> Result<Command, Not
 fn unlisten(alloc: Global, owner: Owner, words: &mut Words) -> Result<Command, NotRead>
     ensures { Gives command_view result (unlisten_at owner words.old) }
 {
-    let node = words.node(owner)?;
+    let node = next_node(owner, words)?;
     let event = words.label(alloc)?;
     let label = words.label(alloc)?;
     let capture = words.flag(b"capture");
@@ -48,7 +49,7 @@ fn unlisten(alloc: Global, owner: Owner, words: &mut Words) -> Result<Command, N
 fn dispatch(alloc: Global, owner: Owner, words: &mut Words) -> Result<Command, NotRead>
     ensures { Gives command_view result (dispatch_at owner words.old) }
 {
-    let target = words.node(owner)?;
+    let target = next_node(owner, words)?;
     let event = EventWords {
         event: words.label(alloc)?,
         bubbles: words.flag(b"bubbles"),
@@ -56,7 +57,7 @@ fn dispatch(alloc: Global, owner: Owner, words: &mut Words) -> Result<Command, N
         composed: words.flag(b"composed"),
     };
     let related = if words.flag(b"related") {
-        Some(words.node(owner)?)
+        Some(next_node(owner, words)?)
     } else {
         None
     };
@@ -68,7 +69,7 @@ fn observe(alloc: Global, owner: Owner, words: &mut Words) -> Result<Command, No
     ensures { Gives command_view result (observe_at owner words.old) }
 {
     let observer = words.numbered(b'o')?;
-    let node = words.node(owner)?;
+    let node = next_node(owner, words)?;
     let observed = ObserveWords {
         child_list: words.flag(b"childList"),
         attributes: words.flag(b"attributes"),
@@ -76,7 +77,7 @@ fn observe(alloc: Global, owner: Owner, words: &mut Words) -> Result<Command, No
         subtree: words.flag(b"subtree"),
         attribute_old_value: words.flag(b"attributeOldValue"),
         character_data_old_value: words.flag(b"characterDataOldValue"),
-        filter: words.last_attribute_filter(alloc)?,
+        filter: last_attribute_filter(alloc, words)?,
     };
     Ok(Command::Observe(observer, node, observed))
 }

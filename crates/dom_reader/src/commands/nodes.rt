@@ -2,25 +2,23 @@
 
 ghost use Rattle.std.specs.Prelude.{◌≡◌};
 ghost use Rattle.dom_text.specs.Decode.{new_at, attach_at, assigned_at, command_behind};
-ghost use Rattle.dom_reader.specs.Gives.{Gives};
+ghost use Rattle.dom_words.specs.Gives.{Gives};
 ghost use Rattle.dom_reader.specs.Keywords.{making_keyword, tree_keyword, content_keyword, question_keyword};
 ghost use Rattle.dom_reader.specs.Views.{command_view};
 
 use super::ended;
 use crate::keywords::{ContentWord, MakingWord, QuestionWord, TreeWord};
 use crate::line::Command;
-use crate::not_read::NotRead;
-use crate::vocabulary::new_kind_of;
-use crate::words::Words;
+use crate::nodes::next_node;
 use dom_base::{Kind, Owner};
+use dom_words::{NotRead, Words};
 use std::alloc::Global;
 
 /// What is made, and its word or string.
 fn new_command(alloc: Global, words: &mut Words) -> Result<Command, NotRead>
     ensures { Gives command_view result (new_at words.old) }
 {
-    let word = words.word()?;
-    let command = match new_kind_of(word).ok_or(NotRead::Syntax)? {
+    let command = match words.new_kind()? {
         Kind::Element => Command::NewElement(words.text(alloc)?),
         Kind::Text => Command::NewText(words.string(alloc)?),
         Kind::Comment => Command::NewComment(words.string(alloc)?),
@@ -35,7 +33,7 @@ fn attach(owner: Owner, words: &mut Words) -> Result<Command, NotRead>
     ensures { Gives command_view result (attach_at owner words.old) }
 {
     match owner {
-        Owner::Page => ended(Command::Attach(words.node(owner)?), words),
+        Owner::Page => ended(Command::Attach(next_node(owner, words)?), words),
         Owner::Component(_) => Err(NotRead::Syntax),
     }
 }
@@ -46,7 +44,7 @@ fn assigned(owner: Owner, words: &mut Words) -> Result<Command, NotRead>
 {
     match owner {
         Owner::Page => Err(NotRead::Syntax),
-        Owner::Component(_) => ended(Command::Assigned(words.node(owner)?), words),
+        Owner::Component(_) => ended(Command::Assigned(next_node(owner, words)?), words),
     }
 }
 
@@ -72,23 +70,31 @@ pub fn tree_command(word: TreeWord, owner: Owner, words: &mut Words) -> Result<C
 {
     match word {
         TreeWord::Append => ended(
-            Command::Append(words.node(owner)?, words.node(owner)?),
+            Command::Append(next_node(owner, words)?, next_node(owner, words)?),
             words,
         ),
         TreeWord::Insert => ended(
-            Command::Insert(words.node(owner)?, words.node(owner)?, words.node(owner)?),
+            Command::Insert(
+                next_node(owner, words)?,
+                next_node(owner, words)?,
+                next_node(owner, words)?,
+            ),
             words,
         ),
         TreeWord::Replace => ended(
-            Command::Replace(words.node(owner)?, words.node(owner)?, words.node(owner)?),
+            Command::Replace(
+                next_node(owner, words)?,
+                next_node(owner, words)?,
+                next_node(owner, words)?,
+            ),
             words,
         ),
-        TreeWord::Remove => ended(Command::Remove(words.node(owner)?), words),
+        TreeWord::Remove => ended(Command::Remove(next_node(owner, words)?), words),
         TreeWord::Adopt => ended(
-            Command::Adopt(words.node(owner)?, words.node(owner)?),
+            Command::Adopt(next_node(owner, words)?, next_node(owner, words)?),
             words,
         ),
-        TreeWord::Normalize => ended(Command::Normalize(words.node(owner)?), words),
+        TreeWord::Normalize => ended(Command::Normalize(next_node(owner, words)?), words),
     }
 }
 
@@ -103,29 +109,36 @@ pub fn content_command(
 {
     match word {
         ContentWord::Set => ended(
-            Command::SetAttribute(words.node(owner)?, words.text(alloc)?, words.string(alloc)?),
+            Command::SetAttribute(
+                next_node(owner, words)?,
+                words.text(alloc)?,
+                words.string(alloc)?,
+            ),
             words,
         ),
         ContentWord::Unset => ended(
-            Command::UnsetAttribute(words.node(owner)?, words.text(alloc)?),
+            Command::UnsetAttribute(next_node(owner, words)?, words.text(alloc)?),
             words,
         ),
         ContentWord::Data => ended(
-            Command::SetData(words.node(owner)?, words.string(alloc)?),
+            Command::SetData(next_node(owner, words)?, words.string(alloc)?),
             words,
         ),
         ContentWord::ReplaceData => ended(
             Command::ReplaceData(
-                words.node(owner)?,
+                next_node(owner, words)?,
                 words.number()?,
                 words.number()?,
                 words.string(alloc)?,
             ),
             words,
         ),
-        ContentWord::Split => ended(Command::Split(words.node(owner)?, words.number()?), words),
+        ContentWord::Split => ended(
+            Command::Split(next_node(owner, words)?, words.number()?),
+            words,
+        ),
         ContentWord::Text => ended(
-            Command::SetText(words.node(owner)?, words.string(alloc)?),
+            Command::SetText(next_node(owner, words)?, words.string(alloc)?),
             words,
         ),
     }
@@ -141,28 +154,28 @@ pub fn question_command(
     ensures { Gives command_view result (command_behind (question_keyword word) owner words.old) }
 {
     match word {
-        QuestionWord::Tree => ended(Command::Tree(words.node(owner)?), words),
+        QuestionWord::Tree => ended(Command::Tree(next_node(owner, words)?), words),
         QuestionWord::Attr => ended(
-            Command::Attribute(words.node(owner)?, words.text(alloc)?),
+            Command::Attribute(next_node(owner, words)?, words.text(alloc)?),
             words,
         ),
-        QuestionWord::Parent => ended(Command::Parent(words.node(owner)?), words),
-        QuestionWord::Docof => ended(Command::DocumentOf(words.node(owner)?), words),
-        QuestionWord::Children => ended(Command::Children(words.node(owner)?), words),
+        QuestionWord::Parent => ended(Command::Parent(next_node(owner, words)?), words),
+        QuestionWord::Docof => ended(Command::DocumentOf(next_node(owner, words)?), words),
+        QuestionWord::Children => ended(Command::Children(next_node(owner, words)?), words),
         QuestionWord::Contains => ended(
-            Command::Contains(words.node(owner)?, words.node(owner)?),
+            Command::Contains(next_node(owner, words)?, next_node(owner, words)?),
             words,
         ),
-        QuestionWord::Connected => ended(Command::Connected(words.node(owner)?), words),
-        QuestionWord::ShadowRoot => ended(Command::ShadowRoot(words.node(owner)?), words),
-        QuestionWord::SlotOf => ended(Command::SlotOf(words.node(owner)?), words),
+        QuestionWord::Connected => ended(Command::Connected(next_node(owner, words)?), words),
+        QuestionWord::ShadowRoot => ended(Command::ShadowRoot(next_node(owner, words)?), words),
+        QuestionWord::SlotOf => ended(Command::SlotOf(next_node(owner, words)?), words),
         QuestionWord::Assigned => assigned(owner, words),
         QuestionWord::Query => ended(
-            Command::Query(words.node(owner)?, words.string(alloc)?),
+            Command::Query(next_node(owner, words)?, words.string(alloc)?),
             words,
         ),
         QuestionWord::Matches => ended(
-            Command::Matches(words.node(owner)?, words.string(alloc)?),
+            Command::Matches(next_node(owner, words)?, words.string(alloc)?),
             words,
         ),
     }

@@ -1,9 +1,0 @@
--- The units so far, and those that are read from here on, are all units.
-use Rattle.std.proofs.Common.{◌≡◌, drop}
-use Rattle.dom_text.specs.Readers.{between, units_at}
-use Rattle.dom_reader.specs.Strings.{place_view, PlaceFits}
-use Rattle.dom_reader.proofs.Loop.{with_front}
-use Rattle.dom_reader.proofs.strings.units_at.Given as goal
-
-abbrev pub invariant-loop-i : goal.invariant-loop-i
-invariant-loop-i l = (with_front l.units.items (units_at (place_view l.place) (drop l.i l.bytes)) ≡ units_at between l.bytes) × PlaceFits l.place
