@@ -39,11 +39,12 @@ root-there none x i = i
 root-there (tree n c rest) x (inl e) = inl (sym e)
 root-there (tree n c rest) x (inr i) = inr (inr (root-there rest x i))
 
--- a node of the second of two lists, or of the first
+-- a node of the second of two lists
 node-right : (m : Node) (xs ys : List Node) → InNodes m ys → InNodes m (xs ++ ys)
 node-right m [] ys h = h
 node-right m (x ∷ xs) ys h = inr (node-right m xs ys h)
 
+-- or of the first
 node-left : (m : Node) (xs ys : List Node) → InNodes m xs → InNodes m (xs ++ ys)
 node-left m [] ys h = absurd h
 node-left m (x ∷ xs) ys (inl e) = inl e

@@ -56,6 +56,7 @@ nodes-read ts u = each ts (λ y m. m) (λ y t. read-all ts y u t)
           each r (λ y m. there y (let g = more y in omega arith)) (λ y t. (f y t).2),
         )
 
+-- what holds of all nodes holds of those below the roots
 below-read : (P : Node → Type 0) (ts : Trees) → AllNodes P ts → AllNodes P (trees_below ts)
 below-read P none h = tt
 below-read P (tree n c r) h = h.1

@@ -70,7 +70,7 @@ pub fn extract(alloc: Global, doc: &mut Doc, owner: Owner, number: u32) -> Resul
     )
 }
 
-/// The pieces that an extraction takes of a range of a document, in tree order.
+/// The pieces that an extraction takes of a range of a document, in order.
 fn pieces_in(alloc: Global, doc: &Doc, points: &Points) -> Result<Vec<Piece>, AllocError>
     requires { IsRangeIn doc.now points.now }
     ensures value { IfOk result (λ pieces. map (item_in doc.now.names) pieces.items ≡ items_of (pieces_of (trees_in doc.now points.now.start.0) (range_at_points doc.now.names points.now))) }
