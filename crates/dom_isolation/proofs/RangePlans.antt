@@ -199,6 +199,13 @@ below-read : (P : Node → Type 0) (ts : Trees) → AllNodes P ts → AllNodes P
 below-read P none h = tt
 below-read P (tree n c r) h = h.1
 
+-- so it is with those below the common ancestor of a range's ends
+pub common-read : (ts : Trees) (r : Range NodeName) → IsUnique ts → AllNodes (λ n. (1 ≤ times_in ts n.name) × (n ≡ node_in ts n.name)) (common_below ts r)
+common-read ts r u =
+    let Read : Node → Type 0 = λ n. (1 ≤ times_in ts n.name) × (n ≡ node_in ts n.name) in
+    let a = common_ancestor ts r in
+    below-read Read (subtree ts a) (nodes-subtree Read ts a (all-read ts u))
+
 -- A node in a tree whose root is an inclusive ancestor of a range's end node, and not of its start node.
 record IsHeld (ts : Trees) (r : Range NodeName) (z : NodeName) : Type 0 where
   root : NodeName
@@ -246,8 +253,7 @@ fit-range p xs y r i t s c =
     let a = common_ancestor ts r in
     let below = common_below ts r in
     let Read : Node → Type 0 = λ n. (1 ≤ times_in ts n.name) × (n ≡ node_in ts n.name) in
-    let clonable = nodes-then Read (IsClonable (IsData p) (IsOpenIn p)) (λ n h. let kind = sym (ap (λ (m : Node). has_data m.kind) h.1) in ((λ d. (h.0, kind ∙ d)), (λ d. (h.0, kind ∙ d)))) below
-    (below-read Read (subtree ts a) (nodes-subtree Read ts a (all-read ts i.unique))) in
+    let clonable = nodes-then Read (IsClonable (IsData p) (IsOpenIn p)) (λ n h. let kind = sym (ap (λ (m : Node). has_data m.kind) h.1) in ((λ d. (h.0, kind ∙ d)), (λ d. (h.0, kind ∙ d)))) below (common-read ts r i.unique) in
     let early = nodes-named (λ z. is_before ts r.start (at z 0) ≡ true → W z) below (λ z m k. early-not ts r z k (y ∷ xs) (s.parent, s.children)) in
     let held = all-held ts r i.unique below (λ x z. let b = inside-below (subtree ts a) x z in let w = inside-without ts a x z in omega arith) in
     let last = nodes-then (λ n. IsHeld ts r n.name) (λ n. is_inclusive_ancestor ts n.name r.end.node ≡ false → W n.name) (λ n h. held-misses p xs y r i c s.above n.name h) (tree_holding ts r.end.node r.start.node below) held in

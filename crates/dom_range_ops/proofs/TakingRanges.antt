@@ -5,30 +5,30 @@ use Rattle.std.proofs.lemmas.Bool.{and_parts}
 use Rattle.dom_base.specs.declared.NodeName.{NodeName}
 use Rattle.dom_isolation.specs.Bounds.{HasBounds}
 use Rattle.dom_isolation.specs.Tables.{HasEnds}
-use Rattle.dom_isolation.specs.Worlds.{IsPart, AllNodes, times_in}
+use Rattle.dom_isolation.specs.Worlds.{IsPart, times_in}
 use Rattle.dom_isolation.proofs.FitPieces.{IsClonable, common_below, fit-apart, fit-pieces, whole-pieces}
 use Rattle.dom_isolation.proofs.Insides.{no_parent-root, times-has_node}
 use Rattle.dom_isolation.proofs.KeptOffsets.{make-keeps}
 use Rattle.dom_isolation.proofs.KindCommands.{has_node-times}
 use Rattle.dom_isolation.proofs.Lists.{all-append, all-then}
-use Rattle.dom_isolation.proofs.NodesRead.{node-new, read-all}
+use Rattle.dom_isolation.proofs.NodesRead.{node-new}
 use Rattle.dom_isolation.proofs.PartSteps.{next-absent}
 use Rattle.dom_isolation.proofs.PlanContents.{OldIn, old-there}
 use Rattle.dom_isolation.proofs.PlanPlaces.{Changed, still, leads-one}
 use Rattle.dom_isolation.proofs.PlanTexts.{new-there}
 use Rattle.dom_isolation.proofs.Plans.{AreFit, AllWhole}
+use Rattle.dom_isolation.proofs.RangePlans.{common-read}
 use Rattle.dom_isolation.proofs.TableSteps.{There}
 use Rattle.dom_isolation.proofs.Tests.{by_cases}
-use Rattle.dom_isolation.proofs.TreeChangeLaws.{nodes-named, nodes-subtree, nodes-then, root-below_none, times-below}
-use Rattle.dom_isolation.proofs.Trees.{IsUnique, times-here, times-more, times-subtree}
-use Rattle.dom_model.proofs.OwnerLaws.{name_eq-same}
+use Rattle.dom_isolation.proofs.TreeChangeLaws.{nodes-named, nodes-then, root-below_none, times-below}
+use Rattle.dom_isolation.proofs.Trees.{times-subtree}
 use Rattle.dom_model.specs.Extract.{Pieces, nothing, whole, cut, clone, tree_holding, pieces_of, common_ancestor, is_in_one_data}
 use Rattle.dom_model.specs.Names.{name_eq}
 use Rattle.dom_model.specs.Part.{Part, next_name}
 use Rattle.dom_model.specs.Place.{is_before}
 use Rattle.dom_model.specs.Ranges.{Range, at}
 use Rattle.dom_model.specs.Steps.{make, part_step}
-use Rattle.dom_model.specs.Tree.{Trees, none, tree, Node, node_in, kind_of, has_data, is_shadow, subtree, trees_below, is_inclusive_ancestor}
+use Rattle.dom_model.specs.Tree.{Node, node_in, kind_of, has_data, is_shadow, subtree, trees_below, is_inclusive_ancestor}
 use Rattle.dom_model.specs.TreeChanges.{with_name}
 use Rattle.dom_range_ops.proofs.TakingParts.{taken-of}
 use Rattle.dom_range_ops.specs.Pieces.{Item, whole_item, cut_item, clone_item, end_item, items_of, made_by}
@@ -41,25 +41,6 @@ IsItemIn p (whole_item x) = There p x
 IsItemIn p (cut_item x from to) = There p x × (has_data (kind_of p.trees x) ≡ true)
 IsItemIn p (clone_item x) = There p x × (has_data (kind_of p.trees x) ≡ false) × (is_shadow (kind_of p.trees x) ≡ false)
 IsItemIn p end_item = Unit {0}
-
--- each node of trees is the one that is read under its name
-nodes-read : (ts : Trees) → IsUnique ts → AllNodes (λ n. n ≡ node_in ts n.name) ts
-nodes-read ts u = each ts (λ y m. m) (λ y t. read-all ts y u t)
-  where
-    each : (us : Trees) → ((y : NodeName) → 1 ≤ times_in us y → 1 ≤ times_in ts y) → ((y : NodeName) → 1 ≤ times_in ts y → AllNodes (λ n. name_eq n.name y ≡ true → n ≡ node_in ts y) us) → AllNodes (λ n. n ≡ node_in ts n.name) us
-    each none there f = tt
-    each (tree n c r) there f =
-        let same = name_eq-same n.name in
-        let more = times-more n c r in (
-          (f n.name (there n.name (let g = times-here n c r n.name same in omega arith))).0 same,
-          each c (λ y m. there y (let g = more y in omega arith)) (λ y t. (f y t).1),
-          each r (λ y m. there y (let g = more y in omega arith)) (λ y t. (f y t).2),
-        )
-
--- what holds of all nodes holds of those below the roots
-below-read : (P : Node → Type 0) (ts : Trees) → AllNodes P ts → AllNodes P (trees_below ts)
-below-read P none h = tt
-below-read P (tree n c r) h = h.1
 
 module _ (p : Part) (r : Range NodeName) (part : IsPart p) (ends : HasEnds p.trees r) (shadows : ShadowRootsHaveNoParent p.trees) where
   start-there : There p r.start.node
@@ -96,10 +77,9 @@ module _ (p : Part) (r : Range NodeName) (part : IsPart p) (ends : HasEnds p.tre
       let Any = λ (x : NodeName). Unit {0} in
       let IsData = λ (x : NodeName). has_data (kind_of ts x) ≡ true in
       let IsOpen = λ (x : NodeName). has_data (kind_of ts x) ≡ false in
-      let Read : Node → Type 0 = λ n. n ≡ node_in ts n.name in
+      let Read : Node → Type 0 = λ n. (1 ≤ times_in ts n.name) × (n ≡ node_in ts n.name) in
       let below = common_below ts r in
-      let clonable = nodes-then Read (IsClonable IsData IsOpen) (λ n h. let kind = sym (ap (λ (m : Node). has_data m.kind) h) in ((λ d. kind ∙ d), (λ d. kind ∙ d))) below
-      (below-read Read (subtree ts (common_ancestor ts r)) (nodes-subtree Read ts (common_ancestor ts r) (nodes-read ts part.unique))) in
+      let clonable = nodes-then Read (IsClonable IsData IsOpen) (λ n h. let kind = sym (ap (λ (m : Node). has_data m.kind) h.1) in ((λ d. kind ∙ d), (λ d. kind ∙ d))) below (common-read ts r part.unique) in
       fit-pieces Any IsData IsOpen ts r in-data
       (fit-apart Any IsData IsOpen ts r clonable (nodes-named (λ x. is_before ts r.start (at x 0) ≡ true → Any x) below (λ x m k. tt))
       (nodes-named (λ x. is_inclusive_ancestor ts x r.end.node ≡ false → Any x) (tree_holding ts r.end.node r.start.node below) (λ x m k. tt)))
