@@ -77,7 +77,8 @@ pub fn text_of(alloc: Global, word: &[u8]) -> Result<String, AllocError>
 /// The words of a line that are still to be read: the bytes behind those that were. Each word stands behind a space.
 ///
 /// A call that takes a word gives what it says and leaves the bytes behind it. Where the grammar has no such word there it
-/// answers `NotRead::Syntax`, and after that nothing is said of the bytes that are left.
+/// answers `NotRead::Syntax`; one that makes a text or a string may answer `NotRead::Memory` in place of either. After an
+/// error nothing is said of the bytes that are left.
 #[derive(Drop)]
 pub struct Words<'a> {
     rest: &'a [u8],
