@@ -22,7 +22,7 @@ fn is_above<T>(arena: &Arena<T>, above: Key, key: Key) -> bool
 }
 
 // Links a child, after what `link_before` asks is tested.
-fn link(rt: &impl Abort, arena: &mut Arena<u32>, parent: Key, child: Key, before: Option<Key>)
+fn link<T>(rt: &impl Abort, arena: &mut Arena<T>, parent: Key, child: Key, before: Option<Key>)
     requires parent_is_node { parent < length arena.old.payloads }
     requires child_is_node { child < length arena.old.payloads }
     requires before_is_node { ForSome before (λ b. b < length arena.old.payloads) }
@@ -114,17 +114,19 @@ fn a_payload_is_written(rt: HostRuntime) -> Result<(), Fail> {
 #[test]
 fn many_children_go_and_stay(rt: HostRuntime) -> Result<(), Fail> {
     let mut arena = Arena::new(rt.alloc());
-    let root = arena.add(0)?;
+    let root = arena.add(Vec::new(rt.alloc()))?;
     let mut before = None;
     let mut children = Vec::new(rt.alloc());
-    for number in 0..100_000 {
-        let child = arena.add(number)?;
+    for number in 0..100_000u32 {
+        let mut payload = Vec::new(rt.alloc());
+        payload.push(number)?;
+        let child = arena.add(payload)?;
         link(&rt, &mut arena, root, child, before);
         before = Some(child);
         children.push(child)?;
     }
     for child in &children {
-        if *arena.payload(*child) % 2 == 0 {
+        if matches!(arena.payload(*child).first(), Some(number) if *number % 2 == 0) {
             arena.unlink(*child);
         }
     }
@@ -132,7 +134,7 @@ fn many_children_go_and_stay(rt: HostRuntime) -> Result<(), Fail> {
     for half in (0..50_000).rev() {
         match at {
             Some(child) => {
-                assert_eq!(rt; *arena.payload(child), 2 * half + 1);
+                assert_eq!(rt; arena.payload(child).as_slice(), [2 * half + 1].as_slice());
                 at = arena.next(child);
             }
             None => assert!(rt; false, "a child is missing"),
@@ -143,7 +145,7 @@ fn many_children_go_and_stay(rt: HostRuntime) -> Result<(), Fail> {
     for half in 0..50_000 {
         match at {
             Some(child) => {
-                assert_eq!(rt; *arena.payload(child), 2 * half + 1);
+                assert_eq!(rt; arena.payload(child).as_slice(), [2 * half + 1].as_slice());
                 at = arena.prev(child);
             }
             None => assert!(rt; false, "a child is missing"),

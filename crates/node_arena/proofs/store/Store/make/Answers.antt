@@ -1,0 +1,39 @@
+use Rattle.std.proofs.Common.{◌≡◌, ◌<◌, ◌++◌, ◌∷◌, [], true, cond, length, sym, ap, ◌∙◌, arith}
+use Rattle.std.specs.Result.{is_ok}
+use Rattle.std.proofs.lemmas.List.{length-map}
+use Rattle.node_arena.specs.Owned.{placed}
+use Rattle.node_arena.proofs.StoreLemmas.{alone, IsWired-push, seen-push}
+use Rattle.node_arena.proofs.store.Store.make.Goals as goal
+
+pub invariant_of-self-2 : goal.invariant_of-self-2
+invariant_of-self-2 g c =
+    let list = c.self.inside.list.items in
+    let cells = c.self.inside.pool.cells in
+    let place = c.put-place.result in
+    let null = c.nowhere-nowhere.result in
+    let number : c.len-index.result ≡ length cells =
+    c.len-index.ensures ∙ c.self.inside.list.ok.0 ∙ sym (length-map list (λ p. p.ptr)) ∙ ap length c.self.invariant.places ∙ length-map cells (λ n. n.at) in
+    let value : c.of-2.result.value ≡ alone c.args.payload (length cells) null =
+    c.of-2.ensures ∙ c.of.ensures ∙ c.in_ok-kept.ensures.ok ∙ ap (λ k. alone c.args.payload k null) number in
+    let put : c.put-place.new.self.cells ≡ cells ++ placed place.ptr (alone c.args.payload (length cells) null) ∷ [] =
+    c.put-place.ensures.cells ∙ ap (λ v. cells ++ placed place.ptr v ∷ []) value in
+    let room = c.in_ok-reserve.ensures.ok in
+    let free : c.reserve.new.self.len < c.reserve.new.self.cap = omega arith in
+    let pushed : is_ok c.push.result ≡ true = c.push.ensures.succeeds free in
+    let listed : c.push.new.self.items ≡ list ++ place ∷ [] =
+    c.push.ensures.items ∙ ap (λ b. cond b (c.reserve.new.self.items ++ place ∷ []) c.reserve.new.self.items) pushed ∙ ap (λ ps. ps ++ place ∷ []) c.reserve.ensures.items in
+    rw (listed, put) (IsWired-push list cells place null c.args.payload c.self.invariant c.nowhere-nowhere.ensures c.put-place.ensures.fresh c.put-place.ensures.tested.0 c.put-place.ensures.tested.1)
+
+pub returns-clause-ok : goal.returns-clause-ok
+returns-clause-ok g c =
+    let list = c.self.inside.list.items in
+    let cells = c.self.inside.pool.cells in
+    let place = c.put-place.result in
+    let null = c.nowhere-nowhere.result in
+    let number : c.len-index.result ≡ length cells =
+    c.len-index.ensures ∙ c.self.inside.list.ok.0 ∙ sym (length-map list (λ p. p.ptr)) ∙ ap length c.self.invariant.places ∙ length-map cells (λ n. n.at) in
+    let value : c.of-2.result.value ≡ alone c.args.payload (length cells) null =
+    c.of-2.ensures ∙ c.of.ensures ∙ c.in_ok-kept.ensures.ok ∙ ap (λ k. alone c.args.payload k null) number in
+    let put : c.put-place.new.self.cells ≡ cells ++ placed place.ptr (alone c.args.payload (length cells) null) ∷ [] =
+    c.put-place.ensures.cells ∙ ap (λ v. cells ++ placed place.ptr v ∷ []) value in
+    rw (put, ← c.self.view_is) (seen-push list cells place null c.args.payload c.self.invariant c.nowhere-nowhere.ensures)
