@@ -4,9 +4,6 @@
 ghost use Rattle.std.specs.Prelude.{◌≡◌};
 ghost use Rattle.dom_base.specs.Refusals.{refusal_number, refusal_word};
 
-#[cfg(test)]
-mod tests;
-
 use std::alloc::{AllocError, AllocFailed};
 
 /// Whose trees: the page's, or those of the component with this number (1, 2, ..).

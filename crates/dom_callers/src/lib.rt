@@ -7,8 +7,6 @@ mod observing;
 mod path;
 mod ranges;
 mod selecting;
-#[cfg(test)]
-mod tests;
 mod traversal;
 mod tree;
 

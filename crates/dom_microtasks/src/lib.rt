@@ -8,9 +8,6 @@ ghost use Rattle.dom_model.specs.Names.{first_of};
 ghost use Rattle.dom_model.specs.World.{micro_task, queued_notify};
 ghost use Rattle.dom_microtasks.specs.Tasks.{task_of};
 
-#[cfg(test)]
-mod tests;
-
 use dom_base::Owner;
 use std::alloc::{AllocError, Global};
 use std::collections::{HashSet, VecDeque};

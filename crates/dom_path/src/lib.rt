@@ -6,8 +6,6 @@ mod event;
 mod item;
 mod path;
 mod stand;
-#[cfg(test)]
-mod tests;
 
 pub use item::Item;
 pub use path::Path;

@@ -10,8 +10,6 @@ mod data;
 mod forest;
 mod owners;
 mod table;
-#[cfg(test)]
-mod tests;
 
 pub use data::NodeData;
 pub use forest::Forest;

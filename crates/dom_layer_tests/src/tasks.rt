@@ -1,0 +1,87 @@
+//! The order of tasks, and that each owner's notification waits once.
+use dom_base::Owner;
+use dom_microtasks::{Queue, Task};
+use std::alloc::{AllocError, Global};
+use std::process::Abort;
+use std::test::Fail;
+
+const FIRST: Owner = Owner::Component(1);
+
+const SECOND: Owner = Owner::Component(2);
+
+// Queues a label of an owner.
+fn micro(queue: &mut Queue, alloc: Global, owner: Owner, label: &[u8]) -> Result<(), AllocError> {
+    queue.push_micro(owner, Vec::from_slice(alloc, label)?)
+}
+
+// The next task has to be this label of an owner.
+fn expect_micro(rt: &impl Abort, queue: &mut Queue, owner: Owner, label: &[u8]) {
+    let Some(Task::Micro(from, text)) = queue.pop() else {
+        panic!(rt; "no label came");
+    };
+    assert_eq!(rt; from, owner);
+    assert_eq!(rt; text.as_slice(), label);
+}
+
+// The next task has to be the notification of an owner.
+fn expect_notify(rt: &impl Abort, queue: &mut Queue, owner: Owner) {
+    let Some(Task::Notify(from)) = queue.pop() else {
+        panic!(rt; "no notification came");
+    };
+    assert_eq!(rt; from, owner);
+}
+
+#[test]
+fn tasks_of_three_owners_come_in_their_order(rt: HostRuntime) -> Result<(), Fail> {
+    let alloc = rt.alloc();
+    let mut queue = Queue::new(alloc);
+    micro(&mut queue, alloc, Owner::Page, b"a")?;
+    queue.push_notify(FIRST)?;
+    micro(&mut queue, alloc, SECOND, b"b")?;
+    queue.push_notify(Owner::Page)?;
+    micro(&mut queue, alloc, FIRST, b"c")?;
+    queue.push_notify(SECOND)?;
+    micro(&mut queue, alloc, Owner::Page, b"")?;
+    expect_micro(&rt, &mut queue, Owner::Page, b"a");
+    expect_notify(&rt, &mut queue, FIRST);
+    expect_micro(&rt, &mut queue, SECOND, b"b");
+    expect_notify(&rt, &mut queue, Owner::Page);
+    expect_micro(&rt, &mut queue, FIRST, b"c");
+    expect_notify(&rt, &mut queue, SECOND);
+    expect_micro(&rt, &mut queue, Owner::Page, b"");
+    assert!(rt; queue.pop().is_none());
+    Ok(())
+}
+
+#[test]
+fn a_queued_notification_is_not_queued_again(rt: HostRuntime) -> Result<(), Fail> {
+    let alloc = rt.alloc();
+    let mut queue = Queue::new(alloc);
+    queue.push_notify(FIRST)?;
+    micro(&mut queue, alloc, FIRST, b"x")?;
+    queue.push_notify(FIRST)?;
+    queue.push_notify(Owner::Page)?;
+    queue.push_notify(FIRST)?;
+    queue.push_notify(Owner::Page)?;
+    expect_notify(&rt, &mut queue, FIRST);
+    expect_micro(&rt, &mut queue, FIRST, b"x");
+    expect_notify(&rt, &mut queue, Owner::Page);
+    assert!(rt; queue.pop().is_none());
+    Ok(())
+}
+
+#[test]
+fn a_notification_that_was_taken_out_is_queued_again(rt: HostRuntime) -> Result<(), Fail> {
+    let alloc = rt.alloc();
+    let mut queue = Queue::new(alloc);
+    queue.push_notify(SECOND)?;
+    micro(&mut queue, alloc, SECOND, b"x")?;
+    expect_notify(&rt, &mut queue, SECOND);
+    queue.push_notify(SECOND)?;
+    queue.push_notify(SECOND)?;
+    expect_micro(&rt, &mut queue, SECOND, b"x");
+    expect_notify(&rt, &mut queue, SECOND);
+    assert!(rt; queue.pop().is_none());
+    assert!(rt; queue.pop().is_none());
+    Ok(())
+}
