@@ -3,7 +3,8 @@
 An outward event is an accepted `dispatch` of a component with `composed` and without a related node, whose target is below the
 component's shadow root; the trace has the host, the type, and whether it bubbles and is cancelable (docs/ISOLATION.md). Which lines
 were accepted is read from the replies; where a component's nodes stand is followed here, by the commands that move them. After a
-command on a range this reader knows only what is placed anew, and it stops where it would have to know more.
+command that changes what is in a range this reader knows only what has no parent and what is placed anew, and it stops where it would
+have to know more.
 """
 import os
 import re
@@ -55,8 +56,8 @@ class Trees:
             self.parents[child] = parent
 
     def forget(self):
-        """Nothing is known any more but that the shadow root has no parent."""
-        self.parents = {"m0": None}
+        """What has a parent may have another one now; what has none still has none."""
+        self.parents = {node: None for node, above in self.parents.items() if above is None}
 
     def follow(self, command, words, value):
         """An accepted command, its other words, and the value of its reply."""
@@ -81,7 +82,9 @@ class Trees:
         elif command in ("delete", "extract", "insert-node"):
             self.forget()
             if command == "extract":
-                self.kinds[value] = "fragment"
+                self.made(value, "fragment")
+            elif command == "insert-node":
+                self.parents.pop(words[1], None)
 
     def is_inside(self, node):
         """Whether a node is below the shadow root, or is it."""
