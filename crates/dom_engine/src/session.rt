@@ -38,7 +38,7 @@ impl Model for Session {
 }
 
 impl Session {
-    /// A session before its first line: the page has its first document, `n0`.
+    /// A session before its first line: the page has its first document, `n0`. There is none where memory is refused.
     pub fn new(alloc: Global) -> Result<Session, AllocError>
         ensures { IfOk result (λ session. session ≡ record { world = first_world; has_failed = false }) }
     {
@@ -50,7 +50,8 @@ impl Session {
         })
     }
 
-    /// Takes a line, without its 0x0A, and gives the lines that answer it, each with its 0x0A.
+    /// Takes a line, without its 0x0A, and gives the lines that answer it, each with its 0x0A. A line that is refused is answered
+    /// too (own rule); an error is want of memory alone, now or in a call before.
     pub fn line(&mut self, line: &[u8]) -> Result<Vec<u8>, AllocError>
         ensures was { OnOk result (self.old.has_failed ≡ false) }
         ensures text { IfOk result (λ text. text.items ≡ output_text (step self.old.world (decode line.now)).1) }
@@ -65,7 +66,8 @@ impl Session {
         answer
     }
 
-    /// Ends the input: an open turn is ended, and the lines of its microtasks are given. More lines may follow.
+    /// Ends the input: an open turn is ended, and the lines of its microtasks are given. More lines may follow (own rule). An error
+    /// is want of memory alone, now or in a call before.
     pub fn finish(&mut self) -> Result<Vec<u8>, AllocError>
         ensures was { OnOk result (self.old.has_failed ≡ false) }
         ensures text { IfOk result (λ text. text.items ≡ output_text (finish self.old.world).1) }

@@ -51,7 +51,7 @@ impl Observers {
     }
 
     /// Makes an observer of an owner, and gives its number (DOM Standard, constructor of MutationObserver). It is refused
-    /// with `Limit` where the owner has made a million, and with `Memory` where memory is refused.
+    /// with `Limit` where the owner has made a million, and with `Memory` where memory is refused; then all is as it was.
     pub fn make(&mut self, owner: Owner) -> Result<u32, Fault>
         ensures number { IfOk result (λ k. k ≡ length (tables_of self.old owner).record_queues) }
         ensures tables { OnOk result (ChangesTables owner (with_observer (tables_of self.old owner)) self.old self.new) }
@@ -81,7 +81,7 @@ impl Observers {
 
     /// Registers an owner's observer on a node, or gives its registration there other options (DOM Standard, observe()).
     /// It is refused with `Unknown` where the owner has no observer of this number, with `TypeFault` where the options ask
-    /// for no kind of change, and with `Memory` where memory is refused.
+    /// for no kind of change, and with `Memory` where memory is refused; then all is as it was.
     pub fn observe(
         &mut self,
         owner: Owner,
@@ -164,7 +164,7 @@ impl Observers {
 
     /// Gives a node that leaves a parent its transient registrations: copies of the registrations on the parent's inclusive
     /// ancestors that observe their subtrees (DOM Standard, remove). The parent is still to stand where it stood, and the
-    /// registrations are those of the node's owner.
+    /// registrations are those of the node's owner. A value to which memory was refused is only dropped.
     pub fn transient(&mut self, forest: &Forest, parent: Key, node: Key) -> Result<(), AllocError>
         requires parent_is_node { parent < length forest.now.names }
         requires node_is_node { node < length forest.now.names }

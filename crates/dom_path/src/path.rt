@@ -77,7 +77,7 @@ impl Path {
     }
 
     /// The nodes of the path that are not hidden from the item at this place (DOM Standard, composedPath()). Up to 16 of them take no
-    /// memory.
+    /// memory; there is no answer where memory for more is refused.
     pub fn composed_path(&self, at: usize) -> Result<SmallVec<Key, 16>, AllocError>
         requires { at < length self.now.items }
         ensures { IfOk result (λ nodes. option_map (λ (v : View ℕ). v.path) (slice_get self.now.views at) ≡ Some nodes.items) }
