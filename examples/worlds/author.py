@@ -16,6 +16,10 @@ MOVES = ("parent", "first", "last", "next", "previous", "next-sibling", "previou
 OBSERVED = ("childList", "attributes", "characterData", "subtree", "attributeOldValue", "characterDataOldValue", "filter=id,slot")
 CONTAINERS = ("element", "fragment", "shadow")
 TEXTS = ("text", "comment")
+# Commands of one word; the tables whose names commands take that do not begin with the table's; the kinds that commands ask for.
+MADE_ALONE = ("observer", "range-new", "document")
+TABLE_OF = {"extract": "range", "delete": "range", "take": "observer", "disconnect": "observer"}
+KINDS_FOR = {"shadow-root": ("element",), "slot-of": ("element", "text")}
 # How often each command comes.
 WEIGHTS = {
     "new": 26, "document": 1, "append": 26, "insert": 10, "replace": 4, "remove": 6, "adopt": 2, "normalize": 2, "set": 10, "unset": 4,
@@ -94,20 +98,15 @@ class Author:
 
     def plain_words(self, command):
         """The words of a command that takes a node of some kind, a name of a table, or nothing."""
-        table, _, rest = command.partition("-")
-        if table in ("extract", "delete"):
-            table = "range"
-        if command in ("take", "disconnect"):
-            table = "observer"
-        if table in self.tables and rest != "new" and command != "observer":
+        if command in MADE_ALONE:
+            return command
+        table = TABLE_OF.get(command, command.partition("-")[0])
+        if table in self.tables:
             name = self.of_table(table)
             return f"{command} {name}" if name else self.words_to_make(table)
-        if command in ("observer", "range-new", "document"):
-            return command
-        kinds = {"shadow-root": ("element",), "slot-of": ("element", "text"), "remove": ("element", "text", "comment")}
         if command == "remove":
             return f"remove {self.movable()}"
-        return f"{command} {self.one(*kinds.get(command, ()))}"
+        return f"{command} {self.one(*KINDS_FOR.get(command, ()))}"
 
     def words_to_make(self, table):
         """The words that make what a table has."""
