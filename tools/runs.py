@@ -1,0 +1,267 @@
+"""Runs of the built program, and what its output says: answers, trees, and the paths of events.
+
+Nothing here works out what the engine does. Where something has to be known, the program is asked for it, by lines that are
+put behind a script: `parent` of each name that a node could have, `tree` of each node without a parent, and for the path of an
+event a `dispatch` with a listener on every node.
+"""
+import os
+import re
+import subprocess
+from dataclasses import dataclass, field
+
+PROGRAM = os.path.join(os.path.dirname(os.path.abspath(__file__)), "..", "crates", "domrun", "out", "domrun")
+LISTEN = re.compile(r"(\S+) listen (\S+) (\S+) (\S+) \S+( capture)?")
+DISPATCH = re.compile(r"(\S+) dispatch (\S+) (\S+)(.*)")
+EVENT = re.compile(r"(\S+) event (\S+) (\S+) phase=(\d) target=(\S+) current=(\S+) related=(\S+) path=\[(.*)\]")
+WORD = re.compile(r'"(?:[^"\\]|\\.)*"|[^\s()"]+="(?:[^"\\]|\\.)*"|[()]|[^\s()"]+')
+PROBE = "look"
+
+
+class Fault(Exception):
+    """Why there is nothing to show: the program can't be run, or answers what the protocol does not have."""
+
+
+@dataclass
+class Answer:
+    """What one line is answered: the lines that it caused, and its reply."""
+
+    effects: list
+    reply: str
+
+    def is_accepted(self):
+        return self.reply.split(" ")[1:2] == ["ok"]
+
+    def value(self):
+        return self.reply.split(" ", 2)[2] if self.reply.count(" ") > 1 else ""
+
+
+@dataclass
+class Node:
+    """A node of a tree as `tree` tells it. `own` is what it has besides children: attributes, or data."""
+
+    name: str
+    kind: str
+    tag: str = ""
+    own: list = field(default_factory=list)
+    children: list = field(default_factory=list)
+
+
+@dataclass
+class State:
+    """What there is behind a line: of each owner its trees and what is assigned to its slots, and what the turn's end prints."""
+
+    trees: dict
+    assigned: dict
+    names: dict
+    ending: list
+
+
+@dataclass
+class Event:
+    """A dispatch: its type, the path of all its nodes from the target on, and what each owner on the path is shown."""
+
+    type: str
+    items: list
+    seen: dict
+
+
+def is_reply(line):
+    words = line.split(" ")
+    return words[0] == "!" or words[1:2] == ["ok"] or words[1:2] == ["!"]
+
+
+def prefix_of(owner):
+    """The letter that the names of an owner's nodes begin with, as the owner itself writes them."""
+    return "n" if owner == "p" else "m"
+
+
+def whole_name(owner, name):
+    """The name of a node that serves for every owner, from the name that an owner is shown."""
+    return f"{owner}:{name}" if name.startswith("m") else name
+
+
+def owner_of(name):
+    """The owner of a node, by its whole name."""
+    return name.split(":")[0] if ":" in name else "p"
+
+
+class Program:
+    """The built program, by its path."""
+
+    def __init__(self, path):
+        self.path = path
+
+    def output(self, lines):
+        """The lines that a script is answered."""
+        text = "".join(line + "\n" for line in lines).encode("latin-1")
+        try:
+            ran = subprocess.run([self.path], input=text, capture_output=True, check=False)
+        except OSError as error:
+            raise Fault(f"the program {self.path} can't be run ({error.strerror}); `rt run` in crates/domrun builds it") from error
+        if ran.returncode != 0:
+            raise Fault(f"the program ended with status {ran.returncode}: {ran.stderr.decode('latin-1').strip()}")
+        return ran.stdout.decode("latin-1").split("\n")[:-1]
+
+    def answers(self, lines):
+        """The answer to each line of a script, and the lines that the end of input printed."""
+        found, effects = [], []
+        for line in self.output(lines):
+            if is_reply(line):
+                found.append(Answer(effects, line))
+                effects = []
+            else:
+                effects.append(line)
+        if len(found) != len(lines):
+            raise Fault(f"{len(lines)} lines had {len(found)} replies")
+        return found, effects
+
+
+def tree_of(text):
+    """The tree that a text tells."""
+    open_nodes, top = [], None
+    words = iter(WORD.findall(text))
+    for word in words:
+        if word == "(":
+            node = Node(next(words), next(words))
+            if node.kind == "element":
+                node.tag = next(words)
+            if open_nodes:
+                open_nodes[-1].children.append(node)
+            open_nodes.append(node)
+        elif word == ")":
+            top = open_nodes.pop()
+        else:
+            open_nodes[-1].own.append(word)
+    return top
+
+
+class Script:
+    """A script and the runs of it. Its lines are answered once, and each prefix is asked for what there is behind it."""
+
+    def __init__(self, program, lines):
+        self.program = program
+        self.lines = lines
+        self.answers, self.ending = program.answers(lines)
+        self.counts = {owner: self.count_of(owner) for owner in self.owners(len(lines))}
+
+    def owners(self, count):
+        """The owners behind so many lines, each with its host: the page, and the components that were attached."""
+        found = {"p": None}
+        for line, answer in zip(self.lines[:count], self.answers):
+            words = line.split(" ")
+            if words[1:2] == ["attach"] and answer.is_accepted():
+                found[answer.value()] = whole_name(words[0], words[2])
+        return found
+
+    def turns(self):
+        """The owner of the turn that is open behind each line, or None; before the first line too."""
+        found = [None]
+        for line, answer in zip(self.lines, self.answers):
+            owner, open_turn = line.split(" ")[0], found[-1]
+            if answer.reply != "! owner" and open_turn not in (None, "p", owner):
+                open_turn = None
+            if answer.is_accepted():
+                open_turn = None if line.split(" ")[1] == "." else open_turn or owner
+            found.append(open_turn)
+        return found
+
+    def count_of(self, owner):
+        """How many nodes an owner has made at the end."""
+        ask = 64
+        while True:
+            lines = self.lines + ["p ."] + [f"{owner} parent {prefix_of(owner)}{number}" for number in range(ask)]
+            told = self.program.answers(lines)[0][-ask:]
+            if not told[-1].is_accepted():
+                return sum(answer.is_accepted() for answer in told)
+            ask *= 4
+
+    def ask(self, count, questions):
+        """What the questions are answered behind so many lines, and what the end of the open turn printed before or between."""
+        lines = self.lines[:count] + questions
+        answers, ending = self.program.answers(lines)
+        told = answers[count:]
+        return told, [line for answer in told for line in answer.effects] + ending
+
+    def state(self, count):
+        """What there is behind so many lines."""
+        owners = list(self.owners(count))
+        asked = [(owner, f"{prefix_of(owner)}{number}") for owner in owners for number in range(self.counts[owner])]
+        told, ending = self.ask(count, in_turns(owners, [(owner, f"parent {name}") for owner, name in asked]))
+        there = [(owner, name, answer.value()) for (owner, name), answer in zip(asked, without_turns(told, owners, asked))
+                 if answer.is_accepted()]
+        roots = [(owner, name) for owner, name, parent in there if parent == "null"]
+        questions = [(owner, f"tree {name}") for owner, name in roots]
+        questions += [(owner, f"assigned {name}") for owner, name, _ in there if owner != "p"]
+        questions.sort(key=lambda question: owners.index(question[0]))
+        told, _ = self.ask(count, in_turns(owners, questions))
+        state = State({owner: [] for owner in owners}, {owner: {} for owner in owners}, {owner: [] for owner in owners}, ending)
+        for owner, name, _ in there:
+            state.names[owner].append(name)
+        for (owner, question), answer in zip(questions, without_turns(told, owners, questions)):
+            word, name = question.split(" ")
+            if word == "tree":
+                state.trees[owner].append(answer.value())
+            elif answer.is_accepted():
+                state.assigned[owner][name] = answer.value().strip("[]").split(",") if answer.value() != "[]" else []
+        return state
+
+    def events(self, count, state):
+        """The event that the line with this number dispatched, in a list, from the state before it; none where it dispatched none.
+
+        The listeners that the script has made are taken away, so that none stops the event. Each node gets one of the probe's.
+        It is called while capturing, when every node of the path is visited, the outermost first."""
+        found = DISPATCH.fullmatch(self.lines[count])
+        if not found or not self.answers[count].is_accepted():
+            return []
+        owners, of_type = list(state.trees), found.group(3)
+        questions = []
+        for line, answer in zip(self.lines[:count], self.answers):
+            made = LISTEN.match(line)
+            if made and made.group(3) == of_type and answer.is_accepted():
+                questions.append((made.group(1), f"unlisten {made.group(2)} {of_type} {made.group(4)}{made.group(5) or ''}"))
+        questions += [(owner, f"listen {name} {of_type} {PROBE} log capture") for owner in owners for name in state.names[owner]]
+        questions.sort(key=lambda question: owners.index(question[0]))
+        told, _ = self.ask(count, in_turns(owners, questions) + [self.lines[count]])
+        visits = [EVENT.fullmatch(line) for line in told[-1].effects]
+        visits = [visit for visit in visits if visit and visit.group(2) == PROBE and visit.group(3) == of_type]
+        return [event_of(of_type, visits)]
+
+
+def in_turns(owners, questions):
+    """The questions as lines. The page asks first and ends its turn, since a component is not heard in it."""
+    of_page = [f"p {text}" for owner, text in questions if owner == "p"]
+    return of_page + ["p ."] + [f"{owner} {text}" for owner, text in questions if owner != "p"]
+
+
+def without_turns(told, owners, questions):
+    """The answers to the questions alone."""
+    of_page = sum(owner == owners[0] for owner, _ in questions)
+    return told[:of_page] + told[of_page + 1:]
+
+
+def event_of(of_type, visits):
+    """An event from the visits while capturing: the path is the other way round."""
+    items, seen = [], {}
+    for visit in reversed(visits):
+        owner, phase, target, current, related, path = visit.group(1, 4, 5, 6, 7, 8)
+        items.append({"node": whole_name(owner, current), "target": whole_name(owner, target), "atTarget": phase == "2"})
+        shown = seen.setdefault(owner, {"path": [whole_name(owner, name) for name in path.split(",")], "targets": [], "related": []})
+        for name, list_name in ((target, "targets"), (related, "related")):
+            if whole_name(owner, name) not in shown[list_name]:
+                shown[list_name].append(whole_name(owner, name))
+    return Event(of_type, items, seen)
+
+
+def fired_events(lines):
+    """The events that the end of a turn fired, from the lines that tell of them: each is a `slotchange` at a slot, which stays in
+    its tree, so that the path of a line is all of it."""
+    found = {}
+    for line in lines:
+        visit = EVENT.fullmatch(line)
+        if visit:
+            owner, of_type, target, path = visit.group(1, 3, 5, 8)
+            nodes = [whole_name(owner, name) for name in path.split(",")]
+            items = [{"node": node, "target": nodes[0], "atTarget": node == nodes[0]} for node in nodes]
+            seen = {owner: {"path": nodes, "targets": [whole_name(owner, target)], "related": ["null"]}}
+            found[(owner, target)] = Event(of_type, items, seen)
+    return list(found.values())
