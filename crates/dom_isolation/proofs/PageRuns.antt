@@ -1,14 +1,14 @@
 -- Whole scripts: the page's part and the page's output are the page machine's on the trace.
-use Rattle.std.proofs.Common.{◌≡◌, true, not, List, [], ◌∷◌, ◌++◌, map, refl, sym, ap, ◌∙◌, append_assoc}
+use Rattle.std.proofs.Common.{◌≡◌, true, not, ◌&&◌, List, [], ◌∷◌, ◌++◌, map, refl, sym, ap, ◌∙◌, append_assoc}
 use Rattle.std.proofs.lemmas.Bool.{and_parts, not-true}
 use Rattle.dom_model.specs.Command.{Line}
 use Rattle.dom_model.specs.Runs.{Run, run_then, run_each}
 use Rattle.dom_model.specs.World.{World}
 use Rattle.dom_model.specs.DocumentMachine.{step, finish, run_lines, first_world}
-use Rattle.dom_model.specs.Trace.{is_page, items_of, trace_from, line_may_stop, no_component_stops_from}
+use Rattle.dom_model.specs.Trace.{is_page, items_of, trace_of, trace_from, line_may_stop, no_component_stops_from}
 use Rattle.dom_model.specs.PageMachine.{first_page, PageState, page_of, step_page, run_page, page_finish, page_outputs_of}
 use Rattle.dom_model.specs.Isolation.{PagePartAgrees, PageSeesItsTrace, SamePage}
-use Rattle.dom_isolation.specs.Laws.{page_run, IsQuiet, PageRunAgrees, TraceGoesOn}
+use Rattle.dom_isolation.specs.Laws.{page_run, IsQuiet, PageRunAgrees, TraceGoesOn, PageOutputGoesOn, FirstLinesStopNothing}
 use Rattle.dom_isolation.proofs.Squares.{run_then-square}
 use Rattle.dom_isolation.proofs.LineBegins.{ending_any-page}
 use Rattle.dom_isolation.proofs.Lines.{line-items}
@@ -62,6 +62,27 @@ module _ {L : Type 0} (read : L → Line) where
   trace-goes_on ls more =
       let rest = trace_from read is_page (run_lines first_world (map read ls)).0 more in
       (trace-on ls more first_world, ap (run_page read first_page) (trace-on ls more first_world) ∙ run_each-append (step_page read) first_page (trace_from read is_page first_world ls) rest)
+
+  -- what the page machine writes for the lines so far, and then for more of them and the ending
+  pub page_output-goes_on : PageOutputGoesOn read
+  page_output-goes_on ls more =
+      let so_far = run_page read first_page (trace_of read ls) in
+      let rest = run_page read so_far.0 (trace_from read is_page (run_lines first_world (map read ls)).0 more) in (
+        rest.1 ++ (page_finish rest.0).1,
+        ap (λ (r : Run PageState). (run_then r page_finish).1) (trace-goes_on ls more).1 ∙ append_assoc so_far.1 rest.1 (page_finish rest.0).1,
+      )
+
+  -- some first lines stop nothing where all lines stop nothing
+  no_stops-first : (ls more : List L) (w : World) → no_component_stops_from read w (ls ++ more) ≡ true → no_component_stops_from read w ls ≡ true
+  no_stops-first [] more w h = refl
+  no_stops-first (l ∷ ls) more w h =
+      let v = (step w (read l)).0 in
+      let both = and_parts (not (line_may_stop w (read l))) (no_component_stops_from read v (ls ++ more)) h in
+      ap (λ t. t && no_component_stops_from read v ls) both.0 ∙ no_stops-first ls more v both.1
+
+  -- of a script
+  pub first_lines-stop_nothing : FirstLinesStopNothing read
+  first_lines-stop_nothing ls more h = no_stops-first ls more first_world h
 
   -- the page's part alone
   pub page_part-agrees : PagePartAgrees read

@@ -183,6 +183,14 @@ plain-first = record { parts = parts; tasks = tt }
     parts Page = (((tt, tt), tt, tt), tt, tt)
     parts (Component k) = (tt, tt, tt)
 
+-- the lines of a script, run from the first world
+plain-run : (ls : List Line) → AllByRecursion IsPlainLine ls → IsPlainRun (run_lines first_world ls)
+plain-run ls h = plain-run_each IsPlainLine step plain-step ls first_world plain-first h
+
+-- what they say
+pub plain-outputs_so_far : (ls : List Line) → AllByRecursion IsPlainLine ls → AllByRecursion IsPlainOutput (run_lines first_world ls).1
+plain-outputs_so_far ls h = (plain-run ls h).1
+
 -- all lines of output of a script
 pub plain-outputs : (ls : List Line) → AllByRecursion IsPlainLine ls → AllByRecursion IsPlainOutput (outputs_of ls)
-plain-outputs ls h = (plain-run_then (run_lines first_world ls) finish (plain-run_each IsPlainLine step plain-step ls first_world plain-first h) plain-ending_any).1
+plain-outputs ls h = (plain-run_then (run_lines first_world ls) finish (plain-run ls h) plain-ending_any).1

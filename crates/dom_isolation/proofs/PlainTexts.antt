@@ -1,20 +1,32 @@
 -- The text of the output of a script has the lines that were written.
 use Rattle.std.proofs.Common.{ℕ, List, map, ap, ◌∙◌}
+use Rattle.std.specs.List.{AllByRecursion}
 use Rattle.dom_model.specs.Command.{Line}
-use Rattle.dom_model.specs.DocumentMachine.{outputs_of}
+use Rattle.dom_model.specs.DocumentMachine.{first_world, run_lines, outputs_of}
 use Rattle.dom_text.specs.Lines.{lines_of, page_lines}
-use Rattle.dom_isolation.specs.Words.{IsPlainLine, ReadsPlainWords, OutputHasItsLines, PickedLinesAgree}
+use Rattle.dom_isolation.specs.Words.{IsPlainLine, ReadsPlainWords, OutputHasItsLines, OutputHasItsLinesSoFar, PickedLinesAgree, PickedLinesAgreeSoFar}
 use Rattle.dom_isolation.proofs.Lists.{all-from, all-map}
-use Rattle.dom_isolation.proofs.PageTexts.{page_lines-agree}
-use Rattle.dom_isolation.proofs.PlainCommands.{plain-outputs}
+use Rattle.dom_isolation.proofs.PageTexts.{page_lines-agree, page_lines-agree_so_far}
+use Rattle.dom_isolation.proofs.PlainCommands.{plain-outputs, plain-outputs_so_far}
 use Rattle.dom_isolation.proofs.PlainLines.{lines_of-output}
 
 module _ (read : List ℕ → Line) where
+  -- what lines of bytes say has such words
+  plain-lines : ReadsPlainWords read → (lines : List (List ℕ)) → AllByRecursion IsPlainLine (map read lines)
+  plain-lines h lines = all-map IsPlainLine read lines (all-from (λ bytes. IsPlainLine (read bytes)) h lines)
+
   -- the lines of the text are those that were written
   pub output-has_its_lines : ReadsPlainWords read → OutputHasItsLines read
-  output-has_its_lines h lines =
-      lines_of-output (outputs_of (map read lines)) (plain-outputs (map read lines) (all-map IsPlainLine read lines (all-from (λ bytes. IsPlainLine (read bytes)) h lines)))
+  output-has_its_lines h lines = lines_of-output (outputs_of (map read lines)) (plain-outputs (map read lines) (plain-lines h lines))
+
+  -- of the lines so far
+  pub output-has_its_lines_so_far : ReadsPlainWords read → OutputHasItsLinesSoFar read
+  output-has_its_lines_so_far h lines = lines_of-output (run_lines first_world (map read lines)).1 (plain-outputs_so_far (map read lines) (plain-lines h lines))
 
   -- so those of the page are picked by their prefix
   pub picked_lines-agree : ReadsPlainWords read → PickedLinesAgree read
   picked_lines-agree h bytes g = ap page_lines (output-has_its_lines h (lines_of bytes)) ∙ page_lines-agree read (lines_of bytes) g
+
+  -- of the lines so far
+  pub picked_lines-agree_so_far : ReadsPlainWords read → PickedLinesAgreeSoFar read
+  picked_lines-agree_so_far h lines g = ap page_lines (output-has_its_lines_so_far h lines) ∙ page_lines-agree_so_far read lines g

@@ -8,7 +8,7 @@ use Rattle.dom_base.specs.declared.NodeName.{NodeName}
 use Rattle.dom_base.specs.declared.Kind.TheVariants.{Shadow}
 use Rattle.dom_model.specs.Tree.{has_node}
 use Rattle.dom_model.specs.Command.{Command, Line, EventWords, Spelled}
-use Rattle.dom_model.specs.Output.{EventLine}
+use Rattle.dom_model.specs.Output.{Output, EventLine}
 use Rattle.dom_model.specs.Listeners.{Visit, Dispatching, visited}
 use Rattle.dom_model.specs.Names.{name_eq}
 use Rattle.dom_model.specs.Paths.{views, plain_views}
@@ -20,7 +20,7 @@ use Rattle.dom_model.specs.Slots.{assigned}
 use Rattle.dom_model.specs.Turns.{notifying, ending_turn, ending_other_turn}
 use Rattle.dom_model.specs.DocumentMachine.{first_world, step, run_lines, perform, finish}
 use Rattle.dom_model.specs.Trace.{is_page, is_of, owner_of_line, outputs_for, outward_dispatch, outward_event, line_may_stop, trace_from, trace_of, no_component_stops}
-use Rattle.dom_model.specs.PageMachine.{PageState, page_of, page_dispatch, page_outward, page_turn_end, page_finish, page_line, first_page, run_page}
+use Rattle.dom_model.specs.PageMachine.{PageState, page_of, page_dispatch, page_outward, page_turn_end, page_finish, page_line, first_page, run_page, page_outputs_of}
 use Rattle.dom_isolation.specs.Worlds.{IsOf, IsWorld, MayBeShadow, HasKinds, HasOwners, ComponentsOnlyLog}
 
 -- A world of which the laws speak; where only_log, no listener of a component stops or cancels.
@@ -137,6 +137,16 @@ TraceGoesOn {L = L} read =
     (ls more : List L) → let rest = trace_from read is_page (run_lines first_world (map read ls)).0 more in
     (trace_of read (ls ++ more) ≡ trace_of read ls ++ rest)
     × (run_page read first_page (trace_of read (ls ++ more)) ≡ run_then (run_page read first_page (trace_of read ls)) (λ s. run_page read s rest))
+
+-- So what the page machine writes for the lines so far, without the ending, stands at the front of what it writes for these
+-- lines and more, with the ending.
+abbrev pub PageOutputGoesOn : {L : Type 0} → (L → Line) → Type 0
+PageOutputGoesOn {L = L} read =
+    (ls more : List L) → (rest : List Output) × (page_outputs_of read (trace_of read (ls ++ more)) ≡ (run_page read first_page (trace_of read ls)).1 ++ rest)
+
+-- Of lines in which no component listener stops or cancels the same holds of some first lines.
+abbrev pub FirstLinesStopNothing : {L : Type 0} → (L → Line) → Type 0
+FirstLinesStopNothing {L = L} read = (ls more : List L) → IsTrue (no_component_stops read (ls ++ more)) → IsTrue (no_component_stops read ls)
 
 -- The first world is as the machine reaches it, and each line keeps that. Where components are to log alone, the line is
 -- no accepted `listen` of theirs that does more.

@@ -6,13 +6,13 @@ ghost use Rattle.std.specs.Prelude.{List, ℕ, true};
 ghost use Rattle.dom_model.specs.Command.{Line};
 ghost use Rattle.dom_model.specs.World.{World};
 ghost use Rattle.dom_model.specs.Isolation.{ForeignIsRefused, PagePartAgrees, PageSeesItsTrace, SamePage};
-ghost use Rattle.dom_isolation.specs.Laws.{VisitIsUnseen, FoldSkipsComponents, PageVisitsAgree, OutwardVisitsAgree, PageDispatchAgrees, ComponentDispatchAgrees, NotificationIsUnseen, TurnEndingAgrees, OtherEndingIsUnseen, PageLineAgrees, OtherLineAgrees, FinishAgrees, PageRunAgrees, TraceGoesOn, IsReached, IsQuiet, FirstIsReached, StepKeepsReached, EndingKeepsReached, FinishKeepsReached, ScriptsReach, QuietScriptsReach, ShadowRootsAreRoots, NoOtherShadowRoots, AttachedAreThere, HostsAreTheirs, AssignedArePage};
+ghost use Rattle.dom_isolation.specs.Laws.{VisitIsUnseen, FoldSkipsComponents, PageVisitsAgree, OutwardVisitsAgree, PageDispatchAgrees, ComponentDispatchAgrees, NotificationIsUnseen, TurnEndingAgrees, OtherEndingIsUnseen, PageLineAgrees, OtherLineAgrees, FinishAgrees, PageRunAgrees, TraceGoesOn, PageOutputGoesOn, FirstLinesStopNothing, IsReached, IsQuiet, FirstIsReached, StepKeepsReached, EndingKeepsReached, FinishKeepsReached, ScriptsReach, QuietScriptsReach, ShadowRootsAreRoots, NoOtherShadowRoots, AttachedAreThere, HostsAreTheirs, AssignedArePage};
 ghost use Rattle.dom_isolation.specs.Wholes.{FirstIsWhole, StepKeepsWhole, EndingKeepsWhole, FinishKeepsWhole, ScriptsStayWhole, FirstHasOneRoots, StepKeepsOneRoots, EndingKeepsOneRoots, FinishKeepsOneRoots, ScriptsKeepOneRoots};
 ghost use Rattle.dom_isolation.specs.Follows.{PathFollowsParents};
 ghost use Rattle.dom_isolation.specs.Sights.{HiddenByRoots, RetargetedByRoots};
 ghost use Rattle.dom_isolation.specs.Bounds.{FirstIsBounded, StepKeepsBounds, EndingKeepsBounds, FinishKeepsBounds, ScriptsStayBounded};
 ghost use Rattle.dom_isolation.specs.Texts.{ReadsPrefix, DecodeReadsPrefix, TraceHasPageLines, OutputHasPageLines, PageViewIsItsOutput, PageLinesAgree, PageLinesAgreeSoFar, PageTextAgrees, SamePageText, ForeignLineIsRefused};
-ghost use Rattle.dom_isolation.specs.Words.{ReadsPlainWords, DecodeReadsPlainWords, OutputHasItsLines, PickedLinesAgree};
+ghost use Rattle.dom_isolation.specs.Words.{ReadsPlainWords, DecodeReadsPlainWords, OutputHasItsLines, OutputHasItsLinesSoFar, PickedLinesAgree, PickedLinesAgreeSoFar};
 
 /// A visit at a component's node, whose listeners neither stop nor cancel, is unseen by the page.
 pub fn one_visit()
@@ -110,6 +110,13 @@ pub fn page_agrees()
     ensures longer { (read : List ℕ → Line) → TraceGoesOn read }
 {}
 
+/// More lines only add to what the page machine writes: its output on the trace of the lines so far, without the ending, stands at
+/// the front of its output on the trace of these lines and more.
+pub fn page_output_goes_on()
+    ensures output { (read : List ℕ → Line) → PageOutputGoesOn read }
+    ensures first { (read : List ℕ → Line) → FirstLinesStopNothing read }
+{}
+
 /// Two scripts with equal traces have equal output of the page.
 pub fn same_page()
     ensures { (read : List ℕ → Line) → SamePage read }
@@ -139,11 +146,13 @@ pub fn same_page_text()
 
 /// No line of output has a line feed, so the text of a script's output is cut into the lines that were written: who picks those
 /// that begin with `p ` has the page's output. This is so for each reading whose words have no line feed, as the
-/// protocol's has none.
+/// protocol's has none. It is so at the end of input, and before it of the lines so far.
 pub fn output_has_its_lines()
     ensures input { DecodeReadsPlainWords }
     ensures lines { (read : List ℕ → Line) → ReadsPlainWords read → OutputHasItsLines read }
+    ensures lines_so_far { (read : List ℕ → Line) → ReadsPlainWords read → OutputHasItsLinesSoFar read }
     ensures picked { (read : List ℕ → Line) → ReadsPlainWords read → PickedLinesAgree read }
+    ensures picked_so_far { (read : List ℕ → Line) → ReadsPlainWords read → PickedLinesAgreeSoFar read }
 {}
 
 /// A component's command that names another owner's node is refused and changes nothing; so too a line of bytes that says
