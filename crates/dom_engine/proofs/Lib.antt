@@ -5,3 +5,4 @@ pub mod LineRuns
 pub mod PieceLaws
 pub mod ReadLaws
 pub mod PageRuns
+pub mod PagePrefixes

@@ -13,7 +13,7 @@ use Rattle.dom_engine.specs.PageLaws.{PageTextIsThePageMachines, SamePageText}
 use Rattle.dom_engine.proofs.RunLaws.{text-ended}
 
 -- a text of lines is these lines, and no more
-lines_of-ended : (lines : List (List ℕ)) → (cut_of (text_of_lines lines)).finished ≡ lines_of (text_of_lines lines)
+pub lines_of-ended : (lines : List (List ℕ)) → (cut_of (text_of_lines lines)).finished ≡ lines_of (text_of_lines lines)
 lines_of-ended lines =
     let cut = cut_of (text_of_lines lines) in
     sym (append-nil cut.finished) ∙ ap (λ (rest : List ℕ). cut.finished ++ last_line rest) (sym (text-ended lines)) ∙ sym (lines_of-cut (text_of_lines lines))

@@ -1,8 +1,8 @@
 -- Laws of what a run has read, and of what stops it.
-use Rattle.std.proofs.Common.{◌≡◌, ℕ, ◌<◌, ◌≤◌, ◌⊎◌, List, [], ◌∷◌, ◌++◌, length, take, map, Option, IfSome, refl, sym, ap, subst, ◌∙◌, append_assoc, append-nil, arith, inl, inr}
+use Rattle.std.proofs.Common.{◌≡◌, ℕ, ◌<◌, ◌≤◌, ◌⊎◌, List, [], ◌∷◌, ◌++◌, length, length-append, ◌+◌, take, map, Option, refl, sym, ap, subst, ◌∙◌, append_assoc, append-nil, arith, inl, inr}
 use Rattle.std.proofs.lemmas.List.{length-map, take-map}
 use Rattle.std.specs.Io.KnownBytes.{Appends, Consumes, IsAtEnd}
-use Rattle.std.proofs.KnownBytes.{Appends-nil, Appends-trans, Consumes-nil, Consumes-trans, Consumes-whole}
+use Rattle.std.proofs.KnownBytes.{Appends-nil, Appends-trans, Consumes-nil, Consumes-trans}
 use Rattle.dom_base.specs.declared.Owner.{Owner}
 use Rattle.dom_model.specs.World.{World}
 use Rattle.dom_model.specs.DocumentMachine.{first_world}
@@ -11,7 +11,7 @@ use Rattle.dom_reader.specs.Streams.{fed, IsKept}
 use Rattle.dom_reader.proofs.StreamLaws.{fed-none, fed-is_kept, lines_of-fed_all}
 use Rattle.dom_engine.specs.declared.fault.RunFault.{RunFault}
 use Rattle.dom_engine.specs.declared.fault.RunFault.TheVariants.{Read, Write, Memory, InputLimit}
-use Rattle.dom_engine.specs.Run.{world_after, answers, ending, shown, viewed, finished_text, WritesSome, AppendsFront, StopsWriting, StopsRun, StopsAtRead, StopsAtWrite, StopsAtMemory, StopsAtLimit, run_text, read_size, input_limit}
+use Rattle.dom_engine.specs.Run.{world_after, answers, ending, shown, viewed, finished_text, WritesSome, AppendsFront, StopsWriting, RunsToEnd, StopsRun, StopsAtRead, StopsAtWrite, StopsAtMemory, StopsAtLimit, run_text, read_size, input_limit}
 use Rattle.dom_engine.specs.Reading.{HasRead, StopsOneRead, MoreAt}
 use Rattle.dom_engine.proofs.RunLaws.{world_after-append, world_after-kept, answers-kept, answers-ended, answers_to_end-split, viewed-append, shown-append}
 use Rattle.dom_engine.proofs.LineRuns.{Behind, no_lines-behind, behind-none, shows-none, shown-behind, world-behind, lines_done, some_behind}
@@ -69,31 +69,33 @@ all-kept bytes =
 
 -- a read fails
 pub stops-read : (given : List ℕ) (view : Option Owner) (from mid to old between new : Option (List ℕ)) (kept : List ℕ) (w : World)
-    → HasRead given view from mid old between kept w → Consumes mid to [] → Appends between new [] → StopsAtRead view from to old new
-stops-read given view from mid to old between new kept w h consumed written = record {
+    → HasRead given view from mid old between kept w → length given ≤ input_limit → Consumes mid to [] → Appends between new [] → StopsAtRead view from to old new
+stops-read given view from mid to old between new kept w h few consumed written = record {
   given = given;
+  few = few;
   consumed = subst (Consumes from to) (append-nil given) (Consumes-trans from mid to given [] h.consumed consumed);
   written = subst (Appends old new) (append-nil _ ∙ finished-shown view given) (Appends-trans old between new _ [] h.written written);
 }
 
 -- there is more than a run reads
 pub stops-limit : (given more : List ℕ) (view : Option Owner) (from mid to old new : Option (List ℕ)) (kept : List ℕ) (w : World)
-    → HasRead given view from mid old new kept w → length given ≡ input_limit → 0 < length more → Consumes mid to more → StopsAtLimit view from to old new
+    → HasRead given view from mid old new kept w → length given ≡ input_limit → (0 < length more) × (length more ≤ read_size) → Consumes mid to more → StopsAtLimit view from to old new
 stops-limit given more view from mid to old new kept w h full over consumed = record {
   given = given;
   more = more;
   full = full;
-  over = over;
+  over = over.0;
+  one_read = over.1;
   consumed = Consumes-trans from mid to given more h.consumed consumed;
   written = subst (Appends old new) (finished-shown view given) h.written;
 }
 
 -- memory is refused to lines behind those of the bytes that were read
 pub stops-memory : (given bytes : List ℕ) (view view' : Option Owner) (from mid to old between new : Option (List ℕ)) (kept : List ℕ) (w : World) (more rest : List (List ℕ))
-    → HasRead given view from mid old between kept w → view' ≡ view → length bytes ≤ read_size → Consumes mid to bytes
+    → HasRead given view from mid old between kept w → view' ≡ view → length bytes ≤ read_size → length (given ++ bytes) ≤ input_limit → Consumes mid to bytes
     → map kept_line (lines_of (given ++ bytes)) ≡ ((fed [] given).finished ++ more) ++ rest
     → (length ((fed [] given).finished ++ more) ≤ length (cut_of (given ++ bytes)).finished) ⊎ IsAtEnd to → WritesSome between new (shown view' w) more → StopsAtMemory view from to old new
-stops-memory given bytes view view' from mid to old between new kept w more rest h v near consumed e ended some =
+stops-memory given bytes view view' from mid to old between new kept w more rest h v near few consumed e ended some =
     let all = lines_of (given ++ bytes) in
     let found = some_behind view view' first_world w (fed [] given).finished more rest (map kept_line all) old between new (record { same = v; world = h.world_is }) e h.written some in
     let front : shown view first_world (take found.0.count (map kept_line all)) ≡ viewed view (answers first_world (take found.0.count all)) =
@@ -102,6 +104,7 @@ stops-memory given bytes view view' from mid to old between new kept w more rest
       early = given;
       late = bytes;
       near = near;
+      few = few;
       consumed = Consumes-trans from mid to given bytes h.consumed consumed;
       count = found.0.count;
       since = omega (arith, found.1, length-map (cut_of given).finished kept_line);
@@ -112,14 +115,15 @@ stops-memory given bytes view view' from mid to old between new kept w more rest
 
 -- a write fails behind the lines of the bytes that were read
 pub stops-write : (given bytes text : List ℕ) (view : Option Owner) (from mid to old between new : Option (List ℕ)) (kept : List ℕ) (w : World)
-    → HasRead given view from mid old between kept w → length bytes ≤ read_size → Consumes mid to bytes
+    → HasRead given view from mid old between kept w → length bytes ≤ read_size → length (given ++ bytes) ≤ input_limit → Consumes mid to bytes
     → (finished_text view (given ++ bytes) ≡ shown view first_world (fed [] given).finished ++ text)
     ⊎ ((run_text view (given ++ bytes) ≡ shown view first_world (fed [] given).finished ++ text) × IsAtEnd to)
     → AppendsFront between new text → StopsAtWrite view from to old new
-stops-write given bytes text view from mid to old between new kept w h near consumed which part = record {
+stops-write given bytes text view from mid to old between new kept w h near few consumed which part = record {
   early = given;
   late = bytes;
   near = near;
+  few = few;
   consumed = Consumes-trans from mid to given bytes h.consumed consumed;
   front = part.front;
   back = part.back;
@@ -133,12 +137,13 @@ stops-write given bytes text view from mid to old between new kept w h near cons
         ∙ sym (append_assoc (shown view first_world (fed [] given).finished) part.front part.back)
         ∙ ap (λ x. (x ++ part.front) ++ part.back) (finished-shown view given)
 
--- One read more meets a fault.
-pub stops-one_read : (e : RunFault) (given : List ℕ) (view view' : Option Owner) (from mid to old between new : Option (List ℕ)) (kept : List ℕ) (w : World) (failed fails : ℕ)
-    → HasRead given view from mid old between kept w → view' ≡ view → StopsOneRead e (shown view' w) kept mid to failed fails between new → StopsRun e view from to old new
-stops-one_read Read given view view' from mid to old between new kept w failed fails h v stops = stops-read given view from mid to old between new kept w h stops.0 stops.1
-stops-one_read InputLimit given view view' from mid to old between new kept w failed fails h v stops = absurd stops
-stops-one_read Memory given view view' from mid to old between new kept w failed fails h v stops =
+-- One read more, for which there is so much room, meets a fault.
+pub stops-one_read : (e : RunFault) (given : List ℕ) (room : ℕ) (view view' : Option Owner) (from mid to old between new : Option (List ℕ)) (kept : List ℕ) (w : World) (failed fails : ℕ)
+    → HasRead given view from mid old between kept w → room ≤ read_size → length given + room ≤ input_limit → view' ≡ view → StopsOneRead e room (shown view' w) kept mid to failed fails between new → StopsRun e view from to old new
+stops-one_read Read given room view view' from mid to old between new kept w failed fails h one most v stops =
+    stops-read given view from mid to old between new kept w h (omega (arith, most)) stops.0 stops.1
+stops-one_read InputLimit given room view view' from mid to old between new kept w failed fails h one most v stops = absurd stops
+stops-one_read Memory given room view view' from mid to old between new kept w failed fails h one most v stops =
     let bytes = stops.0 in
     let lines = fed-lines [] kept given bytes (given ++ bytes) h.kept_is refl in
     let ended : length ((fed [] given).finished ++ (fed kept bytes).finished) ≤ length (cut_of (given ++ bytes)).finished =
@@ -160,21 +165,23 @@ stops-one_read Memory given view view' from mid to old between new kept w failed
     (last_line (fed [] (given ++ bytes)).rest)
     h
     v
-    stops.1
+    (omega (arith, stops.1, one))
+    (omega (arith, stops.1, most, length-append given bytes))
     stops.2
     (all-kept (given ++ bytes) ∙ ap (λ x. x ++ last_line (fed [] (given ++ bytes)).rest) lines)
     (inl ended)
     stops.3.1
-stops-one_read Write given view view' from mid to old between new kept w failed fails h v stops =
+stops-one_read Write given room view view' from mid to old between new kept w failed fails h one most v stops =
     let bytes = stops.0 in
     let lines = fed-lines [] kept given bytes (given ++ bytes) h.kept_is refl in
-    stops-write given bytes _ view from mid to old between new kept w h stops.1 stops.2
+    stops-write given bytes _ view from mid to old between new kept w h (omega (arith, stops.1, one)) (omega (arith, stops.1, most, length-append given bytes)) stops.2
     (inl (sym (finished-shown view (given ++ bytes)) ∙ ap (shown view first_world) lines ∙ shown-behind view view' first_world w _ _ (record { same = v; world = h.world_is }))) stops.3.1
 
 -- One read more, behind all that a run reads, finds no end.
 pub stops-more : (e : RunFault) (given more : List ℕ) (view : Option Owner) (from mid to old new : Option (List ℕ)) (kept : List ℕ) (w : World)
     → HasRead given view from mid old new kept w → length given ≡ input_limit → Consumes mid to more → MoreAt e more → StopsRun e view from to old new
-stops-more Read given more view from mid to old new kept w h full consumed at = stops-read given view from mid to old new new kept w h (subst (Consumes mid to) at consumed) (Appends-nil new)
+stops-more Read given more view from mid to old new kept w h full consumed at =
+    stops-read given view from mid to old new new kept w h (omega (arith, full)) (subst (Consumes mid to) at consumed) (Appends-nil new)
 stops-more InputLimit given more view from mid to old new kept w h full consumed at = stops-limit given more view from mid to old new kept w h full at consumed
 stops-more Write given more view from mid to old new kept w h full consumed at = absurd at
 stops-more Memory given more view from mid to old new kept w h full consumed at = absurd at
@@ -202,27 +209,36 @@ run_text-split view given kept w k e =
 
 -- The run's text is written where what is left at the end is.
 pub ends-run : (given : List ℕ) (view view' : Option Owner) (from to old mid new : Option (List ℕ)) (kept : List ℕ) (w : World)
-    → HasRead given view from to old mid kept w → IsAtEnd to → view' ≡ view
-    → Appends mid new (shown view' w (last_line kept) ++ viewed view' (ending (world_after w (last_line kept)))) → IfSome from (λ bytes. Appends old new (run_text view bytes))
-ends-run given view view' from to old mid new kept w h end v written =
+    → HasRead given view from to old mid kept w → IsAtEnd to → length given ≤ input_limit → view' ≡ view
+    → Appends mid new (shown view' w (last_line kept) ++ viewed view' (ending (world_after w (last_line kept)))) → RunsToEnd view from to old new
+ends-run given view view' from to old mid new kept w h end few v written =
     let at_view = subst (λ x. Appends mid new (shown x w (last_line kept) ++ viewed x (ending (world_after w (last_line kept))))) v written in
-    Consumes-whole from to given (λ bytes. Appends old new (run_text view bytes)) h.consumed end
-    (subst (Appends old new) (sym (run_text-split view given kept w h.kept_is h.world_is)) (Appends-trans old mid new _ _ h.written at_view))
+    record {
+      given = given;
+      few = few;
+      consumed = h.consumed;
+      at_end = end;
+      written = subst (Appends old new) (sym (run_text-split view given kept w h.kept_is h.world_is)) (Appends-trans old mid new _ _ h.written at_view);
+    }
+
+-- no byte more is no more than a run reads
+no_more : (given : List ℕ) → length given ≤ input_limit → length (given ++ []) ≤ input_limit
+no_more given few = omega (arith, few, length-append given [])
 
 -- A fault stops what is left at the end.
 pub stops-end : (e : RunFault) (given : List ℕ) (view view' : Option Owner) (from to old mid new : Option (List ℕ)) (kept : List ℕ) (w : World) (failed fails : ℕ)
-    → HasRead given view from to old mid kept w → IsAtEnd to → view' ≡ view
+    → HasRead given view from to old mid kept w → IsAtEnd to → length given ≤ input_limit → view' ≡ view
     → StopsWriting e failed fails mid new (shown view' w (last_line kept) ++ viewed view' (ending (world_after w (last_line kept)))) (WritesSome mid new (shown view' w) (last_line kept))
     → StopsRun e view from to old new
-stops-end Read given view view' from to old mid new kept w failed fails h end v stops = absurd stops
-stops-end InputLimit given view view' from to old mid new kept w failed fails h end v stops = absurd stops
-stops-end Memory given view view' from to old mid new kept w failed fails h end v stops =
+stops-end Read given view view' from to old mid new kept w failed fails h end few v stops = absurd stops
+stops-end InputLimit given view view' from to old mid new kept w failed fails h end few v stops = absurd stops
+stops-end Memory given view view' from to old mid new kept w failed fails h end few v stops =
     let whole = ap (λ x. map kept_line (lines_of x)) (append-nil given) ∙ all-kept given ∙ ap (λ r. (fed [] given).finished ++ last_line r) (sym h.kept_is) ∙ no_lines-behind _ in
-    stops-memory given [] view view' from to to old mid new kept w (last_line kept) [] h v (omega arith) (Consumes-nil to) whole (inr end) stops.1
-stops-end Write given view view' from to old mid new kept w failed fails h end v stops =
+    stops-memory given [] view view' from to to old mid new kept w (last_line kept) [] h v (omega arith) (no_more given few) (Consumes-nil to) whole (inr end) stops.1
+stops-end Write given view view' from to old mid new kept w failed fails h end few v stops =
     let text = ap (run_text view) (append-nil given) ∙ run_text-split view given kept w h.kept_is h.world_is in
     let at_view = subst (λ x. AppendsFront mid new (shown x w (last_line kept) ++ viewed x (ending (world_after w (last_line kept))))) v stops.1 in
-    stops-write given [] _ view from to to old mid new kept w h (omega arith) (Consumes-nil to) (inr (text, end)) at_view
+    stops-write given [] _ view from to to old mid new kept w h (omega arith) (no_more given few) (Consumes-nil to) (inr (text, end)) at_view
 
 -- Memory is refused before anything is read.
 pub stops-before : (view : Option Owner) (from old : Option (List ℕ)) → StopsAtMemory view from from old old
@@ -230,6 +246,7 @@ stops-before view from old = record {
   early = [];
   late = [];
   near = omega arith;
+  few = omega arith;
   consumed = Consumes-nil from;
   count = 0;
   since = omega arith;
@@ -237,8 +254,3 @@ stops-before view from old = record {
   ended = inl (omega arith);
   written = shows-none old view first_world [] refl;
 }
-
--- All that there was is no more than a run reads.
-pub few-bytes : (given : List ℕ) (view : Option Owner) (from to old new : Option (List ℕ)) (kept : List ℕ) (w : World)
-    → HasRead given view from to old new kept w → IsAtEnd to → length given ≤ input_limit → IfSome from (λ bytes. length bytes ≤ input_limit)
-few-bytes given view from to old new kept w h end few = Consumes-whole from to given (λ bytes. length bytes ≤ input_limit) h.consumed end few

@@ -20,19 +20,19 @@ pub record HasRead (given : List ℕ) (view : Option Owner) (from to old new : O
 abbrev pub HasReadAll : Option Owner → Option (List ℕ) → Option (List ℕ) → Option (List ℕ) → Option (List ℕ) → List ℕ → World → Type 0
 HasReadAll view from to old new kept w = (given : List ℕ) × HasRead given view from to old new kept w × IsAtEnd to × (length given ≤ input_limit)
 
--- how a fault stops what is done for one read, behind what is kept of the unfinished line
-abbrev pub StopsOneRead : RunFault → (List (List ℕ) → List ℕ) → List ℕ → Option (List ℕ) → Option (List ℕ) → ℕ → ℕ → Option (List ℕ) → Option (List ℕ) → Type 0
-StopsOneRead Read text kept from to failed fails old new = Consumes from to [] × Appends old new []
-StopsOneRead InputLimit text kept from to failed fails old new = ⊥
-StopsOneRead Write text kept from to failed fails old new = (given : List ℕ) × (length given ≤ read_size) × Consumes from to given
+-- how a fault stops what is done for one read of at most so many bytes, behind what is kept of the unfinished line
+abbrev pub StopsOneRead : RunFault → ℕ → (List (List ℕ) → List ℕ) → List ℕ → Option (List ℕ) → Option (List ℕ) → ℕ → ℕ → Option (List ℕ) → Option (List ℕ) → Type 0
+StopsOneRead Read room text kept from to failed fails old new = Consumes from to [] × Appends old new []
+StopsOneRead InputLimit room text kept from to failed fails old new = ⊥
+StopsOneRead Write room text kept from to failed fails old new = (given : List ℕ) × (length given ≤ room) × Consumes from to given
     × StopsWriting Write failed fails old new (text (fed kept given).finished) (WritesSome old new text (fed kept given).finished)
-StopsOneRead Memory text kept from to failed fails old new = (given : List ℕ) × (length given ≤ read_size) × Consumes from to given
+StopsOneRead Memory room text kept from to failed fails old new = (given : List ℕ) × (length given ≤ room) × Consumes from to given
     × StopsWriting Memory failed fails old new (text (fed kept given).finished) (WritesSome old new text (fed kept given).finished)
 
 -- what one more read gave where it found no end
 abbrev pub MoreAt : RunFault → List ℕ → Type 0
 MoreAt Read more = more ≡ []
-MoreAt InputLimit more = 0 < length more
+MoreAt InputLimit more = (0 < length more) × (length more ≤ read_size)
 MoreAt Write more = ⊥
 MoreAt Memory more = ⊥
 

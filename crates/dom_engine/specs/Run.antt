@@ -103,9 +103,18 @@ read_size = 4096
 abbrev pub input_limit : ℕ
 input_limit = 2 ^ 30
 
+-- The end was reached: all bytes were read, they are no more than a run reads, and the whole run's text is written.
+pub record RunsToEnd (view : Option Owner) (from to old new : Option (List ℕ)) : Type 0 where
+  pub given : List ℕ
+  pub few : length given ≤ input_limit
+  pub consumed : Consumes from to given
+  pub at_end : IsAtEnd to
+  pub written : Appends old new (run_text view given)
+
 -- A read failed: what is written is the text of the lines that the bytes read before it end.
 pub record StopsAtRead (view : Option Owner) (from to old new : Option (List ℕ)) : Type 0 where
   pub given : List ℕ
+  pub few : length given ≤ input_limit
   pub consumed : Consumes from to given
   pub written : Appends old new (finished_text view given)
 
@@ -115,6 +124,7 @@ pub record StopsAtLimit (view : Option Owner) (from to old new : Option (List �
   pub more : List ℕ
   pub full : length given ≡ input_limit
   pub over : 0 < length more
+  pub one_read : length more ≤ read_size
   pub consumed : Consumes from to (given ++ more)
   pub written : Appends old new (finished_text view given)
 
@@ -124,6 +134,7 @@ pub record StopsAtMemory (view : Option Owner) (from to old new : Option (List �
   pub early : List ℕ
   pub late : List ℕ
   pub near : length late ≤ read_size
+  pub few : length (early ++ late) ≤ input_limit
   pub consumed : Consumes from to (early ++ late)
   pub count : ℕ
   pub since : length (cut_of early).finished ≤ count
@@ -137,6 +148,7 @@ pub record StopsAtWrite (view : Option Owner) (from to old new : Option (List �
   pub early : List ℕ
   pub late : List ℕ
   pub near : length late ≤ read_size
+  pub few : length (early ++ late) ≤ input_limit
   pub consumed : Consumes from to (early ++ late)
   pub front : List ℕ
   pub back : List ℕ

@@ -1,13 +1,16 @@
 //! Runs: all lines of a source, from its first byte to its end, and their output into a sink.
 
-ghost use Rattle.std.specs.Prelude.{◌≡◌, ◌<◌, ◌≤◌, ℕ, List, ◌∷◌, [], ◌++◌, length, map, take, IfErr, IfOk, IfSome, OnOk};
+ghost use Rattle.std.specs.Prelude.{◌≡◌, ◌<◌, ◌≤◌, ℕ, List, ◌∷◌, [], ◌++◌, length, map, take, IsTrue, IfErr, IfOk, IfSome, OnOk};
 ghost use Rattle.std.specs.Io.{ReadsAtMost};
 ghost use Rattle.std.specs.Io.KnownBytes.{Appends, Consumes, IsAtEnd, ReadConsumes};
 ghost use Rattle.dom_model.specs.DocumentMachine.{first_world};
-ghost use Rattle.dom_text.specs.Lines.{last_line};
+ghost use Rattle.dom_model.specs.Trace.{no_component_stops};
+ghost use Rattle.dom_text.specs.Decode.{decode};
+ghost use Rattle.dom_text.specs.Lines.{last_line, lines_of};
 ghost use Rattle.dom_reader.specs.Streams.{fed, IsKept};
-ghost use Rattle.dom_engine.specs.Run.{run_text, world_after, ending, viewed, shown, EndsWriting, EndsLines, WritesSome, CountsReads, CountsWrites, StopsRun, read_size, input_limit};
+ghost use Rattle.dom_engine.specs.Run.{world_after, ending, viewed, shown, EndsWriting, EndsLines, WritesSome, CountsReads, CountsWrites, RunsToEnd, StopsRun, read_size};
 ghost use Rattle.dom_engine.specs.Reading.{HasReadAll, LeavesMore, StopsOneRead};
+ghost use Rattle.dom_engine.specs.PageLaws.{HasPage, PageSees, page_text};
 
 use crate::fault::RunFault;
 use crate::piece::line_end;
@@ -51,9 +54,7 @@ impl Runner {
         requires writes { W.failures sink.old < u64.MAX }
         requires splitter { self.old.splitter ≡ [] }
         requires world { self.old.session.world ≡ first_world }
-        ensures ok { OnOk result (IfSome (R.remaining source.old) (λ bytes. Appends (W.contents sink.old) (W.contents sink.new) (run_text self.old.view bytes))) }
-        ensures end { OnOk result (IsAtEnd (R.remaining source.new)) }
-        ensures limit { OnOk result (IfSome (R.remaining source.old) (λ bytes. length bytes ≤ input_limit)) }
+        ensures ok { OnOk result (RunsToEnd self.old.view (R.remaining source.old) (R.remaining source.new) (W.contents sink.old) (W.contents sink.new)) }
         ensures reads { CountsReads result (R.failures source.old) (R.failures source.new) }
         ensures writes { CountsWrites result (W.failures sink.old) (W.failures sink.new) }
         ensures stops { IfErr result (λ e. StopsRun e self.old.view (R.remaining source.old) (R.remaining source.new)
@@ -135,7 +136,6 @@ impl Runner {
         requires writes { W.failures sink.old < u64.MAX }
         requires kept { IsKept self.old.splitter }
         requires room { 0 < length buffer.old }
-        requires few { length buffer.old ≤ read_size }
         ensures bound { ReadsAtMost result buffer.new }
         ensures consumed { IfOk result (λ n. Consumes (R.remaining source.old) (R.remaining source.new) (take n buffer.new)) }
         ensures end { IfOk result (λ n. n ≡ 0 → IsAtEnd (R.remaining source.new)) }
@@ -146,7 +146,7 @@ impl Runner {
             (shown self.old.view self.old.session.world (fed self.old.splitter (take n buffer.new)).finished)) }
         ensures reads { CountsReads result (R.failures source.old) (R.failures source.new) }
         ensures writes { CountsWrites result (W.failures sink.old) (W.failures sink.new) }
-        ensures stops { IfErr result (λ e. StopsOneRead e (shown self.old.view self.old.session.world) self.old.splitter
+        ensures stops { IfErr result (λ e. StopsOneRead e (length buffer.old) (shown self.old.view self.old.session.world) self.old.splitter
             (R.remaining source.old) (R.remaining source.new) (W.failures sink.old) (W.failures sink.new) (W.contents sink.old) (W.contents sink.new)) }
     {
         let n = read_some(source, buffer)?;
@@ -247,6 +247,7 @@ fn read_some<R: Source>(source: &mut R, buffer: &mut [u8]) -> Result<usize, RunF
 fn expect_end<R: Source>(source: &mut R, buffer: &mut [u8]) -> Result<(), RunFault>
     requires reads { R.failures source.old < u64.MAX }
     requires room { 0 < length buffer.old }
+    requires few { length buffer.old ≤ read_size }
     ensures end { OnOk result (IsAtEnd (R.remaining source.new)) }
     ensures more { (more : List ℕ) × Consumes (R.remaining source.old) (R.remaining source.new) more × LeavesMore result more }
     ensures count { CountsReads result (R.failures source.old) (R.failures source.new) }
@@ -263,7 +264,11 @@ fn expect_end<R: Source>(source: &mut R, buffer: &mut [u8]) -> Result<(), RunFau
 ///
 /// The first fault stops the run. On `Read`, `Memory` and `InputLimit` what is written is the text of lines that are
 /// finished: an unfinished line is not run, and no turn is ended. On `Write` it is some first bytes of such a text, or of the
-/// whole run's. A read or write that was interrupted has failed like any other.
+/// whole run's. A read or write that was interrupted has failed like any other. The laws on faults say what the page sees then.
+///
+/// What was read, and whether the end was reached, is told of a source that tells its bytes, and what was written of a sink that
+/// does. Of the others this is told: which fault it was, and of which calls the counts say that they failed; and on one side
+/// what there is for some bytes, at most 2^30, on the other.
 pub fn run<R: Source, W: Sink>(
     alloc: Global,
     source: &mut R,
@@ -273,9 +278,10 @@ pub fn run<R: Source, W: Sink>(
     requires reads { R.failures source.old < u64.MAX }
     requires writes { W.failures sink.old < u64.MAX }
     // All that the source gave was read, and the whole run's text was written.
-    ensures ok { OnOk result (IfSome (R.remaining source.old) (λ bytes. Appends (W.contents sink.old) (W.contents sink.new) (run_text view bytes))) }
-    ensures end { OnOk result (IsAtEnd (R.remaining source.new)) }
-    ensures limit { OnOk result (IfSome (R.remaining source.old) (λ bytes. length bytes ≤ input_limit)) }
+    ensures ok { OnOk result (RunsToEnd view (R.remaining source.old) (R.remaining source.new) (W.contents sink.old) (W.contents sink.new)) }
+    // Isolation: where no component listener stops or cancels, what the page sees of it is the page machine's output on the trace.
+    ensures page { OnOk result (IfSome (R.remaining source.old) (λ bytes. HasPage view → IsTrue (no_component_stops decode (lines_of bytes)) →
+        PageSees view (W.contents sink.old) (W.contents sink.new) (page_text bytes))) }
     // A fault is `Read` only where a read failed, and `Write` only where a write or the flush failed.
     ensures reads { CountsReads result (R.failures source.old) (R.failures source.new) }
     ensures writes { CountsWrites result (W.failures sink.old) (W.failures sink.new) }

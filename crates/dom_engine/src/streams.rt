@@ -25,21 +25,21 @@ pub trait Source {
         ensures count { CountsFailure result (failures self.old) (failures self.new) };
 }
 
-/// What takes the bytes that a run writes. It counts the calls that failed, and the writes that took nothing.
+/// What takes the bytes that a run writes. It counts the calls that failed, and the writes that took nothing of some bytes.
 pub trait Sink {
     // The bytes that were taken so far, where they are known.
     ghost contents: { Self → Option (List ℕ) };
 
-    // How many writes and flushes have failed, a write that took nothing being one.
+    // How many writes and flushes have failed. A write that took nothing is one of them, but for a write of no bytes.
     ghost failures: { Self → ℕ };
 
-    /// Takes some first bytes, and gives their number. A write that fails takes none. It is counted, as is one that takes
-    /// none and does not fail.
+    /// Takes some first bytes, and gives their number. A write that fails takes none. It is counted, as is one that does not
+    /// fail and takes none where there are bytes to take.
     fn write(&mut self, bytes: &[u8]) -> io::Result<usize>
         requires { failures self.old < u64.MAX }
         ensures bound { WritesAtMost result bytes.now }
         ensures bytes { WriteAppends (contents self.old) (contents self.new) result bytes.now }
-        ensures count { CountsWrite result (failures self.old) (failures self.new) };
+        ensures count { CountsWrite result bytes.now (failures self.old) (failures self.new) };
 
     /// Passes on what it holds back of the bytes that it took.
     fn flush(&mut self) -> io::Result<()>
@@ -109,7 +109,8 @@ impl<W: Write> Sink for IntoWriter<W> {
 
     fn write(&mut self, bytes: &[u8]) -> io::Result<usize> {
         let outcome = self.writer.write(bytes);
-        if outcome.as_ref().map_or(true, |n| *n == 0) {
+        let is_taken = matches!(outcome, Ok(n) if n > 0 || bytes.is_empty());
+        if !is_taken {
             self.failed_calls += 1;
         }
         outcome

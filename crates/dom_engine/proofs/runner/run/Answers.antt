@@ -1,7 +1,8 @@
 -- Where memory is refused at the start, nothing is read or written.
 use Rattle.std.proofs.Common.{sym}
-use Rattle.std.proofs.lemmas.Result.{err_from_is_err_and}
+use Rattle.std.proofs.lemmas.Result.{err_from_is_err_and, MatchResult-weaker}
 use Rattle.dom_engine.proofs.ReadLaws.{stops-before}
+use Rattle.dom_engine.proofs.PagePrefixes.{page-at_end}
 use Rattle.dom_engine.proofs.runner.run.Goals as goal
 
 pub returns-in_err-runner-clause-stops : goal.returns-in_err-runner-clause-stops
@@ -11,6 +12,9 @@ returns-in_err-runner-clause-stops g c =
 
 pub returns-clause-ok : goal.returns-clause-ok
 returns-clause-ok g c = rw (sym c.in_ok-runner.ensures.2) c.run_all.ensures.ok
+
+pub returns-clause-page : goal.returns-clause-page
+returns-clause-page g c = rw (sym c.in_ok-runner.ensures.2) (MatchResult-weaker c.run_all.result c.run_all.ensures.ok (λ _ ends. page-at_end ends) (λ _ _. tt))
 
 pub returns-clause-stops : goal.returns-clause-stops
 returns-clause-stops g c = rw (sym c.in_ok-runner.ensures.2) c.run_all.ensures.stops

@@ -16,7 +16,9 @@ pub returns-in_err-n-clause-stops : goal.returns-in_err-n-clause-stops
 returns-in_err-n-clause-stops g c =
     let i = c.loop-left.invariant in
     let p = err_from_is_err_and c.from_residual.result c.from_residual.ensures.1 in
-    rw (p.1, p.2) (stops-one_read _ i.0 c.args.self.now.view _ _ _ _ _ _ _ _ _ _ _ i.1 i.2 c.in_err-n.ensures.stops)
+    let few = length-take c.min-room.result c.loop-left.buffer in
+    rw (p.1, p.2)
+    (stops-one_read _ i.0 _ c.args.self.now.view _ _ _ _ _ _ _ _ _ _ _ i.1 (omega (arith, c.min-room.ensures, few)) (omega (arith, c.min-room.ensures, few, i.3)) i.2 c.in_err-n.ensures.stops)
 
 pub returns-then-n-eq0-clause-read : goal.returns-then-n-eq0-clause-read
 returns-then-n-eq0-clause-read g c =

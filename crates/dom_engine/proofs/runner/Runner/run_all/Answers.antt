@@ -1,22 +1,17 @@
 -- What is left at the end comes behind all that was read.
 use Rattle.std.proofs.lemmas.Result.{MatchResult-weaker}
-use Rattle.dom_engine.proofs.WriteLaws.{ends_cases, on_ok}
-use Rattle.dom_engine.proofs.ReadLaws.{ends-run, few-bytes, stops-end}
+use Rattle.dom_engine.proofs.WriteLaws.{ends_cases}
+use Rattle.dom_engine.proofs.ReadLaws.{ends-run, stops-end}
 use Rattle.dom_engine.proofs.runner.Runner.run_all.Goals as goal
 
 pub returns-clause-ok : goal.returns-clause-ok
 returns-clause-ok g c =
     let read = c.in_ok-read_all.ensures.read in
     let ends = ends_cases c.run_end.result _ _ _ _ _ _ c.run_end.ensures in
-    MatchResult-weaker c.run_end.result ends (λ _ written. ends-run read.0 _ _ _ _ _ _ _ _ _ read.1 read.2 c.in_ok-read_all.ensures.view written.1) (λ _ _. tt)
+    MatchResult-weaker c.run_end.result ends (λ _ written. ends-run read.0 _ _ _ _ _ _ _ _ _ read.1 read.2 read.3 c.in_ok-read_all.ensures.view written.1) (λ _ _. tt)
 
 pub returns-clause-stops : goal.returns-clause-stops
 returns-clause-stops g c =
     let read = c.in_ok-read_all.ensures.read in
     let ends = ends_cases c.run_end.result _ _ _ _ _ _ c.run_end.ensures in
-    MatchResult-weaker c.run_end.result ends (λ _ _. tt) (λ e stops. stops-end e read.0 _ _ _ _ _ _ _ _ _ _ _ read.1 read.2 c.in_ok-read_all.ensures.view stops)
-
-pub returns-clause-limit : goal.returns-clause-limit
-returns-clause-limit g c =
-    let read = c.in_ok-read_all.ensures.read in
-    on_ok c.run_end.result (few-bytes read.0 _ _ _ _ _ _ _ read.1 read.2 read.3)
+    MatchResult-weaker c.run_end.result ends (λ _ _. tt) (λ e stops. stops-end e read.0 _ _ _ _ _ _ _ _ _ _ _ read.1 read.2 read.3 c.in_ok-read_all.ensures.view stops)
