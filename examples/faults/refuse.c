@@ -1,0 +1,43 @@
+/* Preloaded into a program: of its requests for memory the one with the number in REFUSED is refused, and says so by a byte
+ * into file 9; each read of standard input gives one byte, which is written to file 8 too. */
+#define _GNU_SOURCE
+#include <dlfcn.h>
+#include <errno.h>
+#include <stdlib.h>
+#include <unistd.h>
+
+static long count;
+
+static int is_refused(void) {
+    const char *number = getenv("REFUSED");
+    if (number == NULL || ++count != atol(number)) return 0;
+    if (write(9, "!", 1) != 1) abort();
+    errno = ENOMEM;
+    return 1;
+}
+
+#define NEXT(name) \
+    static __typeof__(&name) next; \
+    if (next == NULL) next = (__typeof__(&name))dlsym(RTLD_NEXT, #name)
+
+void *malloc(size_t size) {
+    NEXT(malloc);
+    return is_refused() ? NULL : next(size);
+}
+
+void *realloc(void *old, size_t size) {
+    NEXT(realloc);
+    return is_refused() ? NULL : next(old, size);
+}
+
+void *aligned_alloc(size_t alignment, size_t size) {
+    NEXT(aligned_alloc);
+    return is_refused() ? NULL : next(alignment, size);
+}
+
+ssize_t read(int file, void *buffer, size_t size) {
+    NEXT(read);
+    ssize_t got = next(file, buffer, file == 0 && size > 0 ? 1 : size);
+    if (file == 0 && got == 1 && write(8, buffer, 1) != 1) abort();
+    return got;
+}
