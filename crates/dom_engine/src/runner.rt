@@ -264,11 +264,13 @@ fn expect_end<R: Source>(source: &mut R, buffer: &mut [u8]) -> Result<(), RunFau
 ///
 /// The first fault stops the run. On `Read`, `Memory` and `InputLimit` what is written is the text of lines that are
 /// finished: an unfinished line is not run, and no turn is ended. On `Write` it is some first bytes of such a text, or of the
-/// whole run's. A read or write that was interrupted has failed like any other. The laws on faults say what the page sees then.
+/// whole run's. A read or write that was interrupted has failed like any other. What the page sees then is in
+/// `laws::page_prefix`.
 ///
-/// What was read, and whether the end was reached, is told of a source that tells its bytes, and what was written of a sink that
-/// does. Of the others this is told: which fault it was, and of which calls the counts say that they failed; and on one side
-/// what there is for some bytes, at most 2^30, on the other.
+/// What was read, and that the end was reached, is said of a source that tells its bytes (`remaining`); what was written, of a sink
+/// that does (`contents`). Of every source and sink the counts say which fault it was: one read has failed on `Read`, one write
+/// or flush on `Write`, and no call on any other ending. And of a sink that tells its bytes, what is written is the text of some
+/// input of at most 2^30 bytes, whatever the source tells.
 pub fn run<R: Source, W: Sink>(
     alloc: Global,
     source: &mut R,
