@@ -1,5 +1,5 @@
-/* Preloaded into a program: of its requests for memory the one with the number in REFUSED is refused, and says so by a byte
- * into file 9; each read of standard input gives one byte, which is written to file 8 too. */
+/* Preloaded into a program: of its requests for memory the one with the number in REFUSED is refused, and file 9 then has a
+ * byte: `!`, or `-` where nothing was read yet. Each read of standard input gives one byte, which is written to file 8 too. */
 #define _GNU_SOURCE
 #include <dlfcn.h>
 #include <errno.h>
@@ -7,11 +7,12 @@
 #include <unistd.h>
 
 static long count;
+static int has_read;
 
 static int is_refused(void) {
     const char *number = getenv("REFUSED");
     if (number == NULL || ++count != atol(number)) return 0;
-    if (write(9, "!", 1) != 1) abort();
+    if (write(9, has_read ? "!" : "-", 1) != 1) abort();
     errno = ENOMEM;
     return 1;
 }
@@ -37,6 +38,7 @@ void *aligned_alloc(size_t alignment, size_t size) {
 
 ssize_t read(int file, void *buffer, size_t size) {
     NEXT(read);
+    has_read |= file == 0;
     ssize_t got = next(file, buffer, file == 0 && size > 0 ? 1 : size);
     if (file == 0 && got == 1 && write(8, buffer, 1) != 1) abort();
     return got;
