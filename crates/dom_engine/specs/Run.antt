@@ -111,6 +111,8 @@ pub record RunsToEnd (view : Option Owner) (from to old new : Option (List ℕ))
   pub at_end : IsAtEnd to
   pub written : Appends old new (run_text view given)
 
+-- Faults. The bytes that were read are no more than a run reads, but for those of the one read more that decides at the limit.
+
 -- A read failed: what is written is the text of the lines that the bytes read before it end.
 pub record StopsAtRead (view : Option Owner) (from to old new : Option (List ℕ)) : Type 0 where
   pub given : List ℕ
