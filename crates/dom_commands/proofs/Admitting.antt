@@ -18,22 +18,22 @@ use Rattle.dom_model.specs.World.{World, part_of, is_there}
 use Rattle.dom_model.proofs.PartLaws.{owner-part_of}
 use Rattle.dom_reader.specs.declared.line.Spelled.{Spelled}
 use Rattle.dom_reader.specs.Views.{spelled_view}
-use Rattle.dom_commands.specs.declared.admission.Named.{Named}
-use Rattle.dom_commands.specs.declared.admission.Named.TheVariants.{Any}
-use Rattle.dom_commands.specs.Handled.{IsHandled, let_pass}
-use Rattle.dom_commands.specs.Refusals.{early_refusal}
-use Rattle.dom_commands.proofs.Handling.{passed}
-use Rattle.dom_commands.proofs.Namings.{naming-dispatch, naming-dispatch_related}
-use Rattle.dom_commands.proofs.Refusing.{IsNaming, refusal-of_names}
+use Rattle.dom_admission.specs.declared.admission.Operand.{Operand}
+use Rattle.dom_admission.specs.declared.admission.Operand.TheVariants.{Any}
+use Rattle.dom_admission.specs.Handled.{IsHandled, let_pass}
+use Rattle.dom_admission.specs.Refusals.{early_refusal}
+use Rattle.dom_admission.proofs.Handling.{passed}
+use Rattle.dom_admission.proofs.Namings.{naming-dispatch, naming-dispatch_related}
+use Rattle.dom_admission.proofs.Refusing.{IsNaming, refusal-of_names}
 
 -- a command that passes is refused by its own tests alone
-pub passes : (w : World) (o : Owner) (c : Command) (names : List Named) (q : Option Refusal) → IsNaming c names → let_pass (early_refusal w o names) ≡ Ok tt → q ≡ own_refusal (part_of w o) c →
+pub passes : (w : World) (o : Owner) (c : Command) (names : List Operand) (q : Option Refusal) → IsNaming c names → let_pass (early_refusal w o names) ≡ Ok tt → q ≡ own_refusal (part_of w o) c →
     let_pass q ≡ let_pass (refusal w o c)
 passes w o c names q is pass own =
     ap let_pass (own ∙ sym (refusal-of_names w o c names is ∙ ap (λ e. option_or e (own_refusal (part_of w o) c)) (passed (early_refusal w o names) pass)))
 
 -- one that doesn't is refused before
-pub stops : (w : World) (o : Owner) (c : Command) (names : List Named) (f : Fault) → IsNaming c names → let_pass (early_refusal w o names) ≡ Err f → Err f ≡ let_pass (refusal w o c)
+pub stops : (w : World) (o : Owner) (c : Command) (names : List Operand) (f : Fault) → IsNaming c names → let_pass (early_refusal w o names) ≡ Err f → Err f ≡ let_pass (refusal w o c)
 stops w o c names f is h = by (early_refusal w o names) h ∙ sym (ap let_pass (refusal-of_names w o c names is))
   where
     by : (e : Option Refusal) → let_pass e ≡ Err f → Err f ≡ let_pass (option_or e (own_refusal (part_of w o) c))

@@ -1,6 +1,6 @@
 -- The ends of ranges are within their nodes also in the worlds on the way through a line, and in a world without its listeners;
 -- there too each owner has its first node.
-use Rattle.std.proofs.Common.{◌≡◌, List, [], ◌∷◌, fold, Option, Some, sym, ◌∙◌, subst}
+use Rattle.std.proofs.Common.{◌≡◌, List, [], ◌∷◌, fold, Option, Some, ◌∙◌, subst}
 use Rattle.std.specs.Prelude.{is_some}
 use Rattle.dom_base.specs.declared.NodeName.{NodeName}
 use Rattle.dom_base.specs.declared.Owner.{Owner}
@@ -17,10 +17,8 @@ use Rattle.dom_isolation.specs.Bounds.{HasBounds, IsBounded}
 use Rattle.dom_isolation.specs.Tables.{IsNodeIn}
 use Rattle.dom_isolation.proofs.TableWorlds.{each-part}
 use Rattle.dom_isolation.proofs.Tests.{either_way}
-use Rattle.dom_mutation.specs.Doc.{DocState}
 use Rattle.dom_commands.specs.Heard.{hearing, heard}
-use Rattle.dom_commands.specs.Machine.{HasFirstNodes}
-use Rattle.dom_commands.specs.Turned.{turned}
+use Rattle.dom_range_commands.specs.RangeWorlds.{HasFirstNodes}
 use Rattle.dom_commands.proofs.Heard.{FitsIn, there-heard, part-heard}
 
 -- a part is written
@@ -55,7 +53,3 @@ bounded-unheard of w fits b o = let h : HasBounds (hearing of (part_of w o)) = s
 
 pub first_nodes-unheard : (of : Owner → List (Listener NodeName)) (w : World) → FitsIn of w → HasFirstNodes (heard of w) → HasFirstNodes w
 first_nodes-unheard of w fits h o there = subst (λ (p : Part). IsNodeIn p.trees (first_node p)) (part-heard of w fits o) (h o (there-heard of w o ∙ there))
-
--- the turn is left out
-pub bounded-inside : (t : Option Owner) (d s : DocState) → turned t d ≡ s → IsBounded s.world → IsBounded d.world
-bounded-inside t d s seen b = subst (λ (u : DocState). IsBounded u.world) (sym seen) b

@@ -1,19 +1,17 @@
--- The end of a turn: the tasks run, one after another, and their lines are put. And how a label is queued.
+-- The end of a turn: the tasks run, one after another, and their lines are put.
 use Rattle.std.specs.Prelude.{OnOk}
 use Rattle.std.specs.List.{AllByRecursion}
-use Rattle.std.proofs.Common.{true, false, ◌≡◌, ℕ, ◌<◌, length, arith, List, [], ◌∷◌, ◌++◌, drop, map, filter, Option, Some, None, Result, Ok, Err, append_assoc, append-nil, sym, ap, ◌∙◌, refl, subst}
+use Rattle.std.proofs.Common.{true, false, ◌≡◌, ℕ, ◌<◌, length, arith, List, [], ◌∷◌, ◌++◌, drop, map, filter, Some, None, Result, Ok, Err, append_assoc, append-nil, sym, ap, ◌∙◌, refl, subst}
 use Rattle.std.proofs.lemmas.Option.{none-some, same_Some}
 use Rattle.dom_base.specs.declared.Owner.{Owner}
 use Rattle.dom_base.specs.declared.NodeName.{NodeName}
 use Rattle.dom_model.specs.Listeners.{Listener}
 use Rattle.dom_model.specs.Names.{Word, first_of}
-use Rattle.dom_model.specs.Command.{Command, EventWords}
-use Rattle.dom_model.specs.DocumentMachine.{accepted}
-use Rattle.dom_model.specs.Output.{says, replied, nothing}
+use Rattle.dom_model.specs.Command.{EventWords}
 use Rattle.dom_model.specs.Part.{Part}
 use Rattle.dom_model.specs.Runs.{Run, run_each}
-use Rattle.dom_model.specs.Turns.{opening_turn, ending_turn, running_task, notifying, notified, notified_lines, is_owned_by, without_signals, slotchange, firing_slotchange}
-use Rattle.dom_model.specs.World.{World, Task, micro_task, part_of, with_part, is_there}
+use Rattle.dom_model.specs.Turns.{ending_turn, running_task, notifying, notified, notified_lines, is_owned_by, without_signals, slotchange, firing_slotchange}
+use Rattle.dom_model.specs.World.{World, Task, part_of, with_part, is_there}
 use Rattle.dom_model.specs.Dispatch.{dispatch_in}
 use Rattle.dom_isolation.specs.Bounds.{IsBounded}
 use Rattle.dom_isolation.specs.Worlds.{IsThere, task_owner}
@@ -26,16 +24,11 @@ use Rattle.dom_mutation.specs.Doc.{DocState}
 use Rattle.dom_dispatch.specs.Named.{IsListenerAt}
 use Rattle.dom_commands.specs.Heard.{heard, own_listeners}
 use Rattle.dom_commands.specs.Machine.{MachineNow, machine_now, IsSound, AreAtNodes, AreThere}
-use Rattle.dom_commands.specs.Turned.{with_turn}
 use Rattle.dom_commands.proofs.Bounded.{bounded-dispatch, bounded-told}
 use Rattle.dom_commands.proofs.Heard.{FitsIn, part-heard, with_part-heard, there-heard}
 use Rattle.dom_commands.proofs.Listening.{OwnersAreThere, fits-own}
 use Rattle.dom_commands.proofs.Machines.{seen_at}
-use Rattle.dom_commands.proofs.TextLaws.{output_text-append}
-
--- a world with other tasks
-abbrev tasked : World → List Task → World
-tasked w ts = record { parts = w.parts; signalled = w.signalled; tasks = ts; turn = w.turn }
+use Rattle.dom_text.proofs.OutputLaws.{output_text-append}
 
 -- ---- runs, one after another
 
@@ -206,9 +199,3 @@ module _ (w v : World) (o : Owner) (told : v ≡ with_part (without_signals w o)
       ∙ append_assoc before (output_text lines) (output_text more) ∙ ap (λ (t : List ℕ). before ++ t) (sym (output_text-append lines more))
 
 -- ---- a label
-
--- the turn may be opened after a label is queued
-pub micro_queued : (t : Option Owner) (w : World) (o : Owner) (label : Word) →
-    (opening_turn (with_turn t (tasked w (w.tasks ++ micro_task o label ∷ []))) o, says o (replied nothing) ∷ []) ≡ accepted (with_turn t w) o (Command.micro label)
-micro_queued None w o label = refl
-micro_queued (Some x) w o label = refl

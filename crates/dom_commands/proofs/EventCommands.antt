@@ -26,17 +26,17 @@ use Rattle.dom_isolation.proofs.Tests.{which_way, either_way}
 use Rattle.dom_text.specs.Text.{output_text}
 use Rattle.dom_tree.specs.Forest.{name_at}
 use Rattle.dom_dispatch.specs.Named.{TellApart, IsListenerAt}
-use Rattle.dom_commands.specs.declared.admission.Named.{Named}
-use Rattle.dom_commands.specs.Handled.{IsDone, IsHandled, let_pass}
+use Rattle.dom_admission.specs.declared.admission.Operand.{Operand}
+use Rattle.dom_admission.specs.Handled.{IsDone, IsHandled, let_pass}
 use Rattle.dom_commands.specs.Heard.{heard, own_listeners}
-use Rattle.dom_commands.specs.Refusals.{early_refusal}
+use Rattle.dom_admission.specs.Refusals.{early_refusal}
 use Rattle.dom_commands.proofs.Dispatching.{written-heard}
-use Rattle.dom_commands.proofs.Finding.{owner-named}
-use Rattle.dom_commands.proofs.Handling.{passed, admitted, opened-there}
+use Rattle.dom_admission.proofs.Finding.{owner-named}
+use Rattle.dom_admission.proofs.Handling.{passed, admitted, opened-there}
 use Rattle.dom_commands.proofs.Heard.{FitsIn, part-heard, there-heard}
 use Rattle.dom_commands.proofs.HeardCommands.{refusal-heard, opening-heard, fits-opening}
 use Rattle.dom_commands.proofs.Listening.{OwnersAreThere, fits-own, own-listened, others-listened, own-unlistened, others-unlistened, at-listened, at-unlistened}
-use Rattle.dom_commands.proofs.Refusing.{IsNaming, refusal-of_names}
+use Rattle.dom_admission.proofs.Refusing.{IsNaming, refusal-of_names}
 
 -- ---- the turn that a command opens
 
@@ -74,7 +74,7 @@ stopped-heard of w fits o c text (Refused r) h = (refusal-heard of w fits o c �
 stopped-heard of w fits o c text Memory h = tt
 
 -- one that passes, and has no refusal of its own
-pub passed-heard : (of : Owner → List (Listener NodeName)) (w : World) → FitsIn of w → (o : Owner) (c : Command) (names : List Named) → IsNaming c names → let_pass (early_refusal w o names) ≡ Ok tt → own_refusal (part_of w o) c ≡ None →
+pub passed-heard : (of : Owner → List (Listener NodeName)) (w : World) → FitsIn of w → (o : Owner) (c : Command) (names : List Operand) → IsNaming c names → let_pass (early_refusal w o names) ≡ Ok tt → own_refusal (part_of w o) c ≡ None →
     refusal (heard of w) o c ≡ None
 passed-heard of w fits o c names is pass none =
     refusal-heard of w fits o c ∙ refusal-of_names w o c names is ∙ ap (λ e. option_or e (own_refusal (part_of w o) c)) (passed (early_refusal w o names) pass) ∙ none
@@ -84,7 +84,7 @@ passed-heard of w fits o c names is pass none =
 module _ (names : List NodeName) (ls now : List (Listener ℕ)) (w : World) (there : OwnersAreThere names w) (at : AllByRecursion (IsListenerAt names) ls) (at_now : AllByRecursion (IsListenerAt names) now)
     (reached : IsReached false (heard (own_listeners names ls) w)) where
   -- A command that passes, and then changes its owner's listeners alone.
-  pub listens : (o : Owner) (c : Command) (nodes : List Named) (f : List (Listener NodeName) → List (Listener NodeName)) → IsNaming c nodes → let_pass (early_refusal w o nodes) ≡ Ok tt → own_refusal (part_of w o) c ≡ None →
+  pub listens : (o : Owner) (c : Command) (nodes : List Operand) (f : List (Listener NodeName) → List (Listener NodeName)) → IsNaming c nodes → let_pass (early_refusal w o nodes) ≡ Ok tt → own_refusal (part_of w o) c ≡ None →
       ((v : World) → accepted v o c ≡ effect_in (opening_turn v o) o (effect (part_of (opening_turn v o) o) c)) →
       ((p : Part) → p.owner ≡ o → effect p c ≡ keeps (record p { listeners = f p.listeners }) nothing) →
       own_listeners names now o ≡ f (own_listeners names ls o) → ((q : Owner) → o ≢ q → own_listeners names now q ≡ own_listeners names ls q) →
@@ -119,7 +119,7 @@ named_alike p q foreign e = ap (λ (o : Owner). node_of o 0) e
 -- The node of a key, in a state with listeners.
 module _ (names : List NodeName) (ls : List (Listener ℕ)) (w : World) (apart : TellApart names) (there : OwnersAreThere names w) (at : AllByRecursion (IsListenerAt names) ls)
     (reached : IsReached false (heard (own_listeners names ls) w)) (o : Owner) (x : Spelled) (k : ℕ) (within : k < length names) (name : name_at names k ≡ named (part_of w o) x)
-    (nodes : List Named) (pass : let_pass (early_refusal w o nodes) ≡ Ok tt) where
+    (nodes : List Operand) (pass : let_pass (early_refusal w o nodes) ≡ Ok tt) where
   its_owner : (name_at names k).owner ≡ o
   its_owner = ap (λ (y : NodeName). y.owner) name ∙ owner-named w o x
 

@@ -31,9 +31,9 @@ use Rattle.dom_model.specs.Validity.{first_refusal}
 use Rattle.dom_model.specs.World.{World, part_of, with_part, is_there, component_made, is_connected}
 use Rattle.dom_model.specs.Slots.{assigned}
 use Rattle.dom_text.specs.Text.{output_text}
-use Rattle.dom_commands.specs.Handled.{IsHandled}
+use Rattle.dom_admission.specs.Handled.{IsHandled}
 use Rattle.dom_commands.specs.Heard.{hearing, heard}
-use Rattle.dom_commands.specs.Sorts.{is_plain}
+use Rattle.dom_commands.specs.CommandGroups.{is_plain}
 use Rattle.dom_commands.proofs.DeafPlans.{deaf-pre_inserting, deaf-replacing, deaf-adopting, deaf-splitting, deaf-normalizing, deaf-setting_text, deaf-deleting, deaf-into_range, deaf-extracting}
 use Rattle.dom_commands.proofs.Heard.{FitsIn, there-heard, part-heard, with_part-heard, assigned-heard, connected-heard, after-heard}
 

@@ -1,33 +1,15 @@
-pub mod Finding
-pub mod Turned
-pub mod Ranging
-pub mod Refusing
-pub mod Handling
-pub mod Namings
-pub mod CommandPlans
-pub mod Cursors
-pub mod Selecting
-pub mod Connecting
-pub mod Attaching
-pub mod Spots
-pub mod SpotReads
-pub mod Standing
-pub mod Places
-pub mod Siblings
-pub mod TextLaws
-pub mod Admitting
-pub mod Closing
-pub mod Heard
-pub mod DeafPlans
-pub mod HeardCommands
-pub mod Bounded
-pub mod SameWorlds
-pub mod Listening
-pub mod Dispatching
-pub mod EventCommands
-pub mod Opening
-pub mod Machines
-pub mod EventLines
-pub mod Firing
-pub mod Notices
-pub mod Observing
+mod Admitting
+mod Bounded
+mod Closing
+mod DeafPlans
+mod Dispatching
+mod EventCommands
+mod EventLines
+mod Firing
+mod Heard
+mod HeardCommands
+mod Listening
+mod Machines
+mod Opening
+mod RangeLaws
+mod SameWorlds

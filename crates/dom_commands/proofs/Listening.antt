@@ -27,7 +27,7 @@ use Rattle.dom_dispatch.specs.Kept.{is_of_owner, HasListeners}
 use Rattle.dom_dispatch.specs.Named.{TellApart, listener_named, IsListenerAt}
 use Rattle.dom_dispatch.proofs.Naming.{listened-named, unlistened-named}
 use Rattle.dom_dispatch.proofs.Narrowing.{filter-swap, filter-wider}
-use Rattle.dom_commands.specs.Machine.{BeginsWith}
+use Rattle.dom_admission.specs.Handled.{BeginsWith}
 use Rattle.dom_commands.specs.Heard.{heard, own_listeners}
 use Rattle.dom_commands.proofs.Heard.{FitsIn, part-heard}
 

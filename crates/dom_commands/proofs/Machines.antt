@@ -26,16 +26,18 @@ use Rattle.dom_isolation.proofs.ReachedFacts.{attached-are_there}
 use Rattle.dom_isolation.proofs.TableLines.{first-is_whole, step-keeps_whole}
 use Rattle.dom_mutation.specs.Doc.{DocState}
 use Rattle.dom_dispatch.specs.Named.{IsListenerAt}
-use Rattle.dom_commands.specs.Handled.{IsHandled}
+use Rattle.dom_admission.specs.Handled.{IsHandled}
 use Rattle.dom_commands.specs.Heard.{heard, own_listeners}
-use Rattle.dom_commands.specs.Machine.{MachineNow, machine_now, IsSound, HasFirstNodes, HasLoneShadowRoots, HasRangeEnds, AreAtNodes, BeginsWith, KeepsNames, KeepsListeners}
-use Rattle.dom_commands.specs.Sorts.{is_plain}
+use Rattle.dom_commands.specs.Machine.{MachineNow, machine_now, IsSound, AreAtNodes, KeepsListeners}
+use Rattle.dom_range_commands.specs.RangeWorlds.{HasFirstNodes, HasLoneShadowRoots, HasRangeEnds}
+use Rattle.dom_admission.specs.Handled.{BeginsWith, KeepsNames}
+use Rattle.dom_commands.specs.CommandGroups.{is_plain}
 use Rattle.dom_commands.proofs.Bounded.{bounded-unheard, first_nodes-unheard}
-use Rattle.dom_commands.proofs.Handling.{opened-part}
+use Rattle.dom_admission.proofs.Handling.{opened-part}
 use Rattle.dom_commands.proofs.Heard.{FitsIn, there-heard, part-heard}
 use Rattle.dom_commands.proofs.HeardCommands.{IsNew, handled-heard}
 use Rattle.dom_commands.proofs.Listening.{OwnersAreThere, fits-own, at-kept, own-kept}
-use Rattle.dom_commands.proofs.Ranging.{range_ends-unheard, shadow_roots-unheard}
+use Rattle.dom_commands.proofs.RangeLaws.{range_ends-unheard, shadow_roots-unheard}
 
 -- the same names
 pub begins_same : (names : List NodeName) → BeginsWith names names

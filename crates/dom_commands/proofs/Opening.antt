@@ -21,13 +21,13 @@ use Rattle.dom_mutation.specs.Doc.{DocState}
 use Rattle.dom_reader.specs.declared.line.Spelled as line
 use Rattle.dom_reader.specs.Views.{spelled_view}
 use Rattle.dom_dispatch.specs.Named.{IsListenerAt}
-use Rattle.dom_commands.specs.Handled.{IsHandled}
+use Rattle.dom_admission.specs.Handled.{IsHandled}
 use Rattle.dom_commands.specs.Heard.{heard, own_listeners}
 use Rattle.dom_commands.specs.Machine.{machine_now, IsSound}
 use Rattle.dom_commands.proofs.Bounded.{bounded-opening}
 use Rattle.dom_commands.proofs.EventCommands.{named_alike, reached-opening, whole-opening}
 use Rattle.dom_commands.proofs.HeardCommands.{opening-heard}
-use Rattle.dom_commands.proofs.TextLaws.{output_text-append}
+use Rattle.dom_text.proofs.OutputLaws.{output_text-append}
 
 -- a machine stays sound when a turn is opened
 pub opened_sound : (s t : DocState) (ls : List (Listener ℕ)) (o : Owner) → t.names ≡ s.names → t.world ≡ opening_turn s.world o → is_there (machine_now s ls).world o ≡ true → IsSound (machine_now s ls) → IsSound (machine_now t ls)

@@ -1,9 +1,3 @@
-pub mod Sorts
-pub mod Turned
-pub mod Refusals
-pub mod Making
-pub mod Handled
-pub mod Recorded
-pub mod TreeText
+pub mod CommandGroups
 pub mod Heard
 pub mod Machine

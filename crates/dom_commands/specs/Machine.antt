@@ -1,22 +1,19 @@
 -- What a contract sees of a `Machine`.
-use Rattle.std.specs.Prelude.{◌≡◌, ℕ, ◌<◌, false, List, length, take, All, Result, Ok, Err}
+use Rattle.std.specs.Prelude.{ℕ, ◌<◌, false, List, length, All, Result, Ok, Err}
 use Rattle.std.specs.Option.{ForSome}
 use Rattle.std.specs.List.{AllByRecursion}
 use Rattle.dom_base.specs.declared.Fault.{Fault}
 use Rattle.dom_base.specs.declared.Fault.TheVariants.{Refused, Memory}
 use Rattle.dom_base.specs.declared.NodeName.{NodeName}
-use Rattle.dom_base.specs.declared.Owner.{Owner}
 use Rattle.dom_model.specs.Dispatch.{event_output}
 use Rattle.dom_model.specs.Listeners.{Listener}
 use Rattle.dom_model.specs.Output.{Output, EventLine}
-use Rattle.dom_model.specs.Part.{first_node}
-use Rattle.dom_model.specs.World.{World, Task, part_of}
+use Rattle.dom_model.specs.World.{World, Task}
 use Rattle.dom_isolation.specs.Bounds.{IsBounded}
 use Rattle.dom_isolation.specs.Laws.{IsReached}
-use Rattle.dom_isolation.specs.Tables.{IsNodeIn, EndsIn, IsWhole}
+use Rattle.dom_isolation.specs.Tables.{IsWhole}
 use Rattle.dom_isolation.specs.Worlds.{IsThere, task_owner}
 use Rattle.dom_mutation.specs.Doc.{DocState}
-use Rattle.dom_range_ops.specs.Extractions.{ShadowRootsHaveNoParent}
 use Rattle.dom_dispatch.specs.declared.event.LogLine.{LogLine}
 use Rattle.dom_dispatch.specs.Dispatches.{line_in}
 use Rattle.dom_dispatch.specs.Named.{IsListenerAt, line_named}
@@ -44,31 +41,9 @@ pub record IsSound (m : MachineNow) : Type 0 where
   pub whole : IsWhole m.world
   pub bounds : IsBounded m.world
 
--- each owner that is there has its first node (own rule)
-abbrev pub HasFirstNodes : World → Type 0
-HasFirstNodes w = (o : Owner) → IsThere w o → IsNodeIn (part_of w o).trees (first_node (part_of w o))
-
--- both ends of each live range are at nodes of its owner, which have one root (DOM Standard, 5.3: range's root)
-abbrev pub HasRangeEnds : World → Type 0
-HasRangeEnds w = (o : Owner) → AllByRecursion (EndsIn (part_of w o).trees) (part_of w o).ranges
-
--- no owner's shadow root has a parent (DOM Standard, 4.2.2 Shadow tree)
-abbrev pub HasLoneShadowRoots : World → Type 0
-HasLoneShadowRoots w = (o : Owner) → ShadowRootsHaveNoParent (part_of w o).trees
-
 -- the owners of tasks are there
 abbrev pub AreThere : World → List Task → Type 0
 AreThere w ts = AllByRecursion (λ t. IsThere w (task_owner t)) ts
-
--- the first names are these: nodes were made, or none
-abbrev pub BeginsWith : List NodeName → List NodeName → Type 0
-BeginsWith names more = take (length names) more ≡ names
-
--- what was done has kept the names of nodes; where memory was refused, nothing is said (own rule)
-abbrev pub KeepsNames : List NodeName → List NodeName → Result (Unit {0}) Fault → Type 0
-KeepsNames old new (Ok x) = BeginsWith old new
-KeepsNames old new (Err (Refused r)) = BeginsWith old new
-KeepsNames old new (Err Memory) = Unit {0}
 
 -- what was done has left the listeners at nodes; where memory was refused, nothing is said (own rule)
 abbrev pub KeepsListeners : MachineNow → Result (Unit {0}) Fault → Type 0

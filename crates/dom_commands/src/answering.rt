@@ -4,10 +4,11 @@ ghost use Rattle.dom_model.specs.Command.{command as model_command};
 ghost use Rattle.dom_model.specs.DocumentMachine.{step, run_command};
 ghost use Rattle.dom_text.specs.Text.{output_text};
 ghost use Rattle.dom_reader.specs.Views.{command_view, line_view, refused_view};
-ghost use Rattle.dom_commands.specs.Handled.{IsHandled};
+ghost use Rattle.dom_admission.specs.Handled.{IsHandled};
 ghost use Rattle.dom_commands.specs.Machine.{AreAtNodes, IsSound, KeepsListeners};
-ghost use Rattle.dom_commands.specs.Sorts.{is_plain};
+ghost use Rattle.dom_commands.specs.CommandGroups.{is_plain};
 
+use crate::commands;
 use crate::machine::Machine;
 use dom_base::{Fault, Owner, Refusal};
 use dom_printer::put_refusal;
@@ -108,6 +109,6 @@ impl Machine {
         ensures listeners { KeepsListeners self.new result }
     {
         self.state.names_tell_nodes();
-        self.state.perform(owner, command, out)
+        commands::perform(&mut self.state, owner, command, out)
     }
 }

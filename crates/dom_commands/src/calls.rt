@@ -7,8 +7,8 @@ ghost use Rattle.dom_tree.specs.Forest.{name_at};
 ghost use Rattle.dom_dispatch.specs.Dispatches.{event_words, line_in, IsOwnLine};
 ghost use Rattle.dom_commands.specs.Machine.{AreAtNodes, IsSound, NamesNodes, line_shown};
 
-use crate::commands::names_of;
 use crate::machine::Machine;
+use dom_admission::names_of;
 use dom_dispatch::{EventInit, LogLine};
 use dom_printer::{Event, put_event};
 use dom_tree::Forest;

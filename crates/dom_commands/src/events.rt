@@ -1,5 +1,5 @@
 //! The commands on listeners and events.
-ghost use Rattle.std.specs.Prelude.{◌≡◌, ◌<◌, not, true, length, string_bytes, OnOk, Some};
+ghost use Rattle.std.specs.Prelude.{◌≡◌, ◌<◌, not, true, length, OnOk, Some};
 ghost use Rattle.std.specs.Option.{option_map, ForSome};
 ghost use Rattle.dom_model.specs.Command.{listen, unlisten, dispatch, EventWords as EventOf};
 ghost use Rattle.dom_model.specs.CommandNames.{named};
@@ -13,12 +13,11 @@ ghost use Rattle.dom_reader.specs.Views.{event_view, listener_view, spelled_view
 ghost use Rattle.dom_tree.specs.Forest.{name_at};
 ghost use Rattle.dom_dispatch.specs.Dispatches.{event_words};
 ghost use Rattle.dom_dispatch.specs.Entries.{words_of};
-ghost use Rattle.dom_commands.specs.Handled.{IsHandled, let_pass};
+ghost use Rattle.dom_admission.specs.Handled.{IsHandled, let_pass};
 ghost use Rattle.dom_commands.specs.Machine.{IsSound, KeepsListeners};
 
-use crate::admission::Named;
 use crate::machine::Machine;
-use crate::state::State;
+use dom_admission::{Operand, State};
 use dom_base::{Fault, Owner, Refusal};
 use dom_dispatch::{EventInit, ListenerInit};
 use dom_printer::{Value, put_reply};
@@ -40,7 +39,7 @@ impl Machine {
         ensures listeners { KeepsListeners self.new result }
     {
         self.state.names_tell_nodes();
-        self.state.admit(owner, &[Named::Any(node)])?;
+        self.state.admit(owner, &[Operand::Any(node)])?;
         let node = self.state.key(owner, node);
         self.listeners.listen(node, listener_init(words))?;
         self.state.accept(owner, &Value::Nothing, out)
@@ -61,7 +60,7 @@ impl Machine {
         ensures listeners { KeepsListeners self.new result }
     {
         self.state.names_tell_nodes();
-        self.state.admit(owner, &[Named::Any(node)])?;
+        self.state.admit(owner, &[Operand::Any(node)])?;
         let node = self.state.key(owner, node);
         self.listeners.unlisten(node, event, label, capture);
         self.state.accept(owner, &Value::Nothing, out)
@@ -83,9 +82,9 @@ impl Machine {
         ensures listeners { KeepsListeners self.new result }
     {
         self.state.names_tell_nodes();
-        self.state.admit_event(owner, target, related)?;
+        admit_event(&self.state, owner, target, related)?;
         let target = self.state.key(owner, target);
-        let related = self.state.key_of(owner, related);
+        let related = key_of(&self.state, owner, related);
         self.open_turn(owner);
         let answer = self.fire(target, event_init(event, related), out)?;
         put_reply(out, owner, &Value::Truth(answer))?;
@@ -104,79 +103,87 @@ impl Machine {
     }
 }
 
-impl State {
-    /// Lets the line of a dispatch pass, or says why it is refused.
-    fn admit_event(
-        &self,
-        owner: Owner,
-        target: Spelled,
-        related: Option<Spelled>,
-    ) -> Result<(), Fault>
-        ensures refusal { (e : EventOf) → result ≡ let_pass (refusal self.now.world owner (dispatch (spelled_view target) e (option_map spelled_view related))) }
-        ensures target { OnOk result (has_node (part_of self.now.world owner).trees (named (part_of self.now.world owner) (spelled_view target)) ≡ true) }
-        ensures related { OnOk result (ForSome related (λ r. has_node (part_of self.now.world owner).trees (named (part_of self.now.world owner) (spelled_view r)) ≡ true)) }
-    {
-        match related {
-            None => self.admit(owner, &[Named::Any(target)]),
-            Some(related) => self.admit_related(owner, target, related),
-        }
+/// Lets the line of a dispatch pass, or says why it is refused.
+fn admit_event(
+    state: &State,
+    owner: Owner,
+    target: Spelled,
+    related: Option<Spelled>,
+) -> Result<(), Fault>
+    ensures refusal { (e : EventOf) → result ≡ let_pass (refusal state.now.world owner (dispatch (spelled_view target) e (option_map spelled_view related))) }
+    ensures target { OnOk result (has_node (part_of state.now.world owner).trees (named (part_of state.now.world owner) (spelled_view target)) ≡ true) }
+    ensures related { OnOk result (ForSome related (λ r. has_node (part_of state.now.world owner).trees (named (part_of state.now.world owner) (spelled_view r)) ≡ true)) }
+{
+    match related {
+        None => state.admit(owner, &[Operand::Any(target)]),
+        Some(related) => admit_related(state, owner, target, related),
     }
+}
 
-    /// Lets the line of a dispatch with a related node pass, or says why it is refused.
-    fn admit_related(&self, owner: Owner, target: Spelled, related: Spelled) -> Result<(), Fault>
-        ensures refusal { (e : EventOf) → result ≡ let_pass (refusal self.now.world owner (dispatch (spelled_view target) e (Some (spelled_view related)))) }
-        ensures target { OnOk result (has_node (part_of self.now.world owner).trees (named (part_of self.now.world owner) (spelled_view target)) ≡ true) }
-        ensures related { OnOk result (has_node (part_of self.now.world owner).trees (named (part_of self.now.world owner) (spelled_view related)) ≡ true) }
-    {
-        self.admit(owner, &[Named::Any(target), Named::Any(related)])?;
-        match self.related_refusal(owner, target, related) {
-            None => Ok(()),
-            Some(refusal) => Err(Fault::Refused(refusal)),
-        }
+/// Lets the line of a dispatch with a related node pass, or says why it is refused.
+fn admit_related(
+    state: &State,
+    owner: Owner,
+    target: Spelled,
+    related: Spelled,
+) -> Result<(), Fault>
+    ensures refusal { (e : EventOf) → result ≡ let_pass (refusal state.now.world owner (dispatch (spelled_view target) e (Some (spelled_view related)))) }
+    ensures target { OnOk result (has_node (part_of state.now.world owner).trees (named (part_of state.now.world owner) (spelled_view target)) ≡ true) }
+    ensures related { OnOk result (has_node (part_of state.now.world owner).trees (named (part_of state.now.world owner) (spelled_view related)) ≡ true) }
+{
+    state.admit(owner, &[Operand::Any(target), Operand::Any(related)])?;
+    match related_refusal(state, owner, target, related) {
+        None => Ok(()),
+        Some(refusal) => Err(Fault::Refused(refusal)),
     }
+}
 
-    /// The refusal of a related node: a component's has the root of the target.
-    fn related_refusal(&self, owner: Owner, target: Spelled, related: Spelled) -> Option<Refusal>
-        requires target_is_there { has_node (part_of self.now.world owner).trees (named (part_of self.now.world owner) (spelled_view target)) ≡ true }
-        requires related_is_there { has_node (part_of self.now.world owner).trees (named (part_of self.now.world owner) (spelled_view related)) ≡ true }
-        ensures { result ≡ related_refusal owner (part_of self.now.world owner) (named (part_of self.now.world owner) (spelled_view target)) (Some (spelled_view related)) }
-    {
-        match owner {
-            Owner::Page => None,
-            Owner::Component(_) => {
-                if self.has_other_root(owner, target, related) {
-                    Some(Refusal::TypeFault)
-                } else {
-                    None
-                }
+/// The refusal of a related node: a component's has the root of the target.
+fn related_refusal(
+    state: &State,
+    owner: Owner,
+    target: Spelled,
+    related: Spelled,
+) -> Option<Refusal>
+    requires target_is_there { has_node (part_of state.now.world owner).trees (named (part_of state.now.world owner) (spelled_view target)) ≡ true }
+    requires related_is_there { has_node (part_of state.now.world owner).trees (named (part_of state.now.world owner) (spelled_view related)) ≡ true }
+    ensures { result ≡ related_refusal owner (part_of state.now.world owner) (named (part_of state.now.world owner) (spelled_view target)) (Some (spelled_view related)) }
+{
+    match owner {
+        Owner::Page => None,
+        Owner::Component(_) => {
+            if has_other_root(state, owner, target, related) {
+                Some(Refusal::TypeFault)
+            } else {
+                None
             }
         }
     }
+}
 
-    /// Whether two nodes that are there have other roots.
-    fn has_other_root(&self, owner: Owner, node: Spelled, other: Spelled) -> bool
-        requires node_is_there { has_node (part_of self.now.world owner).trees (named (part_of self.now.world owner) (spelled_view node)) ≡ true }
-        requires other_is_there { has_node (part_of self.now.world owner).trees (named (part_of self.now.world owner) (spelled_view other)) ≡ true }
-        ensures { result ≡ not (name_eq (root_of (part_of self.now.world owner).trees (named (part_of self.now.world owner) (spelled_view node))) (root_of (part_of self.now.world owner).trees (named (part_of self.now.world owner) (spelled_view other)))) }
-    {
-        let (node, other) = (self.key(owner, node), self.key(owner, other));
-        let forest = self.doc.forest();
-        forest.nodes_stand_once();
-        let root = forest.root(node);
-        let other_root = forest.root(other);
-        root != other_root
-    }
+/// Whether two nodes that are there have other roots.
+fn has_other_root(state: &State, owner: Owner, node: Spelled, other: Spelled) -> bool
+    requires node_is_there { has_node (part_of state.now.world owner).trees (named (part_of state.now.world owner) (spelled_view node)) ≡ true }
+    requires other_is_there { has_node (part_of state.now.world owner).trees (named (part_of state.now.world owner) (spelled_view other)) ≡ true }
+    ensures { result ≡ not (name_eq (root_of (part_of state.now.world owner).trees (named (part_of state.now.world owner) (spelled_view node))) (root_of (part_of state.now.world owner).trees (named (part_of state.now.world owner) (spelled_view other)))) }
+{
+    let (node, other) = (state.key(owner, node), state.key(owner, other));
+    let forest = state.doc.forest();
+    forest.nodes_stand_once();
+    let root = forest.root(node);
+    let other_root = forest.root(other);
+    root != other_root
+}
 
-    /// The node that an owner's line names, if it names one, which is there.
-    fn key_of(&self, owner: Owner, node: Option<Spelled>) -> Option<Key>
-        requires { ForSome node (λ r. has_node (part_of self.now.world owner).trees (named (part_of self.now.world owner) (spelled_view r)) ≡ true) }
-        ensures node { ForSome result (λ k. k < length self.now.names) }
-        ensures name { option_map (name_at self.now.names) result ≡ option_map (λ r. named (part_of self.now.world owner) (spelled_view r)) node }
-    {
-        match node {
-            Some(node) => Some(self.key(owner, node)),
-            None => None,
-        }
+/// The node that an owner's line names, if it names one, which is there.
+fn key_of(state: &State, owner: Owner, node: Option<Spelled>) -> Option<Key>
+    requires { ForSome node (λ r. has_node (part_of state.now.world owner).trees (named (part_of state.now.world owner) (spelled_view r)) ≡ true) }
+    ensures node { ForSome result (λ k. k < length state.now.names) }
+    ensures name { option_map (name_at state.now.names) result ≡ option_map (λ r. named (part_of state.now.world owner) (spelled_view r)) node }
+{
+    match node {
+        Some(node) => Some(state.key(owner, node)),
+        None => None,
     }
 }
 

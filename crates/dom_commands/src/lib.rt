@@ -1,15 +1,12 @@
-//! What one line does: the handlers of the commands, and the ends of turns, over the documents of a run, its listeners and its open turn.
+//! What one line does: the dispatch of commands to their handlers, the listeners and the events, and the ends of turns.
 #![tactic(auto)]
 
-mod admission;
 mod answering;
 mod calls;
 mod commands;
 mod events;
 mod machine;
-mod records;
-mod state;
-mod tree_text;
+mod tasks;
 mod turns;
 
 pub use machine::Machine;

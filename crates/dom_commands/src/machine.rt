@@ -3,7 +3,7 @@ ghost use Rattle.std.specs.Prelude.{◌≡◌, IfOk};
 ghost use Rattle.dom_model.specs.DocumentMachine.{first_world};
 ghost use Rattle.dom_commands.specs.Machine.{IsSound};
 
-use crate::state::State;
+use dom_admission::State;
 use dom_dispatch::Listeners;
 use std::alloc::{AllocError, Global};
 use std::marker::Model;

@@ -1,47 +1,15 @@
 //! The ends of turns.
-ghost use Rattle.std.specs.Prelude.{◌≡◌, ◌++◌, [], None, OnOk, is_some};
-ghost use Rattle.dom_model.specs.Names.{owner_eq};
+ghost use Rattle.std.specs.Prelude.{◌≡◌, ◌++◌, [], OnOk};
 ghost use Rattle.dom_model.specs.Command.{end_turn};
 ghost use Rattle.dom_model.specs.Turns.{has_other_turn, ending_turn, ending_other_turn, ending_any_turn};
 ghost use Rattle.dom_text.specs.Text.{output_text};
-ghost use Rattle.dom_commands.specs.Handled.{IsHandled};
+ghost use Rattle.dom_admission.specs.Handled.{IsHandled};
 ghost use Rattle.dom_commands.specs.Machine.{IsSound, KeepsListeners};
 
 use crate::machine::Machine;
-use crate::state::State;
 use dom_base::{Fault, Owner};
-use dom_microtasks::Queue;
 use dom_printer::{Value, put_reply};
 use std::alloc::AllocError;
-
-impl State {
-    /// Takes all tasks out, and closes the open turn, if there is one.
-    fn take_tasks(&mut self) -> Queue
-        ensures tasks { result ≡ self.old.world.tasks }
-        ensures world { self.new.world ≡ record self.old.world { tasks = []; turn = None } }
-        ensures names { self.new.names ≡ self.old.names }
-    {
-        self.turn = None;
-        self.doc.take_tasks()
-    }
-
-    /// Whether the open turn is another component's.
-    fn has_other_turn(&self, owner: Owner) -> bool
-        ensures { result ≡ has_other_turn self.now.world owner }
-    {
-        match self.turn {
-            Some(Owner::Component(number)) => !is_component(owner, number),
-            _ => false,
-        }
-    }
-
-    /// Whether a turn is open.
-    fn has_turn(&self) -> bool
-        ensures { result ≡ is_some self.now.world.turn }
-    {
-        self.turn.is_some()
-    }
-}
 
 impl Machine {
     /// Ends the open turn, if there is one: the microtasks run, and their lines are put.
@@ -96,15 +64,5 @@ impl Machine {
         self.close_turn(out)?;
         put_reply(out, owner, &Value::Nothing)?;
         Ok(())
-    }
-}
-
-/// Whether an owner is the component of this number.
-fn is_component(owner: Owner, number: u32) -> bool
-    ensures { result ≡ owner_eq (Owner.Component number) owner }
-{
-    match owner {
-        Owner::Page => false,
-        Owner::Component(other) => number == other,
     }
 }

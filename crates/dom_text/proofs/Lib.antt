@@ -14,3 +14,4 @@ pub mod CommandLaws
 pub mod DecodeLaws
 pub mod TextLaws
 pub mod PrintableLines
+pub mod OutputLaws

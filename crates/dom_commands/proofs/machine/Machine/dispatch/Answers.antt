@@ -11,12 +11,12 @@ use Rattle.dom_model.specs.World.{part_of, is_there}
 use Rattle.dom_reader.specs.Views.{event_view, spelled_view}
 use Rattle.dom_tree.specs.Forest.{name_at}
 use Rattle.dom_dispatch.specs.Dispatches.{event_words}
-use Rattle.dom_commands.specs.Handled.{IsHandled}
+use Rattle.dom_admission.specs.Handled.{IsHandled}
 use Rattle.dom_commands.specs.Heard.{own_listeners}
 use Rattle.dom_commands.specs.Machine.{MachineNow}
 use Rattle.dom_commands.proofs.Admitting.{refused_line, unrefused_there}
 use Rattle.dom_commands.proofs.EventCommands.{stopped-heard}
-use Rattle.dom_commands.proofs.Handling.{passed}
+use Rattle.dom_admission.proofs.Handling.{passed}
 use Rattle.dom_commands.proofs.Heard.{there-heard}
 use Rattle.dom_commands.proofs.HeardCommands.{refusal-heard}
 use Rattle.dom_commands.proofs.Listening.{fits-own}

@@ -4,16 +4,16 @@ use Rattle.dom_model.specs.DocumentMachine.{refusal}
 use Rattle.dom_model.specs.Output.{says, replied, nothing}
 use Rattle.dom_model.specs.Turns.{ending_turn}
 use Rattle.dom_text.specs.Text.{output_text}
-use Rattle.dom_commands.proofs.TextLaws.{output_text-append}
+use Rattle.dom_text.proofs.OutputLaws.{output_text-append}
 use Rattle.dom_model.specs.Command.{Command}
-use Rattle.dom_commands.specs.Handled.{IsHandled}
+use Rattle.dom_admission.specs.Handled.{IsHandled}
 use Rattle.dom_commands.specs.Heard.{own_listeners}
 use Rattle.dom_commands.specs.Machine.{MachineNow}
 use Rattle.dom_commands.proofs.EventCommands.{stopped-heard, passed-heard}
-use Rattle.dom_commands.proofs.Handling.{refused}
+use Rattle.dom_admission.proofs.Handling.{refused}
 use Rattle.dom_commands.proofs.Listening.{fits-own}
 use Rattle.dom_commands.proofs.Machines.{seen_at}
-use Rattle.dom_commands.proofs.Namings.{naming-end_turn}
+use Rattle.dom_admission.proofs.Namings.{naming-end_turn}
 use Rattle.dom_commands.proofs.machine.Machine.end_turn.Goals as goal
 
 pub returns-in_err-admit-clause-handled : goal.returns-in_err-admit-clause-handled

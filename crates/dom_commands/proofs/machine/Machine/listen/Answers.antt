@@ -7,15 +7,15 @@ use Rattle.dom_model.specs.Command.{Command}
 use Rattle.dom_model.specs.Listeners.{Listener, listened}
 use Rattle.dom_reader.specs.Views.{spelled_view, listener_view}
 use Rattle.dom_dispatch.specs.Named.{IsListenerAt}
-use Rattle.dom_commands.specs.declared.admission.Named.TheVariants.{Any}
-use Rattle.dom_commands.specs.Handled.{IsHandled}
+use Rattle.dom_admission.specs.declared.admission.Operand.TheVariants.{Any}
+use Rattle.dom_admission.specs.Handled.{IsHandled}
 use Rattle.dom_commands.specs.Heard.{heard, own_listeners}
 use Rattle.dom_commands.specs.Machine.{MachineNow, machine_now, IsSound}
 use Rattle.dom_commands.proofs.EventCommands.{stopped-heard, listen_handled}
-use Rattle.dom_commands.proofs.Handling.{refused}
+use Rattle.dom_admission.proofs.Handling.{refused}
 use Rattle.dom_commands.proofs.Listening.{fits-own, at-listened}
 use Rattle.dom_commands.proofs.Machines.{seen_at, always_at}
-use Rattle.dom_commands.proofs.Namings.{naming-listen}
+use Rattle.dom_admission.proofs.Namings.{naming-listen}
 use Rattle.dom_commands.proofs.machine.Machine.listen.Goals as goal
 
 pub returns-in_err-admit-clause-handled : goal.returns-in_err-admit-clause-handled

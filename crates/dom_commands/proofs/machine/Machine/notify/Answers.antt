@@ -8,19 +8,19 @@ use Rattle.dom_commands.proofs.machine.Machine.notify.Goals as goal
 
 pub tell_observers-requires : goal.tell_observers-requires
 tell_observers-requires c =
-    told_there c.self.inside.state c.take_signals.new.self c.take_signals.new.self c.self.inside.listeners c.args.self.now c.self.view_is c.requires.sound c.names_tell_nodes.ensures.there c.args.owner c.requires.there
+    told_there c.self.inside.state c.take_signals.new.state c.take_signals.new.state c.self.inside.listeners c.args.self.now c.self.view_is c.requires.sound c.names_tell_nodes.ensures.there c.args.owner c.requires.there
     c.in_ok-slots.ensures.names c.in_ok-slots.ensures.world
 
 pub signal_slots-requires-clause-sound : goal.signal_slots-requires-clause-sound
 signal_slots-requires-clause-sound c =
-    told_is_sound c.self.inside.state c.take_signals.new.self c.tell_observers.new.self c.self.inside.listeners c.args.self.now c.self.view_is c.requires.sound c.names_tell_nodes.ensures.there c.args.owner c.requires.there
+    told_is_sound c.self.inside.state c.take_signals.new.state c.tell_observers.new.state c.self.inside.listeners c.args.self.now c.self.view_is c.requires.sound c.names_tell_nodes.ensures.there c.args.owner c.requires.there
     c.in_ok-slots.ensures.names c.in_ok-slots.ensures.world c.in_ok-tell_observers.ensures.names c.in_ok-tell_observers.ensures.world
 
 pub returns-clause-text : goal.returns-clause-text
 returns-clause-text c =
     let s = c.self.inside.state in
-    let t = c.take_signals.new.self in
-    let u = c.tell_observers.new.self in
+    let t = c.take_signals.new.state in
+    let u = c.tell_observers.new.state in
     let ls = c.self.inside.listeners in
     let m = c.args.self.now in
     let o = c.args.owner in
@@ -36,8 +36,8 @@ returns-clause-text c =
 pub returns-clause-world : goal.returns-clause-world
 returns-clause-world c =
     let s = c.self.inside.state in
-    let t = c.take_signals.new.self in
-    let u = c.tell_observers.new.self in
+    let t = c.take_signals.new.state in
+    let u = c.tell_observers.new.state in
     let ls = c.self.inside.listeners in
     let m = c.args.self.now in
     let o = c.args.owner in

@@ -1,6 +1,6 @@
 use Rattle.std.proofs.Common.{subst}
 use Rattle.dom_reader.specs.Views.{command_view}
-use Rattle.dom_commands.specs.Handled.{IsHandled}
+use Rattle.dom_admission.specs.Handled.{IsHandled}
 use Rattle.dom_commands.specs.Machine.{MachineNow, machine_now}
 use Rattle.dom_commands.proofs.Machines.{plain_handled, kept_at, seen_at, seen_reached, seen_bounds, seen_first_nodes, seen_range_ends, seen_shadow_roots}
 use Rattle.dom_commands.proofs.machine.Machine.perform_plain.Goals as goal
@@ -20,7 +20,7 @@ perform-requires-clause-roots c = seen_shadow_roots c.self.inside.state c.self.i
 pub returns-clause-handled : goal.returns-clause-handled
 returns-clause-handled c =
     let s = c.self.inside.state in
-    let t = c.perform.new.self in
+    let t = c.perform.new.state in
     let ls = c.self.inside.listeners in
     let o = c.args.owner in
     let said = command_view c.args.command in
@@ -33,4 +33,4 @@ pub returns-clause-listeners : goal.returns-clause-listeners
 returns-clause-listeners c =
     let s = c.self.inside.state in
     let ls = c.self.inside.listeners in
-    kept_at s c.perform.new.self ls c.names_tell_nodes.ensures.there (seen_at s ls c.args.self.now c.self.view_is c.requires.sound) c.perform.result c.perform.ensures.names
+    kept_at s c.perform.new.state ls c.names_tell_nodes.ensures.there (seen_at s ls c.args.self.now c.self.view_is c.requires.sound) c.perform.result c.perform.ensures.names

@@ -1,0 +1,119 @@
+-- What a look-up of a name in a forest says of an owner's own trees.
+use Rattle.std.proofs.Common.{◌≡◌, ℕ, ◌<◌, Bool, true, false, ◌||◌, List, [], ◌∷◌, length, Option, Some, None, cond, refl, sym, ap, ◌∙◌, arith, zero-add}
+use Rattle.std.specs.Prelude.{is_some, slice_get, count_by, find}
+use Rattle.std.specs.Option.{option_map, ForSome}
+use Rattle.std.proofs.lemmas.List.Sums.{sum_by-cons}
+use Rattle.std.proofs.lemmas.Option.{slice_get_within, get_or_from_slice_get}
+use Rattle.dom_base.specs.declared.Owner.{Owner}
+use Rattle.dom_base.specs.declared.Owner.TheVariants.{Page}
+use Rattle.dom_base.specs.declared.NodeName.{NodeName}
+use Rattle.dom_model.specs.Names.{name_eq, is_in, node_of}
+use Rattle.dom_model.specs.Command.{Spelled, own, foreign}
+use Rattle.dom_model.specs.CommandNames.{named}
+use Rattle.dom_model.specs.Part.{Part}
+use Rattle.dom_admission.specs.Refusals.{number_in}
+use Rattle.dom_model.specs.World.{World, part_of}
+use Rattle.dom_model.proofs.PartLaws.{owner-part_of}
+use Rattle.dom_model.specs.Tree.{Trees, Node, nodes, names_of, has_node, node_in, no_node, is_document}
+use Rattle.dom_tree.specs.Forest.{name_at}
+use Rattle.dom_tree.specs.Owners.{trees_of_owner, AreOwned}
+use Rattle.dom_tree.proofs.Names.{name_eq-turned}
+use Rattle.dom_tree.proofs.Owned.{read_own}
+
+-- a node that is counted once is there
+pub counted : (ns : List Node) (x : NodeName) → count_by (λ n. name_eq n.name x) ns ≡ 1 → is_in name_eq x (names_of ns) ≡ true
+counted [] x e = absurd (omega (arith, e))
+counted (n ∷ ns) x e = cases (name_eq n.name x) refl (λ rest. counted ns x rest)
+  where
+    cases : (t : Bool) → name_eq n.name x ≡ t → (count_by (λ n. name_eq n.name x) ns ≡ 1 → is_in name_eq x (names_of ns) ≡ true) → is_in name_eq x (names_of (n ∷ ns)) ≡ true
+    cases true h more = rw (name_eq-turned x n.name, h) refl
+    cases false h more =
+        let rest : count_by (λ n. name_eq n.name x) ns ≡ 1 = sym (zero-add (count_by (λ n. name_eq n.name x) ns)) ∙ (rw (sum_by-cons (λ (n : Node). cond (name_eq n.name x) 1 0) n ns, h) at e) in
+        rw (name_eq-turned x n.name, h) (more rest)
+
+-- what a forest says of its names
+pub record FindsNames (names : List NodeName) (ts : Trees) : Type 0 where
+  pub once : (k : ℕ) → k < length names → count_by (λ n. name_eq n.name (name_at names k)) (nodes ts) ≡ 1
+  pub only : (x : NodeName) → has_node ts x ≡ true → (k : ℕ) × (slice_get names k ≡ Some x)
+
+pub named-number_in : (p : Part) (s : Spelled) → named p s ≡ node_of p.owner (number_in s)
+named-number_in p (own k) = refl
+named-number_in p foreign = refl
+
+-- a node that an owner's line names is the owner's
+pub owner-named : (w : World) (o : Owner) (s : Spelled) → (named (part_of w o) s).owner ≡ o
+owner-named w o s = ap (λ (y : NodeName). y.owner) (named-number_in (part_of w o) s) ∙ owner-part_of w o
+
+-- what is read of a node in the trees of all owners, where it is read so in its owner's trees
+pub read_at : {A : Type 0} (f : Trees → NodeName → A) (names : List NodeName) (ts : Trees) (w : World) (o : Owner) (s : Spelled) (key : ℕ) →
+    name_at names key ≡ named (part_of w o) s → ((p : Owner) → trees_of_owner p ts ≡ (part_of w p).trees) →
+    f ts (named (part_of w o) s) ≡ f (trees_of_owner o ts) (named (part_of w o) s) → f ts (name_at names key) ≡ f (part_of w o).trees (named (part_of w o) s)
+read_at f names ts w o s key here own_trees same = ap (f ts) here ∙ same ∙ ap (λ (us : Trees). f us (named (part_of w o) s)) (own_trees o)
+
+-- the node of a name, where the look-up found one
+pub found_node : (names : List NodeName) (x : NodeName) (r : Option ℕ) → ForSome r (λ k. slice_get names k ≡ Some x) → ForSome r (λ k. (k < length names) × (name_at names k ≡ x))
+found_node names x r found k e = let is = found k e in (slice_get_within names k x is, get_or_from_slice_get names k x (node_of Page 0) is)
+
+-- the look-up finds the nodes that are there
+pub is_found : (names : List NodeName) (ts : Trees) (x : NodeName) (r : Option ℕ) → FindsNames names ts →
+    ForSome r (λ k. slice_get names k ≡ Some x) → ((k : ℕ) → slice_get names k ≡ Some x → r ≡ Some k) → is_some r ≡ has_node ts x
+is_found names ts x (Some k) finds found kept =
+    let is = found_node names x (Some k) found k refl in
+    let once : count_by (λ n. name_eq n.name x) (nodes ts) ≡ 1 = ap (λ (y : NodeName). count_by (λ n. name_eq n.name y) (nodes ts)) (sym is.1) ∙ finds.once k is.0 in
+    sym (counted (nodes ts) x once)
+is_found names ts x None finds found kept = cases (has_node ts x) refl
+  where
+    cases : (b : Bool) → has_node ts x ≡ b → false ≡ b
+    cases true h = let there = finds.only x h in let no : None ≡ Some there.0 = kept there.0 there.1 in absurd cc
+    cases false h = refl
+
+-- the same of an owner's own trees, for a node as a line of the owner spells it
+pub find_own : (names : List NodeName) (ts : Trees) (w : World) → FindsNames names ts → AreOwned ts → ((o : Owner) → trees_of_owner o ts ≡ (part_of w o).trees) →
+    (o : Owner) (s : Spelled) (n : ℕ) → n ≡ number_in s → (r : Option ℕ) → ForSome r (λ k. slice_get names k ≡ Some (node_of o n)) →
+    ((k : ℕ) → slice_get names k ≡ Some (node_of o n) → r ≡ Some k) →
+    ForSome r (λ k. (k < length names) × (name_at names k ≡ named (part_of w o) s)) × (is_some r ≡ has_node (part_of w o).trees (named (part_of w o) s))
+find_own names ts w finds owned own_trees o s n e r found kept =
+    let x = node_of o n in
+    let spelled : named (part_of w o) s ≡ x = named-number_in (part_of w o) s ∙ ap (λ (p : Owner). node_of p (number_in s)) (owner-part_of w o) ∙ ap (node_of o) (sym e) in
+    let here : has_node ts x ≡ has_node (part_of w o).trees x = (read_own ts owned o x refl).presence ∙ ap (λ (us : Trees). has_node us x) (own_trees o) in
+    rw spelled (found_node names x r found, is_found names ts x r finds found kept ∙ here)
+
+-- a node of an owner is the same in its own trees
+pub node_own : (ts : Trees) (w : World) → AreOwned ts → ((o : Owner) → trees_of_owner o ts ≡ (part_of w o).trees) → (o : Owner) (s : Spelled) →
+    node_in ts (named (part_of w o) s) ≡ node_in (part_of w o).trees (named (part_of w o) s)
+node_own ts w owned own_trees o s =
+    let x = named (part_of w o) s in
+    let of : x.owner ≡ o = ap (λ (y : NodeName). y.owner) (named-number_in (part_of w o) s) ∙ owner-part_of w o in
+    (read_own ts owned o x of).node ∙ ap (λ (us : Trees). node_in us x) (own_trees o)
+
+-- a name that no node has is not found
+absent : (ns : List Node) (x : NodeName) → is_in name_eq x (names_of ns) ≡ false → find (λ n. name_eq n.name x) ns ≡ None
+absent [] x h = refl
+absent (n ∷ ns) x h = cases (name_eq n.name x) refl (rw (name_eq-turned x n.name) at h) (λ more. absent ns x more)
+  where
+    cases : (t : Bool) → name_eq n.name x ≡ t → (name_eq n.name x || is_in name_eq x (names_of ns)) ≡ false → (is_in name_eq x (names_of ns) ≡ false → find (λ n. name_eq n.name x) ns ≡ None)
+        → find (λ n. name_eq n.name x) (n ∷ ns) ≡ None
+    cases true e h more = let no : true ≡ false = rw e at h in absurd cc
+    cases false e h more = rw e (more (rw e at h))
+
+-- it reads as a fragment without a node document
+pub no_node-absent : (ts : Trees) (x : NodeName) → has_node ts x ≡ false → no_node x ≡ node_in ts x
+no_node-absent ts x h = rw (absent (nodes ts) x h) refl
+
+-- a document is found
+pub found-document : (ts : Trees) (x : NodeName) (r : Option ℕ) → is_some r ≡ has_node ts x → is_document (node_in ts x).kind ≡ true → is_some r ≡ true
+found-document ts x (Some k) e h = refl
+found-document ts x None e h = let no : false ≡ true = ap (λ (n : Node). is_document n.kind) (no_node-absent ts x (sym e)) ∙ h in absurd cc
+
+-- the name of a key that was found
+pub name-found : (names : List NodeName) (x : NodeName) (r : Option ℕ) → ForSome r (λ k. (k < length names) × (name_at names k ≡ x)) → is_some r ≡ true → option_map (name_at names) r ≡ Some x
+name-found names x (Some k) found e = ap Some (found k refl).1
+name-found names x None found e = absurd cc
+
+-- the key of a node that is named
+abbrev pub IsKey : List NodeName → World → Owner → ℕ → Spelled → Type 0
+IsKey names w o key s = name_at names key ≡ named (part_of w o) s
+
+-- a node that is named, by the number of its name
+pub numbered : (p : Part) (s : Spelled) (x : NodeName) → x ≡ named p s → named p (own x.number) ≡ named p s
+numbered p s x is = ap (λ (y : NodeName). node_of p.owner y.number) (is ∙ named-number_in p s) ∙ sym (named-number_in p s)

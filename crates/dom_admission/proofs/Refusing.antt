@@ -1,0 +1,71 @@
+-- The refusal of a command is that of its names, or else its own.
+use Rattle.std.proofs.Common.{◌≡◌, ℕ, Bool, true, false, ◌&&◌, List, [], ◌∷◌, Option, not, refl, sym}
+use Rattle.std.specs.Option.{option_or}
+use Rattle.dom_base.specs.declared.Owner.{Owner}
+use Rattle.dom_base.specs.declared.Owner.TheVariants.{Page, Component}
+use Rattle.dom_base.specs.declared.Refusal.{Refusal}
+use Rattle.dom_base.specs.declared.Refusal.TheVariants.{Syntax, Busy, Foreign, Unknown, WrongKind}
+use Rattle.dom_model.specs.Command.{Command}
+use Rattle.dom_model.specs.CommandNames.{names_foreign, nodes_exist, nodes_fit, thing_exists}
+use Rattle.dom_model.specs.CommandRefusals.{is_command_of, own_refusal}
+use Rattle.dom_model.specs.Part.{Part}
+use Rattle.dom_model.specs.Validity.{first_refusal}
+use Rattle.dom_model.specs.World.{World, part_of, is_there}
+use Rattle.dom_model.specs.DocumentMachine.{is_busy, refusal}
+use Rattle.dom_admission.specs.declared.admission.Operand.{Operand}
+use Rattle.dom_admission.specs.Refusals.{has_foreign, are_there, are_fitting, early_refusal}
+
+-- a command of all owners that names these nodes, ranges, iterators, walkers and observers, and nothing else
+pub record IsNaming (c : Command) (names : List Operand) : Type 0 where
+  pub offered : (o : Owner) → is_command_of o c ≡ true
+  pub foreign : names_foreign c ≡ has_foreign names
+  pub exist : (p : Part) → (nodes_exist p c && thing_exists p c) ≡ are_there p names
+  pub fit : (p : Part) → nodes_fit p c ≡ are_fitting p names
+
+-- one of this owner that names these
+pub record IsNamingOf (o : Owner) (c : Command) (names : List Operand) : Type 0 where
+  pub mine : is_command_of o c ≡ true
+  pub foreign : names_foreign c ≡ has_foreign names
+  pub exist : (p : Part) → (nodes_exist p c && thing_exists p c) ≡ are_there p names
+  pub fit : (p : Part) → nodes_fit p c ≡ are_fitting p names
+
+-- one of all owners is one of each
+pub naming_of : (o : Owner) (c : Command) (names : List Operand) → IsNaming c names → IsNamingOf o c names
+naming_of o c names is = record { mine = is.offered o; foreign = is.foreign; exist = is.exist; fit = is.fit }
+
+-- what holds of the page and of each component holds of all owners
+pub by_owner : (P : Owner → Type 0) → P Page → ((k : ℕ) → P (Component k)) → (o : Owner) → P o
+by_owner P page component Page = page
+by_owner P page component (Component k) = component k
+
+-- two lists of tests, one after the other
+joined : (busy foreign absent unknown misfit : Bool) (own : Option Refusal) →
+    option_or (first_refusal ((false, Syntax) ∷ (busy, Busy) ∷ (foreign, Foreign) ∷ (absent, Unknown) ∷ []))
+    (option_or (first_refusal ((unknown, Unknown) ∷ (misfit, WrongKind) ∷ [])) own)
+    ≡ option_or (first_refusal ((busy, Busy) ∷ (foreign, Foreign) ∷ (absent, Unknown) ∷ (unknown, Unknown) ∷ (misfit, WrongKind) ∷ [])) own
+joined true foreign absent unknown misfit own = refl
+joined false true absent unknown misfit own = refl
+joined false false true unknown misfit own = refl
+joined false false false true misfit own = refl
+joined false false false false true own = refl
+joined false false false false false own = refl
+
+-- what is to hold beside what always does
+pub and_true : (b : Bool) → (b && true) ≡ b
+and_true true = refl
+and_true false = refl
+
+-- a test between two others that goes last
+pub and_last : (a b : Bool) → ((a && true) && b) ≡ (a && (b && true))
+and_last true b = sym (and_true b)
+and_last false b = refl
+
+-- for a command that names these
+pub refusal-of_own : (w : World) (o : Owner) (c : Command) (names : List Operand) → IsNamingOf o c names → refusal w o c ≡ option_or (early_refusal w o names) (own_refusal (part_of w o) c)
+refusal-of_own w o c names is =
+    rw (is.mine, is.foreign, is.exist (part_of w o), is.fit (part_of w o))
+    (joined (is_busy w o) (has_foreign names) (not (is_there w o)) (not (are_there (part_of w o) names)) (not (are_fitting (part_of w o) names)) (own_refusal (part_of w o) c))
+
+-- for one of all owners
+pub refusal-of_names : (w : World) (o : Owner) (c : Command) (names : List Operand) → IsNaming c names → refusal w o c ≡ option_or (early_refusal w o names) (own_refusal (part_of w o) c)
+refusal-of_names w o c names is = refusal-of_own w o c names (naming_of o c names is)

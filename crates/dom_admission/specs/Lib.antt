@@ -1,0 +1,3 @@
+pub mod Turned
+pub mod Refusals
+pub mod Handled

@@ -1,0 +1,13 @@
+//! The documents of a run with its open turn, and which lines of an owner may pass: the tests that all commands share, before
+//! their own.
+#![tactic(auto)]
+
+mod accepting;
+mod admission;
+mod names;
+mod state;
+mod turns;
+
+pub use admission::Operand;
+pub use names::names_of;
+pub use state::State;

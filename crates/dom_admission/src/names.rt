@@ -1,0 +1,20 @@
+//! The names of nodes.
+ghost use Rattle.std.specs.Prelude.{◌≡◌, ◌<◌, length, map, All, IfOk};
+ghost use Rattle.dom_tree.specs.Forest.{name_at};
+
+use dom_base::NodeName;
+use dom_tree::Forest;
+use node_arena::Key;
+use std::alloc::{AllocError, Global};
+
+/// The names of nodes, in their order. The only error is memory refused (own rule).
+pub fn names_of(alloc: Global, forest: &Forest, keys: &[Key]) -> Result<Vec<NodeName>, AllocError>
+    requires { All (λ k. k < length forest.now.names) keys.now }
+    ensures { IfOk result (λ names. names.items ≡ map (name_at forest.now.names) keys.now) }
+{
+    let mut names = Vec::new(alloc);
+    for key in keys {
+        names.push(forest.name(*key))?;
+    }
+    Ok(names)
+}

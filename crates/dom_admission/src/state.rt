@@ -1,0 +1,182 @@
+//! The documents of a run: the document trees and the open turn.
+ghost use Rattle.std.specs.Prelude.{◌≡◌, ℕ, ◌<◌, ◌∷◌, [], true, length, IfOk, Some, None, is_some};
+ghost use Rattle.std.specs.Option.{option_map, ForSome};
+ghost use Rattle.dom_base.specs.declared.Owner.{Owner as OwnerOf};
+ghost use Rattle.dom_base.specs.declared.Owner.TheVariants.{Page};
+ghost use Rattle.dom_model.specs.Names.{node_of};
+ghost use Rattle.dom_model.specs.Tree.{has_node, node_in};
+ghost use Rattle.dom_model.specs.CommandNames.{named};
+ghost use Rattle.dom_model.specs.World.{part_of, is_there};
+ghost use Rattle.dom_model.specs.Turns.{opening_turn};
+ghost use Rattle.dom_model.specs.DocumentMachine.{first_world, is_busy};
+ghost use Rattle.dom_tree.specs.Forest.{name_at};
+ghost use Rattle.dom_tree.specs.Owners.{trees_of_owner, AreOwned};
+ghost use Rattle.dom_slots.specs.Kept.{AreSlotsOf};
+ghost use Rattle.dom_slots.specs.Shadows.{shadows, IsShownBy};
+ghost use Rattle.dom_reader.specs.Views.{spelled_view};
+ghost use Rattle.dom_admission.specs.Refusals.{number_in};
+
+use dom_base::{Kind, NodeName, Owner};
+use dom_mutation::Doc;
+use dom_reader::Spelled;
+use dom_slots::Slots;
+use dom_tree::Forest;
+use node_arena::Key;
+use std::alloc::{AllocError, Global};
+use std::marker::Model;
+
+/// The document trees and the open turn.
+#[derive(Drop)]
+pub struct State {
+    /// The document trees, with what is kept beside them.
+    pub doc: Doc,
+    pub(crate) turn: Option<Owner>,
+    /// Where memory is taken from.
+    pub alloc: Global,
+}
+
+impl Model for State {
+    ghost use Rattle.std.specs.Coded.{codes};
+    ghost use Rattle.dom_model.specs.Codes.{trees_code};
+    ghost use Rattle.dom_mutation.specs.Doc.{DocState};
+    ghost use Rattle.dom_admission.specs.Turned.{turned};
+
+    ghost Value = { DocState };
+
+    ghost coded = { Prim.hlevel (codes, trees_code) };
+
+    ghost view = { λ s. turned s.turn s.doc };
+}
+
+impl State {
+    /// The state before the first line: the page has its first document, and there is no more.
+    pub fn new(alloc: Global) -> Result<State, AllocError>
+        ensures { IfOk result (λ state. state ≡ record { names = node_of Page 0 ∷ []; world = first_world }) }
+    {
+        let doc = Doc::new(alloc)?;
+        Ok(State {
+            doc,
+            turn: None,
+            alloc,
+        })
+    }
+
+    /// Whether a component's line comes in an open turn of the page.
+    pub fn is_busy(&self, owner: Owner) -> bool
+        ensures { result ≡ is_busy self.now.world owner }
+    {
+        matches!(self.turn, Some(Owner::Page)) && !matches!(owner, Owner::Page)
+    }
+
+    /// Opens an owner's turn, where none is open.
+    pub fn open_turn(&mut self, owner: Owner)
+        ensures names { self.new.names ≡ self.old.names }
+        ensures world { self.new.world ≡ opening_turn self.old.world owner }
+    {
+        if self.turn.is_none() {
+            self.turn = Some(owner);
+        }
+    }
+
+    /// Whether an owner has a part.
+    pub fn is_there(&self, owner: Owner) -> bool
+        ensures { result ≡ is_there self.now.world owner }
+    {
+        self.doc.is_there(owner)
+    }
+
+    /// Holds of every state: names tell nodes apart, and the owners of all nodes are there.
+    pub fn names_tell_nodes(&self)
+        ensures distinct { (j k : ℕ) → j < length self.now.names → k < length self.now.names → name_at self.now.names j ≡ name_at self.now.names k → j ≡ k }
+        ensures there { (k : ℕ) → k < length self.now.names → is_there self.now.world (name_at self.now.names k).owner ≡ true }
+    {
+        self.doc.forest().nodes_stand_once();
+    }
+
+    /// The forest, for reading.
+    pub fn forest(&self) -> &Forest
+        ensures names { result.now.names ≡ self.now.names }
+        ensures trees { (o : OwnerOf) → trees_of_owner o result.now.trees ≡ (part_of self.now.world o).trees }
+        ensures owned { AreOwned result.now.trees }
+    {
+        self.doc.forest()
+    }
+
+    /// The forest and the slots of its shadow trees, for reading.
+    pub fn forest_and_slots(&self) -> (&Forest, &Slots)
+        ensures names { result.0.now.names ≡ self.now.names }
+        ensures free { result.1.now.begun ≡ None }
+        ensures slots { AreSlotsOf result.0.now result.1.now }
+        ensures shown { IsShownBy (shadows result.0.now result.1.now.hosts) self.now.world }
+    {
+        self.doc.forest_and_slots()
+    }
+
+    /// The node that an owner's line names, if it is there.
+    pub fn find(&self, owner: Owner, node: Spelled) -> Option<Key>
+        ensures found { ForSome result (λ key. (key < length self.now.names) × (name_at self.now.names key ≡ named (part_of self.now.world owner) (spelled_view node))) }
+        ensures presence { is_some result ≡ has_node (part_of self.now.world owner).trees (named (part_of self.now.world owner) (spelled_view node)) }
+    {
+        let number = number_in(node);
+        let forest = self.doc.forest();
+        forest.nodes_stand_once();
+        forest.find(NodeName { owner, number })
+    }
+
+    /// Whether a node that an owner's line names is there.
+    pub fn has(&self, owner: Owner, node: Spelled) -> bool
+        ensures { result ≡ has_node (part_of self.now.world owner).trees (named (part_of self.now.world owner) (spelled_view node)) }
+    {
+        self.find(owner, node).is_some()
+    }
+
+    /// The kind of the node that an owner's line names; a name that no node has reads as a fragment.
+    pub fn kind(&self, owner: Owner, node: Spelled) -> Kind
+        ensures { result ≡ (node_in (part_of self.now.world owner).trees (named (part_of self.now.world owner) (spelled_view node))).kind }
+    {
+        match self.find(owner, node) {
+            Some(key) => self.doc.forest().kind(key),
+            None => Kind::Fragment,
+        }
+    }
+
+    /// The local name of the element that an owner's line names; another node, and a name that no node has, read as empty.
+    pub fn element(&self, owner: Owner, node: Spelled) -> &str
+        ensures { result.now ≡ (node_in (part_of self.now.world owner).trees (named (part_of self.now.world owner) (spelled_view node))).element }
+    {
+        match self.find(owner, node) {
+            Some(key) => self.doc.forest().element(key),
+            None => "",
+        }
+    }
+
+    /// The node document of the node that an owner's line names, if it has one.
+    pub fn document(&self, owner: Owner, node: Spelled) -> Option<Key>
+        ensures value { option_map (name_at self.now.names) result ≡ (node_in (part_of self.now.world owner).trees (named (part_of self.now.world owner) (spelled_view node))).document }
+        ensures node { ForSome result (λ d. d < length self.now.names) }
+    {
+        match self.find(owner, node) {
+            Some(key) => self.doc.forest().document(key),
+            None => None,
+        }
+    }
+
+    /// The node that an owner's line names, which is there.
+    pub fn key(&self, owner: Owner, node: Spelled) -> Key
+        requires { has_node (part_of self.now.world owner).trees (named (part_of self.now.world owner) (spelled_view node)) ≡ true }
+        ensures node { result < length self.now.names }
+        ensures name { name_at self.now.names result ≡ named (part_of self.now.world owner) (spelled_view node) }
+    {
+        self.find(owner, node).unwrap()
+    }
+}
+
+/// The number of an owner's node as its line names it; a foreign name reads as that of the first node.
+fn number_in(node: Spelled) -> u32
+    ensures { result ≡ number_in (spelled_view node) }
+{
+    match node {
+        Spelled::Own(number) => number,
+        Spelled::Foreign => 0,
+    }
+}

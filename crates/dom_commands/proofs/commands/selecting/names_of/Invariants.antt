@@ -1,6 +1,0 @@
-use Rattle.std.proofs.Common.{◌≡◌, map, take}
-use Rattle.dom_tree.specs.Forest.{name_at}
-use Rattle.dom_commands.proofs.commands.selecting.names_of.Given as goal
-
-abbrev pub invariant-loop-key : goal.invariant-loop-key
-invariant-loop-key l = l.names.items ≡ map (name_at l.forest.names) (take l.key-index l.keys)

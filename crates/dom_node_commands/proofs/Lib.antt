@@ -1,0 +1,2 @@
+mod Attaching
+mod CommandPlans

@@ -1,0 +1,105 @@
+//! The commands on the data of Texts and Comments, and on the text below a node.
+ghost use Rattle.dom_model.specs.Command.{set_data, replace_data, split, set_text, normalize};
+ghost use Rattle.dom_isolation.specs.Bounds.{IsBounded};
+ghost use Rattle.dom_reader.specs.Views.{spelled_view};
+ghost use Rattle.dom_admission.specs.Handled.{KeepsNames, IsHandled};
+
+use dom_admission::{Operand, State};
+use dom_base::{DomStr, Fault, Owner};
+use dom_printer::Value;
+use dom_reader::Spelled;
+
+/// `data T STR`: all data of a Text or a Comment give way to others.
+pub fn set_data(
+    state: &mut State,
+    owner: Owner,
+    node: Spelled,
+    text: DomStr,
+    out: &mut Vec<u8>,
+) -> Result<(), Fault>
+    requires bounds { IsBounded state.old.world }
+    ensures handled { IsHandled owner (set_data (spelled_view node) text.items) state.old.world state.new.world out.old.items out.new.items result }
+    ensures names { KeepsNames state.old.names state.new.names result }
+{
+    state.admit(owner, &[Operand::Data(node)])?;
+    let node = state.key(owner, node);
+    state.doc.set_data(node, text)?;
+    state.accept(owner, &Value::Nothing, out)
+}
+
+/// `replace-data T OFFSET COUNT STR`: from an offset on, so many code units of a Text or a Comment give way to others.
+pub fn replace_data(
+    state: &mut State,
+    owner: Owner,
+    node: Spelled,
+    offset: u32,
+    count: u32,
+    text: DomStr,
+    out: &mut Vec<u8>,
+) -> Result<(), Fault>
+    requires bounds { IsBounded state.old.world }
+    ensures handled { IsHandled owner (replace_data (spelled_view node) offset count text.items) state.old.world state.new.world out.old.items out.new.items result }
+    ensures names { KeepsNames state.old.names state.new.names result }
+{
+    state.admit(owner, &[Operand::Data(node)])?;
+    let node = state.key(owner, node);
+    state
+        .doc
+        .replace_data(node, offset as usize, count as usize, text)?;
+    state.accept(owner, &Value::Nothing, out)
+}
+
+/// `split N OFFSET`: the code units of a Text from an offset on go into a new Text behind it.
+pub fn split(
+    state: &mut State,
+    owner: Owner,
+    node: Spelled,
+    offset: u32,
+    out: &mut Vec<u8>,
+) -> Result<(), Fault>
+    requires bounds { IsBounded state.old.world }
+    ensures handled { IsHandled owner (split (spelled_view node) offset) state.old.world state.new.world out.old.items out.new.items result }
+    ensures names { KeepsNames state.old.names state.new.names result }
+{
+    state.admit(owner, &[Operand::Text(node)])?;
+    let node = state.key(owner, node);
+    let tail = state.doc.split(node, offset as usize)?;
+    let made = state.doc.forest().name(tail);
+    state.accept(owner, &Value::Node(made), out)
+}
+
+/// `text N STR`: the text of a node: the data of a Text or a Comment, nothing of a document, and of others one Text in
+/// place of their children.
+pub fn set_text(
+    state: &mut State,
+    owner: Owner,
+    node: Spelled,
+    text: DomStr,
+    out: &mut Vec<u8>,
+) -> Result<(), Fault>
+    requires bounds { IsBounded state.old.world }
+    ensures handled { IsHandled owner (set_text (spelled_view node) text.items) state.old.world state.new.world out.old.items out.new.items result }
+    ensures names { KeepsNames state.old.names state.new.names result }
+{
+    state.admit(owner, &[Operand::Any(node)])?;
+    let node = state.key(owner, node);
+    state.doc.set_text(node, text)?;
+    state.accept(owner, &Value::Nothing, out)
+}
+
+/// `normalize N`: below a node no Text is empty, and none stands directly behind another.
+pub fn normalize(
+    state: &mut State,
+    owner: Owner,
+    node: Spelled,
+    out: &mut Vec<u8>,
+) -> Result<(), Fault>
+    requires bounds { IsBounded state.old.world }
+    ensures handled { IsHandled owner (normalize (spelled_view node)) state.old.world state.new.world out.old.items out.new.items result }
+    ensures names { KeepsNames state.old.names state.new.names result }
+{
+    state.admit(owner, &[Operand::Any(node)])?;
+    let node = state.key(owner, node);
+    state.doc.normalize(node)?;
+    state.accept(owner, &Value::Nothing, out)
+}

@@ -1,0 +1,152 @@
+//! The commands that make a node, alone.
+ghost use Rattle.std.specs.Prelude.{◌≡◌, ◌<◌, length, true, false, string_bytes};
+ghost use Rattle.std.specs.Option.{option_map, ForSome};
+ghost use Rattle.dom_model.specs.Tree.{is_document, is_shadow};
+ghost use Rattle.dom_model.specs.Command.{new_element, new_text, new_comment, new_fragment, new_document};
+ghost use Rattle.dom_model.specs.CommandRefusals.{limit_on};
+ghost use Rattle.dom_model.specs.Effects.{new_document_of};
+ghost use Rattle.dom_model.specs.World.{part_of, is_there};
+ghost use Rattle.dom_tree.specs.Forest.{name_at};
+ghost use Rattle.dom_admission.specs.Handled.{KeepsNames, IsDone, IsHandled};
+ghost use Rattle.dom_node_commands.specs.Making.{making, document_for};
+
+use dom_admission::State;
+use dom_base::{DomStr, Fault, Kind, Owner, Refusal};
+use dom_mutation::is_name;
+use dom_printer::Value;
+use dom_reader::Spelled;
+use dom_tree::NodeData;
+use indexmap::IndexMap;
+use node_arena::Key;
+
+/// `new element WORD`: a new element.
+pub fn new_element(
+    state: &mut State,
+    owner: Owner,
+    name: String,
+    out: &mut Vec<u8>,
+) -> Result<(), Fault>
+    ensures handled { IsHandled owner (new_element (string_bytes name)) state.old.world state.new.world out.old.items out.new.items result }
+    ensures names { KeepsNames state.old.names state.new.names result }
+{
+    state.admit(owner, &[])?;
+    if !is_name(name.as_bytes()) {
+        return Err(Fault::Refused(Refusal::InvalidCharacter));
+    }
+    make(
+        state,
+        owner,
+        Kind::Element,
+        name,
+        Vec::new(state.alloc),
+        out,
+    )
+}
+
+/// `new text STR`: a new Text.
+pub fn new_text(
+    state: &mut State,
+    owner: Owner,
+    text: DomStr,
+    out: &mut Vec<u8>,
+) -> Result<(), Fault>
+    ensures handled { IsHandled owner (new_text text.items) state.old.world state.new.world out.old.items out.new.items result }
+    ensures names { KeepsNames state.old.names state.new.names result }
+{
+    state.admit(owner, &[])?;
+    let element = String::new(state.alloc);
+    make(state, owner, Kind::Text, element, text, out)
+}
+
+/// `new comment STR`: a new Comment.
+pub fn new_comment(
+    state: &mut State,
+    owner: Owner,
+    text: DomStr,
+    out: &mut Vec<u8>,
+) -> Result<(), Fault>
+    ensures handled { IsHandled owner (new_comment text.items) state.old.world state.new.world out.old.items out.new.items result }
+    ensures names { KeepsNames state.old.names state.new.names result }
+{
+    state.admit(owner, &[])?;
+    let element = String::new(state.alloc);
+    make(state, owner, Kind::Comment, element, text, out)
+}
+
+/// `new fragment`: a new document fragment.
+pub fn new_fragment(state: &mut State, owner: Owner, out: &mut Vec<u8>) -> Result<(), Fault>
+    ensures handled { IsHandled owner new_fragment state.old.world state.new.world out.old.items out.new.items result }
+    ensures names { KeepsNames state.old.names state.new.names result }
+{
+    state.admit(owner, &[])?;
+    let (element, text) = (String::new(state.alloc), Vec::new(state.alloc));
+    make(state, owner, Kind::Fragment, element, text, out)
+}
+
+/// `document`: a new document.
+pub fn new_document(state: &mut State, owner: Owner, out: &mut Vec<u8>) -> Result<(), Fault>
+    ensures handled { IsHandled owner new_document state.old.world state.new.world out.old.items out.new.items result }
+    ensures names { KeepsNames state.old.names state.new.names result }
+{
+    state.admit(owner, &[])?;
+    let (element, text) = (String::new(state.alloc), Vec::new(state.alloc));
+    make(state, owner, Kind::Document, element, text, out)
+}
+
+/// Makes a node of an owner without attributes, and replies with it.
+fn make(
+    state: &mut State,
+    owner: Owner,
+    kind: Kind,
+    element: String,
+    text: DomStr,
+    out: &mut Vec<u8>,
+) -> Result<(), Fault>
+    requires owner_is_there { is_there state.old.world owner ≡ true }
+    requires no_shadow { is_shadow kind ≡ false }
+    ensures done { IsDone (limit_on (part_of state.old.world owner).node_count 1) (making owner kind (string_bytes element) text.items state.old.world) state.old.world state.new.world out.old.items out.new.items result }
+    ensures names { KeepsNames state.old.names state.new.names result }
+{
+    let node = NodeData {
+        kind,
+        element,
+        attributes: IndexMap::new(state.alloc),
+        text,
+        document: document_for(state, owner, kind),
+    };
+    let key = state.doc.add(owner, node)?;
+    let made = state.doc.forest().name(key);
+    state.accept(owner, &Value::Node(made), out)
+}
+
+/// The node document of an owner's new node: the page's first document, or that of a component's shadow root; a
+/// document has none.
+fn document_for(state: &State, owner: Owner, kind: Kind) -> Option<Key>
+    ensures value { option_map (name_at state.now.names) result ≡ document_for kind (part_of state.now.world owner) }
+    ensures node { ForSome result (λ d. d < length state.now.names) }
+{
+    if is_document(kind) {
+        None
+    } else {
+        first_document(state, owner)
+    }
+}
+
+/// An owner's first node where that is a document, or else the first node's document.
+fn first_document(state: &State, owner: Owner) -> Option<Key>
+    ensures value { option_map (name_at state.now.names) result ≡ new_document_of (part_of state.now.world owner) }
+    ensures node { ForSome result (λ d. d < length state.now.names) }
+{
+    let first = Spelled::Own(0);
+    if is_document(state.kind(owner, first)) {
+        state.find(owner, first)
+    } else {
+        state.document(owner, first)
+    }
+}
+
+fn is_document(kind: Kind) -> bool
+    ensures { result ≡ is_document kind }
+{
+    matches!(kind, Kind::Document)
+}

@@ -1,0 +1,111 @@
+//! The commands that move nodes.
+ghost use Rattle.dom_model.specs.Command.{append, insert, replace, remove, adopt};
+ghost use Rattle.dom_isolation.specs.Bounds.{IsBounded};
+ghost use Rattle.dom_reader.specs.Views.{spelled_view};
+ghost use Rattle.dom_admission.specs.Handled.{KeepsNames, IsHandled};
+
+use dom_admission::{Operand, State};
+use dom_base::{Fault, Owner};
+use dom_printer::Value;
+use dom_reader::Spelled;
+
+/// `append P N`: a node becomes a parent's last child.
+pub fn append(
+    state: &mut State,
+    owner: Owner,
+    parent: Spelled,
+    node: Spelled,
+    out: &mut Vec<u8>,
+) -> Result<(), Fault>
+    requires bounds { IsBounded state.old.world }
+    ensures handled { IsHandled owner (append (spelled_view parent) (spelled_view node)) state.old.world state.new.world out.old.items out.new.items result }
+    ensures names { KeepsNames state.old.names state.new.names result }
+{
+    state.admit(owner, &[Operand::Any(parent), Operand::Any(node)])?;
+    let (parent, node) = (state.key(owner, parent), state.key(owner, node));
+    state.doc.insert(parent, node, None)?;
+    state.accept(owner, &Value::Nothing, out)
+}
+
+/// `insert P N C`: a node becomes the child of a parent just before another child.
+pub fn insert(
+    state: &mut State,
+    owner: Owner,
+    parent: Spelled,
+    node: Spelled,
+    child: Spelled,
+    out: &mut Vec<u8>,
+) -> Result<(), Fault>
+    requires bounds { IsBounded state.old.world }
+    ensures handled { IsHandled owner (insert (spelled_view parent) (spelled_view node) (spelled_view child)) state.old.world state.new.world out.old.items out.new.items result }
+    ensures names { KeepsNames state.old.names state.new.names result }
+{
+    let named = [
+        Operand::Any(parent),
+        Operand::Any(node),
+        Operand::Any(child),
+    ];
+    state.admit(owner, &named)?;
+    let (parent, node) = (state.key(owner, parent), state.key(owner, node));
+    let child = state.key(owner, child);
+    state.doc.insert(parent, node, Some(child))?;
+    state.accept(owner, &Value::Nothing, out)
+}
+
+/// `replace P N C`: a node takes the place of a child of a parent.
+pub fn replace(
+    state: &mut State,
+    owner: Owner,
+    parent: Spelled,
+    node: Spelled,
+    child: Spelled,
+    out: &mut Vec<u8>,
+) -> Result<(), Fault>
+    requires bounds { IsBounded state.old.world }
+    ensures handled { IsHandled owner (replace (spelled_view parent) (spelled_view node) (spelled_view child)) state.old.world state.new.world out.old.items out.new.items result }
+    ensures names { KeepsNames state.old.names state.new.names result }
+{
+    let named = [
+        Operand::Any(parent),
+        Operand::Any(node),
+        Operand::Any(child),
+    ];
+    state.admit(owner, &named)?;
+    let (parent, node) = (state.key(owner, parent), state.key(owner, node));
+    let child = state.key(owner, child);
+    state.doc.replace(parent, node, child)?;
+    state.accept(owner, &Value::Nothing, out)
+}
+
+/// `remove N`: a node leaves its parent.
+pub fn remove(
+    state: &mut State,
+    owner: Owner,
+    node: Spelled,
+    out: &mut Vec<u8>,
+) -> Result<(), Fault>
+    ensures handled { IsHandled owner (remove (spelled_view node)) state.old.world state.new.world out.old.items out.new.items result }
+    ensures names { KeepsNames state.old.names state.new.names result }
+{
+    state.admit(owner, &[Operand::Child(node)])?;
+    let node = state.key(owner, node);
+    state.doc.remove(node)?;
+    state.accept(owner, &Value::Nothing, out)
+}
+
+/// `adopt D N`: a node leaves its parent and gets a document for its node document, with all below it.
+pub fn adopt(
+    state: &mut State,
+    owner: Owner,
+    document: Spelled,
+    node: Spelled,
+    out: &mut Vec<u8>,
+) -> Result<(), Fault>
+    ensures handled { IsHandled owner (adopt (spelled_view document) (spelled_view node)) state.old.world state.new.world out.old.items out.new.items result }
+    ensures names { KeepsNames state.old.names state.new.names result }
+{
+    state.admit(owner, &[Operand::Document(document), Operand::Any(node)])?;
+    let (document, node) = (state.key(owner, document), state.key(owner, node));
+    state.doc.adopt(document, node)?;
+    state.accept(owner, &Value::Nothing, out)
+}

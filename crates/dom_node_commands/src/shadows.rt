@@ -1,0 +1,111 @@
+//! The commands on shadow trees: the making of components, and slots (DOM Standard, 4.2.2 Shadow tree).
+ghost use Rattle.std.specs.Prelude.{◌≡◌, true, IfOk};
+ghost use Rattle.dom_model.specs.Tree.{has_node};
+ghost use Rattle.dom_model.specs.Command.{attach, shadow_root, slot_of, assigned as assigned_command};
+ghost use Rattle.dom_model.specs.CommandNames.{named};
+ghost use Rattle.dom_model.specs.Slots.{assigned};
+ghost use Rattle.dom_model.specs.Trace.{is_page};
+ghost use Rattle.dom_model.specs.World.{part_of};
+ghost use Rattle.dom_reader.specs.Views.{spelled_view};
+ghost use Rattle.dom_admission.specs.Handled.{KeepsNames, IsHandled};
+
+use dom_admission::{Operand, State, names_of};
+use dom_base::{Fault, NodeName, Owner, Refusal};
+use dom_printer::Value;
+use dom_reader::Spelled;
+use dom_slots::slots_are_of_worlds;
+use std::alloc::AllocError;
+
+/// `attach E`: a new component, to whose closed shadow root an element of the page is the host; the page's alone (DOM
+/// Standard, attach a shadow root; own rule for the component).
+pub fn attach(
+    state: &mut State,
+    owner: Owner,
+    host: Spelled,
+    out: &mut Vec<u8>,
+) -> Result<(), Fault>
+    ensures handled { IsHandled owner (attach (spelled_view host)) state.old.world state.new.world out.old.items out.new.items result }
+    ensures names { KeepsNames state.old.names state.new.names result }
+{
+    match owner {
+        Owner::Page => attach_to(state, host, out),
+        Owner::Component(_) => Err(Fault::Refused(Refusal::Syntax)),
+    }
+}
+
+/// `attach E` of the page.
+fn attach_to(state: &mut State, host: Spelled, out: &mut Vec<u8>) -> Result<(), Fault>
+    ensures handled { IsHandled Owner.Page (attach (spelled_view host)) state.old.world state.new.world out.old.items out.new.items result }
+    ensures names { KeepsNames state.old.names state.new.names result }
+{
+    state.admit(Owner::Page, &[Operand::Element(host)])?;
+    let host = state.key(Owner::Page, host);
+    let root = state.doc.attach(host)?;
+    let component = state.doc.forest().name(root).owner;
+    state.accept(Owner::Page, &Value::Component(component), out)
+}
+
+/// `shadow-root E`: always `null`, since all shadow roots are closed (DOM Standard, the shadowRoot getter).
+pub fn shadow_root(
+    state: &mut State,
+    owner: Owner,
+    element: Spelled,
+    out: &mut Vec<u8>,
+) -> Result<(), Fault>
+    ensures handled { IsHandled owner (shadow_root (spelled_view element)) state.old.world state.new.world out.old.items out.new.items result }
+    ensures names { KeepsNames state.old.names state.new.names result }
+{
+    state.admit(owner, &[Operand::Element(element)])?;
+    state.accept(owner, &Value::Null, out)
+}
+
+/// `slot-of N`: always `null`, since all shadow trees are closed (DOM Standard, the assignedSlot getter).
+pub fn slot_of(
+    state: &mut State,
+    owner: Owner,
+    node: Spelled,
+    out: &mut Vec<u8>,
+) -> Result<(), Fault>
+    ensures handled { IsHandled owner (slot_of (spelled_view node)) state.old.world state.new.world out.old.items out.new.items result }
+    ensures names { KeepsNames state.old.names state.new.names result }
+{
+    state.admit(owner, &[Operand::Slottable(node)])?;
+    state.accept(owner, &Value::Null, out)
+}
+
+/// `assigned E`: the nodes assigned to a slot; components' alone (DOM Standard, concept: assigned nodes).
+pub fn assigned(
+    state: &mut State,
+    owner: Owner,
+    slot: Spelled,
+    out: &mut Vec<u8>,
+) -> Result<(), Fault>
+    ensures handled { IsHandled owner (assigned_command (spelled_view slot)) state.old.world state.new.world out.old.items out.new.items result }
+    ensures names { KeepsNames state.old.names state.new.names result }
+{
+    if is_page(owner) {
+        return Err(Fault::Refused(Refusal::Syntax));
+    }
+    state.admit(owner, &[Operand::Slot(slot)])?;
+    let nodes = assigned_to(state, owner, slot)?;
+    state.accept(owner, &Value::List(&nodes), out)
+}
+
+/// The names of the nodes assigned to a slot that is there.
+fn assigned_to(state: &State, owner: Owner, slot: Spelled) -> Result<Vec<NodeName>, AllocError>
+    requires { has_node (part_of state.now.world owner).trees (named (part_of state.now.world owner) (spelled_view slot)) ≡ true }
+    ensures { IfOk result (λ names. names.items ≡ assigned state.now.world (named (part_of state.now.world owner) (spelled_view slot))) }
+{
+    slots_are_of_worlds();
+    let slot = state.key(owner, slot);
+    let (forest, slots) = state.forest_and_slots();
+    let nodes = slots.assigned(forest, slot)?;
+    names_of(state.alloc, forest, &nodes)
+}
+
+/// Whether an owner is the page.
+fn is_page(owner: Owner) -> bool
+    ensures { result ≡ is_page owner }
+{
+    matches!(owner, Owner::Page)
+}

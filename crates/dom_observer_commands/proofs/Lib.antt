@@ -1,0 +1,2 @@
+mod Notices
+mod ObserverLaws

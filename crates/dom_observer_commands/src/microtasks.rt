@@ -1,0 +1,50 @@
+//! The microtasks: how they are queued, and what a notification takes (HTML Standard, queue a microtask; DOM Standard, notify
+//! mutation observers).
+ghost use Rattle.std.specs.Prelude.{◌≡◌, ◌<◌, ◌++◌, All, filter, map, length, IfOk, OnOk, string_bytes};
+ghost use Rattle.dom_model.specs.Command.{micro};
+ghost use Rattle.dom_model.specs.Turns.{notified, notified_lines, is_owned_by, without_signals};
+ghost use Rattle.dom_model.specs.World.{part_of, with_part};
+ghost use Rattle.dom_isolation.specs.Worlds.{IsThere};
+ghost use Rattle.dom_text.specs.Text.{output_text};
+ghost use Rattle.dom_tree.specs.Forest.{name_at};
+ghost use Rattle.dom_admission.specs.Handled.{IsHandled, KeepsNames};
+
+use crate::records::put_notices;
+use dom_admission::State;
+use dom_base::{Fault, Owner};
+use dom_printer::Value;
+use node_arena::Key;
+use std::alloc::AllocError;
+
+/// `micro LABEL`: a microtask that prints a label.
+pub fn micro(state: &mut State, owner: Owner, label: String, out: &mut Vec<u8>) -> Result<(), Fault>
+    ensures handled { IsHandled owner (micro (string_bytes label)) state.old.world state.new.world out.old.items out.new.items result }
+    ensures names { KeepsNames state.old.names state.new.names result }
+{
+    state.admit(owner, &[])?;
+    state.doc.push_micro(owner, label.into_bytes())?;
+    state.accept(owner, &Value::Nothing, out)
+}
+
+/// The slots of an owner that are signalled, in their order; then none of that owner is (DOM Standard, notify mutation observers:
+/// signal slots).
+pub fn take_signals(state: &mut State, owner: Owner) -> Result<Vec<Key>, AllocError>
+    ensures keys { IfOk result (λ keys. map (name_at state.old.names) keys.items ≡ filter (is_owned_by owner) state.old.world.signalled) }
+    ensures nodes { IfOk result (λ keys. All (λ k. k < length state.old.names) keys.items) }
+    ensures names { OnOk result (state.new.names ≡ state.old.names) }
+    ensures world { OnOk result (state.new.world ≡ without_signals state.old.world owner) }
+{
+    state.doc.take_signals(owner)
+}
+
+/// Gives each pending observer of an owner its records, and puts their lines (DOM Standard, notify mutation observers).
+pub fn tell_observers(state: &mut State, owner: Owner, out: &mut Vec<u8>) -> Result<(), AllocError>
+    requires { IsThere state.old.world owner }
+    ensures text { OnOk result (out.new.items ≡ out.old.items ++ output_text (notified_lines (part_of state.old.world owner))) }
+    ensures world { OnOk result (state.new.world ≡ with_part state.old.world (notified (part_of state.old.world owner))) }
+    ensures names { OnOk result (state.new.names ≡ state.old.names) }
+{
+    let notices = state.doc.notify(owner)?;
+    let forest = state.doc.forest();
+    put_notices(state.alloc, forest, owner, notices.as_slice(), out)
+}

@@ -1,0 +1,36 @@
+-- Whether a node is connected does not go by the open turn.
+use Rattle.std.proofs.Common.{◌≡◌, ℕ, zero, suc, List, [], ◌∷◌, ◌++◌, Option, Some, None, flat_map, unwrap_or, refl, sym, ap, ◌∙◌}
+use Rattle.std.specs.Prelude.{is_some, option_to_list, if◌then◌else◌}
+use Rattle.dom_base.specs.declared.Owner.{Owner}
+use Rattle.dom_base.specs.declared.NodeName.{NodeName}
+use Rattle.dom_model.specs.Names.{last_of, owner_depth}
+use Rattle.dom_model.specs.Tree.{is_document}
+use Rattle.dom_model.specs.Command.{Spelled}
+use Rattle.dom_model.specs.CommandNames.{named}
+use Rattle.dom_model.specs.Part.{Part}
+use Rattle.dom_model.specs.Turns.{opening_turn}
+use Rattle.dom_model.specs.World.{World, part_of, host_above, hosts_from, ancestors_at, kind_at, is_connected}
+use Rattle.dom_admission.specs.Turned.{with_turn}
+use Rattle.dom_admission.proofs.Handling.{opened-part}
+
+module _ (t : Option Owner) (w : World) where
+  hosts_turned : (depth : ℕ) (x : NodeName) → hosts_from depth (with_turn t w) x ≡ hosts_from depth w x
+  hosts_turned zero x = refl
+  hosts_turned (suc depth) x = ap (λ (ys : List NodeName). x ∷ ys) (above (host_above w x) (λ y. hosts_turned depth y))
+    where
+      above : (h : Option NodeName) → ((y : NodeName) → hosts_from depth (with_turn t w) y ≡ hosts_from depth w y) →
+          flat_map (hosts_from depth (with_turn t w)) (option_to_list h) ≡ flat_map (hosts_from depth w) (option_to_list h)
+      above None same = refl
+      above (Some y) same = ap (λ (ys : List NodeName). ys ++ []) (same y)
+
+  pub connected-turned : (x : NodeName) → is_connected (with_turn t w) x ≡ is_connected w x
+  connected-turned x =
+      ap (λ (hosts : List NodeName). is_document (kind_at w (unwrap_or (last_of (flat_map (ancestors_at w) hosts)) x))) (hosts_turned (owner_depth x.owner) x)
+
+-- a node that a line names, when its turn is open
+pub connected-opened : (w : World) (o : Owner) (s : Spelled) → is_connected w (named (part_of w o) s) ≡ is_connected (opening_turn w o) (named (part_of (opening_turn w o) o) s)
+connected-opened w o s = cases w.turn ∙ ap (λ (p : Part). is_connected (opening_turn w o) (named p s)) (opened-part w o)
+  where
+    cases : (t : Option Owner) → is_connected w (named (part_of w o) s) ≡ is_connected (if is_some t then w else record w { turn = Some o }) (named (part_of w o) s)
+    cases None = sym (connected-turned (Some o) w (named (part_of w o) s))
+    cases (Some x) = refl

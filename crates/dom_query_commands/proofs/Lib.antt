@@ -1,0 +1,8 @@
+mod Connecting
+mod CursorLaws
+mod Places
+mod SelectorLaws
+mod Siblings
+mod SpotReads
+mod Spots
+mod Standing

@@ -1,0 +1,46 @@
+-- Each turn lists a child, until there is none.
+use Rattle.std.proofs.Common.{◌++◌, ◌∷◌, [], length, sym, ap, ◌∙◌, arith, append_assoc}
+use Rattle.std.specs.Option.{option_map}
+use Rattle.std.proofs.lemmas.List.{append-nil}
+use Rattle.dom_base.specs.declared.NodeName.{NodeName}
+use Rattle.dom_tree.specs.Forest.{name_at}
+use Rattle.dom_query_commands.proofs.Siblings.{from_or, begins, goes_on}
+use Rattle.dom_query_commands.proofs.reads.child_names.Goals as goal
+
+pub loop-at-init : goal.loop-at-init
+loop-at-init c =
+    let f = c.args.forest.now in
+    let law = c.nodes_stand_once.ensures in
+    let from = begins f.names f.trees law.once law.only c.args.node c.requires c.first-at.result c.first-at.ensures.value in
+    record {
+      node = c.first-at.ensures.node;
+      child = from.1;
+      so_far = ap (λ items. items ++ from_or f.trees (option_map (name_at f.names) c.first-at.result)) c.new-names.ensures.items ∙ from.0;
+    }
+
+pub loop-at-smaller : goal.loop-at-smaller
+loop-at-smaller c =
+    let f = c.args.forest.now in
+    let law = c.nodes_stand_once.ensures in
+    let i = c.loop-at.invariant in
+    let from = goes_on f.names f.trees law.once law.only (name_at f.names c.args.node) c.in-Some.child (i.node c.in-Some.child c.in-Some.is) c.loop-at.at c.next-at.result c.in-Some.is c.next-at.ensures.value i.child in
+    omega (arith, ap (length {A = NodeName}) from.0)
+
+pub loop-at-preserved : goal.loop-at-preserved
+loop-at-preserved c =
+    let f = c.args.forest.now in
+    let law = c.nodes_stand_once.ensures in
+    let i = c.loop-at.invariant in
+    let from = goes_on f.names f.trees law.once law.only (name_at f.names c.args.node) c.in-Some.child (i.node c.in-Some.child c.in-Some.is) c.loop-at.at c.next-at.result c.in-Some.is c.next-at.ensures.value i.child in
+    let rest = from_or f.trees (option_map (name_at f.names) c.next-at.result) in
+    record {
+      node = c.next-at.ensures.node;
+      child = from.1;
+      so_far = ap (λ items. items ++ rest) c.in_ok-push.ensures.items ∙ append_assoc c.loop-at.names.items (c.name.result ∷ []) rest
+          ∙ ap (λ (x : NodeName). c.loop-at.names.items ++ (x ∷ rest)) (sym c.name.ensures.at) ∙ ap (λ ys. c.loop-at.names.items ++ ys) (sym from.0) ∙ i.so_far;
+    }
+
+pub returns : goal.returns
+returns c =
+    let f = c.args.forest.now in
+    sym (append-nil c.loop-at.names.items) ∙ ap (λ o. c.loop-at.names.items ++ from_or f.trees (option_map (name_at f.names) o)) (sym c.in_default.is) ∙ c.loop-at.invariant.so_far

@@ -1,0 +1,17 @@
+-- The names so far, and those of the siblings from here on, are the children's.
+use Rattle.std.proofs.Common.{◌≡◌, ◌<◌, ◌++◌, length}
+use Rattle.std.specs.Option.{option_map, ForSome}
+use Rattle.dom_model.specs.Tree.{children_of}
+use Rattle.dom_tree.specs.Forest.{name_at}
+use Rattle.dom_query_commands.proofs.Siblings.{from_or, IsChildOf}
+use Rattle.dom_query_commands.proofs.reads.child_names.Given as goal
+
+abbrev pub invariant-loop-at : goal.invariant-loop-at
+invariant-loop-at l = record {
+  node : ForSome l.at (λ k. k < length l.forest.names);
+  child : IsChildOf l.forest.trees (name_at l.forest.names l.fn.node) (option_map (name_at l.forest.names) l.at);
+  so_far : l.names.items ++ from_or l.forest.trees (option_map (name_at l.forest.names) l.at) ≡ children_of l.forest.trees (name_at l.forest.names l.fn.node);
+}
+
+abbrev pub decreases-loop-at : goal.decreases-loop-at
+decreases-loop-at l = length (from_or l.forest.trees (option_map (name_at l.forest.names) l.at))

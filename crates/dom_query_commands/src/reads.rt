@@ -1,0 +1,181 @@
+//! The commands that ask where nodes stand.
+ghost use Rattle.std.specs.Prelude.{◌≡◌, ◌<◌, ◌++◌, ◌∷◌, [], true, length, OnOk, IfOk};
+ghost use Rattle.std.specs.Option.{option_map, ForSome};
+ghost use Rattle.dom_model.specs.Tree.{has_node, subtree, parent_of, children_of, is_inclusive_ancestor};
+ghost use Rattle.dom_model.specs.Command.{tree, parent, document_of, children, contains, connected};
+ghost use Rattle.dom_model.specs.CommandNames.{named};
+ghost use Rattle.dom_model.specs.Effects.{node_or_null};
+ghost use Rattle.dom_model.specs.Output.{says, replied, a_tree};
+ghost use Rattle.dom_model.specs.World.{part_of};
+ghost use Rattle.dom_text.specs.Text.{output_text};
+ghost use Rattle.dom_printer.specs.Replies.{value_view};
+ghost use Rattle.dom_reader.specs.Views.{spelled_view};
+ghost use Rattle.dom_tree.specs.Forest.{name_at};
+ghost use Rattle.dom_admission.specs.Handled.{KeepsNames, IsHandled};
+
+use crate::tree_text::tree_steps;
+use dom_admission::{Operand, State};
+use dom_base::{Fault, NodeName, Owner};
+use dom_printer::{Value, put_tree};
+use dom_reader::Spelled;
+use dom_tree::Forest;
+use node_arena::Key;
+use std::alloc::{AllocError, Global};
+
+/// `tree N`: the text of a node's tree.
+pub fn tree(state: &mut State, owner: Owner, node: Spelled, out: &mut Vec<u8>) -> Result<(), Fault>
+    ensures handled { IsHandled owner (tree (spelled_view node)) state.old.world state.new.world out.old.items out.new.items result }
+    ensures names { KeepsNames state.old.names state.new.names result }
+{
+    state.admit(owner, &[Operand::Any(node)])?;
+    reply_tree(state, owner, node, out)?;
+    state.open_turn(owner);
+    Ok(())
+}
+
+/// `parent N`: the parent of a node, or `null`.
+pub fn parent(
+    state: &mut State,
+    owner: Owner,
+    node: Spelled,
+    out: &mut Vec<u8>,
+) -> Result<(), Fault>
+    ensures handled { IsHandled owner (parent (spelled_view node)) state.old.world state.new.world out.old.items out.new.items result }
+    ensures names { KeepsNames state.old.names state.new.names result }
+{
+    state.admit(owner, &[Operand::Any(node)])?;
+    let value = node_or_null(state, parent_of(state, owner, node));
+    state.accept(owner, &value, out)
+}
+
+/// `docof N`: the node document of a node, or `null`.
+pub fn document_of(
+    state: &mut State,
+    owner: Owner,
+    node: Spelled,
+    out: &mut Vec<u8>,
+) -> Result<(), Fault>
+    ensures handled { IsHandled owner (document_of (spelled_view node)) state.old.world state.new.world out.old.items out.new.items result }
+    ensures names { KeepsNames state.old.names state.new.names result }
+{
+    state.admit(owner, &[Operand::Any(node)])?;
+    let value = node_or_null(state, state.document(owner, node));
+    state.accept(owner, &value, out)
+}
+
+/// `children N`: the children of a node.
+pub fn children(
+    state: &mut State,
+    owner: Owner,
+    node: Spelled,
+    out: &mut Vec<u8>,
+) -> Result<(), Fault>
+    ensures handled { IsHandled owner (children (spelled_view node)) state.old.world state.new.world out.old.items out.new.items result }
+    ensures names { KeepsNames state.old.names state.new.names result }
+{
+    state.admit(owner, &[Operand::Any(node)])?;
+    let children = children_of(state, owner, node)?;
+    state.accept(owner, &Value::List(&children), out)
+}
+
+/// `contains N N`: whether the first node is the second or stands above it.
+pub fn contains(
+    state: &mut State,
+    owner: Owner,
+    above: Spelled,
+    node: Spelled,
+    out: &mut Vec<u8>,
+) -> Result<(), Fault>
+    ensures handled { IsHandled owner (contains (spelled_view above) (spelled_view node)) state.old.world state.new.world out.old.items out.new.items result }
+    ensures names { KeepsNames state.old.names state.new.names result }
+{
+    state.admit(owner, &[Operand::Any(above), Operand::Any(node)])?;
+    let truth = is_above(state, owner, above, node);
+    state.accept(owner, &Value::Truth(truth), out)
+}
+
+/// `connected N`: whether a document is the shadow-including root of a node.
+pub fn connected(
+    state: &mut State,
+    owner: Owner,
+    node: Spelled,
+    out: &mut Vec<u8>,
+) -> Result<(), Fault>
+    ensures handled { IsHandled owner (connected (spelled_view node)) state.old.world state.new.world out.old.items out.new.items result }
+    ensures names { KeepsNames state.old.names state.new.names result }
+{
+    state.admit(owner, &[Operand::Any(node)])?;
+    let connected = state.doc.is_connected(state.key(owner, node));
+    state.accept(owner, &Value::Truth(connected), out)
+}
+
+/// Puts the reply with the text of the tree of a node that is there.
+fn reply_tree(
+    state: &State,
+    owner: Owner,
+    node: Spelled,
+    out: &mut Vec<u8>,
+) -> Result<(), AllocError>
+    requires { has_node (part_of state.now.world owner).trees (named (part_of state.now.world owner) (spelled_view node)) ≡ true }
+    ensures { OnOk result (out.new.items ≡ out.old.items ++ output_text (says owner (replied (a_tree (subtree (part_of state.now.world owner).trees (named (part_of state.now.world owner) (spelled_view node))))) ∷ [])) }
+{
+    let key = state.key(owner, node);
+    let forest = state.doc.forest();
+    let steps = tree_steps(state.alloc, forest, key)?;
+    put_tree(out, owner, &steps)
+}
+
+/// A node or `null`, for a reply.
+pub(crate) fn node_or_null(state: &State, node: Option<Key>) -> Value<'static>
+    requires { ForSome node (λ k. k < length state.now.names) }
+    ensures { value_view result ≡ node_or_null (option_map (name_at state.now.names) node) }
+{
+    match node {
+        Some(key) => Value::Node(state.doc.forest().name(key)),
+        None => Value::Null,
+    }
+}
+
+/// The parent of a node that is there.
+fn parent_of(state: &State, owner: Owner, node: Spelled) -> Option<Key>
+    requires { has_node (part_of state.now.world owner).trees (named (part_of state.now.world owner) (spelled_view node)) ≡ true }
+    ensures value { option_map (name_at state.now.names) result ≡ parent_of (part_of state.now.world owner).trees (named (part_of state.now.world owner) (spelled_view node)) }
+    ensures node { ForSome result (λ k. k < length state.now.names) }
+{
+    let key = state.key(owner, node);
+    state.doc.forest().parent(key)
+}
+
+/// The names of the children of a node that is there.
+fn children_of(state: &State, owner: Owner, node: Spelled) -> Result<Vec<NodeName>, AllocError>
+    requires { has_node (part_of state.now.world owner).trees (named (part_of state.now.world owner) (spelled_view node)) ≡ true }
+    ensures { IfOk result (λ names. names.items ≡ children_of (part_of state.now.world owner).trees (named (part_of state.now.world owner) (spelled_view node))) }
+{
+    let key = state.key(owner, node);
+    child_names(state.alloc, state.doc.forest(), key)
+}
+
+/// Whether a node that is there is another one or stands above it.
+fn is_above(state: &State, owner: Owner, above: Spelled, node: Spelled) -> bool
+    requires above_is_there { has_node (part_of state.now.world owner).trees (named (part_of state.now.world owner) (spelled_view above)) ≡ true }
+    requires node_is_there { has_node (part_of state.now.world owner).trees (named (part_of state.now.world owner) (spelled_view node)) ≡ true }
+    ensures { result ≡ is_inclusive_ancestor (part_of state.now.world owner).trees (named (part_of state.now.world owner) (spelled_view above)) (named (part_of state.now.world owner) (spelled_view node)) }
+{
+    let (above, node) = (state.key(owner, above), state.key(owner, node));
+    state.doc.forest().is_inclusive_ancestor(above, node)
+}
+
+/// The names of the children of a node, along the links from sibling to sibling.
+fn child_names(alloc: Global, forest: &Forest, node: Key) -> Result<Vec<NodeName>, AllocError>
+    requires { node < length forest.now.names }
+    ensures { IfOk result (λ names. names.items ≡ children_of forest.now.trees (name_at forest.now.names node)) }
+{
+    forest.nodes_stand_once();
+    let mut names = Vec::new(alloc);
+    let mut at = forest.first(node);
+    while let Some(child) = at {
+        names.push(forest.name(child))?;
+        at = forest.next(child);
+    }
+    Ok(names)
+}

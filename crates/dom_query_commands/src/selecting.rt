@@ -1,0 +1,76 @@
+//! The commands that select nodes.
+ghost use Rattle.std.specs.Prelude.{◌≡◌, ◌<◌, true, IfOk};
+ghost use Rattle.dom_model.specs.Tree.{has_node};
+ghost use Rattle.dom_model.specs.Command.{query, matches};
+ghost use Rattle.dom_model.specs.CommandNames.{named};
+ghost use Rattle.dom_model.specs.Selectors.{query_all, selector_matches};
+ghost use Rattle.dom_model.specs.World.{part_of};
+ghost use Rattle.dom_reader.specs.Views.{spelled_view};
+ghost use Rattle.dom_selectors.specs.Views.{selector_view};
+ghost use Rattle.dom_admission.specs.Handled.{KeepsNames, IsHandled};
+
+use dom_admission::{Operand, State, names_of};
+use dom_base::{DomStr, Fault, NodeName, Owner};
+use dom_printer::Value;
+use dom_reader::Spelled;
+use dom_selectors::Selector;
+use std::alloc::AllocError;
+
+/// `query N STR`: the nodes below a node that match a selector, in tree order.
+pub fn query(
+    state: &mut State,
+    owner: Owner,
+    node: Spelled,
+    text: DomStr,
+    out: &mut Vec<u8>,
+) -> Result<(), Fault>
+    ensures handled { IsHandled owner (query (spelled_view node) text.items) state.old.world state.new.world out.old.items out.new.items result }
+    ensures names { KeepsNames state.old.names state.new.names result }
+{
+    state.admit(owner, &[Operand::Parent(node)])?;
+    let selector = Selector::parse(state.alloc, &text)?;
+    let found = selected(state, owner, node, &selector)?;
+    state.accept(owner, &Value::List(&found), out)
+}
+
+/// `matches E STR`: whether an element matches a selector.
+pub fn matches(
+    state: &mut State,
+    owner: Owner,
+    element: Spelled,
+    text: DomStr,
+    out: &mut Vec<u8>,
+) -> Result<(), Fault>
+    ensures handled { IsHandled owner (matches (spelled_view element) text.items) state.old.world state.new.world out.old.items out.new.items result }
+    ensures names { KeepsNames state.old.names state.new.names result }
+{
+    state.admit(owner, &[Operand::Element(element)])?;
+    let selector = Selector::parse(state.alloc, &text)?;
+    let truth = is_selected(state, owner, element, &selector);
+    state.accept(owner, &Value::Truth(truth), out)
+}
+
+/// The names of the nodes below a node that is there which match a selector.
+fn selected(
+    state: &State,
+    owner: Owner,
+    node: Spelled,
+    selector: &Selector,
+) -> Result<Vec<NodeName>, AllocError>
+    requires { has_node (part_of state.now.world owner).trees (named (part_of state.now.world owner) (spelled_view node)) ≡ true }
+    ensures { IfOk result (λ names. names.items ≡ query_all (part_of state.now.world owner).trees (selector_view selector.now) (named (part_of state.now.world owner) (spelled_view node))) }
+{
+    let key = state.key(owner, node);
+    let forest = state.doc.forest();
+    let keys = selector.query_all(state.alloc, forest, key)?;
+    names_of(state.alloc, forest, &keys)
+}
+
+/// Whether a node that is there matches a selector.
+fn is_selected(state: &State, owner: Owner, node: Spelled, selector: &Selector) -> bool
+    requires { has_node (part_of state.now.world owner).trees (named (part_of state.now.world owner) (spelled_view node)) ≡ true }
+    ensures { result ≡ selector_matches (part_of state.now.world owner).trees (selector_view selector.now) (named (part_of state.now.world owner) (spelled_view node)) }
+{
+    let key = state.key(owner, node);
+    selector.matches(state.doc.forest(), key)
+}

@@ -1,0 +1,116 @@
+//! The openings and closings of a node's tree, for the reply of `tree`.
+ghost use Rattle.std.specs.Prelude.{◌≡◌, ◌<◌, length, IfOk};
+ghost use Rattle.std.specs.Option.{option_map, ForSome};
+ghost use Rattle.dom_model.specs.Tree.{subtree, node_in};
+ghost use Rattle.dom_tree.specs.Forest.{name_at};
+ghost use Rattle.dom_printer.specs.Steps.{attributes_view, opening_view, step_view, steps_view, shown, shown_steps};
+ghost use Rattle.dom_query_commands.specs.TreeText.{place_view, key_of, place_after, step_at};
+
+use dom_base::Kind;
+use dom_printer::{Attribute, Opening, TreeStep, Words};
+use dom_tree::Forest;
+use node_arena::Key;
+use std::alloc::{AllocError, Global};
+
+/// A place in the text of trees: where a node opens, or where it closes.
+#[derive(Clone, Copy)]
+enum Place {
+    Opening(Key),
+    Closing(Key),
+}
+
+/// The openings and closings of the tree of a node, in the order of their text: a node opens, the trees of its children
+/// follow in tree order, and it closes. Names and data are borrowed from the forest. The only error is memory refused.
+///
+/// Own rule.
+pub(crate) fn tree_steps<'a>(
+    alloc: Global,
+    forest: &'a Forest,
+    top: Key,
+) -> Result<Vec<TreeStep<'a>>, AllocError>
+    requires { top < length forest.now.names }
+    ensures { IfOk result (λ steps. steps_view steps.items ≡ shown_steps (subtree forest.now.trees (name_at forest.now.names top))) }
+{
+    forest.nodes_stand_once();
+    let mut steps = Vec::new(alloc);
+    let mut place = Some(Place::Opening(top));
+    while let Some(at) = place {
+        steps.push(step(alloc, forest, at)?)?;
+        place = after(forest, at, top);
+    }
+    Ok(steps)
+}
+
+/// The place after this one, up to where the node given closes: behind an opening the first child opens, or else the node
+/// closes; behind a closing the next sibling opens, or else the parent closes.
+fn after(forest: &Forest, place: Place, top: Key) -> Option<Place>
+    requires place_is_node { key_of place < length forest.now.names }
+    requires top_is_node { top < length forest.now.names }
+    ensures value { option_map (place_view forest.now.names) result ≡ place_after forest.now.trees (name_at forest.now.names top) (place_view forest.now.names place) }
+    ensures node { ForSome result (λ at. key_of at < length forest.now.names) }
+{
+    forest.nodes_stand_once();
+    match place {
+        Place::Opening(key) => match forest.first(key) {
+            Some(child) => Some(Place::Opening(child)),
+            None => Some(Place::Closing(key)),
+        },
+        Place::Closing(key) => {
+            if key == top {
+                return None;
+            }
+            match forest.next(key) {
+                Some(sibling) => Some(Place::Opening(sibling)),
+                None => Some(Place::Closing(forest.parent(key)?)),
+            }
+        }
+    }
+}
+
+/// The step at a place.
+fn step<'a>(alloc: Global, forest: &'a Forest, place: Place) -> Result<TreeStep<'a>, AllocError>
+    requires { key_of place < length forest.now.names }
+    ensures { IfOk result (λ step. step_view step ≡ step_at forest.now.trees (place_view forest.now.names place)) }
+{
+    match place {
+        Place::Opening(key) => Ok(TreeStep::Opens(opening(alloc, forest, key)?)),
+        Place::Closing(_) => Ok(TreeStep::Closes),
+    }
+}
+
+/// A node where its tree begins: an element with its local name and its attributes, a Text or a Comment with its data.
+fn opening<'a>(alloc: Global, forest: &'a Forest, key: Key) -> Result<Opening<'a>, AllocError>
+    requires { key < length forest.now.names }
+    ensures { IfOk result (λ opening. opening_view opening ≡ shown (node_in forest.now.trees (name_at forest.now.names key))) }
+{
+    let kind = forest.kind(key);
+    let words = match kind {
+        Kind::Element => Words::Element {
+            name: forest.element(key),
+            attributes: attributes(alloc, forest, key)?,
+        },
+        Kind::Text | Kind::Comment => Words::Data(forest.text(key)),
+        Kind::Document | Kind::Fragment | Kind::Shadow => Words::None,
+    };
+    Ok(Opening {
+        name: forest.name(key),
+        kind,
+        words,
+    })
+}
+
+/// The attributes of a node, in order.
+fn attributes<'a>(
+    alloc: Global,
+    forest: &'a Forest,
+    key: Key,
+) -> Result<Vec<Attribute<'a>>, AllocError>
+    requires { key < length forest.now.names }
+    ensures { IfOk result (λ attributes. attributes_view attributes.items ≡ (node_in forest.now.trees (name_at forest.now.names key)).attributes) }
+{
+    let mut attributes = Vec::new(alloc);
+    while let Some((name, value)) = forest.attr_at(key, attributes.len()) {
+        attributes.push(Attribute { name, value })?;
+    }
+    Ok(attributes)
+}

@@ -1,0 +1,83 @@
+-- What the operations on live ranges do, from the keys of the nodes that they name.
+use Rattle.std.proofs.Common.{◌≡◌, ℕ, suc, true, List, [], ◌∷◌, ◌++◌, length, Option, Some, None, Result, Ok, Err, is_some, refl, sym, ap, ◌∙◌}
+use Rattle.std.specs.Prelude.{take}
+use Rattle.std.proofs.Math.Seq.{get_or-append_seam}
+use Rattle.std.specs.Option.{ForSome, option_map_or}
+use Rattle.dom_base.specs.declared.Fault.{Fault}
+use Rattle.dom_base.specs.declared.Fault.TheVariants.{Refused, Memory}
+use Rattle.dom_base.specs.declared.NodeName.{NodeName}
+use Rattle.dom_base.specs.declared.Owner.{Owner}
+use Rattle.dom_base.specs.declared.Owner.TheVariants.{Page}
+use Rattle.dom_model.specs.Command.{Command, Spelled}
+use Rattle.dom_model.specs.CommandNames.{named}
+use Rattle.dom_model.specs.CommandRefusals.{own_refusal}
+use Rattle.dom_model.specs.Effects.{answers}
+use Rattle.dom_model.specs.Extract.{clone_count, made_by_extracting, pieces_of}
+use Rattle.dom_model.specs.Names.{DomString, node_of}
+use Rattle.dom_model.specs.Output.{nothing, a_string}
+use Rattle.dom_model.specs.Part.{Part, range_at, next_name}
+use Rattle.dom_model.specs.RangeOps.{range_text_of}
+use Rattle.dom_model.specs.Ranges.{Range}
+use Rattle.dom_model.specs.World.{World, part_of, is_there}
+use Rattle.dom_model.proofs.PartLaws.{owner-part_of}
+use Rattle.dom_mutation.specs.Doc.{made, Makes}
+use Rattle.dom_range_ops.specs.Insertions.{inserting_node, inserting_refusal}
+use Rattle.dom_range_ops.specs.Takings.{new_names}
+use Rattle.dom_tree.specs.Forest.{name_at}
+use Rattle.dom_admission.specs.Handled.{BeginsWith, KeepsNames}
+use Rattle.dom_admission.proofs.Finding.{IsKey, owner-named}
+use Rattle.dom_admission.proofs.Handling.{with_part-same}
+
+-- names that stay in front of others are kept, however a command ends
+pub keeps_names : (names more : List NodeName) (r : Result (Unit {0}) Fault) → BeginsWith names more → KeepsNames names more r
+keeps_names names more (Ok x) h = h
+keeps_names names more (Err (Refused q)) h = h
+keeps_names names more (Err Memory) h = tt
+
+-- the text of a range is answered, and nothing is changed
+pub text_told : (w : World) (o : Owner) (k : ℕ) (text : DomString) → is_there w o ≡ true → is_some (range_at (part_of w o) k) ≡ true →
+    ForSome (range_at (part_of w o) k) (λ r. text ≡ range_text_of (part_of w o).trees r) → Makes o (Command.range_text k) (a_string text) w w
+text_told w o k text there known is = by (range_at (part_of w o) k) refl known is
+  where
+    p : Part
+    p = part_of w o
+
+    by : (m : Option (Range NodeName)) → range_at p k ≡ m → is_some m ≡ true → ForSome m (λ r. text ≡ range_text_of p.trees r) → Makes o (Command.range_text k) (a_string text) w w
+    by None e known is = absurd cc
+    by (Some r) e known is =
+        (ap (λ m. option_map_or (λ (range : Range NodeName). answers p (a_string (range_text_of p.trees range))) m (answers p nothing)) e ∙ ap (λ s. answers p (a_string s)) (sym (is r refl)), sym (with_part-same w o there))
+
+-- What an extraction names: the fragment has its owner's next name, and the names before it stay.
+module _ (names more : List NodeName) (w : World) (o : Owner) (k : ℕ) (known : is_some (range_at (part_of w o) k) ≡ true)
+    (is : ForSome (range_at (part_of w o) k) (λ r. more ≡ names ++ new_names o (part_of w o).node_count (made_by_extracting (part_of w o) r))) where
+  -- more names, of which the fragment's is the first
+  others : (rest : List NodeName) × (more ≡ names ++ node_of o (part_of w o).node_count ∷ rest)
+  others = by (range_at (part_of w o) k) known is
+    where
+      by : (m : Option (Range NodeName)) → is_some m ≡ true → ForSome m (λ r. more ≡ names ++ new_names o (part_of w o).node_count (made_by_extracting (part_of w o) r)) → (rest : List NodeName) × (more ≡ names ++ node_of o (part_of w o).node_count ∷ rest)
+      by None known is = absurd cc
+      by (Some r) known is = (new_names o (suc (part_of w o).node_count) (clone_count (pieces_of (part_of w o).trees r)), is r refl)
+
+  pub extracted-name : (key : ℕ) → key ≡ length names → name_at more key ≡ next_name (part_of w o)
+  extracted-name key last =
+      let n = (part_of w o).node_count in
+      ap (name_at more) last ∙ ap (λ (ns : List NodeName). name_at ns (length names)) others.1 ∙ get_or-append_seam names (node_of o n) others.0 (node_of Page 0) ∙ ap (λ q. node_of q n) (sym (owner-part_of w o))
+
+  pub extracted-kept : BeginsWith names more
+  extracted-kept = ap (take (length names)) others.1 ∙ front names (node_of o (part_of w o).node_count ∷ others.0)
+    where
+      front : (xs ys : List NodeName) → take (length xs) (xs ++ ys) ≡ xs
+      front [] ys = refl
+      front (x ∷ xs) ys = ap (λ zs. x ∷ zs) (front xs ys)
+
+module _ (names : List NodeName) (w : World) (o : Owner) (k : ℕ) (x : Spelled) (node : ℕ) (node_is : IsKey names w o node x) where
+  -- the node that is inserted is the owner's
+  pub inserted-own : (name_at names node).owner ≡ o
+  inserted-own = ap (λ (y : NodeName). y.owner) node_is ∙ owner-named w o x
+
+  -- the refusal of its insertion, and what that does
+  pub inserted-refused : inserting_refusal (part_of w o) k (name_at names node) ≡ own_refusal (part_of w o) (Command.insert_node k x)
+  inserted-refused = rw node_is refl
+
+  pub inserted-made : (new : World) → new ≡ made o (inserting_node k (name_at names node)) w → new ≡ made o (λ p. inserting_node k (named p x) p) w
+  inserted-made new e = rw node_is at e

@@ -1,0 +1,2 @@
+pub mod RangeCommands
+pub mod RangeWorlds
