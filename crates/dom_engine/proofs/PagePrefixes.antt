@@ -13,7 +13,7 @@ use Rattle.dom_text.specs.Lines.{Cut, cut_of, last_line, lines_of, begins_with, 
 use Rattle.dom_text.specs.Text.{output_line, output_text}
 use Rattle.dom_text.specs.Decode.{decode}
 use Rattle.dom_text.proofs.LineLaws.{lines_of-cut, cut_of-pieces}
-use Rattle.dom_commands.proofs.TextLaws.{text_of_lines-append, output_text-append}
+use Rattle.dom_text.proofs.OutputLaws.{text_of_lines-append, output_text-append}
 use Rattle.dom_isolation.proofs.PageRuns.{page_output-goes_on, first_lines-stop_nothing}
 use Rattle.dom_isolation.proofs.PlainLines.{decode-reads_plain_words}
 use Rattle.dom_isolation.proofs.PlainTexts.{picked_lines-agree_so_far}
