@@ -1,20 +1,20 @@
--- A node whose attributes are changed away from hosts and shadow trees leaves all that is assigned.
-use Rattle.std.proofs.Common.{◌≡◌, ◌⊎◌, inl, inr, Bool, true, false, List, [], ◌∷◌, None, Some, refl, sym, ap, subst, ◌∙◌}
+-- A node whose attributes are changed outside of shadow trees leaves all that is assigned to others than its slots.
+use Rattle.std.proofs.Common.{◌≡◌, ◌⊎◌, inl, inr, Bool, true, false, List, [], ◌∷◌, None, refl, sym, ap, ◌∙◌}
 use Rattle.std.specs.Prelude.{drop, find, if◌then◌else◌, unwrap_or}
 use Rattle.std.specs.Option.{option_map}
 use Rattle.std.proofs.lemmas.Bool.{cases_Bool}
 use Rattle.dom_base.specs.declared.NodeName.{NodeName}
 use Rattle.dom_model.specs.Names.{name_eq, first_of, last_of}
-use Rattle.dom_model.specs.Tree.{Trees, none, tree, Node, nodes, no_node, node_in, subtree, parent_of, root_of, children_of}
+use Rattle.dom_model.specs.Tree.{Trees, none, tree, Node, nodes, no_node, node_in, subtree, parent_of, root_of}
 use Rattle.dom_model.specs.TreeChanges.{map_nodes, change_node}
-use Rattle.dom_traversal.proofs.Children.{parent-of_child}
-use Rattle.dom_traversal.proofs.Lists.{In, name_eq-true, name_eq-other}
+use Rattle.dom_traversal.proofs.Lists.{name_eq-true, name_eq-other}
 use Rattle.dom_traversal.proofs.Shapes.{Has, has_or_not}
 use Rattle.dom_slots.specs.Hosts.{ShadowHost, host_named}
+use Rattle.dom_slots.proofs.Grafts.{others}
 use Rattle.dom_slots.proofs.Moved.{IsAside, root-aside}
 use Rattle.dom_slots.proofs.Recast.{nodes_recast, path_recast, subtree_recast, children_recast, found_recast}
 use Rattle.dom_slots.proofs.Rooted.{root-within}
-use Rattle.dom_slots.proofs.Settled.{IsSettled, KeepsHosts, KeepsAssigned, host-has_root, assigned-unhosted, assigned-settled}
+use Rattle.dom_slots.proofs.Settled.{IsSettled, KeepsHosts, KeepsAssigned, assigned-unhosted, assigned-settled}
 
 module _ (x : NodeName) (g : Node → Node) (keeps : (n : Node) → (g n).name ≡ n.name) where
   abbrev changed : Node → Node
@@ -66,21 +66,16 @@ module _ (x : NodeName) (g : Node → Node) (keeps : (n : Node) → (g n).name �
       | inr away ↦ inl record { root = root_same y; tree = sym (subtree_recast changed changed_name was (root_of was y) ∙ changed_off (subtree was (root_of was y)) away) }
     ]
 
-    child_other : (r h c : NodeName) → host_named names hosts r ≡ Some h → In c (children_of was h) → c ≡ x → ⊥
-    child_other r h c e i same =
-        let up : parent_of was x ≡ Some h = subst (λ z. parent_of was z ≡ Some h) same (parent-of_child was h c aside.once_was (aside.stands r h e).0 i).0 in
-        host-has_root names hosts r h e (aside.parent h (parent-changed was x ∙ up)).0
-
-    keeps_hosts : KeepsHosts names hosts was now
+    keeps_hosts : KeepsHosts names hosts x was now
     keeps_hosts = record {
       stands = aside.stands;
-      children = λ r h e. sym (children_recast changed changed_name was h);
-      contents = λ r h c e i. sym (node_off was c (child_other r h c e i));
+      children = λ r h e. ap (others x) (sym (children_recast changed changed_name was h));
+      contents = λ r h c e i j other. sym (node_off was c other);
     }
 
-    -- all that is assigned stays
-    pub changed-keeps : KeepsAssigned names hosts was now
-    changed-keeps y h k = elim (settled y h) [
-      | inl s ↦ assigned-settled names hosts was now aside.once_was aside.once_now y h k s keeps_hosts
+    -- all that is assigned to others stays
+    pub changed-keeps : KeepsAssigned names hosts x was now
+    changed-keeps y h k not_was not_now = elim (settled y h) [
+      | inl s ↦ assigned-settled names hosts was now aside.once_was aside.once_now y h k s x keeps_hosts not_was not_now
       | inr e ↦ assigned-unhosted names hosts was now aside.once_was aside.once_now y e.0 e.1
     ]

@@ -1,12 +1,12 @@
 -- Trees into which one more tree was put: what is read of its nodes, and of the others.
-use Rattle.std.proofs.Common.{◌≡◌, inl, inr, [], ◌∷◌, Option, refl, sym, ap, subst, ◌∙◌}
-use Rattle.std.specs.Prelude.{if◌then◌else◌}
+use Rattle.std.proofs.Common.{◌≡◌, inl, inr, List, [], ◌∷◌, not, filter, None, Option, refl, sym, ap, subst, ◌∙◌}
+use Rattle.std.specs.Prelude.{if◌then◌else◌, drop}
 use Rattle.std.proofs.lemmas.Bool.{cases_Bool}
 use Rattle.dom_base.specs.declared.NodeName.{NodeName}
-use Rattle.dom_model.specs.Names.{name_eq, name_before}
-use Rattle.dom_model.specs.Tree.{Trees, none, tree, Node, roots, names_of, or_else, subtree, on_top, inclusive_ancestors}
+use Rattle.dom_model.specs.Names.{name_eq, name_before, first_of}
+use Rattle.dom_model.specs.Tree.{Trees, none, tree, Node, roots, names_of, or_else, subtree, on_top, inclusive_ancestors, parent_of}
 use Rattle.dom_model.specs.TreeChanges.{without, is_given, put_before, put_below, put_root}
-use Rattle.dom_traversal.proofs.Lists.{In, same_or_not, name_eq-from, name_eq-other}
+use Rattle.dom_traversal.proofs.Lists.{same_or_not, name_eq-from, name_eq-other, filter-no}
 use Rattle.dom_traversal.proofs.Removal.{Has-without}
 use Rattle.dom_traversal.proofs.Shapes.{Has, Once, above-absent, subtree-absent, subtree-here, subtree-below, subtree-beside}
 
@@ -15,6 +15,13 @@ pub data Spot : Type 0 where
   Before : Spot
   Below : Spot → Spot
   Behind : Spot → Spot
+
+-- a list without a name
+abbrev pub others : NodeName → List NodeName → List NodeName
+others x ys = filter (λ y. not (name_eq x y)) ys
+
+others-here : (x : NodeName) (ys : List NodeName) → others x (x ∷ ys) ≡ others x ys
+others-here x ys = filter-no (λ y. not (name_eq x y)) x ys (ap not (name_eq-from x x refl))
 
 or_else-none : (ts : Trees) → or_else ts none ≡ ts
 or_else-none none = refl
@@ -83,30 +90,30 @@ module _ (m : Node) (d : Trees) where
   tree-own (Behind p) (tree n c r) y off =
       rw (name_eq-other n.name y (λ e. off (inl e)), subtree-absent c y (λ i. off (inr (inl i)))) (tree-own p r y (λ i. off (inr (inr i))))
 
-  -- both have no node, or the same root, with the same children where the new tree is not one of theirs
+  -- both have no node, or the same root, with the same children but for the new tree
   abbrev pub Alike : Trees → Trees → Type 0
   Alike none none = Unit {0}
   Alike none (tree k b s) = ⊥
   Alike (tree n c r) none = ⊥
-  Alike (tree n c r) (tree k b s) = (n ≡ k) × ((In m.name (names_of (roots c)) → ⊥) → names_of (roots c) ≡ names_of (roots b))
+  Alike (tree n c r) (tree k b s) = (n ≡ k) × (others m.name (names_of (roots c)) ≡ others m.name (names_of (roots b)))
 
   Alike-same : (ts : Trees) → Alike ts ts
   Alike-same none = tt
-  Alike-same (tree n c r) = (refl, λ away. refl)
+  Alike-same (tree n c r) = (refl, refl)
 
-  roots-others : (p : Spot) (us : Trees) → (In m.name (names_of (roots (grafted p us))) → ⊥) → names_of (roots (grafted p us)) ≡ names_of (roots us)
-  roots-others Before us away = absurd (away (inl refl))
-  roots-others (Below p) none away = absurd (away (inl refl))
-  roots-others (Below p) (tree n c r) away = refl
-  roots-others (Behind p) none away = absurd (away (inl refl))
-  roots-others (Behind p) (tree n c r) away = ap (λ ys. n.name ∷ ys) (roots-others p r (λ i. away (inr i)))
+  roots-others : (p : Spot) (us : Trees) → others m.name (names_of (roots (grafted p us))) ≡ others m.name (names_of (roots us))
+  roots-others Before us = others-here m.name (names_of (roots us))
+  roots-others (Below p) none = others-here m.name []
+  roots-others (Below p) (tree n c r) = refl
+  roots-others (Behind p) none = others-here m.name []
+  roots-others (Behind p) (tree n c r) = ap (λ ys. if not (name_eq m.name n.name) then n.name ∷ ys else ys) (roots-others p r)
 
   -- so are the trees of each other node
   pub Alike-others : (p : Spot) (us : Trees) (y : NodeName) → (Has (tree m d none) y → ⊥) → Alike (subtree (grafted p us) y) (subtree us y)
   Alike-others Before us y off = rw (name_eq-other m.name y (λ e. off (inl e)), subtree-absent d y (λ i. off (inr (inl i)))) (Alike-same (subtree us y))
   Alike-others (Below p) none y off = subst (λ (ts : Trees). Alike ts none) (sym (subtree-absent (tree m d none) y off)) tt
   Alike-others (Below p) (tree n c r) y off = elim (cases_Bool (name_eq n.name y)) [
-    | inl e ↦ rw e (refl, λ away. roots-others p c away)
+    | inl e ↦ rw e (refl, roots-others p c)
     | inr e ↦ rw e (below (subtree (grafted p c) y) (subtree c y) (Alike-others p c y off))
   ]
     where
@@ -117,13 +124,13 @@ module _ (m : Node) (d : Trees) where
       below (tree k b s) (tree l a t) h = h
   Alike-others (Behind p) none y off = subst (λ (ts : Trees). Alike ts none) (sym (subtree-absent (tree m d none) y off)) tt
   Alike-others (Behind p) (tree n c r) y off = elim (cases_Bool (name_eq n.name y)) [
-    | inl e ↦ rw e (refl, λ away. refl)
+    | inl e ↦ rw e (refl, refl)
     | inr e ↦ rw e (behind (subtree c y) (Alike-others p r y off))
   ]
     where
       behind : (ts : Trees) → Alike (subtree (grafted p r) y) (subtree r y) → Alike (or_else ts (subtree (grafted p r) y)) (or_else ts (subtree r y))
       behind none h = h
-      behind (tree k b s) h = (refl, λ away. refl)
+      behind (tree k b s) h = (refl, refl)
 
 -- ---- trees that are such
 
@@ -199,6 +206,17 @@ module _ (m : Node) (d : Trees) where
     | inl e ↦ rw e (Before, refl)
     | inr e ↦ rw e (let w = root-grafts y r in (Behind w.0, ap (tree n c) w.1))
   ]
+
+  -- and then has no parent
+  pub root-unparented : (y : NodeName) (us : Trees) → (Has us m.name → ⊥) → parent_of (put_root y (tree m d none) us) m.name ≡ None
+  root-unparented y us off = ap (λ path. first_of (drop 1 path)) (path us off)
+    where
+      path : (vs : Trees) → (Has vs m.name → ⊥) → inclusive_ancestors (put_root y (tree m d none) vs) m.name ≡ m.name ∷ []
+      path none away = rw (name_eq-from m.name m.name refl) refl
+      path (tree n c r) away = elim (cases_Bool (name_before y n.name)) [
+        | inl e ↦ rw (e, name_eq-from m.name m.name refl) refl
+        | inr e ↦ rw (e, name_eq-other n.name m.name (λ same. away (inl same)), above-absent c m.name (λ i. away (inr (inl i))), path r (λ i. away (inr (inr i)))) refl
+      ]
 
   -- or before a node
   before-grafts : (before : Option NodeName) (us : Trees) → (p : Spot) × (put_before before (tree m d none) us ≡ grafted m d p us)

@@ -9,7 +9,9 @@ pub mod Tables
 pub mod Signalled
 pub mod Entering
 pub mod Ended
+pub mod OwnSignals
 pub mod Unchanged
+pub mod Renewing
 pub mod Hostless
 pub mod Attaching
 pub mod Recast

@@ -1,4 +1,4 @@
--- A tree that is moved away from hosts and shadow trees leaves all that is assigned.
+-- A tree that is moved outside of shadow trees leaves all that is assigned to others than the slots of its root.
 use Rattle.std.proofs.Common.{◌≡◌, ◌⊎◌, inl, inr, ◌+◌, length, List, Option, None, Some, refl, sym, ap, subst, ◌∙◌, arith, length-append}
 use Rattle.std.specs.Prelude.{unwrap_or}
 use Rattle.dom_base.specs.declared.NodeName.{NodeName}
@@ -6,19 +6,18 @@ use Rattle.dom_model.specs.Names.{name_eq, items_before, last_of}
 use Rattle.dom_model.specs.Tree.{Trees, none, tree, Node, nodes, roots, names_of, node_in, trees_below, subtree, inclusive_ancestors, parent_of, root_of, children_of}
 use Rattle.dom_traversal.proofs.Chains.{above-split}
 use Rattle.dom_traversal.proofs.Children.{parent-of_child}
-use Rattle.dom_traversal.proofs.Lists.{In}
 use Rattle.dom_traversal.proofs.Shapes.{Has, Once, has_or_not, subtree-here, subtree-present, above-from_below, above-parent}
-use Rattle.dom_slots.specs.Hosts.{ShadowHost, host_named, root_named}
-use Rattle.dom_slots.proofs.Grafts.{Spot, grafted, Has-grafted, above-others, tree-others, tree-own, Alike, Alike-others}
+use Rattle.dom_slots.specs.Hosts.{ShadowHost, host_named}
+use Rattle.dom_slots.proofs.Grafts.{Spot, grafted, Has-grafted, others, above-others, tree-others, tree-own, Alike, Alike-others}
 use Rattle.dom_slots.proofs.Named.{InNodes, in_tree, node_in-self}
 use Rattle.dom_slots.proofs.Rooted.{root-alone, root-parent, root-below, root-of_root, in-tree_of_root, root-within}
-use Rattle.dom_slots.proofs.Settled.{IsSettled, KeepsHosts, KeepsAssigned, host-has_root, assigned-unhosted, assigned-settled}
+use Rattle.dom_slots.proofs.Settled.{IsSettled, KeepsHosts, KeepsAssigned, assigned-unhosted, assigned-settled}
 
--- a node that is no host and stands in no shadow tree, if there is one
+-- a node that stands in no shadow tree, if there is one
 abbrev pub Outside : List NodeName → List ShadowHost → Trees → Option NodeName → Type 0
-Outside names hosts ts o = (p : NodeName) → o ≡ Some p → (root_named names hosts p ≡ None) × (host_named names hosts (root_of ts p) ≡ None)
+Outside names hosts ts o = (p : NodeName) → o ≡ Some p → host_named names hosts (root_of ts p) ≡ None
 
--- a step of x that is made away from hosts and shadow trees
+-- a step of x that is made outside of shadow trees
 pub record IsAside (names : List NodeName) (hosts : List ShadowHost) (x : NodeName) (was now : Trees) : Type 0 where
   pub once_was : Once was
   pub once_now : Once now
@@ -33,7 +32,7 @@ root-aside names hosts x was now aside at = by (parent_of now x) refl
   where
     by : (o : Option NodeName) → parent_of now x ≡ o → host_named names hosts (root_of now x) ≡ None
     by None e = ap (host_named names hosts) (root-alone now x at e) ∙ aside.node
-    by (Some p) e = ap (host_named names hosts) (root-parent now aside.once_now x p at e) ∙ (aside.parent p e).1
+    by (Some p) e = ap (host_named names hosts) (root-parent now aside.once_now x p at e) ∙ aside.parent p e
 
 -- the node of a name is the root of its tree
 node-of_tree : (ts : Trees) → Once ts → (c : NodeName) → Has ts c → (n : Node) × (b : Trees) × (subtree ts c ≡ tree n b none) × (node_in ts c ≡ n)
@@ -81,7 +80,7 @@ module _ (names : List NodeName) (hosts : List ShadowHost) (m : Node) (d us : Tr
       by None e = ap (host_named names hosts) (root-alone was x (Has-grafted m d p us) e) ∙ aside.node
       by (Some a) e =
           let off : Has (tree m d none) a → ⊥ = λ h. not-below was aside.once_was x a (Has-grafted m d p us) e (in_own p a h) in
-          ap (host_named names hosts) (root-parent was aside.once_was x a (Has-grafted m d p us) e ∙ root_same a off) ∙ (aside.left a e).1
+          ap (host_named names hosts) (root-parent was aside.once_was x a (Has-grafted m d p us) e ∙ root_same a off) ∙ aside.left a e
 
   root_now : host_named names hosts (root_of now x) ≡ None
   root_now = root-aside names hosts x was now aside (Has-grafted m d q us)
@@ -114,24 +113,16 @@ module _ (names : List NodeName) (hosts : List ShadowHost) (m : Node) (d us : Tr
 
   -- ---- hosts
 
-  -- a host is not the parent of x, before or after
-  parent_other : (spot : Spot) → Once (grafted m d spot us) → Outside names hosts now (parent_of (grafted m d spot us) x) → (r h : NodeName) → host_named names hosts r ≡ Some h → Has (grafted m d spot us) h
-      → In x (children_of (grafted m d spot us) h) → ⊥
-  parent_other spot once outside r h e at i = host-has_root names hosts r h e (outside h (parent-of_child (grafted m d spot us) h x once at i).0).0
+  alike_children : (ts vs : Trees) → Alike m d ts vs → others x (names_of (roots (trees_below ts))) ≡ others x (names_of (roots (trees_below vs)))
+  alike_children none none alike = refl
+  alike_children none (tree k b s) alike = absurd alike
+  alike_children (tree n c r) none alike = absurd alike
+  alike_children (tree n c r) (tree k b s) alike = alike.1
 
-  alike_children : (ts vs : Trees) → Alike m d ts vs → (In x (names_of (roots (trees_below ts))) → ⊥) → names_of (roots (trees_below ts)) ≡ names_of (roots (trees_below vs))
-  alike_children none none alike off = refl
-  alike_children none (tree k b s) alike off = absurd alike
-  alike_children (tree n c r) none alike off = absurd alike
-  alike_children (tree n c r) (tree k b s) alike off = alike.1 off
-
-  children_same : (r h : NodeName) → host_named names hosts r ≡ Some h → children_of was h ≡ children_of now h
-  children_same r h e = elim (has_or_not (tree m d none) h) [
-    | inl i ↦ let off : Has us h → ⊥ = λ j. apart h j i in ap (λ (ts : Trees). names_of (roots (trees_below ts))) (tree-own m d p us h off ∙ sym (tree-own m d q us h off))
-    | inr off ↦
-        let at = aside.stands r h e in
-        alike_children (subtree was h) (subtree us h) (Alike-others m d p us h off) (parent_other p aside.once_was aside.left r h e at.0)
-        ∙ sym (alike_children (subtree now h) (subtree us h) (Alike-others m d q us h off) (parent_other q aside.once_now aside.parent r h e at.1))
+  children_same : (h : NodeName) → others x (children_of was h) ≡ others x (children_of now h)
+  children_same h = elim (has_or_not (tree m d none) h) [
+    | inl i ↦ let off : Has us h → ⊥ = λ j. apart h j i in ap (λ (ts : Trees). others x (names_of (roots (trees_below ts)))) (tree-own m d p us h off ∙ sym (tree-own m d q us h off))
+    | inr off ↦ alike_children (subtree was h) (subtree us h) (Alike-others m d p us h off) ∙ sym (alike_children (subtree now h) (subtree us h) (Alike-others m d q us h off))
   ]
 
   alike_roots : (n k : Node) (b c ts : Trees) → Alike m d (tree n b none) ts → Alike m d (tree k c none) ts → n ≡ k
@@ -156,18 +147,18 @@ module _ (names : List NodeName) (hosts : List ShadowHost) (m : Node) (d us : Tr
       root_of_both : (n k : Node) (b c : Trees) → tree n b none ≡ tree k c none → n ≡ k
       root_of_both n k b c e = ap first_root e
 
-  keeps_hosts : KeepsHosts names hosts was now
+  keeps_hosts : KeepsHosts names hosts x was now
   keeps_hosts = record {
     stands = aside.stands;
-    children = children_same;
-    contents = λ r h c e i.
+    children = λ r h e. children_same h;
+    contents = λ r h c e i j other.
         let at = aside.stands r h e in
-        contents_same c (parent-of_child was h c aside.once_was at.0 i).1 (parent-of_child now h c aside.once_now at.1 (subst (In c) (children_same r h e) i)).1;
+        contents_same c (parent-of_child was h c aside.once_was at.0 i).1 (parent-of_child now h c aside.once_now at.1 j).1;
   }
 
-  -- so all that is assigned stays
-  pub moved-keeps : KeepsAssigned names hosts was now
-  moved-keeps y h g = elim (placed_so y h g) [
-    | inl s ↦ assigned-settled names hosts was now aside.once_was aside.once_now y h g s keeps_hosts
+  -- so all that is assigned to others stays
+  pub moved-keeps : KeepsAssigned names hosts x was now
+  moved-keeps y h g not_was not_now = elim (placed_so y h g) [
+    | inl s ↦ assigned-settled names hosts was now aside.once_was aside.once_now y h g s x keeps_hosts not_was not_now
     | inr e ↦ assigned-unhosted names hosts was now aside.once_was aside.once_now y e.0 e.1
   ]

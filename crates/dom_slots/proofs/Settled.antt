@@ -1,18 +1,17 @@
--- What is assigned to a node stays where its tree stays, and the children of hosts with what they look for.
-use Rattle.std.proofs.Common.{◌≡◌, inl, inr, Bool, true, false, List, [], ◌∷◌, Option, None, Some, filter, refl, sym, ap, subst, ◌∙◌}
+-- What is assigned to a node stays where its tree stays, and the children of hosts but one with what they look for.
+use Rattle.std.proofs.Common.{◌≡◌, inl, inr, Bool, true, false, List, [], ◌∷◌, Option, None, Some, not, filter, refl, sym, ap, subst, ◌∙◌, true≢false}
 use Rattle.std.specs.Prelude.{find, if◌then◌else◌, option_to_list}
 use Rattle.std.specs.Option.{option_map, option_map_or, option_and_then}
-use Rattle.std.proofs.lemmas.Option.{same_Some, none-some}
 use Rattle.dom_base.specs.declared.NodeName.{NodeName}
 use Rattle.dom_model.specs.Names.{DomString, name_eq, is_in}
 use Rattle.dom_model.specs.Slots.{has_slot_name, slottable_name, slot_in}
 use Rattle.dom_model.specs.Tree.{Trees, Node, nodes, names_of, node_in, subtree, parent_of, root_of, children_of}
-use Rattle.dom_tree.specs.Forest.{name_at}
 use Rattle.dom_traversal.proofs.Children.{parent-of_child, Has-names}
-use Rattle.dom_traversal.proofs.Lists.{In, is_in-not, filter-same, name_eq-from}
+use Rattle.dom_traversal.proofs.Lists.{In, is_in-not, filter-same, filter-no, name_eq-from, name_eq-true}
 use Rattle.dom_traversal.proofs.Shapes.{Has, Once, has_or_not, subtree-within}
 use Rattle.dom_slots.specs.Hosts.{ShadowHost, host_named, root_named}
 use Rattle.dom_slots.specs.Shadows.{ShadowTrees, shadow_trees, is_assigned_at, assigned_under, assigned_at}
+use Rattle.dom_slots.proofs.Grafts.{others}
 use Rattle.dom_slots.proofs.Rooted.{Has-root_of, in-same_tree}
 
 -- a node has the same root, whose tree is the same
@@ -20,33 +19,37 @@ pub record IsSettled (was now : Trees) (y : NodeName) : Type 0 where
   pub root : root_of was y ≡ root_of now y
   pub tree : subtree was (root_of was y) ≡ subtree now (root_of was y)
 
--- hosts have the same children, and those the same contents
-pub record KeepsHosts (names : List NodeName) (hosts : List ShadowHost) (was now : Trees) : Type 0 where
+-- hosts have the same children but for x, and those the same contents
+pub record KeepsHosts (names : List NodeName) (hosts : List ShadowHost) (x : NodeName) (was now : Trees) : Type 0 where
   pub stands : (r h : NodeName) → host_named names hosts r ≡ Some h → Has was h × Has now h
-  pub children : (r h : NodeName) → host_named names hosts r ≡ Some h → children_of was h ≡ children_of now h
-  pub contents : (r h c : NodeName) → host_named names hosts r ≡ Some h → In c (children_of was h) → node_in was c ≡ node_in now c
+  pub children : (r h : NodeName) → host_named names hosts r ≡ Some h → others x (children_of was h) ≡ others x (children_of now h)
+  pub contents : (r h c : NodeName) → host_named names hosts r ≡ Some h → In c (children_of was h) → In c (children_of now h) → (c ≡ x → ⊥) → node_in was c ≡ node_in now c
 
--- what is assigned to each node stays
-abbrev pub KeepsAssigned : List NodeName → List ShadowHost → Trees → Trees → Type 0
-KeepsAssigned names hosts was now = (y : NodeName) → Has was y → Has now y → assigned_at (shadow_trees names was hosts) y ≡ assigned_at (shadow_trees names now hosts) y
+-- what is assigned to each node that is neither the old nor the new slot of x stays
+abbrev pub KeepsAssigned : List NodeName → List ShadowHost → NodeName → Trees → Trees → Type 0
+KeepsAssigned names hosts x was now =
+    (y : NodeName) → Has was y → Has now y → is_assigned_at (shadow_trees names was hosts) y x ≡ false → is_assigned_at (shadow_trees names now hosts) y x ≡ false
+    → assigned_at (shadow_trees names was hosts) y ≡ assigned_at (shadow_trees names now hosts) y
 
--- who has a shadow tree is a host
-pub host-has_root : (names : List NodeName) (hosts : List ShadowHost) (r h : NodeName) → host_named names hosts r ≡ Some h → root_named names hosts h ≡ None → ⊥
-host-has_root names [] r h e none = none-some h e
-host-has_root names (g ∷ hosts) r h e none = by (name_eq r (name_at names g.root)) (name_eq h (name_at names g.host)) refl refl (host-has_root names hosts r h)
+-- ---- a list without x
+
+others-in : (x c : NodeName) (xs : List NodeName) → In c (others x xs) → In c xs × (c ≡ x → ⊥)
+others-in x c [] i = absurd i
+others-in x c (z ∷ zs) i = by (name_eq x z) refl i (others-in x c zs)
   where
-    host_by : Bool → Option NodeName
-    host_by b = option_map (λ (k : ShadowHost). name_at names k.host) (if b then Some g else find (λ k. name_eq r (name_at names k.root)) hosts)
+    by : (b : Bool) → name_eq x z ≡ b → In c (if not b then z ∷ others x zs else others x zs) → (In c (others x zs) → In c zs × (c ≡ x → ⊥)) → In c (z ∷ zs) × (c ≡ x → ⊥)
+    by true e j deeper = let d = deeper j in (inr d.0, d.1)
+    by false e (inl same) deeper = (inl same, λ is. true≢false (sym (name_eq-from x z (sym is ∙ same)) ∙ e))
+    by false e (inr j) deeper = let d = deeper j in (inr d.0, d.1)
 
-    root_by : Bool → Option NodeName
-    root_by b = option_map (λ (k : ShadowHost). name_at names k.root) (if b then Some g else find (λ k. name_eq h (name_at names k.host)) hosts)
-
-    by : (a b : Bool) → name_eq r (name_at names g.root) ≡ a → name_eq h (name_at names g.host) ≡ b → (host_named names hosts r ≡ Some h → root_named names hosts h ≡ None → ⊥) → ⊥
-    by a true i j deeper = none-some (name_at names g.root) (sym none ∙ ap root_by j)
-    by true false i j deeper =
-        let same : name_at names g.host ≡ h = same_Some (name_at names g.host) h (sym (ap host_by i) ∙ e) in
-        none-some (name_at names g.root) (sym none ∙ ap root_by (name_eq-from h (name_at names g.host) (sym same)))
-    by false false i j deeper = deeper (sym (ap host_by i) ∙ e) (sym (ap root_by j) ∙ none)
+-- a test that x fails finds the same there
+filter-others : (p : NodeName → Bool) (x : NodeName) → p x ≡ false → (xs : List NodeName) → filter p xs ≡ filter p (others x xs)
+filter-others p x fails [] = refl
+filter-others p x fails (z ∷ zs) = by (name_eq x z) refl (filter-others p x fails zs)
+  where
+    by : (b : Bool) → name_eq x z ≡ b → filter p zs ≡ filter p (others x zs) → filter p (z ∷ zs) ≡ filter p (if not b then z ∷ others x zs else others x zs)
+    by true e rest = filter-no p z zs (ap p (sym (name_eq-true x z e)) ∙ fails) ∙ rest
+    by false e rest = ap (λ ys. if p z then z ∷ ys else ys) rest
 
 -- ---- a slot is found in the tree in which it is looked for
 
@@ -97,26 +100,29 @@ module _ (names : List NodeName) (hosts : List ShadowHost) (was now : Trees) (on
               off (subst (λ (ts : Trees). Has ts r) (sym settled.tree) (subst (λ z. Has (subtree now z) r) (sym settled.root) (in-same_tree now once_now r y i)))))
         ]
 
-    module _ (keeps : KeepsHosts names hosts was now) where
-      -- a child of a host is assigned to it in both or in neither
-      child_same : (r h c : NodeName) → host_named names hosts r ≡ Some h → In c (children_of was h) → is_assigned_at before y c ≡ is_assigned_at after y c
-      child_same r h c e i =
+    module _ (x : NodeName) (keeps : KeepsHosts names hosts x was now) where
+      -- a child of a host but x is assigned to it in both or in neither
+      child_same : (r h c : NodeName) → host_named names hosts r ≡ Some h → In c (children_of was h) → In c (children_of now h) → (c ≡ x → ⊥) → is_assigned_at before y c ≡ is_assigned_at after y c
+      child_same r h c e i j other =
           let at = keeps.stands r h e in
           let up_was : parent_of was c ≡ Some h = (parent-of_child was h c once_was at.0 i).0 in
-          let up_now : parent_of now c ≡ Some h = (parent-of_child now h c once_now at.1 (subst (In c) (keeps.children r h e) i)).0 in
+          let up_now : parent_of now c ≡ Some h = (parent-of_child now h c once_now at.1 j).0 in
           ap (λ o. is_in name_eq y (option_to_list (option_and_then (λ q. slot_in (subtree was q) (node_in was c)) (option_and_then (root_named names hosts) o)))) up_was
           ∙ (from (root_named names hosts h) ∙ sym (ap (λ o. is_in name_eq y (option_to_list (option_and_then (λ q. slot_in (subtree now q) (node_in now c)) (option_and_then (root_named names hosts) o)))) up_now))
         where
           from : (o : Option NodeName) → is_in name_eq y (option_to_list (option_and_then (λ q. slot_in (subtree was q) (node_in was c)) o)) ≡ is_in name_eq y (option_to_list (option_and_then (λ q. slot_in (subtree now q) (node_in now c)) o))
           from None = refl
-          from (Some q) = ap (λ n. is_in name_eq y (option_to_list (slot_in (subtree was q) n))) (keeps.contents r h c e i) ∙ looks_same q (node_in now c)
+          from (Some q) = ap (λ n. is_in name_eq y (option_to_list (slot_in (subtree was q) n))) (keeps.contents r h c e i j other) ∙ looks_same q (node_in now c)
 
-      -- to a node of a tree that stays the same is assigned
-      pub assigned-settled : assigned_at before y ≡ assigned_at after y
-      assigned-settled = under (host_named names hosts (root_of was y)) refl ∙ ap (λ z. option_map_or (assigned_under after y) (host_named names hosts z) []) settled.root
+      -- to a node of a tree that stays the same is assigned what was, where x is not and was not
+      pub assigned-settled : is_assigned_at before y x ≡ false → is_assigned_at after y x ≡ false → assigned_at before y ≡ assigned_at after y
+      assigned-settled not_was not_now = under (host_named names hosts (root_of was y)) refl ∙ ap (λ z. option_map_or (assigned_under after y) (host_named names hosts z) []) settled.root
         where
           under : (o : Option NodeName) → host_named names hosts (root_of was y) ≡ o → option_map_or (assigned_under before y) o [] ≡ option_map_or (assigned_under after y) o []
           under None e = refl
           under (Some h) e =
-              filter-same (is_assigned_at before y) (is_assigned_at after y) (children_of was h) (λ c i. child_same (root_of was y) h c e i)
-              ∙ ap (filter (is_assigned_at after y)) (keeps.children (root_of was y) h e)
+              let same = keeps.children (root_of was y) h e in
+              filter-others (is_assigned_at before y) x not_was (children_of was h)
+              ∙ (filter-same (is_assigned_at before y) (is_assigned_at after y) (others x (children_of was h))
+              (λ c i. let w = others-in x c (children_of was h) i in child_same (root_of was y) h c e w.0 (others-in x c (children_of now h) (subst (In c) same i)).0 w.1)
+              ∙ (ap (filter (is_assigned_at after y)) same ∙ sym (filter-others (is_assigned_at after y) x not_now (children_of now h))))

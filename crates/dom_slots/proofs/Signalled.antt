@@ -10,7 +10,7 @@ use Rattle.dom_base.specs.declared.NodeName.{NodeName}
 use Rattle.dom_model.specs.Names.{name_eq, is_in, append_once, distinct, list_eq}
 use Rattle.dom_tree.specs.Forest.{name_at}
 use Rattle.dom_tree.proofs.Names.{name_eq-turned}
-use Rattle.dom_traversal.proofs.Lists.{name_eq-true, filter-yes, filter-no}
+use Rattle.dom_traversal.proofs.Lists.{name_eq-from, name_eq-true, filter-yes, filter-no}
 use Rattle.dom_slots.proofs.Hosted.{AreDistinct, key-test}
 
 -- ---- names added one by one are those of the list, each at its first place
@@ -77,6 +77,11 @@ filter_any p h (x ∷ xs) = filter-yes p x xs (h x) ∙ ap (λ ys. x ∷ ys) (fi
 -- from none on
 pub fold-distinct : (xs : List NodeName) → fold (append_once name_eq) [] xs ≡ distinct name_eq xs
 fold-distinct xs = fold_once [] xs ∙ filter_any (is_new []) (λ y. refl) (distinct name_eq xs)
+
+-- a list is itself
+pub list_eq-self : (xs : List NodeName) → list_eq name_eq xs xs ≡ true
+list_eq-self [] = refl
+list_eq-self (x ∷ xs) = rw (name_eq-from x x refl) (list_eq-self xs)
 
 -- ---- the same by keys
 

@@ -1,5 +1,5 @@
 -- A step that leaves each slot the nodes that it had signals the node around alone, if at all.
-use Rattle.std.proofs.Common.{◌≡◌, ℕ, Bool, true, false, ◌&&◌, ◌||◌, List, [], ◌∷◌, ◌++◌, filter, Option, Some, None, refl, sym, ap, ◌∙◌}
+use Rattle.std.proofs.Common.{◌≡◌, inl, inr, ℕ, Bool, true, false, ◌&&◌, ◌||◌, List, [], ◌∷◌, ◌++◌, filter, Option, Some, None, refl, sym, ap, subst, ◌∙◌}
 use Rattle.std.specs.Prelude.{find, if◌then◌else◌, option_to_list}
 use Rattle.std.specs.Option.{option_map, option_and_then, ForSome}
 use Rattle.std.proofs.lemmas.List.{append-nil, map-append}
@@ -10,7 +10,7 @@ use Rattle.dom_model.specs.Names.{DomString, name_eq, is_in, distinct}
 use Rattle.dom_model.specs.Slots.{has_slot_name, slottable_name, slot_in, slots_among, is_slot_element}
 use Rattle.dom_model.specs.Tree.{Trees, none, tree, Node, nodes, names_of, node_in, or_else, subtree, has_node, parent_of, root_of}
 use Rattle.dom_tree.specs.Forest.{NamedTrees, name_at}
-use Rattle.dom_traversal.proofs.Lists.{name_eq-from, filter-no}
+use Rattle.dom_traversal.proofs.Lists.{In, name_eq-from, filter-no}
 use Rattle.dom_slots.specs.Hosts.{ShadowHost, root_named}
 use Rattle.dom_slots.specs.Shadows.{shadows, slot_at, is_bare_at, signalled_by}
 
@@ -62,6 +62,19 @@ named-within P (tree n c r) all = (
     later x h =
         behind (name_eq x n.name) (is_in name_eq x (names_of (nodes c ++ nodes r)))
         (ap (is_in name_eq x) (map-append (λ (m : Node). m.name) (nodes c) (nodes r)) ∙ (list_any-append (name_eq x) (names_of (nodes c)) (names_of (nodes r)) ∙ h))
+
+-- what holds of each node holds of the slots in a tree
+pub slots-within : (P : NodeName → Type 0) (ts : Trees) → ((x : NodeName) → has_node ts x ≡ true → P x) → (top y : NodeName) → In y (slots_among (subtree ts top)) → P y
+slots-within P ts all top y i = kept (nodes (subtree ts top)) (each-within (λ n. P n.name) (subtree ts top) (within-subtree (λ n. P n.name) ts top (named-within P ts all))) i
+  where
+    kept : (ns : List Node) → Each (λ n. P n.name) ns → In y (names_of (filter is_slot_element ns)) → P y
+    kept [] each j = absurd j
+    kept (n ∷ ns) each j = by (is_slot_element n) j (kept ns each.1)
+      where
+        by : (b : Bool) → In y (names_of (if b then n ∷ filter is_slot_element ns else filter is_slot_element ns)) → (In y (names_of (filter is_slot_element ns)) → P y) → P y
+        by true (inl e) deeper = subst P (sym e) each.0
+        by true (inr k) deeper = deeper k
+        by false k deeper = deeper k
 
 module _ (p : NodeName → Bool) where
   -- a test that none passes keeps none

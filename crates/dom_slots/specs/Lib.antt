@@ -5,3 +5,4 @@ pub mod Lists
 pub mod Steps
 pub mod Kept
 pub mod Fields
+pub mod Renewals

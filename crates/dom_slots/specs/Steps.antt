@@ -51,11 +51,11 @@ abbrev pub step_signals : List NodeName → ShadowTrees → ShadowTrees → Step
 step_signals names was now step left =
     option_map_or (λ around. signals_at was now (name_at names (step_node step)) (name_at names around) (is_move step)) (around_of step left) []
 
--- whether a node, if there is one, is no host and stands in no shadow tree
+-- whether a node, if there is one, stands in no shadow tree
 abbrev pub is_outside : ShadowTrees → Option NodeName → Bool
-is_outside s o = option_map_or (λ p. is_none (s.shadow_of p) && is_none (s.host_of (root_of s.trees p))) o true
+is_outside s o = option_map_or (λ p. is_none (s.host_of (root_of s.trees p))) o true
 
--- whether a step of x, which left this parent if one, was made away from hosts and shadow trees: x is no shadow root, and
--- neither the parent that it left nor the one that it has now is a host or stands in a shadow tree (own rule)
+-- whether a step of x, which left this parent if one, was made outside of shadow trees: x is no shadow root, and neither the
+-- parent that it left nor the one that it has now stands in a shadow tree (own rule)
 abbrev pub is_apart : ShadowTrees → NodeName → Option NodeName → Bool
 is_apart s x left = is_none (s.host_of x) && (is_outside s left && is_outside s (parent_of s.trees x))

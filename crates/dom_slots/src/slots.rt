@@ -8,6 +8,7 @@ ghost use Rattle.dom_slots.specs.Kept.{AreSlotsOf, StandsOnce};
 
 mod apart;
 mod assigned;
+mod renewal;
 mod signals;
 
 use crate::step::Step;

@@ -1,5 +1,6 @@
 //! Which nodes are assigned to each slot.
-ghost use Rattle.std.specs.Prelude.{◌≡◌, ◌⊎◌, ℕ, true, false, [], nat_eq, if◌then◌else◌, OnOk};
+ghost use Rattle.std.specs.Prelude.{◌≡◌, ◌⊎◌, ℕ, true, false, [], nat_eq, not, if◌then◌else◌, OnOk};
+ghost use Rattle.dom_model.specs.Names.{list_eq};
 ghost use Rattle.dom_slots.specs.Tables.{list_of, has_other_list};
 
 use indexmap::IndexMap;
@@ -41,6 +42,13 @@ impl Table {
             Some(list) => list.as_slice(),
             None => &[],
         }
+    }
+
+    /// Whether the list of a slot is another one than these nodes.
+    pub(crate) fn has_other(&self, slot: Key, nodes: &[Key]) -> bool
+        ensures { result ≡ not (list_eq nat_eq (list_of self.now slot) nodes.now) }
+    {
+        self.list(slot) != nodes
     }
 
     /// Gives a slot its list.

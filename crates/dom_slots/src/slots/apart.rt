@@ -1,4 +1,4 @@
-//! Steps that are made away from hosts and shadow trees.
+//! Steps that are made outside of shadow trees.
 ghost use Rattle.std.specs.Prelude.{◌≡◌, ◌<◌, length};
 ghost use Rattle.std.specs.Option.{option_map, ForSome};
 ghost use Rattle.dom_tree.specs.Forest.{name_at};
@@ -12,9 +12,9 @@ use dom_tree::Forest;
 use node_arena::Key;
 
 impl Slots {
-    /// Whether a step that is done was made away from hosts and shadow trees: its node is no shadow root, and neither the
-    /// parent that the node left nor the one that it has now is a host or stands in a shadow tree (own rule). It costs a
-    /// look at each of them and the ways up to their roots.
+    /// Whether a step that is done was made outside of shadow trees: its node is no shadow root, and neither the parent that
+    /// the node left nor the one that it has now stands in a shadow tree (own rule). It costs a look at each of them and the
+    /// ways up to their roots.
     pub(super) fn is_apart(&self, forest: &Forest, step: Step, left: Option<Key>) -> bool
         requires hosts { HostsAreNodes forest.now.names self.now.hosts }
         requires nodes { StepHasNodes forest.now.names step }
@@ -28,7 +28,7 @@ impl Slots {
             && self.is_outside(forest, forest.parent(node))
     }
 
-    /// Whether a node, if there is one, is no host and stands in no shadow tree.
+    /// Whether a node, if there is one, stands in no shadow tree.
     fn is_outside(&self, forest: &Forest, node: Option<Key>) -> bool
         requires hosts { HostsAreNodes forest.now.names self.now.hosts }
         requires node { ForSome node (λ k. k < length forest.now.names) }
@@ -36,7 +36,7 @@ impl Slots {
     {
         forest.nodes_stand_once();
         match node {
-            Some(key) => self.root_of(key).is_none() && self.host_of(forest.root(key)).is_none(),
+            Some(key) => self.host_of(forest.root(key)).is_none(),
             None => true,
         }
     }

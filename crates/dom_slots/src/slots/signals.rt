@@ -8,9 +8,10 @@ ghost use Rattle.dom_model.specs.Tree.{Trees, root_of, subtree};
 ghost use Rattle.dom_tree.specs.Forest.{name_at};
 ghost use Rattle.dom_slots.specs.Hosts.{HostsAreNodes};
 ghost use Rattle.dom_slots.specs.Kept.{BegunStep, AreSlotsOf, IsBegun, IsEndOf};
+ghost use Rattle.dom_slots.specs.Renewals.{AreRenewed};
 ghost use Rattle.dom_slots.specs.Shadows.{shadows, shadow_trees, slot_at, is_bare_at, signalled_by};
 ghost use Rattle.dom_slots.specs.Steps.{StepHasNodes, step_node, step_signals, is_move, around_of};
-ghost use Rattle.dom_slots.specs.Tables.{list_of, has_other_list, IsTableOf, IsEntered};
+ghost use Rattle.dom_slots.specs.Tables.{SlotTable, list_of, has_other_list, IsTableOf, IsEntered};
 
 use super::Begun;
 use crate::Slots;
@@ -51,9 +52,9 @@ impl Slots {
 
     /// The slots that a step signals which has been done since it was begun, in order (own rule; DOM Standard, concept:
     /// signal a slot change). Then no step is begun. A value to which memory was refused is only dropped. Where there is no
-    /// host this costs one look. A step away from hosts and shadow trees costs a look at its node and at the parents that
-    /// the node left and has now, with the ways up to their roots; no list is made. Any other step costs a walk through all
-    /// shadow trees and the children of their hosts.
+    /// host this costs one look. A step outside of shadow trees costs the ways from its node and from the parents that the
+    /// node left and has now up to their roots; where one of these is a host, its shadow tree and its children are read.
+    /// Any other step costs a walk through all shadow trees and the children of their hosts.
     pub fn end(&mut self, forest: &Forest) -> Result<Vec<Key>, AllocError>
         requires { (was : Trees) × (b : BegunStep) × IsEndOf was forest.now self.old b }
         ensures value { (was : Trees) (b : BegunStep) → IsEndOf was forest.now self.old b → IfOk result (λ keys. map (name_at forest.now.names) keys.items ≡ step_signals forest.now.names (shadow_trees forest.now.names was self.old.hosts) (shadows forest.now self.old.hosts) b.step b.left) }
@@ -69,7 +70,7 @@ impl Slots {
         }
         match self.begun.take() {
             Some(begun) if self.is_apart(forest, begun.step, begun.left) => {
-                Ok(Vec::new(self.alloc))
+                self.own_signals(forest, begun)
             }
             Some(begun) => {
                 let now = self.table_of(forest)?;
@@ -78,6 +79,23 @@ impl Slots {
             }
             None => Ok(Vec::new(self.alloc)),
         }
+    }
+
+    /// Renews the lists of the old and of the new slot of a step's node, and gives those of the two whose lists were others.
+    fn own_signals(&mut self, forest: &Forest, begun: Begun) -> Result<Vec<Key>, AllocError>
+        requires hosts { HostsAreNodes forest.now.names self.old.hosts }
+        requires nodes { StepHasNodes forest.now.names begun.step }
+        requires slot { ForSome begun.slot (λ k. k < length forest.now.names) }
+        ensures hosts { IfOk result (λ keys. self.new.hosts ≡ self.old.hosts) }
+        ensures begun { IfOk result (λ keys. self.new.begun ≡ self.old.begun) }
+        ensures renewed { (p : Name → Truth) (old : SlotTable) → AreRenewed forest.now self.old.hosts p old [] [] self.old.table [] → IfOk result (λ keys. AreRenewed forest.now self.old.hosts p old (option_to_list (option_map (name_at forest.now.names) begun.slot) ++ option_to_list (slot_at (shadows forest.now self.old.hosts) (name_at forest.now.names (step_node begun.step)))) (filter p (option_to_list (option_map (name_at forest.now.names) begun.slot) ++ option_to_list (slot_at (shadows forest.now self.old.hosts) (name_at forest.now.names (step_node begun.step))))) self.new.table keys.items) }
+    {
+        forest.nodes_stand_once();
+        let slot = self.slot_now(forest, begun.step.node());
+        let mut signals = Vec::new(self.alloc);
+        self.renew(forest, begun.slot.as_slice(), &mut signals)?;
+        self.renew(forest, slot.as_slice(), &mut signals)?;
+        Ok(signals)
     }
 
     /// The slots that a step signals, where the table is that of the forest now and another was that before.

@@ -1,0 +1,72 @@
+-- Slots that are signalled already are not signalled again.
+use Rattle.std.proofs.Common.{◌≡◌, inl, inr, Bool, true, false, ◌||◌, List, [], ◌∷◌, ◌++◌, fold, filter, refl, sym, ap, ◌∙◌, true≢false}
+use Rattle.std.specs.Prelude.{if◌then◌else◌}
+use Rattle.std.proofs.lemmas.Bool.{or_left, or_right}
+use Rattle.std.proofs.lemmas.List.{append-nil}
+use Rattle.std.proofs.lemmas.List.Folds.{list_any-append}
+use Rattle.std.proofs.lemmas.List.Sums.{fold-append}
+use Rattle.dom_base.specs.declared.NodeName.{NodeName}
+use Rattle.dom_model.specs.Names.{name_eq, is_in, append_once, distinct}
+use Rattle.dom_traversal.proofs.Lists.{In, is_in-from, In-from, name_eq-from}
+use Rattle.dom_slots.proofs.Signalled.{fold-distinct}
+
+-- names that are there stay there
+still_in : (y : NodeName) (done xs : List NodeName) → is_in name_eq y done ≡ true → is_in name_eq y (fold (append_once name_eq) done xs) ≡ true
+still_in y done [] h = h
+still_in y done (x ∷ xs) h = by (is_in name_eq x done) (λ next i. still_in y next xs i)
+  where
+    by : (b : Bool) → ((next : List NodeName) → is_in name_eq y next ≡ true → is_in name_eq y (fold (append_once name_eq) next xs) ≡ true)
+        → is_in name_eq y (fold (append_once name_eq) (if b then done else done ++ x ∷ []) xs) ≡ true
+    by true more = more done h
+    by false more = more (done ++ x ∷ []) (list_any-append (name_eq y) done (x ∷ []) ∙ or_left (is_in name_eq y done) _ h)
+
+-- and those that are added are there
+pub added_in : (y : NodeName) (done xs : List NodeName) → In y xs → is_in name_eq y (fold (append_once name_eq) done xs) ≡ true
+added_in y done [] i = absurd i
+added_in y done (x ∷ xs) (inl e) = still_in y (append_once name_eq done x) xs (by (is_in name_eq x done) refl)
+  where
+    by : (b : Bool) → is_in name_eq x done ≡ b → is_in name_eq y (append_once name_eq done x) ≡ true
+    by true there = ap (λ (b : Bool). is_in name_eq y (if b then done else done ++ x ∷ [])) there ∙ (ap (λ z. is_in name_eq z done) e ∙ there)
+    by false off =
+        ap (λ (b : Bool). is_in name_eq y (if b then done else done ++ x ∷ [])) off
+        ∙ (list_any-append (name_eq y) done (x ∷ []) ∙ or_right (is_in name_eq y done) (name_eq y x || false) (or_left (name_eq y x) false (name_eq-from y x e)))
+added_in y done (x ∷ xs) (inr i) = added_in y (append_once name_eq done x) xs i
+
+-- who is there already adds nothing
+none_added : (done xs : List NodeName) → ((y : NodeName) → In y xs → is_in name_eq y done ≡ true) → fold (append_once name_eq) done xs ≡ done
+none_added done [] all = refl
+none_added done (x ∷ xs) all = ap (λ (b : Bool). fold (append_once name_eq) (if b then done else done ++ x ∷ []) xs) (all x (inl refl)) ∙ none_added done xs (λ y i. all y (inr i))
+
+pub again_added : (xs ys : List NodeName) → ((y : NodeName) → In y ys → is_in name_eq y xs ≡ true) → fold (append_once name_eq) [] (xs ++ ys) ≡ fold (append_once name_eq) [] xs
+again_added xs ys all = fold-append (append_once name_eq) [] xs ys ∙ none_added (fold (append_once name_eq) [] xs) ys (λ y i. added_in y [] xs (In-from y xs (all y i)))
+
+-- who passes a test is one of these
+pub passing : (p : NodeName → Bool) (y : NodeName) (xs : List NodeName) → In y (filter p xs) → In y xs × (p y ≡ true)
+passing p y [] i = absurd i
+passing p y (x ∷ xs) i = by (p x) refl i (passing p y xs)
+  where
+    by : (b : Bool) → p x ≡ b → In y (if b then x ∷ filter p xs else filter p xs) → (In y (filter p xs) → In y xs × (p y ≡ true)) → In y (x ∷ xs) × (p y ≡ true)
+    by true e (inl same) deeper = (inl same, ap p same ∙ e)
+    by true e (inr j) deeper = let d = deeper j in (inr d.0, d.1)
+    by false e j deeper = let d = deeper j in (inr d.0, d.1)
+
+pub passes : (p : NodeName → Bool) (y : NodeName) (xs : List NodeName) → In y xs → p y ≡ true → In y (filter p xs)
+passes p y [] i e = absurd i
+passes p y (x ∷ xs) i e = by (p x) refl i (passes p y xs)
+  where
+    by : (b : Bool) → p x ≡ b → In y (x ∷ xs) → (In y xs → p y ≡ true → In y (filter p xs)) → In y (if b then x ∷ filter p xs else filter p xs)
+    by true h (inl same) deeper = inl same
+    by true h (inr j) deeper = inr (deeper j e)
+    by false h (inl same) deeper = absurd (true≢false (sym e ∙ (ap p same ∙ h)))
+    by false h (inr j) deeper = deeper j e
+
+-- where the node around is not signalled for itself, and all that pass are own slots, the own slots alone are signalled
+pub own-signalled : (p : NodeName → Bool) (own bare others : List NodeName) → bare ≡ [] → ((y : NodeName) → In y others → p y ≡ true → is_in name_eq y own ≡ true)
+    → distinct name_eq (filter p own ++ bare ++ filter p others) ≡ distinct name_eq (filter p own)
+own-signalled p own bare others none all =
+    ap (λ ys. distinct name_eq (filter p own ++ ys ++ filter p others)) none
+    ∙ (ap (λ ys. distinct name_eq (ys ++ filter p others)) (append-nil (filter p own))
+    ∙ (sym (fold-distinct (filter p own ++ filter p others))
+    ∙ (again_added (filter p own) (filter p others)
+    (λ y i. let w = passing p y others i in is_in-from y (filter p own) (passes p y own (In-from y own (all y w.0 w.1)) w.1))
+    ∙ fold-distinct (filter p own))))

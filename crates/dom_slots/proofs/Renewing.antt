@@ -1,0 +1,142 @@
+-- The list of a slot is renewed.
+use Rattle.std.proofs.Common.{◌≡◌, inl, inr, ℕ, ◌<◌, Bool, true, false, not, ◌||◌, List, [], ◌∷◌, ◌++◌, All, map, fold, filter, length, refl, sym, ap, subst, ◌∙◌, true≢false}
+use Rattle.std.specs.Prelude.{nat_eq, if◌then◌else◌}
+use Rattle.std.proofs.lemmas.Bool.{and_parts, or_parts, or_left, or_right, eqb-true}
+use Rattle.std.proofs.lemmas.List.{append-nil}
+use Rattle.std.proofs.lemmas.List.Folds.{list_any-append}
+use Rattle.dom_base.specs.declared.NodeName.{NodeName}
+use Rattle.dom_model.specs.Names.{name_eq, list_eq, is_in, append_once}
+use Rattle.dom_tree.specs.Forest.{NamedTrees, name_at}
+use Rattle.dom_tree.proofs.Names.{name_eq-turned}
+use Rattle.dom_traversal.proofs.Lists.{name_eq-true, filter-yes, filter-no}
+use Rattle.dom_slots.specs.Hosts.{ShadowHost}
+use Rattle.dom_slots.specs.Renewals.{AreRenewed}
+use Rattle.dom_slots.specs.Shadows.{shadows, assigned_at}
+use Rattle.dom_slots.specs.Tables.{SlotTable, list_of}
+use Rattle.dom_slots.proofs.Entering.{entered_nodes, entered_beyond}
+use Rattle.dom_slots.proofs.Hosted.{AreDistinct, key-test}
+use Rattle.dom_slots.proofs.OwnSignals.{again_added, passing}
+use Rattle.dom_slots.proofs.Signalled.{list_eq-self, list_eq-named, one_signalled, node_added}
+
+-- keys that are the same one by one
+same_keys : (js ks : List ℕ) → list_eq nat_eq js ks ≡ true → js ≡ ks
+same_keys [] [] e = refl
+same_keys [] (k ∷ ks) e = absurd (true≢false (sym e))
+same_keys (j ∷ js) [] e = absurd (true≢false (sym e))
+same_keys (j ∷ js) (k ∷ ks) e =
+    let parts = and_parts (nat_eq j k) (list_eq nat_eq js ks) e in
+    ap (λ i. i ∷ js) (eqb-true j k parts.0) ∙ ap (λ is. k ∷ is) (same_keys js ks parts.1)
+
+module _ (f : NamedTrees) (apart : AreDistinct f.names) (hosts : List ShadowHost) (p : NodeName → Bool) (old : SlotTable) (done told : List NodeName) (table : SlotTable) (keys : List ℕ) (r : AreRenewed f hosts p old done told table keys)
+    (k : ℕ) (node : k < length f.names) (list : List ℕ) (right : map (name_at f.names) list ≡ assigned_at (shadows f hosts) (name_at f.names k)) (inside : All (λ j. j < length f.names) list) where
+  abbrev x : NodeName
+  x = name_at f.names k
+
+  abbrev differs : Bool
+  differs = not (list_eq nat_eq (list_of table k) list)
+
+  differs-named : differs ≡ not (list_eq name_eq (map (name_at f.names) (list_of table k)) (assigned_at (shadows f hosts) x))
+  differs-named = ap not (list_eq-named f.names apart (list_of table k) list (r.nodes k) inside ∙ ap (list_eq name_eq (map (name_at f.names) (list_of table k))) right)
+
+  -- a list that was renewed is no other
+  renewed-same : is_in name_eq x done ≡ true → differs ≡ false
+  renewed-same i =
+      differs-named ∙ (ap (λ ys. not (list_eq name_eq ys (assigned_at (shadows f hosts) x))) (r.renewed k node i) ∙ ap not (list_eq-self (assigned_at (shadows f hosts) x)))
+
+  -- one that was not is another one just where p says so
+  kept-other : is_in name_eq x done ≡ false → differs ≡ p x
+  kept-other i = differs-named ∙ (ap (λ ks. not (list_eq name_eq (map (name_at f.names) ks) (assigned_at (shadows f hosts) x))) (r.kept k node i) ∙ sym (r.others k node))
+
+  in_longer : (y : NodeName) → is_in name_eq y (done ++ x ∷ []) ≡ (is_in name_eq y done || (name_eq y x || false))
+  in_longer y = list_any-append (name_eq y) done (x ∷ [])
+
+  key-turned : (j : ℕ) → j < length f.names → nat_eq k j ≡ name_eq (name_at f.names j) x
+  key-turned j h = key-test f.names apart k j node h ∙ name_eq-turned x (name_at f.names j)
+
+  or_none : (a b : Bool) → b ≡ false → (a || (b || false)) ≡ true → a ≡ true
+  or_none true b e h = refl
+  or_none false true e h = absurd (true≢false e)
+  or_none false false e h = absurd (true≢false (sym h))
+
+  module _ (new : SlotTable) (lists : (j : ℕ) → list_of new j ≡ (if nat_eq k j then list else list_of table j)) (next : List ℕ) where
+    elsewhere : (j : ℕ) → nat_eq k j ≡ false → list_of new j ≡ list_of table j
+    elsewhere j e = lists j ∙ ap (λ (b : Bool). if b then list else list_of table j) e
+
+    renewed_so : (j : ℕ) → j < length f.names → is_in name_eq (name_at f.names j) (done ++ x ∷ []) ≡ true → map (name_at f.names) (list_of new j) ≡ assigned_at (shadows f hosts) (name_at f.names j)
+    renewed_so j h i = by (nat_eq k j) refl
+      where
+        by : (b : Bool) → nat_eq k j ≡ b → map (name_at f.names) (list_of new j) ≡ assigned_at (shadows f hosts) (name_at f.names j)
+        by true e = ap (map (name_at f.names)) (lists j ∙ ap (λ (b : Bool). if b then list else list_of table j) e) ∙ (right ∙ ap (λ m. assigned_at (shadows f hosts) (name_at f.names m)) (eqb-true k j e))
+        by false e =
+            ap (map (name_at f.names)) (elsewhere j e)
+            ∙ r.renewed j h (or_none (is_in name_eq (name_at f.names j) done) (name_eq (name_at f.names j) x) (sym (key-turned j h) ∙ e) (sym (in_longer (name_at f.names j)) ∙ i))
+
+    kept_so : (j : ℕ) → j < length f.names → is_in name_eq (name_at f.names j) (done ++ x ∷ []) ≡ false → list_of new j ≡ list_of old j
+    kept_so j h i =
+        let parts = or_parts (is_in name_eq (name_at f.names j) done) _ (sym (in_longer (name_at f.names j)) ∙ i) in
+        elsewhere j (key-turned j h ∙ (or_parts (name_eq (name_at f.names j) x) false parts.1).0) ∙ r.kept j h parts.0
+
+    among_so : (y : NodeName) → is_in name_eq y (done ++ x ∷ []) ≡ true → p y ≡ true → is_in name_eq y (told ++ filter p (x ∷ [])) ≡ true
+    among_so y i pass = list_any-append (name_eq y) told (filter p (x ∷ [])) ∙ by (is_in name_eq y done) refl
+      where
+        by : (b : Bool) → is_in name_eq y done ≡ b → (is_in name_eq y told || is_in name_eq y (filter p (x ∷ []))) ≡ true
+        by true e = or_left (is_in name_eq y told) _ (r.among y e pass)
+        by false e =
+            let same : name_eq y x ≡ true = sym (or-none (name_eq y x)) ∙ (ap (λ b. b || (name_eq y x || false)) (sym e) ∙ (sym (in_longer y) ∙ i)) in
+            let hit : p x ≡ true = ap p (sym (name_eq-true y x same)) ∙ pass in
+            or_right (is_in name_eq y told) _ (ap (is_in name_eq y) (filter-yes p x [] hit) ∙ (ap (λ b. b || false) same))
+          where
+            or-none : (b : Bool) → (false || (b || false)) ≡ b
+            or-none true = refl
+            or-none false = refl
+
+    keys_so : next ≡ (if differs then append_once nat_eq keys k else keys) → map (name_at f.names) next ≡ fold (append_once name_eq) [] (told ++ filter p (x ∷ []))
+    keys_so is = by (is_in name_eq x done) refl (p x) refl
+      where
+        stays : differs ≡ false → map (name_at f.names) next ≡ fold (append_once name_eq) [] told
+        stays e = ap (map (name_at f.names)) (is ∙ ap (λ (b : Bool). if b then append_once nat_eq keys k else keys) e) ∙ r.keys_are
+
+        by : (a : Bool) → is_in name_eq x done ≡ a → (b : Bool) → p x ≡ b → map (name_at f.names) next ≡ fold (append_once name_eq) [] (told ++ filter p (x ∷ []))
+        by true i b e =
+            stays (renewed-same i)
+            ∙ sym (again_added told (filter p (x ∷ []))
+            (λ y j. let w = passing p y (x ∷ []) j in elim w.0 [ inl same ↦ r.among y (ap (λ z. is_in name_eq z done) same ∙ i) w.1 | inr none ↦ absurd none ]))
+        by false i true e =
+            (one_signalled f.names apart told keys next k record { nodes = r.keys_nodes; are = r.keys_are } node (is ∙ ap (λ (b : Bool). if b then append_once nat_eq keys k else keys) (kept-other i ∙ e))).are
+            ∙ ap (λ ys. fold (append_once name_eq) [] (told ++ ys)) (sym (filter-yes p x [] e))
+        by false i false e = stays (kept-other i ∙ e) ∙ ap (fold (append_once name_eq) []) (sym (append-nil told) ∙ ap (λ ys. told ++ ys) (sym (filter-no p x [] e)))
+
+    nodes_so : next ≡ (if differs then append_once nat_eq keys k else keys) → All (λ j. j < length f.names) next
+    nodes_so is = subst (All (λ j. j < length f.names)) (sym is) (by differs)
+      where
+        by : (b : Bool) → All (λ j. j < length f.names) (if b then append_once nat_eq keys k else keys)
+        by true = node_added (length f.names) keys k r.keys_nodes node
+        by false = r.keys_nodes
+
+    -- one list more is renewed
+    pub renewed-more : next ≡ (if differs then append_once nat_eq keys k else keys) → AreRenewed f hosts p old (done ++ x ∷ []) (told ++ filter p (x ∷ [])) new next
+    renewed-more is = record {
+      others = r.others;
+      renewed = renewed_so;
+      kept = kept_so;
+      nodes = entered_nodes f hosts apart k list inside table new lists r.nodes;
+      beyond = λ j far. entered_beyond f hosts apart k node list table new lists j far ∙ r.beyond j far;
+      keys_nodes = nodes_so is;
+      keys_are = keys_so is;
+      among = among_so;
+    }
+
+  -- a list that is no other stays
+  pub renewed-stays : differs ≡ false → (next : List ℕ) → next ≡ keys → AreRenewed f hosts p old (done ++ x ∷ []) (told ++ filter p (x ∷ [])) table next
+  renewed-stays e next is = renewed-more table (λ j. by j (nat_eq k j) refl) next (is ∙ ap (λ (b : Bool). if b then append_once nat_eq keys k else keys) (sym e))
+    where
+      same : list_of table k ≡ list
+      same = same_keys (list_of table k) list (turned (list_eq nat_eq (list_of table k) list) e)
+        where
+          turned : (b : Bool) → not b ≡ false → b ≡ true
+          turned true h = refl
+          turned false h = absurd (true≢false h)
+
+      by : (j : ℕ) (b : Bool) → nat_eq k j ≡ b → list_of table j ≡ (if b then list else list_of table j)
+      by j true h = ap (list_of table) (sym (eqb-true k j h)) ∙ same
+      by j false h = refl

@@ -1,0 +1,20 @@
+-- Slots whose lists are renewed one after another.
+use Rattle.std.specs.Prelude.{◌≡◌, ℕ, ◌<◌, ◌≤◌, Bool, true, false, not, List, [], All, map, fold, length}
+use Rattle.dom_base.specs.declared.NodeName.{NodeName}
+use Rattle.dom_model.specs.Names.{name_eq, list_eq, is_in, append_once}
+use Rattle.dom_tree.specs.Forest.{NamedTrees, name_at}
+use Rattle.dom_slots.specs.Hosts.{ShadowHost}
+use Rattle.dom_slots.specs.Shadows.{shadows, assigned_at}
+use Rattle.dom_slots.specs.Tables.{SlotTable, list_of}
+
+-- Of an old table the lists of the slots `done` were renewed by a forest, and all others are as they were. The keys are those
+-- of the names `told`, each once, and of the renewed slots all with other nodes than before are among them: p tells which.
+pub record AreRenewed (f : NamedTrees) (hosts : List ShadowHost) (p : NodeName → Bool) (old : SlotTable) (done told : List NodeName) (table : SlotTable) (keys : List ℕ) : Type 0 where
+  pub others : (k : ℕ) → k < length f.names → p (name_at f.names k) ≡ not (list_eq name_eq (map (name_at f.names) (list_of old k)) (assigned_at (shadows f hosts) (name_at f.names k)))
+  pub renewed : (k : ℕ) → k < length f.names → is_in name_eq (name_at f.names k) done ≡ true → map (name_at f.names) (list_of table k) ≡ assigned_at (shadows f hosts) (name_at f.names k)
+  pub kept : (k : ℕ) → k < length f.names → is_in name_eq (name_at f.names k) done ≡ false → list_of table k ≡ list_of old k
+  pub nodes : (k : ℕ) → All (λ j. j < length f.names) (list_of table k)
+  pub beyond : (k : ℕ) → length f.names ≤ k → list_of table k ≡ []
+  pub keys_nodes : All (λ k. k < length f.names) keys
+  pub keys_are : map (name_at f.names) keys ≡ fold (append_once name_eq) [] told
+  pub among : (y : NodeName) → is_in name_eq y done ≡ true → p y ≡ true → is_in name_eq y told ≡ true

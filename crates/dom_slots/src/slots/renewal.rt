@@ -1,0 +1,56 @@
+//! The lists of slots that a step may have changed.
+ghost use Rattle.std.specs.Prelude.{◌≡◌, ◌<◌, ◌++◌, ◌∷◌, [], Bool as Truth, List, map, length, filter, All, OnOk};
+ghost use Rattle.dom_base.specs.declared.NodeName.{NodeName as Name};
+ghost use Rattle.dom_tree.specs.Forest.{name_at};
+ghost use Rattle.dom_slots.specs.Hosts.{HostsAreNodes};
+ghost use Rattle.dom_slots.specs.Renewals.{AreRenewed};
+ghost use Rattle.dom_slots.specs.Tables.{SlotTable};
+
+use crate::Slots;
+use crate::changes::add_once;
+use dom_tree::Forest;
+use node_arena::Key;
+use std::alloc::AllocError;
+
+impl Slots {
+    /// Renews the lists of slots, one after another, and adds those to the signals whose lists were others.
+    pub(super) fn renew(
+        &mut self,
+        forest: &Forest,
+        slots: &[Key],
+        signals: &mut Vec<Key>,
+    ) -> Result<(), AllocError>
+        requires hosts { HostsAreNodes forest.now.names self.old.hosts }
+        requires nodes { All (λ k. k < length forest.now.names) slots.now }
+        ensures hosts { OnOk result (self.new.hosts ≡ self.old.hosts) }
+        ensures begun { OnOk result (self.new.begun ≡ self.old.begun) }
+        ensures renewed { (p : Name → Truth) (old : SlotTable) (done told : List Name) → AreRenewed forest.now self.old.hosts p old done told self.old.table signals.old.items → OnOk result (AreRenewed forest.now self.old.hosts p old (done ++ map (name_at forest.now.names) slots.now) (told ++ filter p (map (name_at forest.now.names) slots.now)) self.new.table signals.new.items) }
+    {
+        for slot in slots {
+            self.renew_slot(forest, *slot, signals)?;
+        }
+        Ok(())
+    }
+
+    /// Renews the list of a slot, and adds the slot to the signals where its list was another one.
+    fn renew_slot(
+        &mut self,
+        forest: &Forest,
+        slot: Key,
+        signals: &mut Vec<Key>,
+    ) -> Result<(), AllocError>
+        requires hosts { HostsAreNodes forest.now.names self.old.hosts }
+        requires node { slot < length forest.now.names }
+        ensures hosts { OnOk result (self.new.hosts ≡ self.old.hosts) }
+        ensures begun { OnOk result (self.new.begun ≡ self.old.begun) }
+        ensures renewed { (p : Name → Truth) (old : SlotTable) (done told : List Name) → AreRenewed forest.now self.old.hosts p old done told self.old.table signals.old.items → OnOk result (AreRenewed forest.now self.old.hosts p old (done ++ name_at forest.now.names slot ∷ []) (told ++ filter p (name_at forest.now.names slot ∷ [])) self.new.table signals.new.items) }
+    {
+        forest.nodes_stand_once();
+        let list = self.assigned_now(forest, slot)?;
+        if self.table.has_other(slot, &list) {
+            self.table.insert(slot, list)?;
+            add_once(signals, slot)?;
+        }
+        Ok(())
+    }
+}
