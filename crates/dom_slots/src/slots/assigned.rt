@@ -26,7 +26,7 @@ impl Slots {
     }
 
     /// The nodes assigned to a slot, in the order of their host's children; none to a node outside of shadow trees (DOM
-    /// Standard, concept: assigned nodes).
+    /// Standard, concept: assigned nodes). They are read from the table: no tree is walked.
     pub fn assigned(&self, forest: &Forest, slot: Key) -> Result<Vec<Key>, AllocError>
         requires slot_is_node { slot < length forest.now.names }
         requires free { self.now.begun ≡ None }
@@ -34,7 +34,10 @@ impl Slots {
         ensures value { IfOk result (λ keys. map (name_at forest.now.names) keys.items ≡ assigned_at (shadows forest.now self.now.hosts) (name_at forest.now.names slot)) }
         ensures nodes { IfOk result (λ keys. All (λ k. k < length forest.now.names) keys.items) }
     {
-        self.assigned_now(forest, slot)
+        forest.nodes_stand_once();
+        let mut keys = Vec::new(self.alloc);
+        keys.extend_from_slice(self.table.list(slot))?;
+        Ok(keys)
     }
 
     /// The same, also in a forest that is not that of the table.
