@@ -6,6 +6,8 @@ Usage: bench/bench.py [PROGRAM]      (PROGRAM: the built domrun, crates/domrun/o
 Each kind of script is made twice, the second one four times as long. For each is printed: its lines, the seconds that the
 program takes (the best of three runs), microseconds per line, and how many times as long as `wc -l` that is. Where the
 microseconds per line of the longer script are more than twice those of the shorter one, the kind is marked 'grows'.
+Then come the kinds with hosts, each at two sizes a factor of eight apart: the number of hosts, or of one host's children. There
+the lines that make the page are timed alone too, and the microseconds are those of the lines behind them.
 Nothing here is part of the gate.
 """
 import os
@@ -119,6 +121,73 @@ def queries(count):
         yield 'p query n1 "ul > li:not([lang|=en]), li.a li"'
 
 
+def with_slots(hosts, slots, slottables):
+    """The lines that make so many hosts below n1, each with slots named by letters and children that look for them in turn.
+
+    A host is followed by its children. Where there are no slots the elements are made and none of them is a host."""
+    yield "p new element body"
+    yield "p append n0 n1"
+    node = 1
+    for host in range(1, hosts + 1):
+        node += 1
+        parent = node
+        yield "p new element div"
+        yield f"p append n1 n{parent}"
+        for child in range(slottables):
+            node += 1
+            yield "p new element b"
+            yield f'p set n{node} slot "{letter(child, slots)}"'
+            yield f"p append n{parent} n{node}"
+        if slots > 0:
+            yield f"p attach n{parent}"
+            yield "p ."
+            for slot in range(1, slots + 1):
+                yield f"c{host} new element slot"
+                yield f'c{host} set m{slot} name "{letter(slot - 1, slots)}"'
+                yield f"c{host} append m0 m{slot}"
+            yield f"c{host} ."
+
+
+def letter(number, slots):
+    """The name of a slot."""
+    return chr(97 + number % max(slots, 1))
+
+
+def among(hosts, slots):
+    """The first child of each of these hosts with two children goes below another one, and then looks for another slot."""
+    for turn in range(20_000):
+        child = 3 * (turn % hosts) + 3
+        yield f"p append n{3 * ((turn * 11 + turn // hosts) % hosts) + 2} n{child}"
+        yield f'p set n{child} slot "{letter(turn // hosts, slots)}"'
+
+
+def slotted_hosts(hosts):
+    """Page children go to and fro among hosts with two slots each, and change their slot."""
+    return with_slots(hosts, 2, 2), among(hosts, 2)
+
+
+def plain_parents(parents):
+    """The same without hosts."""
+    return with_slots(parents, 0, 2), among(parents, 0)
+
+
+def slotted_children(slottables):
+    """The children of one host with ten slots leave it, look for another slot and come back."""
+    return with_slots(1, 10, slottables), coming_and_going(slottables)
+
+
+def coming_and_going(slottables):
+    """The lines of that."""
+    for turn in range(10_000):
+        child = 3 + turn * 7 % slottables
+        yield f"p remove n{child}"
+        yield f'p set n{child} slot "{letter(turn, 10)}"'
+        yield f"p append n2 n{child}"
+
+
+SIZED = ((slotted_hosts, (112, 900)), (plain_parents, (112, 900)), (slotted_children, (125, 1000)))
+
+
 KINDS = (wide, front, down, up, moves, attributes, data, splits, reads, iterators, removals, queries)
 
 
@@ -143,6 +212,18 @@ def timed(program, kind, count, folder):
     return len(lines), taken, taken / len(lines) * 1e6, taken / seconds_of(["wc", "-l", path])
 
 
+def timed_behind(program, kind, size, folder):
+    """Makes a script with its first lines and one without the others, and gives those others and their microseconds per line."""
+    first, others = (list(lines) for lines in kind(size))
+    taken = []
+    for lines in (first, first + others):
+        path = os.path.join(folder, f"{kind.__name__}-{size}-{len(lines)}.txt")
+        with open(path, "w", encoding="ascii") as script:
+            script.write("\n".join(lines) + "\n")
+        taken.append(seconds_of([program, path]))
+    return len(others), taken[0], (taken[1] - taken[0]) / len(others) * 1e6
+
+
 def main():
     program = sys.argv[1] if len(sys.argv) > 1 else PROGRAM
     print(f"{'kind':<12}{'lines':>9}{'seconds':>10}{'us/line':>10}{'x wc -l':>10}")
@@ -154,6 +235,12 @@ def main():
                 per_line.append(micros)
                 mark = "  grows" if len(per_line) == 2 and per_line[1] > 2 * per_line[0] else ""
                 print(f"{kind.__name__:<12}{lines:>9}{taken:>10.3f}{micros:>10.2f}{ratio:>10.1f}{mark}")
+
+        print(f"{'kind':<18}{'size':>6}{'lines':>9}{'made in':>10}{'us/line':>10}")
+        for kind, sizes in SIZED:
+            for size in sizes:
+                lines, made, micros = timed_behind(program, kind, size, folder)
+                print(f"{kind.__name__:<18}{size:>6}{lines:>9}{made:>10.3f}{micros:>10.2f}")
 
 
 if __name__ == "__main__":
