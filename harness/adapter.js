@@ -1,0 +1,441 @@
+// Carries out the lines of a script by calls of a window's own DOM, and writes what domrun writes.
+//
+// What the DOM can answer, it answers. The rest is kept here, as thinly as possible: names, turns, the refusals before the DOM's,
+// and that each owner has its own notification. `run` runs a script that attaches components twice: the first time it lets the DOM
+// notify after every line, to see which line signals whose slots; the second time at the ends of turns, as the protocol has it.
+"use strict";
+(function (exports, { parse, linesOf, KINDS, isName, isSelector }) {
+  const XHTML = "http://www.w3.org/1999/xhtml";
+  const REFUSALS = {
+    HierarchyRequestError: "hierarchy", NotFoundError: "not-found", NotSupportedError: "not-supported",
+    InvalidCharacterError: "invalid-character", SyntaxError: "selector", IndexSizeError: "index-size", TypeError: "type",
+  };
+  const MOVES = {
+    parent: "parentNode", first: "firstChild", last: "lastChild", next: "nextNode", previous: "previousNode",
+    "next-sibling": "nextSibling", "previous-sibling": "previousSibling",
+  };
+  const isShadowRoot = (node) => node.nodeType === 11 && "host" in node;
+
+  class Refused extends Error {}
+  const refuseWhere = (holds, name) => {
+    if (holds) throw new Refused(name);
+  };
+
+  // A string of the DOM as the protocol writes it.
+  const quoted = (text) =>
+    `"${text.replace(/[^\x20-\x7e]|["\\]/g, (unit) =>
+      unit === '"' || unit === "\\" ? "\\" + unit : "\\u" + unit.charCodeAt(0).toString(16).padStart(4, "0"))}"`;
+  const quotedOrNull = (text) => (text === null ? "null" : quoted(text));
+
+  // The page or a component: what it has made, by number.
+  class Owner {
+    constructor(word) {
+      this.word = word;
+      for (const table of ["nodes", "ranges", "iterators", "walkers", "observers"]) this[table] = [];
+      this.listeners = new Map();
+      this.records = [];
+      this.slotEvents = [];
+    }
+  }
+
+  class Run {
+    // `signals`: for each line the owners whose slots it signals, first ones first; null: this run finds it out.
+    constructor(window, signals, fixes) {
+      Object.assign(this, { window, signals, fixes, found: [], met: new Set(), output: [], tasks: [], turn: null, atCommand: false });
+      this.owners = new Map();
+      this.names = new Map();
+      this.page = this.addOwner("p");
+      this.first = this.makeDocument();
+      this.name(this.page, this.first);
+    }
+
+    // A document in which elements are HTML's, so that they take shadow roots, and names keep their case, in selectors too.
+    makeDocument() {
+      return this.window.document.implementation.createDocument(XHTML, null, null);
+    }
+
+    addOwner(word) {
+      const owner = new Owner(word);
+      this.owners.set(word, owner);
+      return owner;
+    }
+
+    // ---- names
+
+    name(owner, node) {
+      this.names.set(node, { owner, number: owner.nodes.push(node) - 1 });
+      if (node.localName === "slot" && !this.signals) node.addEventListener("slotchange", (event) => this.signalled(event));
+      return this.show(owner, node);
+    }
+
+    // Names the nodes below a node that have no name yet, in tree order.
+    nameAll(owner, node) {
+      if (!this.names.has(node)) this.name(owner, node);
+      for (let child = node.firstChild; child; child = child.nextSibling) this.nameAll(owner, child);
+    }
+
+    show(viewer, node) {
+      if (!node) return "null";
+      const { owner, number } = this.names.get(node) || {};
+      if (!owner) return "?" + node.nodeName;
+      if (owner === this.page) return "n" + number;
+      return (owner === viewer ? "" : owner.word + ":") + "m" + number;
+    }
+
+    showList(viewer, nodes) {
+      return "[" + Array.from(nodes, (node) => this.show(viewer, node)).join(",") + "]";
+    }
+
+    add(owner, table, thing) {
+      return table[0] + (owner[table].push(thing) - 1);
+    }
+
+    // ---- lines and turns
+
+    // Awaits nothing but at the ends of turns, since each `await` lets the DOM notify.
+    async script(text) {
+      for (const [at, line] of linesOf(text).entries()) {
+        this.at = at;
+        const { owner, command } = parse(line);
+        if (owner && this.turn && this.turn !== "p" && this.turn !== owner) await this.endTurn();
+        if (this.line(owner, command)) {
+          await this.endTurn();
+          this.put(`${owner} ok`);
+        }
+        if (!this.signals) await this.checkpoint();
+      }
+      if (this.turn) await this.endTurn();
+      return this.output.join("");
+    }
+
+    put(line) {
+      this.output.push(line + "\n");
+    }
+
+    // Carries out one line, and puts its reply. True: it ends the turn, and its reply is still to come.
+    line(word, command) {
+      if (!word) return this.put("! owner");
+      try {
+        const values = this.admit(word, command);
+        if (command.name === ".") return true;
+        const answer = this.carryOut(this.owners.get(word), command, values);
+        this.turn = this.turn || word;
+        this.put(`${word} ok` + (answer === undefined ? "" : " " + answer));
+      } catch (error) {
+        const name = error instanceof Refused ? error.message : REFUSALS[error.name];
+        if (!name) throw error;
+        this.put(`${word} ! ${name}`);
+      }
+      return false;
+    }
+
+    // The refusals before those of the DOM, in their order. Gives what the words of the command name.
+    admit(word, command) {
+      refuseWhere(!command, "syntax");
+      refuseWhere(word !== "p" && this.turn === "p", "busy");
+      const named = [...command.values, command.options.related];
+      refuseWhere(named.some((value) => value && value.foreign), "foreign");
+      const owner = this.owners.get(word);
+      refuseWhere(!owner, "unknown");
+      const found = named.map((value) => (value && value.table ? owner[value.table][value.number] : value));
+      refuseWhere(named.some((value, i) => value && value.table && !found[i]), "unknown");
+      refuseWhere(named.some((value, i) => value && value.part && !this.isKind(value.part, found[i])), "wrong-kind");
+      return found;
+    }
+
+    isKind(part, node) {
+      return KINDS[part].includes(node.nodeType) && (part !== "slot" || node.localName === "slot");
+    }
+
+    carryOut(owner, { name, options }, values) {
+      this.atCommand = true;
+      try {
+        const related = values.pop();
+        return COMMANDS[name](this, owner, values, { ...options, related });
+      } finally {
+        this.atCommand = false;
+        this.noteTasks(owner);
+      }
+    }
+
+    // ---- tasks
+
+    // Queues the notifications that the line asks for. A placing or removal signals slots before its record, a change of an
+    // attribute or of data makes its record first; a fragment's record is made before its nodes are placed.
+    noteTasks(owner) {
+      const taken = owner.observers.map((observer) => observer.twin.takeRecords()).filter((records) => records.length);
+      const isFirst = taken.some(([record]) => record.type !== "childList" || record.target.nodeType === 11);
+      const signals = ((this.signals || [])[this.at] || []).map((word) => this.owners.get(word));
+      const order = taken.length === 0 ? signals : isFirst ? [owner, ...signals] : [...signals, owner];
+      for (const next of order) if (!this.tasks.some((task) => task.owner === next && !task.label)) this.tasks.push({ owner: next });
+    }
+
+    // Lets the DOM run its microtasks.
+    async checkpoint() {
+      await null;
+      await null;
+    }
+
+    // A slot was signalled: which line it was, where this run finds that out.
+    signalled(event) {
+      if (this.atCommand || event.target !== event.currentTarget) return;
+      const word = this.names.get(event.target).owner.word;
+      const line = (this.found[this.at] = this.found[this.at] || []);
+      if (!line.includes(word)) line.push(word);
+    }
+
+    async endTurn() {
+      await this.checkpoint();
+      for (const { owner, label } of this.tasks) {
+        if (label) this.put(`${owner.word} micro ${label}`);
+        else this.notify(owner);
+      }
+      for (const owner of this.owners.values()) this.notify(owner);
+      this.tasks = [];
+      this.turn = null;
+    }
+
+    // Puts what the DOM told the owner at the checkpoint: its records, then its slots' events.
+    notify(owner) {
+      for (const line of [...owner.records.splice(0), ...owner.slotEvents.splice(0)]) this.put(line);
+    }
+
+    // ---- observers and listeners
+
+    makeObserver(owner) {
+      const number = owner.observers.length;
+      const put = (records) => owner.records.push(...records.map((record) => this.recordLine(owner, number, record)));
+      // The twin observes the same, and tells after each line whether there was a record.
+      owner.observers.push({ real: new this.window.MutationObserver(put), twin: new this.window.MutationObserver(() => {}) });
+      return "o" + number;
+    }
+
+    recordLine(owner, number, record) {
+      const [show, list] = [(node) => this.show(owner, node), (nodes) => this.showList(owner, nodes)];
+      const front = `${owner.word} record o${number} ${record.type} ${show(record.target)}`;
+      if (record.type === "attributes") return `${front} name=${record.attributeName} old=${quotedOrNull(record.oldValue)}`;
+      if (record.type === "characterData") return `${front} old=${quotedOrNull(record.oldValue)}`;
+      const [added, removed] = [list(record.addedNodes), list(record.removedNodes)];
+      return `${front} added=${added} removed=${removed} prev=${show(record.previousSibling)} next=${show(record.nextSibling)}`;
+    }
+
+    // One function for each node, type, label and phase, so that the DOM knows a listener that is there.
+    listenerOf(owner, node, type, label, capture) {
+      const key = [this.show(null, node), type, label, capture].join(" ");
+      if (!owner.listeners.has(key)) {
+        const listener = (event) => this.visit(owner, label, listener, event);
+        owner.listeners.set(key, listener);
+      }
+      return owner.listeners.get(key);
+    }
+
+    visit(owner, label, listener, event) {
+      const show = (node) => this.show(owner, node);
+      if (listener.once) listener.action = null;
+      const line = `${owner.word} event ${label} ${event.type} phase=${event.eventPhase} target=${show(event.target)}`
+        + ` current=${show(event.currentTarget)} related=${show(event.relatedTarget)} path=${this.showList(owner, event.composedPath())}`;
+      if (this.atCommand) this.put(line);
+      else owner.slotEvents.push(line);
+      if (listener.acts === "stop") event.stopPropagation();
+      if (listener.acts === "stop-now") event.stopImmediatePropagation();
+      if (listener.acts === "cancel") event.preventDefault();
+    }
+  }
+
+  // ---- commands: each takes the run, the owner, what its words name, and its options, and gives its answer
+
+  const documentOf = (run, owner) => (owner === run.page ? run.first : owner.nodes[0].ownerDocument);
+
+  // Validity of insertion is the DOM's. Own rule: a shadow root is no node to insert; a document, which is none either, stands for it.
+  function insertable(run, parent, node) {
+    refuseWhere(isShadowRoot(node) && node.contains(parent), "hierarchy");
+    return isShadowRoot(node) ? run.makeDocument() : node;
+  }
+
+  function attach(run, page, [element]) {
+    const isOwn = element.localName.includes("-") && !/^[a-z][a-z0-9-]*$/.test(element.localName);
+    refuseWhere(isOwn, "not-supported");
+    const root = element.attachShadow({ mode: "closed" });
+    const owner = run.addOwner("c" + run.owners.size);
+    run.name(owner, root);
+    return owner.word;
+  }
+
+  function setText(run, owner, [node, text]) {
+    node.textContent = text;
+    if (node.nodeType === 1 || node.nodeType === 11) run.nameAll(owner, node);
+  }
+
+  function treeOf(run, owner, node) {
+    const kind = { 1: "element", 3: "text", 8: "comment", 9: "document", 11: isShadowRoot(node) ? "shadow" : "fragment" };
+    const parts = [run.show(owner, node), kind[node.nodeType]];
+    if (node.nodeType === 1) parts.push(node.localName, ...Array.from(node.attributes, ({ name, value }) => `${name}=${quoted(value)}`));
+    if (node.nodeType === 3 || node.nodeType === 8) parts.push(quoted(node.data));
+    return `(${[...parts, ...Array.from(node.childNodes, (child) => treeOf(run, owner, child))].join(" ")})`;
+  }
+
+  function makeRange(run, owner) {
+    const range = run.first.createRange();
+    range.setStart(owner.nodes[0], 0);
+    range.collapse(true);
+    return run.add(owner, "ranges", range);
+  }
+
+  function extract(run, owner, [range]) {
+    const fragment = range.extractContents();
+    run.nameAll(owner, fragment);
+    return run.show(owner, fragment);
+  }
+
+  function insertNode(run, owner, [range, node]) {
+    const start = range.startContainer;
+    refuseWhere(isShadowRoot(node), "hierarchy");
+    range.insertNode(node);
+    for (let next = start.nextSibling; start.nodeType === 3 && next; next = next.nextSibling) run.nameAll(owner, next);
+  }
+
+  const filterOf = ({ named }) => named ? {
+    acceptNode: (node) => node.nodeType !== 1 || node.localName !== named.name ? 1 : named.verdict === "reject" ? 2 : 3,
+  } : null;
+
+  // Own rule: a move from a node outside the walker's root is null.
+  function walk(run, owner, [walker, move]) {
+    return run.show(owner, walker.root.contains(walker.currentNode) ? walker[MOVES[move]]() : null);
+  }
+
+  function select(run, owner, [node, text], answer) {
+    refuseWhere(!isSelector(text), "selector");
+    return answer(node, text);
+  }
+
+  function listen(run, owner, [node, type, label, action], { capture = false, once = false, passive = false }) {
+    const listener = run.listenerOf(owner, node, type, label, capture);
+    if (!listener.action) Object.assign(listener, { action, acts: action, once });
+    node.addEventListener(type, listener, { capture, once, passive });
+  }
+
+  function unlisten(run, owner, [node, type, label], { capture = false }) {
+    const listener = run.listenerOf(owner, node, type, label, capture);
+    listener.action = null;
+    node.removeEventListener(type, listener, { capture });
+  }
+
+  // Own rule: a component's related node has the root of the target.
+  function dispatch(run, owner, [node, type], { bubbles = false, cancelable = false, composed = false, related: relatedTarget }) {
+    refuseWhere(owner !== run.page && relatedTarget && relatedTarget.getRootNode() !== node.getRootNode(), "type");
+    const { Event, FocusEvent } = run.window;
+    const options = { bubbles, cancelable, composed };
+    return node.dispatchEvent(relatedTarget ? new FocusEvent(type, { ...options, relatedTarget }) : new Event(type, options));
+  }
+
+  function observe(run, owner, [{ real, twin }, node], { related, ...options }) {
+    for (const observer of [real, twin]) observer.observe(node, options);
+  }
+
+  function take(run, owner, [{ real }]) {
+    const records = real.takeRecords();
+    for (const record of records) run.put(run.recordLine(owner, owner.observers.findIndex((o) => o.real === real), record));
+    return records.length;
+  }
+
+  function setAttribute(run, owner, [element, name, value]) {
+    refuseWhere(!isName(name), "invalid-character");
+    element.setAttribute(name, value);
+  }
+
+  function newElement(run, owner, [name]) {
+    refuseWhere(!isName(name), "invalid-character");
+    return run.name(owner, documentOf(run, owner).createElement(name));
+  }
+
+  const nothing = (call) => (run, owner, values) => void call(...values);
+  const telling = (call) => (run, owner, values) => String(call(...values));
+  const showing = (call) => (run, owner, values) => run.show(owner, call(...values));
+  const making = (call) => (run, owner, values) => run.name(owner, call(documentOf(run, owner), ...values));
+  const COMMANDS = {
+    "new element": newElement,
+    "new text": making((document, data) => document.createTextNode(data)),
+    "new comment": making((document, data) => document.createComment(data)),
+    "new fragment": making((document) => document.createDocumentFragment()),
+    document: (run, owner) => run.name(owner, run.makeDocument()),
+    attach,
+    append: (run, owner, [parent, node]) => void parent.appendChild(insertable(run, parent, node)),
+    insert: (run, owner, [parent, node, child]) => void parent.insertBefore(insertable(run, parent, node), child),
+    replace: (run, owner, [parent, node, child]) => void parent.replaceChild(insertable(run, parent, node), child),
+    remove: nothing((node) => node.remove()),
+    adopt: nothing((document, node) => document.adoptNode(node)),
+    normalize: nothing((node) => node.normalize()),
+    text: setText,
+    set: setAttribute,
+    unset: nothing((element, name) => element.removeAttribute(name)),
+    data: nothing((node, data) => (node.data = data)),
+    "replace-data": nothing((node, offset, count, data) => node.replaceData(offset, count, data)),
+    split: (run, owner, [text, offset]) => run.name(owner, text.splitText(offset)),
+    tree: (run, owner, [node]) => treeOf(run, owner, node),
+    attr: (run, owner, [element, name]) => quotedOrNull(element.getAttribute(name)),
+    parent: showing((node) => node.parentNode),
+    docof: showing((node) => node.ownerDocument),
+    children: (run, owner, [node]) => run.showList(owner, node.childNodes),
+    contains: telling((node, other) => node.contains(other)),
+    connected: telling((node) => node.isConnected),
+    "shadow-root": showing((element) => element.shadowRoot),
+    "slot-of": showing((node) => node.assignedSlot),
+    assigned: (run, owner, [slot]) => run.showList(owner, slot.assignedNodes()),
+    "range-new": makeRange,
+    "range-start": nothing((range, node, offset) => range.setStart(node, offset)),
+    "range-end": nothing((range, node, offset) => range.setEnd(node, offset)),
+    "range-collapse": nothing((range, end) => range.collapse(end === "start")),
+    "range-drop": (run, owner, [range]) => void (owner.ranges[owner.ranges.indexOf(range)] = null),
+    "range-get": (run, owner, [range]) =>
+      `${run.show(owner, range.startContainer)} ${range.startOffset} ${run.show(owner, range.endContainer)} ${range.endOffset}`,
+    "range-text": (run, owner, [range]) => quoted(range.toString()),
+    delete: nothing((range) => range.deleteContents()),
+    extract,
+    "insert-node": insertNode,
+    "iter-new": (run, owner, [root, shown], options) =>
+      run.add(owner, "iterators", run.first.createNodeIterator(root, shown, filterOf(options))),
+    "walk-new": (run, owner, [root, shown], options) =>
+      run.add(owner, "walkers", run.first.createTreeWalker(root, shown, filterOf(options))),
+    "iter-next": showing((iterator) => iterator.nextNode()),
+    "iter-prev": showing((iterator) => iterator.previousNode()),
+    "iter-at": (run, owner, [{ referenceNode, pointerBeforeReferenceNode }]) =>
+      `${run.show(owner, referenceNode)} ${pointerBeforeReferenceNode ? "before" : "after"}`,
+    walk,
+    "walk-at": showing((walker) => walker.currentNode),
+    "walk-set": nothing((walker, node) => (walker.currentNode = node)),
+    query: (run, owner, values) =>
+      select(run, owner, values, (node, text) => run.showList(owner, node.querySelectorAll(text))),
+    matches: (run, owner, values) => select(run, owner, values, (element, text) => String(element.matches(text))),
+    listen,
+    unlisten,
+    dispatch: (...words) => String(dispatch(...words)),
+    observer: (run, owner) => run.makeObserver(owner),
+    observe,
+    disconnect: nothing(({ real, twin }) => [real, twin].forEach((observer) => observer.disconnect())),
+    take,
+    micro: (run, owner, [label]) => void run.tasks.push({ owner, label }),
+  };
+
+  // What the DOM of the window answers the script, as domrun would write it, and the names of the fixes that were met.
+  async function run(window, text, fixes = []) {
+    let signals = [];
+    if (/^p attach /m.test(text)) {
+      const first = new Run(window, null, fixes);
+      await first.script(text);
+      signals = first.found;
+    }
+    const last = new Run(window, signals, fixes);
+    const output = await last.script(text);
+    return { output, met: [...last.met] };
+  }
+
+  // The same of each script; one on which the harness itself fails says so in its output.
+  async function runAll(window, { scripts, fixes }) {
+    const answers = [];
+    for (const script of scripts)
+      answers.push(await run(window, script, fixes).catch((error) => ({ output: `harness: ${error.stack}\n`, met: [] })));
+    return answers;
+  }
+
+  exports.owlantimony = { run, runAll };
+})(typeof module === "object" ? module.exports : globalThis, typeof require === "function" ? require("./lines.js").protocol : globalThis.protocol);

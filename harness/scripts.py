@@ -1,0 +1,445 @@
+#!/usr/bin/env python3
+"""Random scripts of the protocol, which stay mostly accepted and reach deep states in every family of commands.
+
+Usage: harness/scripts.py [--program DOMRUN] [--seed S] [--lines N] [--count K] [--coverage]
+
+Prints K scripts, or with --coverage how often each command, answer and refusal came in them. Script number i of a seed is the same
+on every machine. While a script is made it is run line by line in domrun, which tells what was made and how the trees stand.
+"""
+import argparse
+import collections
+import random
+import re
+import subprocess
+import sys
+
+import engines
+
+ELEMENTS = ("div", "p", "b", "i", "span", "ul", "li", "section", "x-a", "hr", "DIV", "article")
+SLOTTED = ("div", "section", "article", "span", "x-a", "p")
+ATTRIBUTES = ("id", "class", "name", "slot", "lang", "K", "a_1")
+VALUES = ("", "a", "b", "a b", "x", "en-GB", "A", "  a", "b-c", "a\\u00e9", "\\ud83d")
+TEXTS = ("", "a", "bc", "def", "x y", "\\ud83d\\ude00", "\\\"", "ghij\\\\")
+TYPES = ("click", "ping", "e", "slotchange")
+SHOWS = ("all", "element", "text", "comment", "element,text", "element,comment", "text,comment", "document,fragment", "element,fragment")
+MOVES = ("parent", "first", "last", "next", "previous", "next-sibling", "previous-sibling", "next", "next")
+TOKEN = re.compile(r'\(|\)|"(?:[^"\\]|\\.)*"|[^\s()"]+="(?:[^"\\]|\\.)*"|[^\s()]+')
+
+
+class Node:
+    """What is known of a node: its kind, its name if it is an element, its tree, and the length of its data."""
+
+    def __init__(self, kind):
+        self.kind, self.tag, self.parent, self.children, self.units = kind, "", None, [], 0
+
+
+class Owner:
+    """The page or a component: its nodes by name, and its numbers of ranges, iterators, walkers and observers."""
+
+    def __init__(self, word):
+        self.word, self.nodes = word, {}
+        self.ranges, self.iterators, self.walkers, self.observers, self.observing = [], [], [], [], []
+
+
+class Maker:
+    """Makes one script."""
+
+    def __init__(self, program, chance):
+        self.chance, self.lines, self.answers = chance, [], []
+        self.process = subprocess.Popen([program, "-"], stdin=subprocess.PIPE, stdout=subprocess.PIPE, text=True, bufsize=1)
+        self.page = Owner("p")
+        self.page.nodes["n0"] = Node("document")
+        self.owners, self.owner, self.open = [self.page], self.page, None
+        self.weights = {family: chance.choice((0.3, 1, 1, 3)) * weight for family, (weight, _) in FAMILIES.items()}
+
+    def ask(self, line):
+        """Runs a line, and gives its reply behind the owner's word, and the lines before it."""
+        word = line.split(" ", 1)[0]
+        self.process.stdin.write(line + "\n")
+        before = []
+        while True:
+            answer = self.process.stdout.readline().rstrip("\n")
+            if answer.startswith((word + " ok", word + " !", "! owner")):
+                return answer[len(word) + 1:], before
+            before.append(answer)
+
+    def say(self, words):
+        """Adds a line of the owner whose turn it is to the script, and gives the value of its answer, or None where it is refused."""
+        line = f"{self.owner.word} {words}"
+        reply, before = self.ask(line)
+        self.lines.append(line)
+        self.answers.append((words.split(" ")[0], reply, before))
+        if reply.startswith("!"):
+            return None
+        self.open = None if words == "." else self.open or self.owner.word
+        return reply[3:]
+
+    # ---- what is known
+
+    def read_tree(self, name):
+        """Reads how the tree of a node stands now."""
+        nodes, stack = self.owner.nodes, []
+        reply, _ = self.ask(f"{self.owner.word} tree {name}")
+        before = self.below(name)
+        tokens = iter(TOKEN.findall(reply[3:]))
+        for token in tokens:
+            if token == "(":
+                child, kind = next(tokens), next(tokens)
+                node = nodes.setdefault(child, Node(kind))
+                node.children = []
+                if stack:
+                    node.parent = stack[-1]
+                    nodes[stack[-1]].children.append(child)
+                if kind == "element":
+                    node.tag = next(tokens)
+                stack.append(child)
+            elif token == ")":
+                stack.pop()
+            elif nodes[stack[-1]].kind in ("text", "comment"):
+                nodes[stack[-1]].units = len(re.sub(r"\\u....|\\.", "x", token[1:-1]))
+        now = self.below(name)
+        for gone in before - now:
+            if nodes[gone].parent in now:
+                nodes[gone].parent = None
+
+    def below(self, name):
+        found, left = set(), [name]
+        while left:
+            found.add(left[-1])
+            left += self.owner.nodes[left.pop()].children if left[-1] in self.owner.nodes else []
+        return found
+
+    def root(self, name):
+        while self.owner.nodes[name].parent:
+            name = self.owner.nodes[name].parent
+        return name
+
+    def change(self, words, *names):
+        """Says a line that changes the trees of these nodes."""
+        roots = {self.root(name) for name in names}
+        value = self.say(words)
+        if value is not None:
+            for root in sorted(roots | {self.root(name) for name in names}):
+                self.read_tree(root)
+        return value
+
+    def length(self, name):
+        node = self.owner.nodes[name]
+        return node.units if node.kind in ("text", "comment") else len(node.children)
+
+    # ---- choices
+
+    def pick(self, *kinds):
+        """A node of these kinds, mostly one that was made late or has children; now and then any node."""
+        names = [name for name, node in self.owner.nodes.items() if not kinds or node.kind in kinds]
+        if self.chance.random() < 0.01 or not names:
+            names = list(self.owner.nodes)
+        within = [name for name in names if self.owner.nodes[name].parent or self.owner.nodes[name].children]
+        return self.chance.choice(within if within and self.chance.random() < 0.8 else names)
+
+    def parent(self):
+        return self.pick("element", "element", "element", "fragment", "shadow", "document")
+
+    def child_of(self, parent):
+        children = self.owner.nodes[parent].children
+        return self.chance.choice(children) if children and self.chance.random() < 0.97 else self.pick()
+
+    def offset(self, name):
+        length = self.length(name)
+        return length + 1 if self.chance.random() < 0.02 else self.chance.randint(0, length)
+
+    def one(self, values):
+        return self.chance.choice(values)
+
+    def some(self, *words):
+        return [word for word in words if self.chance.random() < 0.5]
+
+    def made(self, value, kind, tag="", units=0):
+        if value is not None:
+            node = self.owner.nodes[value] = Node(kind)
+            node.tag, node.units = tag, units
+
+    # ---- families of commands
+
+    def make(self):
+        tag = self.one(ELEMENTS if self.owner is self.page or self.chance.random() < 0.5 else ("slot",))
+        tag = tag if self.chance.random() < 0.99 else "1a"
+        self.made(self.say(f"new element {tag}"), "element", tag)
+
+    def make_other(self):
+        text = self.one(TEXTS)
+        kind = self.one(("text", "text", "text", "comment", "fragment", "document"))
+        if kind == "document":
+            self.made(self.say("document"), "document")
+        elif kind == "fragment":
+            self.made(self.say("new fragment"), "fragment")
+        else:
+            self.made(self.say(f'new {kind} "{text}"'), kind, "", len(re.sub(r"\\u....|\\.", "x", text)))
+
+    def place(self):
+        """A node without a parent goes below another tree, or any node goes anywhere."""
+        parent = self.parent()
+        loose = [name for name, node in self.owner.nodes.items()
+                 if not node.parent and node.kind not in ("document", "shadow") and name != self.root(parent)]
+        node = self.one(loose) if loose and self.chance.random() < 0.75 else self.pick("element", "text", "comment", "fragment")
+        if self.owner.nodes[parent].children and self.chance.random() < 0.5:
+            self.change(f"insert {parent} {node} {self.child_of(parent)}", parent, node)
+        else:
+            self.change(f"append {parent} {node}", parent, node)
+
+    def move(self):
+        verb, parent = self.one(("replace", "replace", "remove", "adopt", "normalize", "text")), self.parent()
+        if verb == "replace":
+            node = self.pick("element", "text", "comment", "fragment")
+            self.change(f"replace {parent} {node} {self.child_of(parent)}", parent, node)
+        elif verb == "remove":
+            node = self.pick("element", "text", "comment")
+            self.change(f"remove {node}", node)
+        elif verb == "adopt":
+            node = self.pick("element", "text", "comment", "fragment")
+            self.change(f"adopt {self.pick('document')} {node}", node)
+        elif verb == "normalize":
+            self.change(f"normalize {parent}", parent)
+        elif self.chance.random() < 0.4:
+            node = self.pick("element", "element", "text")
+            self.change(f'text {node} "{self.one(TEXTS)}"', node)
+
+    def write(self):
+        verb = self.one(("data", "replace-data", "replace-data", "split"))
+        node = self.pick("text") if verb == "split" else self.pick("text", "text", "comment")
+        if verb == "data":
+            self.change(f'data {node} "{self.one(TEXTS)}"', node)
+        elif verb == "split":
+            self.made(self.change(f"split {node} {self.offset(node)}", node), "text")
+            self.read_tree(self.root(node))
+        else:
+            self.change(f'replace-data {node} {self.offset(node)} {self.chance.randint(0, 4)} "{self.one(TEXTS)}"', node)
+
+    def name(self):
+        element, name = self.pick("element"), self.one(ATTRIBUTES)
+        if self.chance.random() < 0.75:
+            self.say(f'set {element} {name} "{self.one(VALUES)}"')
+        else:
+            self.say(f"unset {element} {name}")
+
+    def slot(self):
+        """What changes the assignment of slots."""
+        if self.owner is self.page:
+            self.say(f'set {self.pick("element")} slot "{self.one(("", "a", "b"))}"')
+        else:
+            slots = [name for name, node in self.owner.nodes.items() if node.tag == "slot"] or ["m0"]
+            line = self.one((f"assigned {self.one(slots)}", f'set {self.one(slots)} name "{self.one(("", "a", "b"))}"', "append"))
+            if line == "append":
+                node = self.one(slots)
+                self.change(f"append {self.one(('m0', self.parent()))} {node}", node, "m0")
+            else:
+                self.say(line)
+
+    def read(self):
+        node = self.pick()
+        self.say(self.one((f"tree {node}", f"tree {self.root(node)}", f"attr {self.pick('element')} {self.one(ATTRIBUTES)}", f"parent {node}",
+                           f"docof {node}", f"children {self.parent()}", f"contains {node} {self.pick()}", f"connected {node}",
+                           f"shadow-root {self.pick('element')}", f"slot-of {self.pick('element', 'text')}")))
+
+    def make_range(self):
+        value = self.say("range-new")
+        if value is not None:
+            self.owner.ranges.append(value)
+            top = self.root(self.pick("element", "text"))
+            self.set_range(value, top)
+
+    def set_range(self, name, top):
+        nodes = sorted(self.below(top))
+        for end in self.one((("start", "end"), ("end", "start"))):
+            node = self.one(nodes)
+            self.say(f"range-{end} {name} {node} {self.offset(node)}")
+
+    def use_range(self):
+        if not self.owner.ranges:
+            return self.make_range()
+        name = self.one(self.owner.ranges)
+        verb = self.one(("set", "set", "get", "get", "get", "text", "collapse", "drop"))
+        if verb == "set":
+            self.set_range(name, self.root(self.pick()))
+        elif verb == "drop":
+            if self.chance.random() < 0.2:
+                self.say(f"range-drop {name}")
+                self.owner.ranges.remove(name)
+        else:
+            self.say(f"range-collapse {name} {self.one(('start', 'end'))}" if verb == "collapse" else f"range-{verb} {name}")
+        return None
+
+    def cut_range(self):
+        if not self.owner.ranges:
+            return self.make_range()
+        name, verb = self.one(self.owner.ranges), self.one(("delete", "extract", "insert-node", "insert-node"))
+        start = self.ask(f"{self.owner.word} range-get {name}")[0].split(" ")[1] if self.open == self.owner.word else None
+        names = [start] if start in self.owner.nodes else []
+        if verb == "insert-node":
+            node = self.pick("element", "text", "comment", "fragment")
+            self.change(f"insert-node {name} {node}", node, *names)
+        else:
+            value = self.change(f"{verb} {name}", *names)
+            if value and verb == "extract":
+                self.made(value, "fragment")
+                self.read_tree(value)
+        if self.chance.random() < 0.5:
+            self.say(f"range-get {name}")
+        return None
+
+    def traverse(self):
+        kind = self.one(("iter", "walk"))
+        cursors = self.owner.iterators if kind == "iter" else self.owner.walkers
+        if not cursors or self.chance.random() < 0.15:
+            named = self.one(("", "", f" skip={self.one(ELEMENTS)}", f" reject={self.one(ELEMENTS)}"))
+            value = self.say(f"{kind}-new {self.parent()} {self.one(SHOWS)}{named}")
+            return cursors.append(value) if value else None
+        name = self.one(cursors)
+        for _ in range(self.chance.randint(1, 4)):
+            if kind == "iter":
+                self.say(f"iter-{self.one(('next', 'next', 'next', 'prev', 'at'))} {name}")
+            elif self.chance.random() < 0.15:
+                self.say(f"walk-set {name} {self.pick()}")
+            else:
+                self.say(self.one((f"walk-at {name}", f"walk {name} {self.one(MOVES)}", f"walk {name} {self.one(MOVES)}")))
+        return None
+
+    def compound(self, plain=False):
+        parts = [self.one(("", "", "*", self.one(ELEMENTS)))]
+        for _ in range(self.chance.randint(0 if parts[0] else 1, 2)):
+            operator = self.one(("=", "~=", "|=", "^=", "$=", "*="))
+            value = self.one(("a", "'a'", "''", "\\\"a b\\\"", "en", "b-c", "' '"))
+            parts.append(self.one((f"#{self.one(('a', 'b'))}", f".{self.one(('a', 'b', 'A'))}", f"[{self.one(ATTRIBUTES)}]",
+                                   f"[ {self.one(ATTRIBUTES)}{operator} {value}]", ":first-child", ":last-child",
+                                   "" if plain else f":not({self.compound(True)})")))
+        return "".join(parts) or "*"
+
+    def select(self):
+        text = self.compound()
+        for _ in range(self.one((0, 0, 1, 1, 2))):
+            text += self.one((" ", ">", " + ", "~ ", " , ")) + self.compound()
+        text = text if self.chance.random() < 0.97 else text + self.one((">", ":hover", "::a", "[", ","))
+        if self.chance.random() < 0.6:
+            self.say(f'query {self.parent()} "{text}"')
+        else:
+            self.say(f'matches {self.pick("element")} "{text}"')
+
+    def hear(self):
+        node, event = self.pick(), self.one(TYPES)
+        label = f"{self.one('abcd')}{node}"
+        if self.chance.random() < 0.85:
+            action = self.one(("log",) * 6 + ("stop", "stop-now", "cancel"))
+            self.say(" ".join(["listen", node, event, label, action, *self.some("capture", "once" if self.chance.random() < 0.4 else "capture1",
+                               "passive")]).replace(" capture1", ""))
+        else:
+            self.say(" ".join(["unlisten", node, event, label, *self.some("capture")]))
+
+    def fire(self):
+        words = [f"dispatch {self.pick('element', 'element', 'text')} {self.one(TYPES)}", *self.some("bubbles", "cancelable", "composed")]
+        if self.chance.random() < 0.3:
+            words.append(f"related {self.pick()}")
+        self.say(" ".join(words))
+
+    def observe(self):
+        owner = self.owner
+        if not owner.observers or self.chance.random() < 0.1:
+            value = self.say("observer")
+            return owner.observers.append(value) if value else None
+        name, verb = self.one(owner.observers), self.one(("observe", "observe", "observe", "take", "disconnect"))
+        if verb == "observe":
+            words = self.some("childList", "attributes", "characterData", "subtree", "attributeOldValue", "characterDataOldValue")
+            filtered = [] if self.chance.random() < 0.8 else [f"filter={self.one(ATTRIBUTES)},{self.one(ATTRIBUTES)}"]
+            self.say(" ".join([f"observe {name} {self.pick()}", *words, *filtered]))
+        elif verb == "take" or self.chance.random() < 0.2:
+            self.say(f"{verb} {name}")
+        return None
+
+    def queue(self):
+        self.say(f"micro {self.one('klm')}")
+
+    def end(self):
+        """Ends the turn, and another owner may have the next one."""
+        self.say(".")
+        self.owner = self.one(self.owners + [self.page] * 2)
+
+    def host(self):
+        if self.owner is not self.page or len(self.owners) > 3:
+            return self.slot()
+        hosts = [name for name, node in self.owner.nodes.items() if node.tag in SLOTTED]
+        value = self.say(f"attach {self.one(hosts) if hosts else 'n0'}")
+        if value:
+            owner = Owner(value)
+            owner.nodes["m0"] = Node("shadow")
+            self.owners.append(owner)
+        return None
+
+    def stray(self):
+        """A line that is refused, or that another owner says in between."""
+        self.say(self.one(("remove n999", "tree m7", "append m0 c1:m1", "tre n0", "range-get r77", "new  fragment", 'new text "', "take o9",
+                           "append n0", "tree c1:m0", "walk w0 up", "iter-new n0 text,element", "dispatch n0 a b", "observe o0 n0")))
+
+    def script(self, lines):
+        """The lines of the script: first a few nodes, then families by their weights."""
+        for _ in range(3):
+            self.make()
+        self.place()
+        while len(self.lines) < lines:
+            families = list(self.weights)
+            family = self.chance.choices(families, [self.weights[name] for name in families])[0]
+            FAMILIES[family][1](self)
+        self.process.communicate()
+        return self.lines
+
+
+FAMILIES = {
+    "make": (7, Maker.make), "make_other": (6, Maker.make_other), "place": (16, Maker.place), "move": (7, Maker.move),
+    "write": (4, Maker.write), "name": (5, Maker.name), "slot": (3, Maker.slot), "read": (4, Maker.read),
+    "make_range": (1.5, Maker.make_range), "use_range": (5, Maker.use_range), "cut_range": (2, Maker.cut_range),
+    "traverse": (5, Maker.traverse), "select": (3, Maker.select), "hear": (5, Maker.hear), "fire": (4, Maker.fire),
+    "observe": (6, Maker.observe), "queue": (1, Maker.queue), "end": (6, Maker.end), "host": (1.5, Maker.host), "stray": (0.4, Maker.stray),
+}
+
+
+def made(program, seed, number, lines):
+    """The maker of a script, when it has made it."""
+    maker = Maker(program, random.Random(f"{seed} {number}"))
+    maker.script(lines)
+    return maker
+
+
+def random_scripts(program, seed, count, lines, first=0):
+    """The scripts of a seed, from number `first` on."""
+    return ["".join(line + "\n" for line in made(program, seed, number, lines).lines) for number in range(first, first + count)]
+
+
+def print_coverage(makers):
+    """How often each command came, was accepted and was refused for what, and how often each kind of line came before an answer."""
+    commands, lines = collections.defaultdict(collections.Counter), collections.Counter()
+    for maker in makers:
+        for command, reply, before in maker.answers:
+            commands[command]["ok" if not reply.startswith("!") else reply[2:]] += 1
+            lines.update(line.split(" ")[1] + (" " + line.split(" ")[3] if " record " in line else "") for line in before)
+    for command in sorted(commands):
+        counts = commands[command]
+        print(f"{command:16} {sum(counts.values()):7}  " + "  ".join(f"{name} {count}" for name, count in counts.most_common()))
+    print("lines before answers: " + "  ".join(f"{name} {count}" for name, count in lines.most_common()))
+
+
+def main():
+    parser = argparse.ArgumentParser(description=__doc__.splitlines()[0])
+    parser.add_argument("--program", default=engines.PROGRAM)
+    parser.add_argument("--seed", default="1")
+    parser.add_argument("--lines", type=int, default=100)
+    parser.add_argument("--count", type=int, default=1)
+    parser.add_argument("--coverage", action="store_true")
+    words = parser.parse_args()
+    makers = (made(words.program, words.seed, number, words.lines) for number in range(words.count))
+    if words.coverage:
+        print_coverage(makers)
+        return
+    for maker in makers:
+        sys.stdout.write("".join(line + "\n" for line in maker.lines))
+
+
+if __name__ == "__main__":
+    main()
