@@ -4,7 +4,7 @@
 // and that each owner has its own notification. `run` runs a script that attaches components twice: the first time it lets the DOM
 // notify after every line, to see which line signals whose slots; the second time at the ends of turns, as the protocol has it.
 "use strict";
-(function (exports, { parse, linesOf, KINDS, isName, isSelector }) {
+(function (exports, { parse, linesOf, KINDS, isName, isSelector }, { plansFor, Unrepresentable }, lasting) {
   const XHTML = "http://www.w3.org/1999/xhtml";
   const REFUSALS = {
     HierarchyRequestError: "hierarchy", NotFoundError: "not-found", NotSupportedError: "not-supported",
@@ -105,7 +105,6 @@
         if (!this.signals) await this.checkpoint();
       }
       if (this.turn) await this.endTurn();
-      return this.output.join("");
     }
 
     put(line) {
@@ -148,13 +147,20 @@
     }
 
     carryOut(owner, { name, options }, values) {
+      const related = values.pop();
+      let plans = [];
       this.atCommand = true;
       try {
-        const related = values.pop();
-        return COMMANDS[name](this, owner, values, { ...options, related });
+        plans = plansFor(this, owner, name, values, options);
+        const call = () => COMMANDS[name](this, owner, values, { ...options, related });
+        const instead = plans.find((plan) => plan.call);
+        return instead ? instead.call(call) : call();
+      } catch (error) {
+        plans = [];
+        throw error;
       } finally {
         this.atCommand = false;
-        this.noteTasks(owner);
+        this.noteTasks(owner, plans);
       }
     }
 
@@ -162,9 +168,13 @@
 
     // Queues the notifications that the line asks for. A placing or removal signals slots before its record, a change of an
     // attribute or of data makes its record first; a fragment's record is made before its nodes are placed.
-    noteTasks(owner) {
-      const taken = owner.observers.map((observer) => observer.twin.takeRecords()).filter((records) => records.length);
-      const isFirst = taken.some(([record]) => record.type !== "childList" || record.target.nodeType === 11);
+    noteTasks(owner, plans) {
+      for (const observer of owner.observers) observer.fresh = observer.twin.takeRecords();
+      for (const { fix, after } of plans) if (after(owner.observers)) this.met.add(fix);
+      const taken = owner.observers.filter(({ fresh }) => fresh.length);
+      for (const observer of taken) observer.kept.push(...observer.fresh);
+      for (const observer of taken) observer.isPending = true;
+      const isFirst = taken.some(({ fresh: [record] }) => record.type !== "childList" || record.target.nodeType === 11);
       const signals = ((this.signals || [])[this.at] || []).map((word) => this.owners.get(word));
       const order = taken.length === 0 ? signals : isFirst ? [owner, ...signals] : [...signals, owner];
       for (const next of order) if (!this.tasks.some((task) => task.owner === next && !task.label)) this.tasks.push({ owner: next });
@@ -190,7 +200,11 @@
         if (label) this.put(`${owner.word} micro ${label}`);
         else this.notify(owner);
       }
-      for (const owner of this.owners.values()) this.notify(owner);
+      for (const owner of this.owners.values()) {
+        this.notify(owner);
+        if (lasting.endTurn(owner, ({ isPending }) => isPending)) this.met.add("transients");
+        for (const observer of owner.observers) observer.isPending = false;
+      }
       this.tasks = [];
       this.turn = null;
     }
@@ -202,12 +216,20 @@
 
     // ---- observers and listeners
 
+    // The twin of an observer observes the same, and tells after each line which records there were.
     makeObserver(owner) {
       const number = owner.observers.length;
-      const put = (records) => owner.records.push(...records.map((record) => this.recordLine(owner, number, record)));
-      // The twin observes the same, and tells after each line whether there was a record.
-      owner.observers.push({ real: new this.window.MutationObserver(put), twin: new this.window.MutationObserver(() => {}) });
+      const line = (record) => this.recordLine(owner, number, record);
+      const observer = { line, kept: [], fresh: [], twin: new this.window.MutationObserver(() => {}) };
+      observer.real = new this.window.MutationObserver((records) => owner.records.push(...this.recordsOf(observer, records).map(line)));
+      owner.observers.push(observer);
       return "o" + number;
+    }
+
+    // The records that an observer is given: with fixes those that were kept, as the fixes left them.
+    recordsOf(observer, records) {
+      const kept = observer.kept.splice(0);
+      return this.fixes.length ? kept : records;
     }
 
     recordLine(owner, number, record) {
@@ -332,10 +354,15 @@
     for (const observer of [real, twin]) observer.observe(node, options);
   }
 
-  function take(run, owner, [{ real }]) {
-    const records = real.takeRecords();
-    for (const record of records) run.put(run.recordLine(owner, owner.observers.findIndex((o) => o.real === real), record));
+  function take(run, owner, [observer]) {
+    const records = run.recordsOf(observer, observer.real.takeRecords());
+    for (const record of records) run.put(observer.line(record));
     return records.length;
+  }
+
+  function disconnect(run, owner, [observer]) {
+    observer.kept = [];
+    for (const one of [observer.real, observer.twin]) one.disconnect();
   }
 
   function setAttribute(run, owner, [element, name, value]) {
@@ -411,7 +438,7 @@
     dispatch: (...words) => String(dispatch(...words)),
     observer: (run, owner) => run.makeObserver(owner),
     observe,
-    disconnect: nothing(({ real, twin }) => [real, twin].forEach((observer) => observer.disconnect())),
+    disconnect,
     take,
     micro: (run, owner, [label]) => void run.tasks.push({ owner, label }),
   };
@@ -420,13 +447,18 @@
   async function run(window, text, fixes = []) {
     let signals = [];
     if (/^p attach /m.test(text)) {
-      const first = new Run(window, null, fixes);
+      const first = new Run(window, null, []);
       await first.script(text);
       signals = first.found;
     }
     const last = new Run(window, signals, fixes);
-    const output = await last.script(text);
-    return { output, met: [...last.met] };
+    try {
+      await last.script(text);
+    } catch (error) {
+      if (!(error instanceof Unrepresentable)) throw error;
+      last.put("harness: " + error.message);
+    }
+    return { output: last.output.join(""), met: [...last.met] };
   }
 
   // The same of each script; one on which the harness itself fails says so in its output.
@@ -438,4 +470,9 @@
   }
 
   exports.owlantimony = { run, runAll };
-})(typeof module === "object" ? module.exports : globalThis, typeof require === "function" ? require("./lines.js").protocol : globalThis.protocol);
+})(
+  typeof module === "object" ? module.exports : globalThis,
+  typeof require === "function" ? require("./lines.js").protocol : globalThis.protocol,
+  typeof require === "function" ? require("./fixes.js").fixing : globalThis.fixing,
+  typeof require === "function" ? require("./lasting.js").lasting : globalThis.lasting,
+);

@@ -1,1 +1,181 @@
+// The differences between a DOM and the protocol that can be made good by smaller steps: with a fix the adapter carries a command out
+// as the DOM Standard has it, and a script that then agrees differs by just this. What a fix does is met only where it changes something.
 "use strict";
+(function (exports, { planIterators, planTransients }) {
+  // A range of the protocol may stand with its start behind its end; a range of a DOM cannot, so here the comparison of a script ends.
+  class Unrepresentable extends Error {}
+
+  const indexOf = (node) => {
+    let index = 0;
+    for (let before = node.previousSibling; before; before = before.previousSibling) index += 1;
+    return index;
+  };
+
+  // The boundary points of an owner's ranges, moved as the Standard's steps move them.
+  class Points {
+    constructor(owner) {
+      this.ranges = owner.ranges.filter(Boolean);
+      this.points = this.ranges.map((range) => [
+        { node: range.startContainer, offset: range.startOffset }, { node: range.endContainer, offset: range.endOffset },
+      ]);
+      this.all = this.points.flat();
+    }
+
+    // Room is made in front of the child at an index.
+    makeRoom(parent, index, count) {
+      for (const point of this.all) if (point.node === parent && point.offset > index) point.offset += count;
+    }
+
+    // A node leaves its parent, where it has this index.
+    remove(parent, node, index) {
+      for (const point of this.all) {
+        if (node.contains(point.node)) Object.assign(point, { node: parent, offset: index });
+        else if (point.node === parent && point.offset > index) point.offset -= 1;
+      }
+    }
+
+    // Gives the ranges these points. True: one of them moves by that.
+    put() {
+      let moved = false;
+      this.ranges.forEach((range, i) => {
+        const [start, end] = this.points[i];
+        const isAt = () => range.startContainer === start.node && range.startOffset === start.offset
+          && range.endContainer === end.node && range.endOffset === end.offset;
+        if (isAt()) return;
+        moved = true;
+        range.setStart(start.node, start.offset);
+        range.setEnd(end.node, end.offset);
+        if (!isAt()) throw new Unrepresentable("a range's start stands behind its end");
+      });
+      return moved;
+    }
+  }
+
+  // Rewrites the records that each observer took of this command. True: some list is another one by that.
+  function rewrite(taken, change) {
+    let changed = false;
+    for (const observer of taken) {
+      const before = JSON.stringify(observer.fresh.map((record) => observer.line(record)));
+      observer.fresh = change(observer.fresh);
+      changed = changed || before !== JSON.stringify(observer.fresh.map((record) => observer.line(record)));
+    }
+    return changed;
+  }
+
+  const copyOf = ({ type, target, addedNodes, removedNodes, previousSibling, nextSibling, attributeName, oldValue }, changes) =>
+    ({ type, target, addedNodes: [...addedNodes], removedNodes: [...removedNodes], previousSibling, nextSibling, attributeName, oldValue, ...changes });
+
+  // Insertion of a node among its siblings: room is made, and the previous sibling is taken, before the node leaves its place.
+  function planInsertion(owner, [parent, node, child]) {
+    if (node.parentNode !== parent) return null;
+    const reference = child === node ? node.nextSibling : child || null;
+    const previousSibling = reference ? reference.previousSibling : parent.lastChild;
+    const points = new Points(owner);
+    if (reference) points.makeRoom(parent, indexOf(reference), 1);
+    points.remove(parent, node, indexOf(node));
+    return (taken) => {
+      const moved = points.put();
+      const isIt = (record) => record.type === "childList" && record.target === parent && [...record.addedNodes].includes(node);
+      return rewrite(taken, (records) => records.map((record) => (isIt(record) ? copyOf(record, { previousSibling }) : record))) || moved;
+    };
+  }
+
+  // Replacement: the child leaves before the node does, and one record has both.
+  function planReplacement(owner, [parent, node, child]) {
+    if (child.parentNode !== parent) return null;
+    const following = child.nextSibling;
+    const reference = following === node ? node.nextSibling : following;
+    const last = { type: "childList", target: parent, previousSibling: child.previousSibling, nextSibling: reference, removedNodes: [child] };
+    last.addedNodes = node.nodeType === 11 ? [...node.childNodes] : [node];
+    const beside = (sibling, further) => (sibling === child ? further : sibling);
+    const first = node !== child && node.parentNode === parent && {
+      type: "childList", target: parent, addedNodes: [], removedNodes: [node],
+      previousSibling: beside(node.previousSibling, child.previousSibling), nextSibling: beside(node.nextSibling, child.nextSibling),
+    };
+    const points = new Points(owner);
+    if (first) {
+      const [index, at] = [indexOf(child), indexOf(node)];
+      points.remove(parent, child, index);
+      if (reference) points.makeRoom(parent, indexOf(reference) - 1, 1);
+      points.remove(parent, node, at > index ? at - 1 : at);
+    }
+    return (taken) => {
+      const moved = first ? points.put() : false;
+      const isOurs = (record) => record.type === "childList" && record.target === parent;
+      return rewrite(taken, (records) => {
+        if (!records.some(isOurs)) return records;
+        return [...records.filter((record) => !isOurs(record)), ...(first ? [first] : []), last];
+      }) || moved;
+    };
+  }
+
+  // Splitting of a Text: the new Text is placed before the old one's data are cut.
+  function planSplit(text) {
+    if (text.nodeType !== 3) return null;
+    return (taken) => rewrite(taken, (records) => {
+      const cut = records.find((record) => record.type === "characterData" && record.target === text);
+      const rest = records.filter((record) => record !== cut);
+      const at = rest.findIndex((record) => record.type === "childList" && record.previousSibling === text && record.removedNodes.length === 0);
+      return cut && at >= 0 ? [...rest.slice(0, at + 1), cut, ...rest.slice(at + 1)] : records;
+    });
+  }
+
+  // Deletion and extraction: the data at the end are cut last.
+  function planCut(range) {
+    const [start, end] = [range.startContainer, range.endContainer];
+    if (start === end) return null;
+    const isLast = (record) => record.type === "characterData" && record.target === end;
+    return (taken) => rewrite(taken, (records) => [...records.filter((record) => !isLast(record)), ...records.filter(isLast)]);
+  }
+
+  // The end of a range that is collapsed where a node is inserted that has the place's parent already: behind that node.
+  function planInsertNode([range, node]) {
+    const start = range.startContainer;
+    const parent = start.nodeType === 3 ? start.parentNode : start;
+    if (!parent || node.parentNode !== parent) return null;
+    const points = new Points({ ranges: [range] });
+    points.remove(parent, node, indexOf(node));
+    const [first, last] = points.all;
+    const isCollapsed = first.node === last.node && first.offset === last.offset;
+    let refused = false;
+    return {
+      call: (insert) => {
+        try {
+          return insert();
+        } catch (error) {
+          refused = error.name === "IndexSizeError";
+          if (!refused) throw error;
+        }
+      },
+      after: () => {
+        const offset = indexOf(node) + 1;
+        if (!refused && (!isCollapsed || (range.endContainer === parent && range.endOffset === offset))) return false;
+        range.setEnd(parent, offset);
+        return true;
+      },
+    };
+  }
+
+  const after = (plan) => plan && { after: plan };
+  const FIXES = {
+    "insert-node-offset": (run, owner, name, values) => (name === "insert-node" ? planInsertNode(values) : null),
+    "sibling-inserted": (run, owner, name, values) => (name === "append" || name === "insert" ? after(planInsertion(owner, values)) : null),
+    replaced: (run, owner, name, values) => (name === "replace" ? after(planReplacement(owner, values)) : null),
+    "split-records": (run, owner, name, values) =>
+      name === "split" ? after(planSplit(values[0])) : name === "insert-node" ? after(planSplit(values[0].startContainer)) : null,
+    "cut-records": (run, owner, name, values) => (name === "delete" || name === "extract" ? after(planCut(values[0])) : null),
+    "iterator-kept": planIterators,
+    transients: planTransients,
+  };
+
+  // What is to be done at a command for these fixes, by name: `call` in place of its call, `after` with the observers behind it.
+  function plansFor(run, owner, name, values, options) {
+    const plans = run.fixes.map((fix) => ({ fix, ...FIXES[fix](run, owner, name, values, options) }));
+    return plans.filter(({ call, after }) => call || after);
+  }
+
+  exports.fixing = { plansFor, Unrepresentable };
+})(
+  typeof module === "object" ? module.exports : globalThis,
+  typeof require === "function" ? require("./lasting.js").lasting : globalThis.lasting,
+);

@@ -20,7 +20,7 @@ SLOTTED = ("div", "section", "article", "span", "x-a", "p")
 ATTRIBUTES = ("id", "class", "name", "slot", "lang", "K", "a_1")
 VALUES = ("", "a", "b", "a b", "x", "en-GB", "A", "  a", "b-c", "a\\u00e9", "\\ud83d")
 TEXTS = ("", "a", "bc", "def", "x y", "\\ud83d\\ude00", "\\\"", "ghij\\\\")
-TYPES = ("click", "ping", "e", "slotchange")
+TYPES = ("e", "e", "click", "slotchange")
 SHOWS = ("all", "element", "text", "comment", "element,text", "element,comment", "text,comment", "document,fragment", "element,fragment")
 MOVES = ("parent", "first", "last", "next", "previous", "next-sibling", "previous-sibling", "next", "next")
 TOKEN = re.compile(r'\(|\)|"(?:[^"\\]|\\.)*"|[^\s()"]+="(?:[^"\\]|\\.)*"|[^\s()]+')
@@ -38,7 +38,7 @@ class Owner:
 
     def __init__(self, word):
         self.word, self.nodes = word, {}
-        self.ranges, self.iterators, self.walkers, self.observers, self.observing = [], [], [], [], []
+        self.ranges, self.iterators, self.walkers, self.observers, self.heard = [], [], [], [], []
 
 
 class Maker:
@@ -138,7 +138,11 @@ class Maker:
         return self.chance.choice(within if within and self.chance.random() < 0.8 else names)
 
     def parent(self):
-        return self.pick("element", "element", "element", "fragment", "shadow", "document")
+        """A node that may have children: a document seldom takes one more."""
+        empty = [name for name, node in self.owner.nodes.items() if node.kind == "document" and not node.children]
+        if empty and self.chance.random() < 0.2:
+            return self.one(empty)
+        return self.pick("element", "fragment", "shadow", *self.some_of(0.1, "document"))
 
     def child_of(self, parent):
         children = self.owner.nodes[parent].children
@@ -151,8 +155,11 @@ class Maker:
     def one(self, values):
         return self.chance.choice(values)
 
+    def some_of(self, share, *words):
+        return [word for word in words if self.chance.random() < share]
+
     def some(self, *words):
-        return [word for word in words if self.chance.random() < 0.5]
+        return self.some_of(0.5, *words)
 
     def made(self, value, kind, tag="", units=0):
         if value is not None:
@@ -181,6 +188,8 @@ class Maker:
         parent = self.parent()
         loose = [name for name, node in self.owner.nodes.items()
                  if not node.parent and node.kind not in ("document", "shadow") and name != self.root(parent)]
+        if self.owner.nodes[parent].kind == "document":
+            loose = [name for name in loose if self.owner.nodes[name].kind in ("element", "comment")]
         node = self.one(loose) if loose and self.chance.random() < 0.75 else self.pick("element", "text", "comment", "fragment")
         if self.owner.nodes[parent].children and self.chance.random() < 0.5:
             self.change(f"insert {parent} {node} {self.child_of(parent)}", parent, node)
@@ -190,6 +199,7 @@ class Maker:
     def move(self):
         verb, parent = self.one(("replace", "replace", "remove", "adopt", "normalize", "text")), self.parent()
         if verb == "replace":
+            parent = self.one([name for name, node in self.owner.nodes.items() if node.children] or [parent])
             node = self.pick("element", "text", "comment", "fragment")
             self.change(f"replace {parent} {node} {self.child_of(parent)}", parent, node)
         elif verb == "remove":
@@ -206,6 +216,8 @@ class Maker:
 
     def write(self):
         verb = self.one(("data", "replace-data", "replace-data", "split"))
+        if not any(node.kind == "text" for node in self.owner.nodes.values()):
+            return self.make_other()
         node = self.pick("text") if verb == "split" else self.pick("text", "text", "comment")
         if verb == "data":
             self.change(f'data {node} "{self.one(TEXTS)}"', node)
@@ -214,6 +226,7 @@ class Maker:
             self.read_tree(self.root(node))
         else:
             self.change(f'replace-data {node} {self.offset(node)} {self.chance.randint(0, 4)} "{self.one(TEXTS)}"', node)
+        return None
 
     def name(self):
         element, name = self.pick("element"), self.one(ATTRIBUTES)
@@ -325,8 +338,9 @@ class Maker:
             self.say(f'matches {self.pick("element")} "{text}"')
 
     def hear(self):
-        node, event = self.pick(), self.one(TYPES)
+        node, event = self.one((self.pick(), self.parent(), self.root(self.pick()))), self.one(TYPES)
         label = f"{self.one('abcd')}{node}"
+        self.owner.heard.append(node)
         if self.chance.random() < 0.85:
             action = self.one(("log",) * 6 + ("stop", "stop-now", "cancel"))
             self.say(" ".join(["listen", node, event, label, action, *self.some("capture", "once" if self.chance.random() < 0.4 else "capture1",
@@ -335,7 +349,10 @@ class Maker:
             self.say(" ".join(["unlisten", node, event, label, *self.some("capture")]))
 
     def fire(self):
-        words = [f"dispatch {self.pick('element', 'element', 'text')} {self.one(TYPES)}", *self.some("bubbles", "cancelable", "composed")]
+        below = sorted(self.below(self.one(self.owner.heard))) if self.owner.heard else [self.pick()]
+        target = self.one((self.pick("element", "text"), self.one(below), self.one(below)))
+        words = [f"dispatch {target} {self.one(TYPES)}", *self.some_of(0.7, "bubbles"),
+                 *self.some("cancelable", "composed")]
         if self.chance.random() < 0.3:
             words.append(f"related {self.pick()}")
         self.say(" ".join(words))
@@ -349,7 +366,8 @@ class Maker:
         if verb == "observe":
             words = self.some("childList", "attributes", "characterData", "subtree", "attributeOldValue", "characterDataOldValue")
             filtered = [] if self.chance.random() < 0.8 else [f"filter={self.one(ATTRIBUTES)},{self.one(ATTRIBUTES)}"]
-            self.say(" ".join([f"observe {name} {self.pick()}", *words, *filtered]))
+            node = self.one((self.pick(), self.root(self.pick()), self.parent()))
+            self.say(" ".join([f"observe {name} {node}", *words, *filtered]))
         elif verb == "take" or self.chance.random() < 0.2:
             self.say(f"{verb} {name}")
         return None
@@ -360,7 +378,7 @@ class Maker:
     def end(self):
         """Ends the turn, and another owner may have the next one."""
         self.say(".")
-        self.owner = self.one(self.owners + [self.page] * 2)
+        self.owner = self.one(self.owners + [self.page])
 
     def host(self):
         if self.owner is not self.page or len(self.owners) > 3:
@@ -373,16 +391,33 @@ class Maker:
             self.owners.append(owner)
         return None
 
+    def begin(self):
+        """The first lines: a few nodes, and in every second script a host with a child and a component with a slot."""
+        for _ in range(3):
+            self.make()
+        self.place()
+        if self.chance.random() < 0.5:
+            return
+        self.made(self.say("new element div"), "element", "div")
+        host = max(self.owner.nodes, key=lambda name: int(name[1:]))
+        self.change(f"append {self.pick('document')} {host}", host)
+        self.host()
+        self.place()
+        self.say(".")
+        if len(self.owners) > 1:
+            self.owner = self.owners[1]
+            self.made(self.say("new element slot"), "element", "slot")
+            self.change(f"append m0 {max(self.owner.nodes)}", "m0", max(self.owner.nodes))
+            self.hear()
+
     def stray(self):
         """A line that is refused, or that another owner says in between."""
         self.say(self.one(("remove n999", "tree m7", "append m0 c1:m1", "tre n0", "range-get r77", "new  fragment", 'new text "', "take o9",
                            "append n0", "tree c1:m0", "walk w0 up", "iter-new n0 text,element", "dispatch n0 a b", "observe o0 n0")))
 
     def script(self, lines):
-        """The lines of the script: first a few nodes, then families by their weights."""
-        for _ in range(3):
-            self.make()
-        self.place()
+        """The lines of the script: the first ones, and then families by their weights."""
+        self.begin()
         while len(self.lines) < lines:
             families = list(self.weights)
             family = self.chance.choices(families, [self.weights[name] for name in families])[0]
@@ -394,9 +429,9 @@ class Maker:
 FAMILIES = {
     "make": (7, Maker.make), "make_other": (6, Maker.make_other), "place": (16, Maker.place), "move": (7, Maker.move),
     "write": (4, Maker.write), "name": (5, Maker.name), "slot": (3, Maker.slot), "read": (4, Maker.read),
-    "make_range": (1.5, Maker.make_range), "use_range": (5, Maker.use_range), "cut_range": (2, Maker.cut_range),
-    "traverse": (5, Maker.traverse), "select": (3, Maker.select), "hear": (5, Maker.hear), "fire": (4, Maker.fire),
-    "observe": (6, Maker.observe), "queue": (1, Maker.queue), "end": (6, Maker.end), "host": (1.5, Maker.host), "stray": (0.4, Maker.stray),
+    "make_range": (1.5, Maker.make_range), "use_range": (5, Maker.use_range), "cut_range": (3, Maker.cut_range),
+    "traverse": (5, Maker.traverse), "select": (3, Maker.select), "hear": (7, Maker.hear), "fire": (5, Maker.fire),
+    "observe": (6, Maker.observe), "queue": (1, Maker.queue), "end": (7, Maker.end), "host": (2, Maker.host), "stray": (0.4, Maker.stray),
 }
 
 

@@ -1,0 +1,207 @@
+#!/usr/bin/env python3
+"""Runs scripts in domrun and in a browser or jsdom, and shows where the two part.
+
+Usage: harness/compare.py [--engine chromium|firefox|jsdom] [--program DOMRUN] SCRIPT..
+       harness/compare.py [--engine ..] [--program ..] --random N [--seed S] [--lines N] [--first I]
+       harness/compare.py [--engine ..] [--program ..] --known
+       harness/compare.py [--engine ..] [--program ..] --examples
+
+A script whose output differs is tried again with each named difference made good (known.py, fixes.js). Where it then agrees, it is
+counted under their names; else it is unexplained: it is made small, its first difference is printed, and the status is 1.
+"""
+import argparse
+import collections
+import glob
+import os
+import re
+import sys
+
+import engines
+import known
+import scripts
+
+NAME = re.compile(r"(?<![\w:\"'=.#\[-])([nmriwo])(\d+)(?![\w:-])")
+
+
+class Comparison:
+    """An engine and a program, and what they are found to have in common."""
+
+    def __init__(self, engine, program):
+        self.engine, self.program = engine, program
+
+    def judged(self, given):
+        """For each script the names of its differences: none where it agrees, and None where it is unexplained."""
+        wanted = engines.run_programs(self.program, given)
+        plain = [output for output, _ in engines.answers(self.engine, given)]
+        found = [set() if a == b else None for a, b in zip(wanted, plain)]
+        open_ones = [i for i, names in enumerate(found) if names is None]
+        again = engines.answers(self.engine, [given[i] for i in open_ones], known.FIXES)
+        for i, (output, met) in zip(open_ones, again):
+            found[i] = known.judge(given[i], wanted[i], output, met)
+        return found
+
+    def show(self, script):
+        """Prints the first difference of a script, with the lines before it."""
+        wanted = engines.run_program(self.program, script).splitlines()
+        fixes = [output for output, _ in engines.answers(self.engine, [script]) + engines.answers(self.engine, [script], known.FIXES)]
+        print(script, end="")
+        for title, output in zip(("as it is", "with each named difference made good"), fixes):
+            got = output.splitlines()
+            at = known.first_difference(wanted, got)
+            if at is None:
+                print(f"-- {title}: no difference")
+                continue
+            print(f"-- {title}: at `{known.line_of(script, wanted, at)}`")
+            for line in wanted[max(0, at - 3):at]:
+                print(f"     both: {line}")
+            print(f"   domrun: {wanted[at] if at < len(wanted) else '(no line)'}")
+            print(f"   engine: {got[at] if at < len(got) else '(no line)'}")
+
+    def small(self, script):
+        """The script without lines that it does without, while it stays unexplained: runs of lines go, long ones first."""
+        lines = script.splitlines()
+        size = len(lines) // 2
+        while size:
+            starts = range(0, len(lines), size)
+            tried = [without(self.program, lines, start, size) for start in starts]
+            kept = [one for one, names in zip(tried, self.judged(["".join(x + "\n" for x in one) for one in tried])) if names is None]
+            if kept:
+                lines = min(kept, key=len)
+                size = min(size, max(1, len(lines) // 2))
+            else:
+                size //= 2
+        return "".join(line + "\n" for line in lines)
+
+
+def names_made(program, lines):
+    """For each line the names that its owner has made when it has run, by letter, as counts."""
+    output = engines.run_program(program, "".join(line + "\n" for line in lines)).splitlines()
+    replies = [line for line in output if known.REPLY.match(line)]
+    counts, made = collections.Counter(), []
+    for line, reply in zip(lines, replies):
+        found = re.fullmatch(r"(\S+) ok ([nmriwo])(\d+)", reply)
+        if found and re.match(r"\S+ (new|document|split|extract|range-new|iter-new|walk-new|observer)", line):
+            counts[found[1], found[2]] = max(counts[found[1], found[2]], int(found[3]) + 1)
+        made.append(dict(counts))
+    return made
+
+
+def without(program, lines, start, size):
+    """The lines without a run of them: names made later are counted down, and lines with a name that was made there go too."""
+    made = names_made(program, lines)
+    before = made[start - 1] if start else {}
+    after = made[min(start + size, len(made)) - 1]
+    left = list(lines[:start])
+    for line in lines[start + size:]:
+        owner = line.split(" ")[0]
+        gone = []
+
+        def renamed(match, owner=owner, gone=gone):
+            letter, number = match[1], int(match[2])
+            base = 1 if letter in "nm" else 0
+            low, high = (counts.get((owner, letter), base) for counts in (before, after))
+            if low <= number < high:
+                gone.append(match[0])
+            return f"{letter}{number - (high - low) if number >= high else number}"
+
+        new = NAME.sub(renamed, line)
+        if not gone:
+            left.append(new)
+    return left
+
+
+def report(counts, total):
+    """Prints how many scripts agree, and after which named differences."""
+    print(f"{counts['agree']} of {total} agree byte for byte")
+    for name, count in sorted(counts.items()):
+        if name not in ("agree", "unexplained", "named"):
+            print(f"  {count} met {name}")
+    print(f"{counts['named']} agree after named differences, {counts['unexplained']} are unexplained")
+
+
+def compare(comparison, batches, shown):
+    """Judges batches of named scripts, prints what is unexplained, made small, and then the counts. Gives the status."""
+    counts, total = collections.Counter(), 0
+    for batch in batches:
+        for (title, script), names in zip(batch, comparison.judged([script for _, script in batch])):
+            total += 1
+            counts["agree" if names == set() else "unexplained" if names is None else "named"] += 1
+            counts.update(names or ())
+            if names is None and counts["unexplained"] <= shown:
+                print(f"== {title}: unexplained")
+                comparison.show(comparison.small(script))
+        sys.stdout.flush()
+    report(counts, total)
+    return 1 if counts["unexplained"] else 0
+
+
+def random_batches(words):
+    """Batches of random scripts, named by seed and number."""
+    size = 500
+    for first in range(words.first, words.first + words.random, size):
+        count = min(size, words.first + words.random - first)
+        made = scripts.random_scripts(words.program, words.seed, count, words.lines, first)
+        yield [(f"seed {words.seed} number {first + i}", script) for i, script in enumerate(made)]
+
+
+def print_known(comparison):
+    """Prints each named difference, with the script that shows it and whether it does so in this engine."""
+    for name, difference in known.KNOWN.items():
+        names = comparison.judged([difference.script])[0]
+        says = "is not here" if names == set() else "is UNEXPLAINED here" if names is None else "is here: " + ", ".join(sorted(names))
+        print(f"== {name} ({difference.sort}): {difference.text}. It {says}.")
+        comparison.show(difference.script)
+    return 0
+
+
+def print_examples(comparison):
+    """Prints for each folder of examples how many agree, and which ones differ by what."""
+    found = collections.defaultdict(list)
+    for path in sorted(glob.glob(os.path.join(engines.HERE, "..", "examples", "*", "*.in"))):
+        with open(path, "rb") as file:
+            found[os.path.basename(os.path.dirname(path))].append((os.path.basename(path)[:-3], file.read().decode("latin-1")))
+    status = 0
+    for folder, named in found.items():
+        judged = comparison.judged([script for _, script in named])
+        print(f"{folder}: {judged.count(set())} of {len(named)} agree byte for byte")
+        for (name, _), names in zip(named, judged):
+            if names != set():
+                print(f"  {name}: {'UNEXPLAINED' if names is None else ', '.join(sorted(names))}")
+            status = 1 if names is None else status
+    return status
+
+
+def main():
+    parser = argparse.ArgumentParser(description=__doc__.splitlines()[0])
+    parser.add_argument("--engine", choices=engines.ENGINES, default="chromium")
+    parser.add_argument("--program", default=engines.PROGRAM)
+    parser.add_argument("--random", type=int, metavar="N")
+    parser.add_argument("--seed", default="1")
+    parser.add_argument("--lines", type=int, default=100)
+    parser.add_argument("--first", type=int, default=0)
+    parser.add_argument("--shown", type=int, default=3, help="how many unexplained scripts are made small and printed")
+    parser.add_argument("--known", action="store_true")
+    parser.add_argument("--examples", action="store_true")
+    parser.add_argument("scripts", nargs="*")
+    words = parser.parse_args()
+    try:
+        engine = engines.ENGINES[words.engine]()
+    except engines.Missing as missing:
+        raise SystemExit(str(missing)) from None
+    comparison = Comparison(engine, words.program)
+    print(f"{engine.version}")
+    try:
+        if words.known:
+            return print_known(comparison)
+        if words.examples:
+            return print_examples(comparison)
+        if words.random:
+            return compare(comparison, random_batches(words), words.shown)
+        given = [(path, open(path, "rb").read().decode("latin-1")) for path in words.scripts]
+        return compare(comparison, [given], words.shown)
+    finally:
+        engine.close()
+
+
+if __name__ == "__main__":
+    sys.exit(main())

@@ -1,0 +1,200 @@
+"""The differences between browsers and the protocol that have a name, and how an answer is judged by them.
+
+A difference is of one of three sorts:
+  fixed    the adapter can carry the command out as the DOM Standard has it (fixes.js); the whole output must then agree;
+  order    the output must agree when lines of one notification are put in one order on both sides;
+  ends     the DOM cannot be brought to where the protocol is: the output must agree up to there, and the rest is not compared.
+"""
+import dataclasses
+import re
+
+
+@dataclasses.dataclass
+class Known:
+    """A named difference: what it is, its sort, and a script that shows it."""
+    sort: str
+    text: str
+    script: str
+
+
+def lines(text):
+    return "".join(line.strip() + "\n" for line in text.strip().split("\n"))
+
+
+KNOWN = {
+    "sibling-inserted": Known("fixed", "a node is inserted where it has the same parent already: browsers remove it first; the Standard "
+                              "moves ranges and takes the record's previous sibling before it leaves", lines("""
+        p new element ul
+        p new element li
+        p append n1 n2
+        p observer
+        p observe o0 n1 childList
+        p append n1 n2
+        p take o0""")),
+    "replaced": Known("fixed", "a child is replaced by itself or by a sibling: browsers remove the new node first; the Standard removes the "
+                      "child first", lines("""
+        p new element ul
+        p new element li
+        p append n1 n2
+        p observer
+        p observe o0 n1 childList
+        p replace n1 n2 n2
+        p take o0""")),
+    "split-records": Known("fixed", "a Text is split: browsers cut the data first and then place the new Text, and so stand the records", lines("""
+        p new element p
+        p new text "abcd"
+        p append n1 n2
+        p observer
+        p observe o0 n1 childList characterData subtree
+        p split n2 2
+        p take o0""")),
+    "cut-records": Known("fixed", "contents of a range are deleted or extracted: browsers cut the data at both ends before nodes leave", lines("""
+        p new element p
+        p new text "abcd"
+        p new element hr
+        p new text "efgh"
+        p append n1 n2
+        p append n1 n3
+        p append n1 n4
+        p range-new
+        p range-start r0 n2 2
+        p range-end r0 n4 2
+        p observer
+        p observe o0 n1 childList characterData subtree
+        p delete r0
+        p take o0""")),
+    "transients": Known("fixed", "a removed node is observed until its observer is notified; browsers drop that at the end of the turn also where "
+                        "the observer took no record", lines("""
+        p new element p
+        p new element b
+        p append n1 n2
+        p observer
+        p observe o0 n1 attributes subtree
+        p remove n2
+        p .
+        p set n2 id "a"
+        p take o0""")),
+    "iterator-kept": Known("fixed", "an iterator whose reference leaves with nothing behind it stays with the node that left", lines("""
+        p new element div
+        p new element a
+        p new text "x"
+        p append n1 n2
+        p append n2 n3
+        p iter-new n1 all
+        p iter-next i0
+        p iter-next i0
+        p iter-next i0
+        p iter-prev i0
+        p remove n2
+        p iter-at i0""")),
+    "insert-node-offset": Known("fixed", "insert-node of a node that has the place's parent already: the end's offset is counted before the node "
+                                "leaves, and may be past the end", lines("""
+        p new element p
+        p new element b
+        p append n1 n2
+        p range-new
+        p range-end r0 n1 1
+        p range-collapse r0 end
+        p insert-node r0 n2""")),
+    "observer-order": Known("order", "observers are notified in the order in which they were made, not in that in which they became pending", lines("""
+        p new element a
+        p observer
+        p observer
+        p observe o0 n1 attributes
+        p observe o1 n0 childList
+        p append n0 n1
+        p set n1 id "a"
+        p .""")),
+    "slot-order": Known("order", "which of the slots that one step signals has its event first (own rule of the protocol)", lines("""
+        p new element div
+        p attach n1
+        p new text "x"
+        p append n1 n2
+        p .
+        c1 new element slot
+        c1 new element slot
+        c1 append m0 m1
+        c1 append m0 m2
+        c1 listen m1 slotchange a log
+        c1 listen m2 slotchange b log
+        c1 .
+        c1 remove m1
+        c1 .""")),
+    "start-behind-end": Known("ends", "a range whose start comes to stand behind its end, by sibling-inserted or replaced: no range of a browser can", lines("""
+        p new element ul
+        p new element a
+        p new element b
+        p new element i
+        p append n1 n2
+        p append n1 n3
+        p append n1 n4
+        p range-new
+        p range-end r0 n1 2
+        p range-start r0 n4 0
+        p range-end r0 n4 0
+        p range-start r0 n1 2
+        p insert n1 n4 n2
+        p range-get r0""")),
+    "filters": Known("ends", "a cursor with a filter throws a TypeError", lines("""
+        p new element a
+        p iter-new n1 all skip=b
+        p iter-next i0""")),
+}
+FIXES = [name for name, difference in KNOWN.items() if difference.sort == "fixed"]
+
+RECORD = re.compile(r"(\S+) record o(\d+) ")
+SLOT_EVENT = re.compile(r"(\S+) event \S+ slotchange .* path=\[m(\d+)")
+
+
+def in_order(output, pattern):
+    """The lines of an output, where runs of lines of one owner that fit the pattern stand in the order of its number."""
+    ordered, run, owner = [], [], None
+    for line in [*output, ""]:
+        found = pattern.match(line)
+        if run and (not found or found[1] != owner):
+            ordered += [line for _, line in sorted(run, key=lambda entry: entry[0])]
+            run = []
+        if found:
+            owner = found[1]
+            run.append((int(found[2]), line))
+        else:
+            ordered.append(line)
+    return ordered[:-1]
+
+
+REPLY = re.compile(r"\S+ (ok|!)|! owner")
+CURSOR = re.compile(r"\S+ (iter-next|iter-prev|walk) ")
+
+
+def first_difference(wanted, got):
+    """Where two lists of lines part, or None."""
+    if wanted == got:
+        return None
+    return next((i for i, (a, b) in enumerate(zip(wanted, got)) if a != b), min(len(wanted), len(got)))
+
+
+def line_of(script, output, at):
+    """The line of the script that output line number `at` belongs to."""
+    number = sum(1 for line in output[:at] if REPLY.match(line))
+    lines_there = script.splitlines()
+    return lines_there[number] if number < len(lines_there) else "(end of input)"
+
+
+def judge(script, wanted, got, met):
+    """The names of the differences after which an output agrees with the one that is wanted, or None where it does not."""
+    names, wanted, got = set(met), wanted.splitlines(), got.splitlines()
+    if got and got[-1] == "harness: a range's start stands behind its end":
+        names.add("start-behind-end")
+        wanted, got = wanted[:len(got) - 1], got[:-1]
+    at = first_difference(wanted, got)
+    if at is not None and got[at:at + 1] and got[at].endswith(" ! type") and CURSOR.match(line_of(script, wanted, at)):
+        names.add("filters")
+        wanted, got = wanted[:at], got[:at]
+    orders = {"observer-order": RECORD, "slot-order": SLOT_EVENT}
+    for chosen in ((), ("observer-order",), ("slot-order",), ("observer-order", "slot-order")):
+        ours, theirs = wanted, got
+        for name in chosen:
+            ours, theirs = in_order(ours, orders[name]), in_order(theirs, orders[name])
+        if ours == theirs:
+            return names | set(chosen)
+    return None

@@ -1,0 +1,141 @@
+// Iterators and observers where a DOM lets go of what the protocol keeps: fixes of more than one command.
+"use strict";
+(function (exports) {
+  const lastInside = (node) => {
+    while (node.lastChild) node = node.lastChild;
+    return node;
+  };
+
+  // Whether a node of the root's tree comes behind all that is below this one.
+  function isFollowed(root, node) {
+    for (; node && node !== root; node = node.parentNode) if (node.nextSibling) return true;
+    return false;
+  }
+
+  // ---- iterators
+
+  // The nodes that a command takes out of their places before all else.
+  function leaving(name, values) {
+    const places = { append: [1], insert: [1], replace: [2, 1], remove: [0], adopt: [1], "insert-node": [1] };
+    return (places[name] || []).map((place) => values[place]);
+  }
+
+  // An iterator of the same root and filter that stands behind a node.
+  function iteratorBehind(iterator, node) {
+    const { root, filter } = iterator;
+    const shown = filter && filter.shown ? filter.shown : iterator.whatToShow;
+    const inner = filter && filter.shown ? filter.inner : filter;
+    const all = { shown, inner, open: true };
+    all.acceptNode = (one) => {
+      if (all.open) return 1;
+      if (!((1 << (one.nodeType - 1)) & shown)) return 3;
+      return inner ? inner.acceptNode(one) : 1;
+    };
+    const found = (root.ownerDocument || root).createNodeIterator(root, 0xffffffff, all);
+    for (let next = found.nextNode(); next && next !== node; next = found.nextNode());
+    all.open = false;
+    return found;
+  }
+
+  // Where an iterator goes that is before a node which leaves with nothing behind it: behind the node in front of it.
+  function planIterator(owner, number, name, values) {
+    const iterator = owner.iterators[number];
+    const { root, referenceNode } = iterator;
+    const chain = [];
+    for (let node = referenceNode; node && node !== root; node = node.parentNode)
+      chain.push({ node, parent: node.parentNode, before: node.previousSibling });
+    const gone = chain.find(({ node }) => leaving(name, values).includes(node));
+    const stays = gone && iterator.pointerBeforeReferenceNode && !isFollowed(root, gone.node);
+    const target = stays && (gone.before ? lastInside(gone.before) : gone.parent);
+    return () => {
+      const cut = chain.find(({ parent }) => root.contains(parent) && parent !== referenceNode);
+      const left = !root.contains(iterator.referenceNode) && cut;
+      const place = left ? (cut.before && cut.before.parentNode === cut.parent ? lastInside(cut.before) : cut.parent) : target;
+      if (!place || (iterator.referenceNode === place && !iterator.pointerBeforeReferenceNode)) return false;
+      owner.iterators[number] = iteratorBehind(iterator, place);
+      return true;
+    };
+  }
+
+  function planIterators(run, owner, name, values) {
+    if (name.startsWith("iter-")) return null;
+    const plans = owner.iterators.map((_, number) => planIterator(owner, number, name, values));
+    return { after: () => plans.map((plan) => plan()).includes(true) };
+  }
+
+  // ---- transient registrations
+
+  const KINDS = ["childList", "attributes", "characterData", "subtree", "attributeOldValue", "characterDataOldValue"];
+
+  // What several registrations ask for together.
+  function together(all) {
+    const options = {};
+    for (const kind of KINDS) if (all.some((one) => one[kind])) options[kind] = true;
+    const ofAttributes = all.filter((one) => one.attributes || one.attributeOldValue || one.attributeFilter);
+    if (ofAttributes.length && ofAttributes.every((one) => one.attributeFilter))
+      options.attributeFilter = ofAttributes.flatMap((one) => one.attributeFilter);
+    return options;
+  }
+
+  // Follows an observer: what it observes, which nodes left below that in this turn, and which of them are observed on.
+  function follow(run, observer) {
+    if (observer.lasting) return observer.lasting;
+    const scout = new run.window.MutationObserver(() => {});
+    return (observer.lasting = { scout, observed: new Map(), left: [], kept: new Map() });
+  }
+
+  function observeOn(observer, node, options) {
+    for (const one of [observer.real, observer.twin]) one.observe(node, options);
+    if (options.subtree) observer.lasting.scout.observe(node, { childList: true, subtree: true });
+  }
+
+  function planTransients(run, owner, name, [observer, node], options) {
+    if (name === "observe") {
+      const following = follow(run, observer);
+      return { after: () => {
+        following.observed.set(node, options);
+        if (options.subtree) following.scout.observe(node, { childList: true, subtree: true });
+      } };
+    }
+    if (name === "disconnect") return { after: () => {
+      if (observer.lasting) observer.lasting.scout.disconnect();
+      observer.lasting = undefined;
+    } };
+    return { after: () => {
+      for (const { lasting } of owner.observers) if (lasting) noteLeft(lasting);
+    } };
+  }
+
+  // The nodes that left a tree in this command get what was asked of all that is below.
+  function noteLeft(lasting) {
+    for (const record of lasting.scout.takeRecords()) {
+      for (const node of record.removedNodes) {
+        const sources = [...lasting.observed, ...lasting.kept].filter(([top, options]) => options.subtree && top.contains(record.target));
+        if (sources.length) lasting.left.push([node, together(sources.map(([, options]) => options))]);
+      }
+    }
+  }
+
+  // At the end of a turn: an observer that took a record is notified, and observes no longer what left; another one goes on.
+  function endTurn(owner, tookRecords) {
+    let met = false;
+    for (const observer of owner.observers.filter(({ lasting }) => lasting)) {
+      const { lasting } = observer;
+      if (tookRecords(observer)) {
+        if (lasting.kept.size) {
+          for (const one of [observer.real, observer.twin, lasting.scout]) one.disconnect();
+          for (const [node, options] of lasting.observed) observeOn(observer, node, options);
+        }
+        lasting.kept.clear();
+      } else {
+        for (const [node, options] of lasting.left) if (!lasting.observed.has(node)) lasting.kept.set(node, options);
+        for (const [node, options] of lasting.kept) observeOn(observer, node, options);
+        met = met || lasting.kept.size > 0;
+      }
+      lasting.left = [];
+    }
+    return met;
+  }
+
+  exports.lasting = { planIterators, planTransients, endTurn };
+})(typeof module === "object" ? module.exports : globalThis);
