@@ -170,7 +170,7 @@
     // attribute or of data makes its record first; a fragment's record is made before its nodes are placed.
     noteTasks(owner, plans) {
       for (const observer of owner.observers) observer.fresh = observer.twin.takeRecords();
-      for (const { fix, after } of plans) if (after(owner.observers)) this.met.add(fix);
+      for (const { fix, after } of plans) if (after && after(owner.observers)) this.met.add(fix);
       const taken = owner.observers.filter(({ fresh }) => fresh.length);
       for (const observer of taken) observer.kept.push(...observer.fresh);
       for (const observer of taken) observer.isPending = true;

@@ -57,14 +57,21 @@ class Comparison:
             print(f"   domrun: {wanted[at] if at < len(wanted) else '(no line)'}")
             print(f"   engine: {got[at] if at < len(got) else '(no line)'}")
 
+    def stays(self, tried, wanted_lines):
+        """The scripts of these that stay unexplained."""
+        given = ["".join(line + "\n" for line in lines) for lines in tried]
+        wanted = engines.run_programs(self.program, given)
+        found = engines.answers(self.engine, given, known.FIXES)
+        judged = [known.judge(script, want, output, met) for script, want, (output, met) in zip(given, wanted, found)]
+        return [lines for lines, names in zip(tried, judged) if names is None and lines != wanted_lines]
+
     def small(self, script):
         """The script without lines that it does without, while it stays unexplained: runs of lines go, long ones first."""
         lines = script.splitlines()
         size = len(lines) // 2
         while size:
-            starts = range(0, len(lines), size)
-            tried = [without(self.program, lines, start, size) for start in starts]
-            kept = [one for one, names in zip(tried, self.judged(["".join(x + "\n" for x in one) for one in tried])) if names is None]
+            made = names_made(self.program, lines)
+            kept = self.stays([without(made, lines, start, size) for start in range(0, len(lines), size)], lines)
             if kept:
                 lines = min(kept, key=len)
                 size = min(size, max(1, len(lines) // 2))
@@ -74,7 +81,7 @@ class Comparison:
 
 
 def names_made(program, lines):
-    """For each line the names that its owner has made when it has run, by letter, as counts."""
+    """For each line how many names each owner has made when it has run, by owner and letter."""
     output = engines.run_program(program, "".join(line + "\n" for line in lines)).splitlines()
     replies = [line for line in output if known.REPLY.match(line)]
     counts, made = collections.Counter(), []
@@ -86,9 +93,8 @@ def names_made(program, lines):
     return made
 
 
-def without(program, lines, start, size):
+def without(made, lines, start, size):
     """The lines without a run of them: names made later are counted down, and lines with a name that was made there go too."""
-    made = names_made(program, lines)
     before = made[start - 1] if start else {}
     after = made[min(start + size, len(made)) - 1]
     left = list(lines[:start])

@@ -156,9 +156,19 @@
     };
   }
 
+  // A document inside itself is refused as such, before the child is looked at.
+  function planDocument(run, name, [parent, node, child]) {
+    if (!["insert", "replace"].includes(name) || node.nodeType !== 9 || !node.contains(parent) || child.parentNode === parent) return null;
+    return { call: () => {
+      run.met.add("document-inside-itself");
+      throw new run.window.DOMException("a document inside itself", "HierarchyRequestError");
+    } };
+  }
+
   const after = (plan) => plan && { after: plan };
   const FIXES = {
     "insert-node-offset": (run, owner, name, values) => (name === "insert-node" ? planInsertNode(values) : null),
+    "document-inside-itself": (run, owner, name, values) => planDocument(run, name, values),
     "sibling-inserted": (run, owner, name, values) => (name === "append" || name === "insert" ? after(planInsertion(owner, values)) : null),
     replaced: (run, owner, name, values) => (name === "replace" ? after(planReplacement(owner, values)) : null),
     "split-records": (run, owner, name, values) =>
