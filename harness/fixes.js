@@ -156,6 +156,37 @@
     };
   }
 
+  // Each Text with Texts directly behind it gets all their data in one step, and what points into them or at them goes into the first.
+  function planNormalize(run, owner, top) {
+    const texts = [];
+    const collect = (node) => node.nodeType === 3 ? texts.push(node) : node.childNodes.forEach(collect);
+    top.childNodes.forEach(collect);
+    return { call: () => {
+      for (const text of texts) if (text.parentNode) join(run, owner, text);
+    } };
+  }
+
+  function join(run, owner, text) {
+    if (text.length === 0) return text.remove();
+    const behind = [];
+    for (let next = text.nextSibling; next && next.nodeType === 3; next = next.nextSibling) behind.push(next);
+    if (behind.length === 0) return undefined;
+    let length = text.length;
+    text.replaceData(length, 0, behind.map((one) => one.data).join(""));
+    const points = new Points(owner);
+    for (const next of behind) {
+      const index = indexOf(next);
+      for (const point of points.all) {
+        if (point.node === next) Object.assign(point, { node: text, offset: length + point.offset });
+        else if (point.node === next.parentNode && point.offset === index) Object.assign(point, { node: text, offset: length });
+      }
+      length += next.length;
+    }
+    if (points.put() || behind.length > 1 || behind.some((next) => next.length === 0)) run.met.add("normalize-steps");
+    for (const next of behind) next.remove();
+    return undefined;
+  }
+
   // A document inside itself is refused as such, before the child is looked at.
   function planDocument(run, name, [parent, node, child]) {
     if (!["insert", "replace"].includes(name) || node.nodeType !== 9 || !node.contains(parent) || child.parentNode === parent) return null;
@@ -168,6 +199,7 @@
   const after = (plan) => plan && { after: plan };
   const FIXES = {
     "insert-node-offset": (run, owner, name, values) => (name === "insert-node" ? planInsertNode(values) : null),
+    "normalize-steps": (run, owner, name, values) => (name === "normalize" ? planNormalize(run, owner, values[0]) : null),
     "document-inside-itself": (run, owner, name, values) => planDocument(run, name, values),
     "sibling-inserted": (run, owner, name, values) => (name === "append" || name === "insert" ? after(planInsertion(owner, values)) : null),
     replaced: (run, owner, name, values) => (name === "replace" ? after(planReplacement(owner, values)) : null),

@@ -64,6 +64,17 @@ KNOWN = {
         p observe o0 n1 childList characterData subtree
         p delete r0
         p take o0""")),
+    "normalize-steps": Known("fixed", "Texts are joined: the Standard writes one record of all data that come, of none too, and then one for each Text "
+                             "that goes; browsers join them one by one, and let empty ones go first", lines("""
+        p new element p
+        p new text "a"
+        p new text ""
+        p append n1 n2
+        p append n1 n3
+        p observer
+        p observe o0 n1 childList characterData subtree
+        p normalize n1
+        p take o0""")),
     "transients": Known("fixed", "a removed node is observed until its observer is notified; browsers drop that at the end of the turn also where "
                         "the observer took no record", lines("""
         p new element p
