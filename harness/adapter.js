@@ -122,7 +122,7 @@
         this.put(`${word} ok` + (answer === undefined ? "" : " " + answer));
       } catch (error) {
         const name = error instanceof Refused ? error.message : REFUSALS[error.name];
-        if (!name) throw error;
+        if (!name || error instanceof Unrepresentable) throw error;
         this.put(`${word} ! ${name}`);
       }
       return false;
@@ -456,7 +456,7 @@
       await last.script(text);
     } catch (error) {
       if (!(error instanceof Unrepresentable)) throw error;
-      last.put("harness: " + error.message);
+      last.put("harness: ends at " + error.message);
     }
     return { output: last.output.join(""), met: [...last.met] };
   }

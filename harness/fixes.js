@@ -2,7 +2,7 @@
 // as the DOM Standard has it, and a script that then agrees differs by just this. What a fix does is met only where it changes something.
 "use strict";
 (function (exports, { planIterators, planTransients }) {
-  // A range of the protocol may stand with its start behind its end; a range of a DOM cannot, so here the comparison of a script ends.
+  // The DOM cannot be brought to where the protocol is, so here the comparison of a script ends, under the name of a difference.
   class Unrepresentable extends Error {}
 
   const indexOf = (node) => {
@@ -45,7 +45,7 @@
         moved = true;
         range.setStart(start.node, start.offset);
         range.setEnd(end.node, end.offset);
-        if (!isAt()) throw new Unrepresentable("a range's start stands behind its end");
+        if (!isAt()) throw new Unrepresentable("start-behind-end");
       });
       return moved;
     }
@@ -120,12 +120,39 @@
     });
   }
 
+  // A Text without a parent is split: what pointed behind the place stays in it, at its end.
+  function planSplitAlone(owner, [text, offset]) {
+    if (text.parentNode) return null;
+    const points = new Points(owner);
+    for (const point of points.all) if (point.node === text && point.offset > offset) point.offset = offset;
+    return () => points.put();
+  }
+
   // Deletion and extraction: the data at the end are cut last.
   function planCut(range) {
     const [start, end] = [range.startContainer, range.endContainer];
     if (start === end) return null;
     const isLast = (record) => record.type === "characterData" && record.target === end;
     return (taken) => rewrite(taken, (records) => [...records.filter((record) => !isLast(record)), ...records.filter(isLast)]);
+  }
+
+  // Deletion and extraction take all children of the common ancestor that are in the range: whether they all went.
+  function planContents(range) {
+    const common = range.commonAncestorContainer;
+    const children = [...common.childNodes];
+    const towards = (node) => children.findIndex((child) => child.contains(node));
+    const first = range.startContainer === common ? range.startOffset : towards(range.startContainer) + 1;
+    const last = range.endContainer === common ? range.endOffset : towards(range.endContainer);
+    const within = children.slice(first, last);
+    return { call: (cut) => {
+      try {
+        const answer = cut();
+        if (common.nodeType === 3 || common.nodeType === 8 || within.every((child) => child.parentNode !== common)) return answer;
+      } catch (error) {
+        if (error.name !== "NotSupportedError") throw error;
+      }
+      throw new Unrepresentable("contents-left");
+    } };
   }
 
   // The end of a range that is collapsed where a node is inserted that has the place's parent already: behind that node.
@@ -206,6 +233,8 @@
     "split-records": (run, owner, name, values) =>
       name === "split" ? after(planSplit(values[0])) : name === "insert-node" ? after(planSplit(values[0].startContainer)) : null,
     "cut-records": (run, owner, name, values) => (name === "delete" || name === "extract" ? after(planCut(values[0])) : null),
+    "contents-left": (run, owner, name, values) => (name === "delete" || name === "extract" ? planContents(values[0]) : null),
+    "split-alone": (run, owner, name, values) => (name === "split" ? after(planSplitAlone(owner, values)) : null),
     "iterator-kept": planIterators,
     transients: planTransients,
   };
