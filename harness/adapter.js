@@ -350,8 +350,9 @@
     return node.dispatchEvent(relatedTarget ? new FocusEvent(type, { ...options, relatedTarget }) : new Event(type, options));
   }
 
-  function observe(run, owner, [{ real, twin }, node], { related, ...options }) {
-    for (const observer of [real, twin]) observer.observe(node, options);
+  // The two words whose absence is false are said; jsdom 20 takes what is not said for no answer.
+  function observe(run, owner, [{ real, twin }, node], { related, childList = false, subtree = false, ...options }) {
+    for (const observer of [real, twin]) observer.observe(node, { childList, subtree, ...options });
   }
 
   function take(run, owner, [observer]) {

@@ -37,7 +37,7 @@ class Comparison:
         open_ones = [i for i, names in enumerate(found) if names is None]
         again = engines.answers(self.engine, [given[i] for i in open_ones], known.FIXES)
         for i, (output, met) in zip(open_ones, again):
-            found[i] = known.judge(given[i], wanted[i], output, met)
+            found[i] = known.judge(self.engine.name, given[i], wanted[i], output, met)
         return found
 
     def show(self, script):
@@ -62,7 +62,7 @@ class Comparison:
         given = ["".join(line + "\n" for line in lines) for lines in tried]
         wanted = engines.run_programs(self.program, given)
         found = engines.answers(self.engine, given, known.FIXES)
-        judged = [known.judge(script, want, output, met) for script, want, (output, met) in zip(given, wanted, found)]
+        judged = [known.judge(self.engine.name, script, want, output, met) for script, want, (output, met) in zip(given, wanted, found)]
         return [lines for lines, names in zip(tried, judged) if names is None and lines != wanted_lines]
 
     def small(self, script):

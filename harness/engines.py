@@ -62,6 +62,8 @@ def answers_of(text):
 class Chromium:
     """Headless Chromium: each batch of scripts is a page of its own, and its text is taken from the dumped DOM."""
 
+    name = "chromium"
+
     def __init__(self):
         self.path = find("chromium", "chromium-browser", "google-chrome")
         self.version = subprocess.run([self.path, "--version"], capture_output=True, text=True, check=True).stdout.strip()
@@ -85,6 +87,8 @@ class Chromium:
 
 class Firefox:
     """Headless Firefox, driven over loopback by its remote protocol (Marionette: a length, a colon, and JSON)."""
+
+    name = "firefox"
 
     def __init__(self):
         self.path = find("firefox-esr", "firefox")
@@ -151,6 +155,8 @@ class Firefox:
 
 class Jsdom:
     """jsdom in node."""
+
+    name = "jsdom"
 
     def __init__(self):
         self.path = find("node", "nodejs")

@@ -214,6 +214,16 @@
     return undefined;
   }
 
+  // A node whose only child is a Text with these data gets a new Text all the same.
+  function planSameText(run, owner, [node, text]) {
+    const isSame = node.childNodes.length === 1 && node.firstChild.nodeType === 3 && node.firstChild.data === text && text !== "";
+    return isSame ? { call: () => {
+      run.met.add("same-text");
+      node.replaceChildren(node.ownerDocument.createTextNode(text));
+      run.nameAll(owner, node);
+    } } : null;
+  }
+
   // A document inside itself is refused as such, before the child is looked at.
   function planDocument(run, name, [parent, node, child]) {
     if (!["insert", "replace"].includes(name) || node.nodeType !== 9 || !node.contains(parent) || child.parentNode === parent) return null;
@@ -223,10 +233,17 @@
     } };
   }
 
+  // A record of children in which none came and none went is left out.
+  function withoutEmpty(taken) {
+    const isEmpty = ({ type, addedNodes, removedNodes }) => type === "childList" && addedNodes.length + removedNodes.length === 0;
+    return rewrite(taken, (records) => records.filter((record) => !isEmpty(record)));
+  }
+
   const after = (plan) => plan && { after: plan };
   const FIXES = {
     "insert-node-offset": (run, owner, name, values) => (name === "insert-node" ? planInsertNode(values) : null),
     "normalize-steps": (run, owner, name, values) => (name === "normalize" ? planNormalize(run, owner, values[0]) : null),
+    "same-text": (run, owner, name, values) => (name === "text" ? planSameText(run, owner, values) : null),
     "document-inside-itself": (run, owner, name, values) => planDocument(run, name, values),
     "sibling-inserted": (run, owner, name, values) => (name === "append" || name === "insert" ? after(planInsertion(owner, values)) : null),
     replaced: (run, owner, name, values) => (name === "replace" ? after(planReplacement(owner, values)) : null),
@@ -235,6 +252,7 @@
     "cut-records": (run, owner, name, values) => (name === "delete" || name === "extract" ? after(planCut(values[0])) : null),
     "contents-left": (run, owner, name, values) => (name === "delete" || name === "extract" ? planContents(values[0]) : null),
     "split-alone": (run, owner, name, values) => (name === "split" ? after(planSplitAlone(owner, values)) : null),
+    "empty-records": () => ({ after: withoutEmpty }),
     "iterator-kept": planIterators,
     transients: planTransients,
   };

@@ -69,7 +69,7 @@
 
   // What several registrations ask for together.
   function together(all) {
-    const options = {};
+    const options = { childList: false, subtree: false };
     for (const kind of KINDS) if (all.some((one) => one[kind])) options[kind] = true;
     const ofAttributes = all.filter((one) => one.attributes || one.attributeOldValue || one.attributeFilter);
     if (ofAttributes.length && ofAttributes.every((one) => one.attributeFilter))
