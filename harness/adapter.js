@@ -4,7 +4,7 @@
 // and that each owner has its own notification. `run` runs a script that attaches components twice: the first time it lets the DOM
 // notify after every line, to see which line signals whose slots; the second time at the ends of turns, as the protocol has it.
 "use strict";
-(function (exports, { parse, linesOf, KINDS, isName, isSelector }, { plansFor, Unrepresentable }, lasting) {
+(function (exports, { parse, linesOf, KINDS, isName, isSelector }, { plansFor }, { endTurn, Unrepresentable }) {
   const XHTML = "http://www.w3.org/1999/xhtml";
   const REFUSALS = {
     HierarchyRequestError: "hierarchy", NotFoundError: "not-found", NotSupportedError: "not-supported",
@@ -121,7 +121,8 @@
         this.turn = this.turn || word;
         this.put(`${word} ok` + (answer === undefined ? "" : " " + answer));
       } catch (error) {
-        const name = error instanceof Refused ? error.message : REFUSALS[error.name];
+        const isOfDom = error instanceof this.window.DOMException || "result" in error;
+        const name = error instanceof Refused ? error.message : REFUSALS[error.name] || (isOfDom && error.name);
         if (!name || error instanceof Unrepresentable) throw error;
         this.put(`${word} ! ${name}`);
       }
@@ -202,7 +203,7 @@
       }
       for (const owner of this.owners.values()) {
         this.notify(owner);
-        if (lasting.endTurn(owner, ({ isPending }) => isPending)) this.met.add("transients");
+        if (endTurn(owner, ({ isPending }) => isPending)) this.met.add("transients");
         for (const observer of owner.observers) observer.isPending = false;
       }
       this.tasks = [];

@@ -1,10 +1,7 @@
 // The differences between a DOM and the protocol that can be made good by smaller steps: with a fix the adapter carries a command out
 // as the DOM Standard has it, and a script that then agrees differs by just this. What a fix does is met only where it changes something.
 "use strict";
-(function (exports, { planIterators, planTransients }) {
-  // The DOM cannot be brought to where the protocol is, so here the comparison of a script ends, under the name of a difference.
-  class Unrepresentable extends Error {}
-
+(function (exports, { planIterators, planTransients, Unrepresentable }) {
   const indexOf = (node) => {
     let index = 0;
     for (let before = node.previousSibling; before; before = before.previousSibling) index += 1;
@@ -136,20 +133,31 @@
     return (taken) => rewrite(taken, (records) => [...records.filter((record) => !isLast(record)), ...records.filter(isLast)]);
   }
 
-  // Deletion and extraction take all children of the common ancestor that are in the range: whether they all went.
+  // The nodes that a range holds whole, without those below them: from the start upwards what follows, to the end what comes before.
+  function held(range) {
+    const { startContainer: start, startOffset, endContainer: end, endOffset, commonAncestorContainer: common } = range;
+    const childrenOf = (node) => (node.nodeType === 3 || node.nodeType === 8 ? [] : [...node.childNodes]);
+    const towards = (node) => childrenOf(common).findIndex((child) => child.contains(node));
+    const first = start === common ? startOffset : towards(start) + 1;
+    const found = childrenOf(common).slice(first, end === common ? endOffset : towards(end));
+    if (start !== common) found.push(...childrenOf(start).slice(startOffset));
+    if (end !== common) found.push(...childrenOf(end).slice(0, endOffset));
+    for (let node = start; node !== common && node.parentNode !== common; node = node.parentNode)
+      found.push(...childrenOf(node.parentNode).slice(indexOf(node) + 1));
+    for (let node = end; node !== common && node.parentNode !== common; node = node.parentNode)
+      found.push(...childrenOf(node.parentNode).slice(0, indexOf(node)));
+    return found;
+  }
+
+  // Deletion and extraction take all that the range holds: whether it all went, and the command was not refused.
   function planContents(range) {
-    const common = range.commonAncestorContainer;
-    const children = [...common.childNodes];
-    const towards = (node) => children.findIndex((child) => child.contains(node));
-    const first = range.startContainer === common ? range.startOffset : towards(range.startContainer) + 1;
-    const last = range.endContainer === common ? range.endOffset : towards(range.endContainer);
-    const within = children.slice(first, last);
+    const places = held(range).map((node) => [node, node.parentNode]);
     return { call: (cut) => {
       try {
         const answer = cut();
-        if (common.nodeType === 3 || common.nodeType === 8 || within.every((child) => child.parentNode !== common)) return answer;
-      } catch (error) {
-        if (error.name !== "NotSupportedError") throw error;
+        if (places.every(([node, parent]) => node.parentNode !== parent)) return answer;
+      } catch {
+        // No deletion or extraction of the protocol is refused by the DOM.
       }
       throw new Unrepresentable("contents-left");
     } };
@@ -263,7 +271,7 @@
     return plans.filter(({ call, after }) => call || after);
   }
 
-  exports.fixing = { plansFor, Unrepresentable };
+  exports.fixing = { plansFor };
 })(
   typeof module === "object" ? module.exports : globalThis,
   typeof require === "function" ? require("./lasting.js").lasting : globalThis.lasting,

@@ -81,7 +81,7 @@ KNOWN = {
         p text n1 "a"
         p tree n1""")),
     "transients": Known("fixed", "a removed node is observed until its observer is notified; browsers drop that at the end of the turn also where "
-                        "the observer took no record", lines("""
+                        "the observer took no record, and for what left a removed node also when the first node is observed again", lines("""
         p new element p
         p new element b
         p append n1 n2
@@ -265,15 +265,20 @@ def line_of(script, output, at):
 
 
 def without_signals(script, output):
-    """The lines of an output without those of events that signalled slots get at the ends of turns."""
+    """The lines of an output without those of events that signalled slots get at the ends of turns. A slot that is signalled also queues
+    its owner's notification, so records and microtasks of one turn's end stand in the order of their words here."""
     commands, number, left, run = script.splitlines(), 0, [], []
-    for line in output:
-        run.append(line)
-        if REPLY.match(line):
-            is_sent = re.match(r"\S+ dispatch \S+ slotchange", commands[number])
-            left += [line for line in run if is_sent or not SLOT_EVENT.match(line)]
-            number, run = number + 1, []
-    return left + [line for line in run if not SLOT_EVENT.match(line)]
+    for line in [*output, ""]:
+        if line and not REPLY.match(line):
+            run.append(line)
+            continue
+        is_sent = number < len(commands) and re.match(r"\S+ dispatch \S+ slotchange", commands[number])
+        run = [line for line in run if is_sent or not SLOT_EVENT.match(line)]
+        if all(re.match(r"\S+ (record|micro) ", line) for line in run):
+            run.sort(key=lambda line: line.split(" ")[:2])
+        left += [*run, line]
+        number, run = number + 1, []
+    return left[:-1]
 
 
 LOOSER = {

@@ -1,6 +1,9 @@
 // Iterators and observers where a DOM lets go of what the protocol keeps: fixes of more than one command.
 "use strict";
 (function (exports) {
+  // The DOM cannot be brought to where the protocol is, so here the comparison of a script ends, under the name of a difference.
+  class Unrepresentable extends Error {}
+
   const lastInside = (node) => {
     while (node.lastChild) node = node.lastChild;
     return node;
@@ -92,9 +95,16 @@
   function planTransients(run, owner, name, [observer, node], options) {
     if (name === "observe") {
       const following = follow(run, observer);
+      const copies = following.observed.has(node) ? following.left.filter(({ isCopy }) => isCopy) : [];
       return { after: () => {
         following.observed.set(node, options);
         if (options.subtree) following.scout.observe(node, { childList: true, subtree: true });
+        if (copies.some((one) => following.observed.has(one.node))) throw new Unrepresentable("transients");
+        for (const copy of copies) {
+          following.kept.set(copy.node, copy.options);
+          observeOn(observer, copy.node, copy.options);
+        }
+        return copies.length > 0;
       } };
     }
     if (name === "disconnect") return { after: () => {
@@ -111,7 +121,11 @@
     for (const record of lasting.scout.takeRecords()) {
       for (const node of record.removedNodes) {
         const sources = [...lasting.observed, ...lasting.kept].filter(([top, options]) => options.subtree && top.contains(record.target));
-        if (sources.length) lasting.left.push([node, together(sources.map(([, options]) => options))]);
+        const isCopy = lasting.left.some((one) => one.node.contains(record.target));
+        if (sources.length || isCopy) {
+          const copied = lasting.left.filter((one) => one.node.contains(record.target) && one.options.subtree);
+          lasting.left.push({ node, isCopy, options: together([...sources.map(([, options]) => options), ...copied.map((one) => one.options)]) });
+        }
       }
     }
   }
@@ -128,7 +142,9 @@
         }
         lasting.kept.clear();
       } else {
-        for (const [node, options] of lasting.left) if (!lasting.observed.has(node)) lasting.kept.set(node, options);
+        // No call gives a node two registrations of one observer.
+        if (lasting.left.some(({ node }) => lasting.observed.has(node))) throw new Unrepresentable("transients");
+        for (const { node, options } of lasting.left) lasting.kept.set(node, options);
         for (const [node, options] of lasting.kept) observeOn(observer, node, options);
         met = met || lasting.kept.size > 0;
       }
@@ -137,5 +153,5 @@
     return met;
   }
 
-  exports.lasting = { planIterators, planTransients, endTurn };
+  exports.lasting = { planIterators, planTransients, endTurn, Unrepresentable };
 })(typeof module === "object" ? module.exports : globalThis);
