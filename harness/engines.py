@@ -15,7 +15,7 @@ from concurrent.futures import ThreadPoolExecutor
 
 HERE = os.path.dirname(os.path.abspath(__file__))
 PROGRAM = os.path.join(HERE, "..", "crates", "domrun", "out", "domrun")
-SOURCES = ("lines.js", "lasting.js", "fixes.js", "adapter.js")
+SOURCES = ("lines.js", "commands.js", "lasting.js", "fixes.js", "adapter.js")
 BATCH = 250
 
 
