@@ -162,10 +162,8 @@ KNOWN = {
         p append n1 n3
         p append n1 n4
         p range-new
+        p range-start r0 n3 0
         p range-end r0 n1 2
-        p range-start r0 n4 0
-        p range-end r0 n4 0
-        p range-start r0 n1 2
         p insert n1 n4 n2
         p range-get r0""")),
     "split-alone": Known("fixed", "a Text without a parent is split: what pointed behind the place goes into the new Text", lines("""
