@@ -125,11 +125,12 @@
     return () => points.put();
   }
 
-  // Deletion and extraction: the data at the end are cut last.
+  // Deletion and extraction: what leaves the child towards the end, and the data at the end, go last.
   function planCut(range) {
     const [start, end] = [range.startContainer, range.endContainer];
     if (start === end) return null;
-    const isLast = (record) => record.type === "characterData" && record.target === end;
+    const last = [...range.commonAncestorContainer.childNodes].find((child) => child.contains(end));
+    const isLast = (record) => last && !last.contains(start) && last.contains(record.target);
     return (taken) => rewrite(taken, (records) => [...records.filter((record) => !isLast(record)), ...records.filter(isLast)]);
   }
 
