@@ -1,11 +1,14 @@
 pub mod Lists
 pub mod Holding
 pub mod Writing
-pub mod Moving
 pub mod Places
 pub mod Before
 pub mod Climbing
 pub mod Naming
 pub mod Standing
 pub mod Vacant
+pub mod Gathering
+pub mod Listing
+pub mod Parts
+pub mod Moved
 pub mod OwnOrder

@@ -4,3 +4,4 @@ pub mod Rules
 pub mod Climbs
 pub mod Settings
 pub mod Naming
+pub mod Listed

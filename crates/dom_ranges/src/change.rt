@@ -1,9 +1,11 @@
 //! What each step of a change does to a boundary point (DOM Standard, 5.3 and 5.5).
-ghost use Rattle.std.specs.Prelude.{◌≡◌, ℕ, ◌<◌, length, nat_eq};
+ghost use Rattle.std.specs.Prelude.{◌≡◌, ◌⊎◌, ℕ, ◌<◌, ◌≤◌, length, nat_eq};
 ghost use Rattle.dom_model.specs.Place.{Boundary};
 ghost use Rattle.dom_model.specs.Ranges.{at, after_insert, after_removal, after_replace_data, after_split, after_join};
+ghost use Rattle.dom_ranges.specs.Listed.{IsSortedByNode, AreAllIn};
 ghost use Rattle.dom_ranges.specs.Rules.{Fits, IsAtNode, is_inside};
 
+use crate::ends::{Part, RangeEnd, part_of};
 use dom_tree::Forest;
 use node_arena::Key;
 
@@ -13,10 +15,24 @@ pub(crate) trait Change {
 
     ghost can_move: { Self → Boundary ℕ → Type 0 };
 
+    ghost target: { Self → ℕ };
+
     /// The boundary point after the step.
     fn moved(&self, node: Key, offset: usize) -> (Key, usize)
         requires { can_move self.now (at node offset) }
-        ensures { at result.0 result.1 ≡ rule self.now (at node offset) };
+        ensures moved { at result.0 result.1 ≡ rule self.now (at node offset) }
+        ensures goes { (result.0 ≡ node) ⊎ (result.0 ≡ target self.now) };
+
+    /// The node to which the step brings boundary points of other nodes.
+    fn target(&self) -> Key
+        ensures { result ≡ target self.now };
+
+    /// Two parts of the sorted list of ends, outside which the step moves none.
+    fn concerned(&self, ends: &[RangeEnd]) -> (Part, Part)
+        requires { IsSortedByNode ends.now }
+        ensures first_within { result.0.behind ≤ length ends.now }
+        ensures second_within { result.1.behind ≤ length ends.now }
+        ensures all { AreAllIn (rule self.now) ends.now result.0 result.1 };
 }
 
 /// `count` nodes come into `parent` before its child at `index`.
@@ -32,11 +48,25 @@ impl Change for Insertion {
 
     ghost can_move = { λ s b. Fits (after_insert nat_eq s.parent s.index s.count b) };
 
+    ghost target = { λ s. s.parent };
+
     fn moved(&self, node: Key, offset: usize) -> (Key, usize) {
         if node == self.parent && offset > self.index {
             return (self.parent, offset + self.count);
         }
         (node, offset)
+    }
+
+    fn target(&self) -> Key {
+        self.parent
+    }
+
+    fn concerned(&self, ends: &[RangeEnd]) -> (Part, Part) {
+        let nothing = Part {
+            first: 0,
+            behind: 0,
+        };
+        (part_of(ends, self.parent), nothing)
     }
 }
 
@@ -54,6 +84,8 @@ impl Change for Removal<'_> {
 
     ghost can_move = { λ s b. (s.node < length s.forest.now.names) × IsAtNode s.forest.now.names b };
 
+    ghost target = { λ s. s.parent };
+
     fn moved(&self, node: Key, offset: usize) -> (Key, usize) {
         if self.forest.is_inclusive_ancestor(self.node, node) {
             return (self.parent, self.index);
@@ -62,6 +94,18 @@ impl Change for Removal<'_> {
             return (self.parent, offset - 1);
         }
         (node, offset)
+    }
+
+    fn target(&self) -> Key {
+        self.parent
+    }
+
+    fn concerned(&self, ends: &[RangeEnd]) -> (Part, Part) {
+        let whole = Part {
+            first: 0,
+            behind: ends.len(),
+        };
+        (whole, whole)
     }
 }
 
@@ -79,6 +123,8 @@ impl Change for Replacement {
 
     ghost can_move = { λ s b. Fits (after_replace_data nat_eq s.node s.offset s.count s.length b) };
 
+    ghost target = { λ s. s.node };
+
     fn moved(&self, node: Key, offset: usize) -> (Key, usize) {
         if node != self.node || offset <= self.offset {
             return (node, offset);
@@ -87,6 +133,18 @@ impl Change for Replacement {
             return (self.node, self.offset);
         }
         (self.node, offset - self.count + self.length)
+    }
+
+    fn target(&self) -> Key {
+        self.node
+    }
+
+    fn concerned(&self, ends: &[RangeEnd]) -> (Part, Part) {
+        let nothing = Part {
+            first: 0,
+            behind: 0,
+        };
+        (part_of(ends, self.node), nothing)
     }
 }
 
@@ -105,6 +163,8 @@ impl Change for Split {
 
     ghost can_move = { λ s b. Fits (after_split nat_eq s.node s.offset s.new s.parent s.index b) };
 
+    ghost target = { λ s. s.new };
+
     fn moved(&self, node: Key, offset: usize) -> (Key, usize) {
         if node == self.node && self.offset < offset {
             return (self.new, offset - self.offset);
@@ -113,6 +173,14 @@ impl Change for Split {
             return (self.parent, offset + 1);
         }
         (node, offset)
+    }
+
+    fn target(&self) -> Key {
+        self.new
+    }
+
+    fn concerned(&self, ends: &[RangeEnd]) -> (Part, Part) {
+        (part_of(ends, self.node), part_of(ends, self.parent))
     }
 }
 
@@ -132,6 +200,8 @@ impl Change for Join {
 
     ghost can_move = { λ s b. Fits (after_join nat_eq s.first s.length s.next s.parent s.index b) };
 
+    ghost target = { λ s. s.first };
+
     fn moved(&self, node: Key, offset: usize) -> (Key, usize) {
         if node == self.next {
             return (self.first, offset + self.length);
@@ -140,5 +210,13 @@ impl Change for Join {
             return (self.first, self.length);
         }
         (node, offset)
+    }
+
+    fn target(&self) -> Key {
+        self.first
+    }
+
+    fn concerned(&self, ends: &[RangeEnd]) -> (Part, Part) {
+        (part_of(ends, self.next), part_of(ends, self.parent))
     }
 }

@@ -2,6 +2,8 @@
 #![tactic(auto)]
 
 mod change;
+mod ends;
+mod moving;
 mod numbers;
 mod order;
 mod setting;

@@ -13,6 +13,8 @@ ghost use Rattle.dom_ranges.specs.Settings.{start_set, end_set, named_ranges, wi
 ghost use Rattle.dom_ranges.specs.Tables.{ranges_of, range_in, with_ranges, range_from, ends_by, EachRange, BothEnds, collapsed_range};
 
 use crate::change::{Change, Insertion, Join, Removal, Replacement, Split};
+use crate::ends::{RangeEnd, list_range};
+use crate::moving::{drop_range, move_ends, put_end};
 use crate::numbers::Numbers;
 use crate::setting::{with_end, with_start};
 use dom_base::{Fault, MAX_NODES, Owner, Refusal};
@@ -34,6 +36,7 @@ pub struct Points {
 #[derive(Drop)]
 pub struct RangeTable {
     live: Slab<Points>,
+    ends: Vec<RangeEnd>,
     numbers: Numbers,
 }
 
@@ -43,10 +46,11 @@ impl Model for RangeTable {
     ghost Value = { RangeLists };
 
     ghost use Rattle.dom_ranges.specs.Held.{shown, IsHeld};
+    ghost use Rattle.dom_ranges.specs.Listed.{IsListed, IsSortedByNode};
 
     ghost view = { λ t. shown t.live t.numbers };
 
-    ghost invariant = { λ t. IsHeld t.live t.numbers };
+    ghost invariant = { λ t. IsHeld t.live t.numbers × IsListed t.live t.ends.items × IsSortedByNode t.ends.items };
 }
 
 impl RangeTable {
@@ -56,6 +60,7 @@ impl RangeTable {
     {
         RangeTable {
             live: Slab::new(alloc),
+            ends: Vec::new(alloc),
             numbers: Numbers::new(alloc),
         }
     }
@@ -92,11 +97,13 @@ impl RangeTable {
     {
         let number = self.numbers.of(owner).len();
         self.numbers.reserve(owner)?;
+        self.ends.reserve(2)?;
         let slot = self.live.insert(Points {
             start: (node, 0),
             end: (node, 0),
         })?;
         self.numbers.push(owner, slot);
+        list_range(&mut self.ends, slot, node);
         Ok(number as u32)
     }
 
@@ -109,7 +116,7 @@ impl RangeTable {
             return false;
         };
         self.numbers.clear(owner, number);
-        let _ = self.live.try_remove(slot);
+        drop_range(&mut self.live, &mut self.ends, slot);
         true
     }
 
@@ -219,7 +226,9 @@ impl RangeTable {
         ensures { (o : Owners) → ranges_of self.new o ≡ with_ranges self.old owner (slice_set (ranges_of self.old owner) number (Some (range_from points))) o }
     {
         if let Some(slot) = self.numbers.slot(owner, number) {
-            put(&mut self.live, slot, points);
+            let ends = self.ends.as_mut_slice();
+            put_end(&mut self.live, ends, slot, false, points.start);
+            put_end(&mut self.live, ends, slot, true, points.end);
         }
     }
 
@@ -324,31 +333,6 @@ impl RangeTable {
         requires { (o : Owners) → EachRange (BothEnds (C.can_move change.now)) (ranges_of self.old o) }
         ensures { (o : Owners) → ranges_of self.new o ≡ ends_by (C.rule change.now) (ranges_of self.old o) }
     {
-        move_ends(&mut self.live, change);
-    }
-}
-
-/// Writes a slot that holds a range.
-fn put(live: &mut Slab<Points>, slot: usize, points: Points)
-    requires { IsSome (get live.old slot) }
-    ensures { Updates live.old live.new slot (Some points) }
-{
-    if let Some(kept) = live.get_mut(slot) {
-        *kept = points;
-    }
-}
-
-/// Rewrites the ends of the ranges in all slots.
-fn move_ends<C: Change>(live: &mut Slab<Points>, change: &C)
-    requires { (slot : ℕ) → ForSome (get live.old slot) (λ p. BothEnds (C.can_move change.now) (range_from p)) }
-    ensures { (slot : ℕ) → option_map range_from (get live.new slot) ≡ option_map (λ p. map_ends (C.rule change.now) (range_from p)) (get live.old slot) }
-{
-    for slot in 0..live.capacity() {
-        if let Some(points) = live.get_mut(slot) {
-            let (start, from) = points.start;
-            let (end, to) = points.end;
-            points.start = change.moved(start, from);
-            points.end = change.moved(end, to);
-        }
+        move_ends(&mut self.live, self.ends.as_mut_slice(), change);
     }
 }

@@ -1,0 +1,120 @@
+-- How the ends of live ranges are listed: each end once, at the node where it stands, sorted by node.
+use Rattle.std.specs.Prelude.{◌≡◌, ◌⊎◌, ℕ, ◌+◌, ◌-◌, ◌<◌, ◌≤◌, ◌≢◌, Bool, true, false, not, ◌&&◌, List, ◌++◌, length, slice_index_or, nat_eq, nat_lt, nat_le, Option, Some, option_map, is_some, count_by, cond}
+use Rattle.std.specs.List.Sorted.{IsNonDecreasingBy, IsPermutation}
+use Rattle.slab.specs.Slab.{Slab, get}
+use Rattle.dom_model.specs.Place.{Boundary}
+use Rattle.dom_model.specs.Ranges.{at}
+use Rattle.dom_ranges.specs.declared.table.Points.{Points}
+use Rattle.dom_ranges.specs.declared.ends.RangeEnd.{RangeEnd}
+use Rattle.dom_ranges.specs.declared.ends.Part.{Part}
+
+-- the node of a listed end
+abbrev pub node_of : RangeEnd → ℕ
+node_of e = e.node
+
+-- whether a listed end is this one of a slot's range
+abbrev pub is_end_of : ℕ → Bool → RangeEnd → Bool
+is_end_of slot true e = nat_eq e.slot slot && e.is_end
+is_end_of slot false e = nat_eq e.slot slot && not e.is_end
+
+-- how often one end of a slot's range is listed
+abbrev pub times : ℕ → Bool → List RangeEnd → ℕ
+times slot is_end es = count_by (is_end_of slot is_end) es
+
+-- one end of a range
+abbrev pub end_of : Bool → Points → Boundary ℕ
+end_of true p = at p.end.0 p.end.1
+end_of false p = at p.start.0 p.start.1
+
+-- a range with another end or start
+abbrev pub with_end_at : Bool → ℕ → ℕ → Points → Points
+with_end_at true node offset p = record { start = p.start; end = (node, offset) }
+with_end_at false node offset p = record { start = (node, offset); end = p.end }
+
+-- one end of the range in a slot
+abbrev pub point_at : Slab Points → ℕ → Bool → Option (Boundary ℕ)
+point_at live slot is_end = option_map (end_of is_end) (get live slot)
+
+-- a listed end stands where the list says
+abbrev pub Stands : Slab Points → RangeEnd → Type 0
+Stands live e = option_map (λ (b : Boundary ℕ). b.node) (point_at live e.slot e.is_end) ≡ Some e.node
+
+-- each end is listed once, where it stands
+pub record IsListed (live : Slab Points) (es : List RangeEnd) : Type 0 where
+  pub counted : (slot : ℕ) (is_end : Bool) → times slot is_end es ≡ cond (is_some (get live slot)) 1 0
+  pub standing : (k : ℕ) (d : RangeEnd) → k < length es → Stands live (slice_index_or es k d)
+
+-- the ends are sorted by their nodes
+abbrev pub IsSortedByNode : List RangeEnd → Type 0
+IsSortedByNode es = IsNonDecreasingBy node_of es
+
+-- a part of the ends is
+abbrev pub IsSortedIn : List RangeEnd → Part → Type 0
+IsSortedIn es part =
+    (i j : ℕ) (d : RangeEnd) → part.first ≤ i → i ≤ j → j < part.behind → (slice_index_or es i d).node ≤ (slice_index_or es j d).node
+
+-- the ends from low to high are at a node
+abbrev pub AreAt : List RangeEnd → ℕ → ℕ → ℕ → Type 0
+AreAt es low high node = (k : ℕ) (d : RangeEnd) → low ≤ k → k < high → (slice_index_or es k d).node ≡ node
+
+-- a listed end is not one of those from low to high that are at a node
+abbrev pub IsFirm : ℕ → ℕ → ℕ → ℕ → RangeEnd → Type 0
+IsFirm low high node k e = (k < low) ⊎ ((high ≤ k) ⊎ (e.node ≢ node))
+
+-- the ends are sorted but for those from low to high that are at a node
+abbrev pub IsSortedBeside : List RangeEnd → ℕ → ℕ → ℕ → Type 0
+IsSortedBeside es low high node =
+    (i j : ℕ) (d : RangeEnd) → i ≤ j → j < length es → IsFirm low high node i (slice_index_or es i d) → IsFirm low high node j (slice_index_or es j d) → (slice_index_or es i d).node ≤ (slice_index_or es j d).node
+
+-- what stood from middle to behind stands before what stood from first to middle
+pub record IsTurned (es now : List RangeEnd) (first middle behind : ℕ) : Type 0 where
+  pub outside : (k : ℕ) (d : RangeEnd) → (k < first) ⊎ (behind ≤ k) → slice_index_or now k d ≡ slice_index_or es k d
+  pub second : (k : ℕ) (d : RangeEnd) → first ≤ k → k + middle < behind + first → slice_index_or now k d ≡ slice_index_or es (k + middle - first) d
+  pub first_part : (k : ℕ) (d : RangeEnd) → k < behind → behind + first ≤ k + middle → slice_index_or now k d ≡ slice_index_or es (k + middle - behind) d
+
+-- a place is in a part of a list
+abbrev pub is_in : Part → ℕ → Bool
+is_in part k = nat_le part.first k && nat_lt k part.behind
+
+-- a place is in a part, and not in the one that is skipped
+abbrev pub is_chosen : Part → Part → ℕ → Bool
+is_chosen part skipped k = is_in part k && not (is_in skipped k)
+
+-- the ends that are listed at the places within were moved by a rule, and the list says where they stand then
+pub record IsMovedPart (rule : Boundary ℕ → Boundary ℕ) (target : ℕ) (live after : Slab Points) (es now : List RangeEnd) (within : ℕ → Bool) : Type 0 where
+  pub same_length : length now ≡ length es
+  pub same_slot : (k : ℕ) (d : RangeEnd) → (slice_index_or now k d).slot ≡ (slice_index_or es k d).slot
+  pub same_end : (k : ℕ) (d : RangeEnd) → (slice_index_or now k d).is_end ≡ (slice_index_or es k d).is_end
+  pub same_others : (k : ℕ) (d : RangeEnd) → within k ≡ false → slice_index_or now k d ≡ slice_index_or es k d
+  pub goes : (k : ℕ) (d : RangeEnd) → ((slice_index_or now k d).node ≡ (slice_index_or es k d).node) ⊎ ((slice_index_or now k d).node ≡ target)
+  pub moved : (k : ℕ) (d : RangeEnd) → k < length es → within k ≡ true
+      → point_at after (slice_index_or es k d).slot (slice_index_or es k d).is_end ≡ option_map rule (point_at live (slice_index_or es k d).slot (slice_index_or es k d).is_end)
+  pub kept : (slot : ℕ) (is_end : Bool) → ((k : ℕ) (d : RangeEnd) → k < length es → within k ≡ true → is_end_of slot is_end (slice_index_or es k d) ≡ true → ⊥) → point_at after slot is_end ≡ point_at live slot is_end
+  pub held : (slot : ℕ) → is_some (get after slot) ≡ is_some (get live slot)
+  pub standing : (k : ℕ) (d : RangeEnd) → k < length es → Stands after (slice_index_or now k d)
+
+-- no end outside two parts is moved by a rule
+abbrev pub AreAllIn : (Boundary ℕ → Boundary ℕ) → List RangeEnd → Part → Part → Type 0
+AreAllIn rule es one two =
+    (k : ℕ) (d : RangeEnd) (i : ℕ) → k < length es → is_in one k ≡ false → is_in two k ≡ false → rule (at (slice_index_or es k d).node i) ≡ at (slice_index_or es k d).node i
+
+-- a listed end that stands at another node
+abbrev pub at_node : RangeEnd → ℕ → RangeEnd
+at_node e node = record { node = node; slot = e.slot; is_end = e.is_end }
+
+-- an end of the range in a slot, at a node
+abbrev pub end_in : ℕ → Bool → ℕ → RangeEnd
+end_in slot is_end node = record { node = node; slot = slot; is_end = is_end }
+
+-- an end is listed, and no other one is that end of the same range
+pub record IsListedOnce (es : List RangeEnd) (e : RangeEnd) : Type 0 where
+  pub place : ℕ
+  pub within : place < length es
+  pub there : (d : RangeEnd) → slice_index_or es place d ≡ e
+  pub alone : (k : ℕ) (d : RangeEnd) → k < length es → (slice_index_or es k d).slot ≡ e.slot → (slice_index_or es k d).is_end ≡ e.is_end → slice_index_or es k d ≡ e
+
+-- some ends of a list were exchanged for others
+pub record HasChanged (es now xs ys : List RangeEnd) : Type 0 where
+  pub rest : List RangeEnd
+  pub before : IsPermutation es (xs ++ rest)
+  pub after : IsPermutation (ys ++ rest) now

@@ -1,0 +1,162 @@
+//! What a step of a change does to the ends of the live ranges and to their list.
+ghost use Rattle.std.specs.Prelude.{◌≡◌, ◌≢◌, ◌⊎◌, ℕ, ◌≤◌, ◌<◌, Bool, true, length, slice_index_or, IsSome, None};
+ghost use Rattle.std.specs.Option.{option_map, ForSome};
+ghost use Rattle.dom_model.specs.Ranges.{map_ends};
+ghost use Rattle.slab.specs.Slab.{get, Updates};
+ghost use Rattle.dom_ranges.specs.Tables.{BothEnds, range_from};
+ghost use Rattle.dom_ranges.specs.Listed.{IsListed, IsSortedByNode, IsMovedPart, is_chosen, point_at, with_end_at};
+
+use crate::change::Change;
+use crate::ends::{Part, RangeEnd, bring, drop_end, settle};
+use crate::table::Points;
+use node_arena::Key;
+use slab::Slab;
+
+/// Moves an end that is listed. Answers the node where it stands then.
+fn move_end<C: Change>(live: &mut Slab<Points>, end: RangeEnd, change: &C) -> Key
+    requires { ForSome (point_at live.old end.slot end.is_end) (C.can_move change.now) }
+    ensures moved { point_at live.new end.slot end.is_end ≡ option_map (C.rule change.now) (point_at live.old end.slot end.is_end) }
+    ensures other_end { (is_end : Bool) → is_end ≢ end.is_end → point_at live.new end.slot is_end ≡ point_at live.old end.slot is_end }
+    ensures others { (slot : ℕ) → slot ≢ end.slot → get live.new slot ≡ get live.old slot }
+    ensures held { IsSome (get live.old end.slot) → IsSome (get live.new end.slot) }
+    ensures node { ForSome (point_at live.old end.slot end.is_end) (λ b. result ≡ (C.rule change.now b).node) }
+    ensures goes { ForSome (point_at live.old end.slot end.is_end) (λ b. (result ≡ b.node) ⊎ (result ≡ C.target change.now)) }
+{
+    let Some(points) = live.get_mut(end.slot) else {
+        return end.node;
+    };
+    let (node, offset) = if end.is_end { points.end } else { points.start };
+    let (node, offset) = change.moved(node, offset);
+    if end.is_end {
+        points.end = (node, offset);
+    } else {
+        points.start = (node, offset);
+    }
+    node
+}
+
+/// Moves the ends that are listed in a part, but for those of another part, and says in the list where they stand then.
+/// Answers a part outside which no node changed.
+fn move_part<C: Change>(
+    live: &mut Slab<Points>,
+    ends: &mut [RangeEnd],
+    change: &C,
+    part: Part,
+    skipped: Part,
+) -> Part
+    requires within { part.behind ≤ length ends.old }
+    requires listed { IsListed live.old ends.old }
+    requires can_move { (k : ℕ) (d : RangeEnd) → k < length ends.old → is_chosen part skipped k ≡ true → ForSome (point_at live.old (slice_index_or ends.old k d).slot (slice_index_or ends.old k d).is_end) (C.can_move change.now) }
+    ensures moved { IsMovedPart (C.rule change.now) (C.target change.now) live.old live.new ends.old ends.new (is_chosen part skipped) }
+    ensures within { result.behind ≤ length ends.old }
+    ensures nodes { (k : ℕ) (d : RangeEnd) → (k < result.first) ⊎ (result.behind ≤ k) → (slice_index_or ends.new k d).node ≡ (slice_index_or ends.old k d).node }
+{
+    let mut changed = Part {
+        first: usize::MAX,
+        behind: 0,
+    };
+    for i in part.first..part.behind {
+        if !skipped.has(i) {
+            let end = ends[i];
+            let node = move_end(live, end, change);
+            ends[i].node = node;
+            if node != end.node {
+                changed.first = changed.first.min(i);
+                changed.behind = i + 1;
+            }
+        }
+    }
+    changed
+}
+
+/// Moves the ends of all ranges. Those that a step of a change does not concern are not looked at.
+pub(crate) fn move_ends<C: Change>(live: &mut Slab<Points>, ends: &mut [RangeEnd], change: &C)
+    requires listed { IsListed live.old ends.old }
+    requires sorted { IsSortedByNode ends.old }
+    requires can_move { (slot : ℕ) → ForSome (get live.old slot) (λ p. BothEnds (C.can_move change.now) (range_from p)) }
+    ensures moved { (slot : ℕ) → option_map range_from (get live.new slot) ≡ option_map (λ p. map_ends (C.rule change.now) (range_from p)) (get live.old slot) }
+    ensures listed { IsListed live.new ends.new }
+    ensures sorted { IsSortedByNode ends.new }
+{
+    let (one, two) = change.concerned(ends);
+    let nothing = Part {
+        first: 0,
+        behind: 0,
+    };
+    let here = move_part(live, ends, change, one, nothing);
+    let there = move_part(live, ends, change, two, one);
+    let low = here.first.min(there.first);
+    let high = here.behind.max(there.behind);
+    if low < high {
+        settle(ends, low, high, change.target());
+    }
+}
+
+/// Writes one end of the range in a slot.
+fn put_point(live: &mut Slab<Points>, slot: usize, is_end: bool, point: (Key, usize))
+    requires { IsSome (get live.old slot) }
+    ensures put { get live.new slot ≡ option_map (with_end_at is_end point.0 point.1) (get live.old slot) }
+    ensures others { (s : ℕ) → s ≢ slot → get live.new s ≡ get live.old s }
+{
+    if let Some(points) = live.get_mut(slot) {
+        if is_end {
+            points.end = point;
+        } else {
+            points.start = point;
+        }
+    }
+}
+
+/// Gives an end of a range another boundary point.
+pub(crate) fn put_end(
+    live: &mut Slab<Points>,
+    ends: &mut [RangeEnd],
+    slot: usize,
+    is_end: bool,
+    point: (Key, usize),
+)
+    requires held { IsSome (get live.old slot) }
+    requires listed { IsListed live.old ends.old }
+    requires sorted { IsSortedByNode ends.old }
+    ensures put { get live.new slot ≡ option_map (with_end_at is_end point.0 point.1) (get live.old slot) }
+    ensures others { (s : ℕ) → s ≢ slot → get live.new s ≡ get live.old s }
+    ensures listed { IsListed live.new ends.new }
+    ensures sorted { IsSortedByNode ends.new }
+{
+    if let Some(points) = live.get(slot).copied() {
+        let (node, _offset) = if is_end { points.end } else { points.start };
+        let (to, offset) = point;
+        put_point(live, slot, is_end, (to, offset));
+        bring(ends, RangeEnd { node, slot, is_end }, to);
+    }
+}
+
+/// Drops the range in a slot, and its ends from the list.
+pub(crate) fn drop_range(live: &mut Slab<Points>, ends: &mut Vec<RangeEnd>, slot: usize)
+    requires listed { IsListed live.old ends.old.items }
+    requires sorted { IsSortedByNode ends.old.items }
+    ensures updates { Updates live.old live.new slot None }
+    ensures listed { IsListed live.new ends.new.items }
+    ensures sorted { IsSortedByNode ends.new.items }
+{
+    if let Some(points) = live.try_remove(slot) {
+        let (start, _from) = points.start;
+        let (end, _to) = points.end;
+        drop_end(
+            ends,
+            RangeEnd {
+                node: start,
+                slot,
+                is_end: false,
+            },
+        );
+        drop_end(
+            ends,
+            RangeEnd {
+                node: end,
+                slot,
+                is_end: true,
+            },
+        );
+    }
+}
