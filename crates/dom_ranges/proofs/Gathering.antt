@@ -5,9 +5,9 @@ use Rattle.std.specs.List.Sorted.{IsPermutation}
 use Rattle.std.proofs.lemmas.List.Edits.{length-remove, get_or-remove_below, get_or-remove_above}
 use Rattle.std.proofs.lemmas.List.Sorted.{IsPermutation-remove, IsPermutation-trans, IsPermutation-sym}
 use borrow.Rule.Slice.PartMut.{put_mid, mid_of}
-use Rattle.std.specs.Prelude.{Bool, true, false, nat_le, nat_lt, ◌&&◌}
+use Rattle.std.specs.Prelude.{true}
 use Rattle.std.proofs.lemmas.Bool.{cases_eq, cases_lt, cases_order, le-leb, lt-ltb}
-use Rattle.std.proofs.lemmas.List.{places, append-nil, drop_at, take_all, get_or-take, get_or-drop, length-drop, length-append, length-set, get_or-set_same, get_or-set_other, take-set-le, drop-set-lt, get_or_append_left, get_or-append_right, length-take-le}
+use Rattle.std.proofs.lemmas.List.{append-nil, drop_at, take_all, get_or-take, get_or-drop, length-drop, length-append, length-set, get_or-set_same, get_or-set_other, take-set-le, drop-set-lt, get_or_append_left, get_or-append_right, length-take-le}
 use Rattle.dom_ranges.specs.declared.ends.RangeEnd.{RangeEnd}
 use Rattle.dom_ranges.specs.declared.ends.Part.{Part}
 use Rattle.dom_ranges.specs.Listed.{AreAt, IsFirm, IsSortedBeside, IsSortedByNode, IsSortedIn, IsTurned, HasChanged, is_in}

@@ -1,19 +1,19 @@
 -- The ends of all ranges after two parts of their list were moved.
-use Rattle.std.proofs.Common.{◌≡◌, ◌≢◌, ◌⊎◌, inl, inr, ℕ, ◌+◌, ◌<◌, ◌≤◌, Bool, true, false, cond, List, length, get_or, min, max, Option, Some, None, is_some, refl, sym, ap, ◌∙◌, subst, arith, true≢false}
+use Rattle.std.proofs.Common.{◌≡◌, ◌⊎◌, inl, inr, ℕ, ◌<◌, ◌≤◌, Bool, true, false, cond, List, length, get_or, min, max, Option, Some, None, is_some, refl, sym, ap, ◌∙◌, subst, arith, true≢false}
 use Rattle.std.specs.Option.{option_map}
-use Rattle.std.proofs.lemmas.Bool.{cases_Bool, cases_eq, cases_lt}
+use Rattle.std.proofs.lemmas.Bool.{cases_Bool, cases_lt}
 use Rattle.std.proofs.lemmas.Option.{same_Some}
 use Rattle.std.proofs.lemmas.List.{get_or_default}
 use Rattle.slab.specs.Slab.{Slab, get}
 use Rattle.dom_model.specs.Place.{Boundary}
-use Rattle.dom_model.specs.Ranges.{Range, at, from_to, map_ends}
+use Rattle.dom_model.specs.Ranges.{at, from_to, map_ends}
 use Rattle.dom_ranges.specs.Tables.{range_from}
 use Rattle.dom_ranges.specs.declared.table.Points.{Points}
 use Rattle.dom_ranges.specs.declared.ends.RangeEnd.{RangeEnd}
 use Rattle.dom_ranges.specs.declared.ends.Part.{Part}
-use Rattle.dom_ranges.specs.Listed.{is_end_of, times, point_at, end_of, end_in, Stands, IsListed, IsMovedPart, IsSortedBeside, IsSortedByNode, IsFirm, AreAllIn, is_in, is_chosen}
+use Rattle.dom_ranges.specs.Listed.{is_end_of, point_at, end_of, end_in, IsListed, IsMovedPart, IsSortedBeside, IsSortedByNode, IsFirm, AreAllIn, is_in, is_chosen}
 use Rattle.dom_ranges.proofs.Listing.{is_end_of-same, is_end_of-true, is_end_of-alike, counts-listed, places-once, times-same}
-use Rattle.dom_ranges.proofs.Parts.{chosen-true, chosen-made, outside-part, the_point}
+use Rattle.dom_ranges.proofs.Parts.{chosen-true, outside-part, the_point}
 use Rattle.dom_ranges.proofs.Gathering.{is_in-between}
 
 -- ranges with the same ends

@@ -1,16 +1,16 @@
 -- The ends that are listed in a part are moved, one after another.
-use Rattle.std.proofs.Common.{◌≡◌, ◌≢◌, ◌⊎◌, inl, inr, ℕ, ◌+◌, ◌<◌, ◌≤◌, Bool, true, false, cond, List, length, get_or, set, min, Option, Some, None, is_some, IsSome, ltb, leb, refl, sym, ap, ◌∙◌, subst, arith, true≢false}
-use Rattle.std.specs.Prelude.{◌&&◌, not, nat_le, nat_lt}
+use Rattle.std.proofs.Common.{◌≡◌, ◌≢◌, ◌⊎◌, inl, inr, ℕ, ◌+◌, ◌<◌, ◌≤◌, Bool, true, false, List, length, get_or, set, min, Option, Some, None, is_some, IsSome, ltb, leb, refl, sym, ap, ◌∙◌, subst, arith, true≢false}
+use Rattle.std.specs.Prelude.{◌&&◌, not}
 use Rattle.std.specs.Option.{option_map, ForSome}
-use Rattle.std.proofs.lemmas.Bool.{cases_Bool, cases_eq, cases_lt, leb-true, ltb-true, le-leb, lt-ltb}
+use Rattle.std.proofs.lemmas.Bool.{cases_Bool, cases_eq, leb-true, ltb-true, le-leb, lt-ltb}
 use Rattle.std.proofs.lemmas.List.{get_or_default, get_or-set_same}
 use Rattle.slab.specs.Slab.{Slab, get}
 use Rattle.dom_model.specs.Place.{Boundary}
 use Rattle.dom_ranges.specs.declared.table.Points.{Points}
 use Rattle.dom_ranges.specs.declared.ends.RangeEnd.{RangeEnd}
 use Rattle.dom_ranges.specs.declared.ends.Part.{Part}
-use Rattle.dom_ranges.specs.Listed.{is_end_of, times, point_at, end_of, Stands, IsListed, IsMovedPart, is_in, is_chosen, at_node}
-use Rattle.dom_ranges.proofs.Listing.{is_end_of-same, is_end_of-true, counts-listed, places-once, times-same}
+use Rattle.dom_ranges.specs.Listed.{is_end_of, point_at, end_of, Stands, IsListed, IsMovedPart, is_in, is_chosen, at_node}
+use Rattle.dom_ranges.proofs.Listing.{is_end_of-same, places-once}
 
 -- the part up to a place
 abbrev pub up_to : ℕ → ℕ → Part

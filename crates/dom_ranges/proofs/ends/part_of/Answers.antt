@@ -1,4 +1,4 @@
-use Rattle.std.proofs.Common.{inl, inr, leb, ltb, arith, rules}
+use Rattle.std.proofs.Common.{inl, inr, leb, arith, rules}
 use Rattle.std.proofs.lemmas.Bool.{leb-false, cases_lt}
 use Rattle.std.proofs.lemmas.List.Sorted.{IsPartitionPoint-from_clause, IsPartitionedBy-leb}
 use Rattle.dom_ranges.specs.Listed.{node_of}

@@ -1,4 +1,4 @@
-use Rattle.std.proofs.Common.{arith, sym, ◌∙◌}
+use Rattle.std.proofs.Common.{arith}
 use Rattle.std.proofs.lemmas.List.Sorted.{IsPermutation-trans}
 use Rattle.dom_ranges.proofs.Gathering.{IsSortedByNode-earlier, IsSortedByNode-later}
 use Rattle.dom_ranges.proofs.ends.settle.Goals as goal

@@ -1,4 +1,3 @@
-use Rattle.std.proofs.Common.{arith}
 use Rattle.std.proofs.lemmas.List.Sorted.{IsPermutation-put_mid}
 use Rattle.dom_ranges.proofs.Gathering.{IsTurned-rotated}
 use Rattle.dom_ranges.proofs.ends.turn.Goals as goal

@@ -1,4 +1,4 @@
-use Rattle.std.proofs.Common.{◌≡◌, Some, true, false, is_some, sym, ◌∙◌, ap, rules}
+use Rattle.std.proofs.Common.{◌≡◌, Some, true, false, is_some, sym, ap}
 use Rattle.slab.specs.Slab.{get}
 use Rattle.dom_ranges.proofs.Listing.{IsListed-dropped, listed-once, listed-once-rest}
 use Rattle.dom_ranges.proofs.moving.drop_range.Goals as goal

@@ -1,8 +1,8 @@
-use Rattle.std.proofs.Common.{sym, subst, ◌∙◌, ap, arith}
-use Rattle.dom_ranges.specs.Listed.{IsSortedBeside, point_at, is_in}
+use Rattle.std.proofs.Common.{sym, subst, ◌∙◌}
+use Rattle.dom_ranges.specs.Listed.{IsSortedBeside}
 use Rattle.dom_ranges.proofs.Listing.{IsListed-permuted}
 use Rattle.dom_ranges.proofs.Parts.{chosen-true}
-use Rattle.dom_ranges.proofs.Moved.{nowhere, IsListed-moved, holds-point, stays-outside, ranges-both, listed-both, IsSortedBeside-both, IsSortedByNode-both}
+use Rattle.dom_ranges.proofs.Moved.{IsListed-moved, holds-point, stays-outside, ranges-both, listed-both, IsSortedBeside-both, IsSortedByNode-both}
 use Rattle.dom_ranges.proofs.moving.move_ends.Goals as goal
 
 pub move_part-here-requires-clause-can_move : goal.move_part-here-requires-clause-can_move

@@ -1,12 +1,11 @@
-use Rattle.std.proofs.Common.{◌≡◌, ◌⊎◌, ◌≢◌, inl, inr, ℕ, ◌+◌, ◌<◌, ◌≤◌, false, List, length, get_or, set, Some, sym, ap, subst, ◌∙◌, arith, rules, length-set}
-use Rattle.std.proofs.lemmas.Bool.{cases_eq}
-use Rattle.std.proofs.lemmas.List.{get_or_default, get_or-set_same, get_or-set_other}
+use Rattle.std.proofs.Common.{◌≡◌, ◌⊎◌, inr, ℕ, ◌+◌, ◌<◌, ◌≤◌, false, List, length, get_or, set, sym, ap, subst, ◌∙◌, arith, rules, length-set}
+use Rattle.std.proofs.lemmas.List.{get_or_default, get_or-set_other}
 use Rattle.slab.specs.Slab.{Slab}
 use Rattle.dom_ranges.specs.declared.table.Points.{Points}
 use Rattle.dom_ranges.specs.declared.ends.RangeEnd.{RangeEnd}
 use Rattle.dom_ranges.specs.declared.ends.Part.{Part}
 use Rattle.dom_ranges.specs.Listed.{IsMovedPart, is_in, is_chosen, at_node, point_at}
-use Rattle.dom_ranges.proofs.Parts.{up_to, IsMovedPart-none, IsMovedPart-skipped, IsMovedPart-more, IsMovedPart-whole, chosen-made, still, here-still, set-here, nodes-more, nodes-same}
+use Rattle.dom_ranges.proofs.Parts.{up_to, IsMovedPart-skipped, IsMovedPart-more, IsMovedPart-whole, chosen-made, still, here-still, set-here, nodes-more, nodes-same}
 use Rattle.dom_ranges.proofs.moving.move_part.Goals.{then-not-has+then-ne, then-not-has+else-ne, else-not-has}
 use Rattle.dom_ranges.proofs.moving.move_part.Goals as goal
 
