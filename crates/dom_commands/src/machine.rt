@@ -29,7 +29,8 @@ impl Model for Machine {
 }
 
 impl Machine {
-    /// The machine before the first line: the page has its first document, and there is no more.
+    /// The machine before the first line: the page has its first document, and there is no more. It is refused where memory is
+    /// refused, and only then.
     pub fn new(alloc: Global) -> Result<Machine, AllocError>
         ensures world { IfOk result (λ machine. machine.world ≡ first_world) }
         ensures sound { IfOk result (λ machine. IsSound machine) }

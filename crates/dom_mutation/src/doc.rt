@@ -81,7 +81,7 @@ impl Model for Doc {
 }
 
 impl Doc {
-    /// The page with its first document, and no component.
+    /// The page with its first document, and no component. It is refused where memory is refused, and only then.
     pub fn new(alloc: Global) -> Result<Self, AllocError>
         ensures { IfOk result (λ doc. doc ≡ record { names = node_of Page 0 ∷ []; world = first_world }) }
     {
@@ -154,7 +154,8 @@ impl Doc {
         self.forest.node_count(owner)
     }
 
-    /// Makes a node with an owner's next number, in a tree of its own.
+    /// Makes a node with an owner's next number, in a tree of its own, and gives its key. It is refused with `Limit` where the
+    /// owner has as many nodes as it may, and then, as where memory is refused, nothing is changed.
     pub fn add(&mut self, owner: Owner, node: NodeData) -> Result<Key, Fault>
         requires owner_is_there { is_there self.old.world owner ≡ true }
         requires no_shadow { is_shadow node.kind ≡ false }

@@ -36,7 +36,8 @@ use std::alloc::{AllocError, Global};
 /// Extracts what is in an owner's live range into a new fragment, and gives the fragment: each contained node is moved, a node that
 /// holds one end alone is cloned with what is taken from inside it, and of a Text or Comment at an end a clone gets the code units
 /// that it loses. The range is then collapsed (DOM Standard, concept: extract a live range). It is refused with `Limit` where the
-/// owner would have too many nodes, and then nothing is changed.
+/// owner would have too many nodes, and then nothing is changed. Where memory is refused, which may also be in place of `Limit`, the
+/// document is only to be dropped.
 pub fn extract(alloc: Global, doc: &mut Doc, owner: Owner, number: u32) -> Result<Key, Fault>
     requires there { is_some (range_at (part_of doc.old.world owner) number) ≡ true }
     requires ends { ForSome (range_at (part_of doc.old.world owner) number) (HasEnds (part_of doc.old.world owner).trees) }

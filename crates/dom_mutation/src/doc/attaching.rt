@@ -26,8 +26,9 @@ use std::alloc::{AllocError, Global};
 
 impl Doc {
     /// Attaches a shadow root to an element of the page: node 0 of a new component, with the element's node document; the
-    /// answer is its key. Refused to a host, to an element whose name may be no host's, and where there are as many
-    /// components as there may be (DOM Standard, attach a shadow root; the limit is an own rule).
+    /// answer is its key. Refused with `NotSupported` to a host and to an element whose name may be no host's, and then with
+    /// `Limit` where there are as many components as there may be, with nothing changed (DOM Standard, attach a shadow root; the
+    /// limit is an own rule). Where memory is refused, the document is only to be dropped.
     pub fn attach(&mut self, host: Key) -> Result<Key, Fault>
         requires host_is_node { host < length self.old.names }
         requires host_is_page { owner_in self.old host ≡ Page }

@@ -12,8 +12,9 @@ use node_arena::Key;
 use std::alloc::AllocError;
 
 impl Doc {
-    /// Sets an attribute of an element. One that is there keeps its place, and a new one goes last. Refused where the name
-    /// is none: it is a letter or `_`, then letters, digits, `-` and `_` (own rule).
+    /// Sets an attribute of an element. One that is there keeps its place, and a new one goes last. Refused with
+    /// `InvalidCharacter` where the name is none, with nothing changed: it is a letter or `_`, then letters, digits, `-` and `_`
+    /// (own rule). Where memory is refused, the document is only to be dropped.
     pub fn set_attr(&mut self, node: Key, name: &str, value: DomStr) -> Result<(), Fault>
         requires { node < length self.old.names }
         ensures refused { (result ≡ Err (Fault.Refused InvalidCharacter)) ↔ (is_name name.now ≡ false) }
@@ -30,7 +31,8 @@ impl Doc {
         Ok(())
     }
 
-    /// Takes an attribute away from an element. Without it nothing changes.
+    /// Takes an attribute away from an element. Without it nothing changes. Where memory is refused, the document is only to be
+    /// dropped.
     pub fn remove_attr(&mut self, node: Key, name: &str) -> Result<(), AllocError>
         requires { node < length self.old.names }
         ensures names { OnOk result (self.new.names ≡ self.old.names) }

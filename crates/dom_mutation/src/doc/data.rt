@@ -16,7 +16,8 @@ use std::alloc::{AllocError, Global};
 
 impl Doc {
     /// From an offset on, so many code units of a Text or a Comment, or as many as there are, give way to others (DOM
-    /// Standard, replace data). Refused with `IndexSize` where the offset is past the node's length.
+    /// Standard, replace data). Refused with `IndexSize` where the offset is past the node's length, with nothing
+    /// changed. Where memory is refused, the document is only to be dropped.
     pub fn replace_data(
         &mut self,
         node: Key,
@@ -40,7 +41,8 @@ impl Doc {
         Ok(())
     }
 
-    /// All data of a Text or a Comment give way to others, which are not copied (DOM Standard, replace data).
+    /// All data of a Text or a Comment give way to others, which are not copied (DOM Standard, replace data). Where
+    /// memory is refused, the document is only to be dropped.
     pub fn set_data(&mut self, node: Key, data: DomStr) -> Result<(), AllocError>
         requires node_is_node { node < length self.old.names }
         requires has_data { has_data (kind_of (trees_in self.old node) (name_in self.old node)) ≡ true }
@@ -53,7 +55,7 @@ impl Doc {
     }
 
     /// From an offset on, so many code units of a node, or as many as there are, go (DOM Standard, replace data with the empty
-    /// string).
+    /// string). Where memory is refused, the document is only to be dropped.
     pub fn delete_data(&mut self, node: Key, offset: usize, count: usize) -> Result<(), AllocError>
         requires { node < length self.old.names }
         ensures { OnOk result (self.new ≡ planned (owner_in self.old node) (replacing_data (name_in self.old node) offset count []) self.old) }

@@ -22,7 +22,8 @@ use std::alloc::AllocError;
 
 impl Doc {
     /// Puts a node among the children of a parent, before the child given or last; of a fragment its children. It leaves
-    /// its parent and gets the parent's node document. Refused as the Standard has it (DOM Standard, pre-insert).
+    /// its parent and gets the parent's node document. Refused with `Hierarchy` or `NotFound` as the Standard's tests say, in
+    /// their order, with nothing changed (DOM Standard, pre-insert). Where memory is refused, the document is only to be dropped.
     pub fn insert(&mut self, parent: Key, node: Key, child: Option<Key>) -> Result<(), Fault>
         requires parent_is_node { parent < length self.old.names }
         requires node_is_node { node < length self.old.names }
@@ -48,7 +49,8 @@ impl Doc {
     }
 
     /// Puts a node among the children of a parent, before a child of it or last; of a fragment its children. It leaves its
-    /// parent and gets the parent's node document. Whether it may stand there is not tested (DOM Standard, insert).
+    /// parent and gets the parent's node document. Whether it may stand there is not tested (DOM Standard, insert). Where
+    /// memory is refused, the document is only to be dropped.
     pub fn insert_before(
         &mut self,
         parent: Key,

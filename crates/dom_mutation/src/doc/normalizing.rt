@@ -18,7 +18,8 @@ use std::alloc::AllocError;
 
 impl Doc {
     /// Of the Texts below a node those without data leave, and each other one gets the data of the Texts directly after it,
-    /// which leave (DOM Standard, normalize()). Nothing but memory stops it.
+    /// which leave (DOM Standard, normalize()). Nothing but memory stops it, and then
+    /// the document is only to be dropped.
     pub fn normalize(&mut self, node: Key) -> Result<(), AllocError>
         requires node_is_node { node < length self.old.names }
         requires bounds { HasBounds (part_of self.old.world (owner_in self.old node)) }

@@ -19,7 +19,8 @@ pub(super) enum Telling {
 }
 
 impl Doc {
-    /// A node leaves its parent, with a record of the parent. One without a parent stays as it is (DOM Standard, remove).
+    /// A node leaves its parent, with a record of the parent. One without a parent stays as it is (DOM Standard, remove). Where
+    /// memory is refused, the document is only to be dropped.
     pub fn remove(&mut self, node: Key) -> Result<(), AllocError>
         requires { node < length self.old.names }
         ensures names { OnOk result (self.new.names ≡ self.old.names) }
@@ -28,8 +29,9 @@ impl Doc {
         self.removing(Telling::Observed, node)
     }
 
-    /// A node leaves its parent and gets a node document, with all below it (DOM Standard, adopt). A document is not
-    /// adopted, nor is a shadow root.
+    /// A node leaves its parent and gets a node document, with all below it (DOM Standard, adopt). A shadow root is refused
+    /// with `Hierarchy` and a document with `NotSupported`, with nothing changed. Where memory is refused, the document that
+    /// holds them is only to be dropped.
     pub fn adopt(&mut self, document: Key, node: Key) -> Result<(), Fault>
         requires document_is_node { document < length self.old.names }
         requires node_is_node { node < length self.old.names }

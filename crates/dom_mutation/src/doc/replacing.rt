@@ -18,7 +18,8 @@ use std::alloc::AllocError;
 
 impl Doc {
     /// A node, or the children of a fragment, take the place of a child of a parent, with one record of the parent (DOM
-    /// Standard, replace). Refused as the Standard has it.
+    /// Standard, replace). Refused with `Hierarchy` or `NotFound` as the Standard's tests say, in their order, with nothing
+    /// changed. Where memory is refused, the document is only to be dropped.
     pub fn replace(&mut self, parent: Key, node: Key, child: Key) -> Result<(), Fault>
         requires parent_is_node { parent < length self.old.names }
         requires node_is_node { node < length self.old.names }
