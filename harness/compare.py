@@ -133,8 +133,9 @@ def compare(comparison, batches, shown):
             total += 1
             counts["agree" if names == set() else "unexplained" if names is None else "named"] += 1
             counts.update(names or ())
-            if names is None and counts["unexplained"] <= shown:
+            if names is None:
                 print(f"== {title}: unexplained")
+            if names is None and counts["unexplained"] <= shown:
                 comparison.show(comparison.small(script))
         sys.stdout.flush()
     report(counts, total)

@@ -125,13 +125,31 @@
     return () => points.put();
   }
 
-  // Deletion and extraction: what leaves the child towards the end, and the data at the end, go last.
-  function planCut(range) {
-    const [start, end] = [range.startContainer, range.endContainer];
+  // Deletion and extraction: the data at the start are cut first, and those at the end last.
+  function planCut({ startContainer: start, endContainer: end }) {
     if (start === end) return null;
-    const last = [...range.commonAncestorContainer.childNodes].find((child) => child.contains(end));
-    const isLast = (record) => last && !last.contains(start) && last.contains(record.target);
-    return (taken) => rewrite(taken, (records) => [...records.filter((record) => !isLast(record)), ...records.filter(isLast)]);
+    const isOf = (record, node) => record.type === "characterData" && record.target === node;
+    const placeOf = (record) => isOf(record, start) ? 0 : isOf(record, end) ? 2 : 1;
+    return (taken) => rewrite(taken, (records) => [...records].sort((a, b) => placeOf(a) - placeOf(b)));
+  }
+
+  // Deletion and extraction: nodes leave in tree order, so that what is behind one of them is still there.
+  function planRemovals(range) {
+    const found = held(range).sort((a, b) => (a.compareDocumentPosition(b) & a.DOCUMENT_POSITION_FOLLOWING ? -1 : 1));
+    const places = new Map(found.map((node) => {
+      let previousSibling = node.previousSibling;
+      while (found.includes(previousSibling)) previousSibling = previousSibling.previousSibling;
+      return [node, { previousSibling, nextSibling: node.nextSibling }];
+    }));
+    const isIt = (record) => record.type === "childList" && places.has(record.removedNodes[0]);
+    const orderOf = ({ removedNodes: [node] }) => found.indexOf(node);
+    return (taken) => rewrite(taken, (records) => {
+      const removals = records.filter(isIt).sort((a, b) => orderOf(a) - orderOf(b));
+      return records.map((record) => {
+        const removal = isIt(record) && removals.shift();
+        return removal ? copyOf(removal, places.get(removal.removedNodes[0])) : record;
+      });
+    });
   }
 
   // The nodes that a range holds whole, without those below them: from the start upwards what follows, to the end what comes before.
@@ -161,6 +179,19 @@
         // No deletion or extraction of the protocol is refused by the DOM.
       }
       throw new Unrepresentable("contents-left");
+    } };
+  }
+
+  // An end that is refused leaves the range as it was.
+  function planEnd(run, [range]) {
+    const points = new Points({ ranges: [range] });
+    return { call: (set) => {
+      try {
+        return set();
+      } catch (error) {
+        if (points.put()) run.met.add("refused-end-moves");
+        throw error;
+      }
     } };
   }
 
@@ -259,6 +290,8 @@
     "split-records": (run, owner, name, values) =>
       name === "split" ? after(planSplit(values[0])) : name === "insert-node" ? after(planSplit(values[0].startContainer)) : null,
     "cut-records": (run, owner, name, values) => (name === "delete" || name === "extract" ? after(planCut(values[0])) : null),
+    "backward-records": (run, owner, name, values) => (name === "delete" || name === "extract" ? after(planRemovals(values[0])) : null),
+    "refused-end-moves": (run, owner, name, values) => (name === "range-start" || name === "range-end" ? planEnd(run, values) : null),
     "contents-left": (run, owner, name, values) => (name === "delete" || name === "extract" ? planContents(values[0]) : null),
     "split-alone": (run, owner, name, values) => (name === "split" ? after(planSplitAlone(owner, values)) : null),
     "empty-records": () => ({ after: withoutEmpty }),

@@ -64,6 +64,22 @@ KNOWN = {
         p observe o0 n1 childList characterData subtree
         p delete r0
         p take o0""")),
+    "backward-records": Known("fixed", "contents of a range are deleted or extracted: what is in front of the range's end leaves from the end backwards, "
+                              "and before what is between the children that hold the ends", lines("""
+        p new element ul
+        p new element a
+        p new element b
+        p new element i
+        p append n0 n1
+        p append n1 n2
+        p append n1 n3
+        p append n1 n4
+        p range-new
+        p range-end r0 n4 0
+        p observer
+        p observe o0 n1 childList
+        p delete r0
+        p take o0""")),
     "normalize-steps": Known("fixed", "Texts are joined: the Standard writes one record of all data that come, of none too, and then one for each Text "
                              "that goes; browsers join them one by one, and let empty ones go first", lines("""
         p new element p
@@ -153,6 +169,14 @@ KNOWN = {
                                     "Chromium as not-found", lines("""
         p new element a
         p replace n0 n0 n1""")),
+    "refused-end-moves": Known("fixed", "an end is refused as index-size in another document: Chromium has moved the range to that document's start", lines("""
+        p new text "abc"
+        p append n0 n1
+        p range-new
+        p document
+        p new element b
+        p range-start r0 n2 1
+        p range-get r0""")),
     "start-behind-end": Known("ends", "a range whose start comes to stand behind its end, by sibling-inserted or replaced: no range of a browser can", lines("""
         p new element ul
         p new element a

@@ -80,11 +80,12 @@
     return options;
   }
 
-  // Follows an observer: what it observes, which nodes left below that in this turn, and which of them are observed on.
+  // Follows an observer: what it observes, the copies of registrations that nodes got by leaving in this turn, and those that it keeps
+  // from earlier. A copy has a source: the observed node whose registration it copies, or null where it copies a copy.
   function follow(run, observer) {
     if (observer.lasting) return observer.lasting;
     const scout = new run.window.MutationObserver(() => {});
-    return (observer.lasting = { scout, observed: new Map(), left: [], kept: new Map() });
+    return (observer.lasting = { scout, observed: new Map(), left: [], kept: [] });
   }
 
   function observeOn(observer, node, options) {
@@ -92,19 +93,48 @@
     if (options.subtree) observer.lasting.scout.observe(node, { childList: true, subtree: true });
   }
 
-  function planTransients(run, owner, name, [observer, node], options) {
+  // No call gives a node two registrations of one observer.
+  function refuseTwo({ observed, kept }) {
+    if (kept.some(({ node }) => observed.has(node))) throw new Unrepresentable("transients");
+  }
+
+  // The nodes of these copies are observed, each as its copies ask together.
+  function observeCopies(observer, copies) {
+    for (const node of new Set(copies.map((one) => one.node)))
+      observeOn(observer, node, together(copies.filter((one) => one.node === node).map(({ options }) => options)));
+  }
+
+  // No call takes one registration away: all go, and those that stay come again.
+  function observeAfresh(observer) {
+    for (const one of [observer.real, observer.twin, observer.lasting.scout]) one.disconnect();
+    for (const [node, options] of observer.lasting.observed) observeOn(observer, node, options);
+    observeCopies(observer, observer.lasting.kept);
+  }
+
+  // A node is observed again: what copies its registration goes, and copies of copies stay. True: a DOM does otherwise.
+  function observeAgain(observer, node) {
+    const { lasting } = observer;
+    const isGone = lasting.kept.some(({ source }) => source === node);
+    const copies = lasting.left.filter(({ source }) => isGone ? source !== node : !source);
+    lasting.left = lasting.left.filter((one) => one.source !== node && !copies.includes(one));
+    lasting.kept = [...lasting.kept.filter(({ source }) => source !== node), ...copies];
+    refuseTwo(lasting);
+    if (isGone && observer.kept.length) throw new Unrepresentable("transients");
+    if (isGone) observeAfresh(observer);
+    else observeCopies(observer, copies);
+    return isGone || copies.length > 0;
+  }
+
+  function planTransients(run, owner, name, values, options) {
+    const [observer, node] = values;
     if (name === "observe") {
       const following = follow(run, observer);
-      const copies = following.observed.has(node) ? following.left.filter(({ isCopy }) => isCopy) : [];
+      const isAgain = following.observed.has(node);
       return { after: () => {
         following.observed.set(node, options);
         if (options.subtree) following.scout.observe(node, { childList: true, subtree: true });
-        if (copies.some((one) => following.observed.has(one.node))) throw new Unrepresentable("transients");
-        for (const copy of copies) {
-          following.kept.set(copy.node, copy.options);
-          observeOn(observer, copy.node, copy.options);
-        }
-        return copies.length > 0;
+        refuseTwo(following);
+        return isAgain && observeAgain(observer, node);
       } };
     }
     if (name === "disconnect") return { after: () => {
@@ -112,20 +142,20 @@
       observer.lasting = undefined;
     } };
     return { after: () => {
-      for (const { lasting } of owner.observers) if (lasting) noteLeft(lasting);
+      for (const { lasting } of owner.observers) if (lasting) noteLeft(lasting, name === "replace" ? values[2] : null);
     } };
   }
 
-  // The nodes that left a tree in this command get what was asked of all that is below.
-  function noteLeft(lasting) {
-    for (const record of lasting.scout.takeRecords()) {
+  // The nodes that left a tree in this command get what was asked of all that is below; a child that is replaced left first.
+  function noteLeft(lasting, replaced) {
+    const records = lasting.scout.takeRecords();
+    const isFirst = (record) => [...record.removedNodes].includes(replaced);
+    for (const record of [...records.filter(isFirst), ...records.filter((one) => !isFirst(one))]) {
       for (const node of record.removedNodes) {
-        const sources = [...lasting.observed, ...lasting.kept].filter(([top, options]) => options.subtree && top.contains(record.target));
-        const isCopy = lasting.left.some((one) => one.node.contains(record.target));
-        if (sources.length || isCopy) {
-          const copied = lasting.left.filter((one) => one.node.contains(record.target) && one.options.subtree);
-          lasting.left.push({ node, isCopy, options: together([...sources.map(([, options]) => options), ...copied.map((one) => one.options)]) });
-        }
+        const sources = [...lasting.observed].filter(([top, options]) => options.subtree && top.contains(record.target));
+        const copied = [...lasting.left, ...lasting.kept].filter((one) => one.options.subtree && one.node.contains(record.target));
+        lasting.left.push(...sources.map(([source, options]) => ({ node, options, source })));
+        lasting.left.push(...copied.map(({ options }) => ({ node, options, source: null })));
       }
     }
   }
@@ -136,17 +166,14 @@
     for (const observer of owner.observers.filter(({ lasting }) => lasting)) {
       const { lasting } = observer;
       if (tookRecords(observer)) {
-        if (lasting.kept.size) {
-          for (const one of [observer.real, observer.twin, lasting.scout]) one.disconnect();
-          for (const [node, options] of lasting.observed) observeOn(observer, node, options);
-        }
-        lasting.kept.clear();
+        const isKeeping = lasting.kept.length > 0;
+        lasting.kept = [];
+        if (isKeeping) observeAfresh(observer);
       } else {
-        // No call gives a node two registrations of one observer.
-        if (lasting.left.some(({ node }) => lasting.observed.has(node))) throw new Unrepresentable("transients");
-        for (const { node, options } of lasting.left) lasting.kept.set(node, options);
-        for (const [node, options] of lasting.kept) observeOn(observer, node, options);
-        met = met || lasting.kept.size > 0;
+        lasting.kept.push(...lasting.left);
+        refuseTwo(lasting);
+        observeCopies(observer, lasting.kept);
+        met = met || lasting.kept.length > 0;
       }
       lasting.left = [];
     }
