@@ -97,7 +97,8 @@ KNOWN = {
         p text n1 "a"
         p tree n1""")),
     "transients": Known("fixed", "a removed node is observed until its observer is notified; browsers drop that at the end of the turn also where "
-                        "the observer took no record, and for what left a removed node also when the first node is observed again", lines("""
+                        "the observer took no record, and for what left a removed node also when the first node is observed again; jsdom never has "
+                        "it", lines("""
         p new element p
         p new element b
         p append n1 n2
@@ -236,6 +237,17 @@ KNOWN = {
         p range-end r0 n3 1
         p normalize n1
         p range-get r0""")),
+    "slot-kept": Known("ends", "an event goes to the slot that its target was assigned to before it left the host", lines("""
+        p new element div
+        p new element b
+        p attach n1
+        p .
+        c1 new element slot
+        c1 append m0 m1
+        p append n1 n2
+        p listen n1 e a log
+        p remove n2
+        p dispatch n2 e bubbles composed""")),
     "selectors": Known("ends", "a name in a selector is looked for in lower case", lines("""
         p new element DIV
         p matches n1 "DIV\"""")),
@@ -268,6 +280,7 @@ ENDS = [
     ("jsdom", "filters", re.compile(r"\S+ (iter-next|iter-prev|walk) "), re.compile(r"\S+ ! type")),
     ("jsdom", "iterators", re.compile(r"\S+ iter-"), REPLY),
     ("jsdom", "ranges", re.compile(r"\S+ range-(get|text) "), REPLY),
+    ("jsdom", "slot-kept", re.compile(r"\S+ dispatch "), re.compile(r"\S+ (event|ok|!) ")),
     ("jsdom", "selectors", re.compile(r"\S+ (query|matches) "), REPLY),
 ]
 

@@ -142,8 +142,32 @@
       observer.lasting = undefined;
     } };
     return { after: () => {
-      for (const { lasting } of owner.observers) if (lasting) noteLeft(lasting, name === "replace" ? values[2] : null);
+      const following = owner.observers.filter(({ lasting }) => lasting);
+      for (const { lasting } of following) noteLeft(lasting, name === "replace" ? values[2] : null);
+      return following.length > 0 && !observesWhatLeft(run) && following.map(keepLeft).includes(true);
     } };
+  }
+
+  // Whether this DOM gives what leaves copies of registrations at all.
+  function observesWhatLeft(run) {
+    const [parent, child] = [run.first.createElement("p"), run.first.createElement("p")];
+    const observer = new run.window.MutationObserver(() => {});
+    parent.appendChild(child);
+    observer.observe(parent, { attributes: true, childList: false, subtree: true });
+    child.remove();
+    child.setAttribute("id", "");
+    return observer.takeRecords().length > 0;
+  }
+
+  // What left is observed on from here by the copies that it got. True: something left.
+  function keepLeft(observer) {
+    const { lasting } = observer;
+    const { left } = lasting;
+    lasting.left = [];
+    lasting.kept.push(...left);
+    refuseTwo(lasting);
+    observeCopies(observer, lasting.kept);
+    return left.length > 0;
   }
 
   // The nodes that left a tree in this command get what was asked of all that is below; a child that is replaced left first.
@@ -170,9 +194,7 @@
         lasting.kept = [];
         if (isKeeping) observeAfresh(observer);
       } else {
-        lasting.kept.push(...lasting.left);
-        refuseTwo(lasting);
-        observeCopies(observer, lasting.kept);
+        keepLeft(observer);
         met = met || lasting.kept.length > 0;
       }
       lasting.left = [];
