@@ -16,7 +16,6 @@ from concurrent.futures import ThreadPoolExecutor
 HERE = os.path.dirname(os.path.abspath(__file__))
 PROGRAM = os.path.join(HERE, "..", "crates", "domrun", "out", "domrun")
 SOURCES = ("lines.js", "commands.js", "lasting.js", "fixes.js", "adapter.js")
-BATCH = 250
 
 
 class Missing(Exception):
@@ -63,6 +62,7 @@ class Chromium:
     """Headless Chromium: each batch of scripts is a page of its own, and its text is taken from the dumped DOM."""
 
     name = "chromium"
+    batch = 250
 
     def __init__(self):
         self.path = find("chromium", "chromium-browser", "google-chrome")
@@ -89,6 +89,7 @@ class Firefox:
     """Headless Firefox, driven over loopback by its remote protocol (Marionette: a length, a colon, and JSON)."""
 
     name = "firefox"
+    batch = 250
 
     def __init__(self):
         self.path = find("firefox-esr", "firefox")
@@ -157,6 +158,7 @@ class Jsdom:
     """jsdom in node."""
 
     name = "jsdom"
+    batch = 50
 
     def __init__(self):
         self.path = find("node", "nodejs")
@@ -185,6 +187,6 @@ ENGINES = {"chromium": Chromium, "firefox": Firefox, "jsdom": Jsdom}
 def answers(engine, scripts, fixes=()):
     """What the engine writes for each script, and which of the fixes were met in it, batch by batch."""
     found = []
-    for start in range(0, len(scripts), BATCH):
-        found += engine.run(scripts[start:start + BATCH], list(fixes))
+    for start in range(0, len(scripts), engine.batch):
+        found += engine.run(scripts[start:start + engine.batch], list(fixes))
     return found

@@ -1,7 +1,7 @@
 // The differences between a DOM and the protocol that can be made good by smaller steps: with a fix the adapter carries a command out
 // as the DOM Standard has it, and a script that then agrees differs by just this. What a fix does is met only where it changes something.
 "use strict";
-(function (exports, { planIterators, planTransients, Unrepresentable }) {
+(function (exports, { planIterators, planRoots, planTransients, Unrepresentable }) {
   const indexOf = (node) => {
     let index = 0;
     for (let before = node.previousSibling; before; before = before.previousSibling) index += 1;
@@ -296,6 +296,7 @@
     "split-alone": (run, owner, name, values) => (name === "split" ? after(planSplitAlone(owner, values)) : null),
     "empty-records": () => ({ after: withoutEmpty }),
     "iterator-kept": planIterators,
+    "root-left": planRoots,
     transients: planTransients,
   };
 

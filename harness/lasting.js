@@ -66,6 +66,17 @@
     return { after: () => plans.map((plan) => plan()).includes(true) };
   }
 
+  // Own rule: an iterator stays where it is when an ancestor of its root leaves.
+  function planRoots(run, owner, name) {
+    if (name.startsWith("iter-")) return null;
+    const places = owner.iterators.map(({ root, referenceNode }) => ({ root, referenceNode }));
+    return { after: () => {
+      const isOutside = ({ root, referenceNode }, number) =>
+        root.contains(referenceNode) && !root.contains(owner.iterators[number].referenceNode);
+      if (places.some(isOutside)) throw new Unrepresentable("root-left");
+    } };
+  }
+
   // ---- transient registrations
 
   const KINDS = ["childList", "attributes", "characterData", "subtree", "attributeOldValue", "characterDataOldValue"];
@@ -202,5 +213,5 @@
     return met;
   }
 
-  exports.lasting = { planIterators, planTransients, endTurn, Unrepresentable };
+  exports.lasting = { planIterators, planRoots, planTransients, endTurn, Unrepresentable };
 })(typeof module === "object" ? module.exports : globalThis);
