@@ -228,14 +228,6 @@ KNOWN = {
         p iter-new n3 all
         p remove n2
         p iter-at i0""")),
-    "iterators": Known("ends", "an iterator goes to another node than the Standard's, as where a document's child leaves", lines("""
-        p new element a
-        p append n0 n1
-        p iter-new n0 all
-        p iter-next i0
-        p iter-next i0
-        p remove n1
-        p iter-at i0""")),
     "ranges": Known("ends", "the ends or the text of a range are not the Standard's, as where nodes come into the node of the range's other end", lines("""
         p new element p
         p new element b
@@ -289,7 +281,6 @@ REPLY = re.compile(r"\S+ (ok|!)|! owner")
 # Where the comparison of a script ends under a name: by the engine, the command, and what the engine answers it.
 ENDS = [
     ("jsdom", "filters", re.compile(r"\S+ (iter-next|iter-prev|walk) "), re.compile(r"\S+ ! type")),
-    ("jsdom", "iterators", re.compile(r"\S+ iter-"), REPLY),
     ("jsdom", "ranges", re.compile(r"\S+ range-(get|text) "), REPLY),
     ("jsdom", "slot-kept", re.compile(r"\S+ dispatch "), re.compile(r"\S+ (event|ok|!) ")),
     ("jsdom", "selectors", re.compile(r"\S+ (query|matches) "), REPLY),
