@@ -23,7 +23,8 @@ use Rattle.dom_tree.specs.Owners.{trees_of_owner}
 use Rattle.dom_tree.proofs.Owned.{read_own}
 use Rattle.dom_mutation.specs.Contents.{part_in}
 use Rattle.dom_mutation.specs.Hosting.{host_names}
-use Rattle.dom_mutation.specs.OwnTables.{KeyedTables, AllTables, no_keyed_tables}
+use Rattle.dom_cursors.specs.OwnTables.{KeyedTables, no_keyed_tables}
+use Rattle.dom_mutation.specs.AllTables.{AllTables}
 use Rattle.dom_mutation.specs.Doc.{DocState, contents, world_from, state_from, IsHeld, name_in, owner_in, attaching_refusal}
 use Rattle.dom_mutation.proofs.Attached.{HasOneHostMore, attached_held, attached_state}
 use Rattle.dom_mutation.proofs.AttachedWorlds.{count_none, component_new}

@@ -31,7 +31,8 @@ use Rattle.dom_model.specs.Ranges.{Range}
 use Rattle.dom_mutation.specs.Contents.{Tables}
 use Rattle.dom_mutation.specs.Numbering.{AreNumbered}
 use Rattle.dom_mutation.specs.Ranging.{AreRangesOf}
-use Rattle.dom_mutation.specs.OwnTables.{KeyedTables, AllTables, no_keyed_tables, tables_view, owners_up_to, owner_at, table_of, AreTablesOf}
+use Rattle.dom_cursors.specs.OwnTables.{KeyedTables, no_keyed_tables, owners_up_to, owner_at, table_of}
+use Rattle.dom_mutation.specs.AllTables.{AllTables, tables_view, AreTablesOf}
 use Rattle.dom_mutation.specs.Hosting.{AreMadeFrom, host_names, AreHostsOf, IsAttached}
 use Rattle.dom_mutation.specs.Doc.{named_trees, own_tables, shown_tables, contents, world_from, IsHeld, IsDue}
 use Rattle.dom_mutation.proofs.AttachedWorlds.{count_none, counted_other, counted_new, component_new, attached_world, attached_hosts}

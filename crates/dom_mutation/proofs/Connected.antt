@@ -18,11 +18,11 @@ use Rattle.dom_traversal.proofs.Lists.{name_eq-true, name_eq-from}
 use Rattle.dom_tree.specs.Forest.{NamedTrees}
 use Rattle.dom_tree.proofs.Once.{times_in}
 use Rattle.dom_tree.proofs.Owned.{read_own, stays_own}
-use Rattle.dom_mutation.specs.OwnTables.{AllTables}
+use Rattle.dom_mutation.specs.AllTables.{AllTables}
 use Rattle.dom_mutation.specs.Doc.{IsHeld, contents, world_from}
 use Rattle.dom_mutation.proofs.Held.{are_hosts}
 use Rattle.dom_mutation.proofs.HostedWorlds.{world_shown}
-use Rattle.dom_mutation.proofs.Paths.{path_gone}
+use Rattle.dom_tree_laws.proofs.Paths.{path_gone}
 use Rattle.dom_mutation.proofs.Shown.{own_in_part}
 
 -- ---- the host of a node's root

@@ -23,7 +23,8 @@ use Rattle.dom_tree.proofs.Owned.{stays_own}
 use Rattle.dom_traversal.specs.Iterators.{KeyedIterator, iterator_view, iterator_at}
 use Rattle.dom_traversal.specs.Walkers.{KeyedWalker, walker_view, walker_at}
 use Rattle.dom_mutation.specs.Contents.{part_with, part_in}
-use Rattle.dom_mutation.specs.OwnTables.{KeyedTables, place_of, owners_up_to, table_of, AreTablesOf, AllTables, no_keyed_tables, with_table}
+use Rattle.dom_cursors.specs.OwnTables.{KeyedTables, place_of, owners_up_to, table_of, no_keyed_tables}
+use Rattle.dom_mutation.specs.AllTables.{AreTablesOf, AllTables, with_table}
 use Rattle.dom_mutation.specs.Doc.{named_trees, own_tables, shown_tables, contents, world_from, IsHeld, Makes}
 use Rattle.dom_mutation.proofs.Worlds.{part_at, part_off, changed}
 use Rattle.dom_mutation.proofs.Places.{single_owners, table_set, table_set_other}

@@ -14,8 +14,8 @@ use Rattle.dom_model.specs.TreeChanges.{map_nodes, change_node, with_data_replac
 use Rattle.dom_isolation.specs.Worlds.{IsPart}
 use Rattle.dom_isolation.proofs.KindCommands.{has_node-times}
 use Rattle.dom_isolation.proofs.TextBounds.{text-data, joining-fits}
-use Rattle.dom_mutation.proofs.Covering.{subtree_mapped}
-use Rattle.dom_mutation.proofs.Near.{path_mapped}
+use Rattle.dom_tree_laws.proofs.Covering.{subtree_mapped}
+use Rattle.dom_tree_laws.proofs.Near.{path_mapped}
 
 -- ---- children and indices, where nodes get other contents
 

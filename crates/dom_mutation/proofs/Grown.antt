@@ -21,8 +21,8 @@ use Rattle.dom_tree.specs.Forest.{name_at}
 use Rattle.dom_tree.proofs.Names.{name_eq-true}
 use Rattle.dom_tree.proofs.Once.{times_in, times_in-none, times_in-tree, one-true}
 use Rattle.dom_mutation.specs.Doc.{DocState, made, planned, name_in, owner_in, trees_in, cutting_tail}
-use Rattle.dom_mutation.proofs.Paths.{lacks_to, IsOnce, path_after, path_lacks}
-use Rattle.dom_mutation.proofs.Moves.{path_put_root, path_root}
+use Rattle.dom_tree_laws.proofs.Paths.{lacks_to, IsOnce, path_after, path_lacks}
+use Rattle.dom_tree_laws.proofs.Moves.{path_put_root, path_root}
 use Rattle.dom_mutation.specs.Hosting.{IsAlone}
 use Rattle.dom_mutation.proofs.Made.{made_then, alone_after}
 use Rattle.dom_mutation.proofs.OwnPlans.{plans_then, plans_tail}

@@ -35,8 +35,9 @@ use Rattle.dom_ranges.specs.Tables.{RangeLists, ranges_of}
 use Rattle.dom_observers.specs.Naming.{IsKey, SpeaksOf}
 use Rattle.dom_observers.proofs.Speaking.{speaks_none}
 use Rattle.dom_mutation.specs.Contents.{Tables, part_with}
-use Rattle.dom_mutation.specs.OwnTables.{KeyedTables, tables_view, place_of, owner_at, owners_up_to, table_of, AreTablesOf, AllTables, no_keyed_tables, no_slots, first_tables, AreFirst, signals_of, with_live, with_queue, with_observers}
-use Rattle.dom_mutation.specs.Signalled.{AreSignals}
+use Rattle.dom_cursors.specs.OwnTables.{KeyedTables, place_of, owner_at, owners_up_to, table_of, no_keyed_tables}
+use Rattle.dom_mutation.specs.AllTables.{tables_view, AreTablesOf, AllTables, no_slots, first_tables, AreFirst, signals_of, with_live, with_queue, with_observers}
+use Rattle.dom_node_trees.specs.Signalled.{AreSignals}
 use Rattle.dom_mutation.specs.Hosting.{AreMadeFrom, AreHostsOf}
 use Rattle.dom_mutation.specs.Numbering.{AreNumbered}
 use Rattle.dom_mutation.specs.Ranging.{AreRangesOf}
@@ -49,7 +50,7 @@ use Rattle.std.proofs.lemmas.List.Elements.{All-head, All-tail, All-nil}
 use Rattle.dom_mutation.specs.Doc.{DocState, named_trees, own_tables, attached_of, shown_tables, contents, world_from, state_from, IsHeld, IsDue}
 use Rattle.dom_mutation.proofs.Worlds.{there_in, in_there, there_same, part_at, part_off}
 use Rattle.dom_mutation.proofs.Places.{place_within, owners_in, table_place, table_owner}
-use Rattle.dom_mutation.proofs.Standing.{KeepsAbove}
+use Rattle.dom_tree_laws.proofs.Standing.{KeepsAbove}
 use Rattle.dom_mutation.proofs.Keeping.{tables_kept, tables_more, view_same, speaks_grown}
 use Rattle.dom_mutation.proofs.Numbers.{count_more, numbered_more}
 use Rattle.dom_mutation.proofs.RangedKeeping.{ranges_stay, ranges_grown, named_grown}

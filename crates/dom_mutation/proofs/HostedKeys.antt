@@ -1,4 +1,4 @@
--- Hosts, signalled slots and shadow roots by their keys, and the owners by their places.
+-- The owners of hosts by their places.
 use Rattle.std.proofs.Common.{◌≡◌, ℕ, zero, suc, ◌+◌, ◌<◌, Bool, true, false, ◌||◌, List, [], ◌∷◌, ◌++◌, All, Option, Some, None, map, filter_map, fold, length, refl, sym, ap, ◌∙◌, arith, zero-add}
 use Rattle.std.specs.Prelude.{nat_eq, option_map, if◌then◌else◌}
 use Rattle.std.specs.List.{cons_option}
@@ -13,7 +13,7 @@ use Rattle.dom_slots.specs.Hosts.{ShadowHost, HostsAreNodes, root_of_host, root_
 use Rattle.dom_slots.proofs.Hosted.{AreDistinct, key-test, root-named}
 use Rattle.dom_tree.specs.Forest.{name_at}
 use Rattle.dom_mutation.specs.Hosting.{AreMadeFrom, host_owners}
-use Rattle.dom_mutation.specs.OwnTables.{owners_up_to}
+use Rattle.dom_cursors.specs.OwnTables.{owners_up_to}
 
 -- ---- owners
 
@@ -44,52 +44,3 @@ hosts_run names (h ∷ hosts) k made = let here = made.0.owner in let rest = hos
 -- the owners of hosts stand at the first places
 pub owners_made : (names : List NodeName) (hosts : List ShadowHost) → AreMadeFrom names 0 hosts → owners_up_to (suc (length hosts)) ≡ Page ∷ host_owners hosts
 owners_made names hosts made = owners_run (length hosts) ∙ ap (λ os. Page ∷ os) (sym (hosts_run names hosts 0 made))
-
--- ---- keys and names
-
-module _ (names : List NodeName) (distinct : AreDistinct names) where
-  -- a slot more is signalled, by keys as by names
-  pub signalled_key : (keys : List ℕ) (k : ℕ) → All (λ j. j < length names) keys → k < length names
-      → map (name_at names) (append_once nat_eq keys k) ≡ append_once name_eq (map (name_at names) keys) (name_at names k)
-  signalled_key keys k nodes node = by (is_in nat_eq k keys) ∙ ap (λ (b : Bool). if b then map (name_at names) keys else map (name_at names) keys ++ name_at names k ∷ []) (among keys nodes)
-    where
-      among : (ks : List ℕ) → All (λ j. j < length names) ks → is_in nat_eq k ks ≡ is_in name_eq (name_at names k) (map (name_at names) ks)
-      among [] all = refl
-      among (j ∷ ks) all =
-          let here = key-test names distinct k j node (All-head (λ i. i < length names) j ks all) in
-          let rest = among ks (All-tail (λ i. i < length names) j ks all) in
-          λ i. here i || rest i
-
-      by : (b : Bool) → map (name_at names) (if b then keys else keys ++ k ∷ []) ≡ (if b then map (name_at names) keys else map (name_at names) keys ++ name_at names k ∷ [])
-      by true = refl
-      by false = map-append (name_at names) keys (k ∷ [])
-
-  -- they stay nodes
-  pub signalled_nodes : (keys : List ℕ) (k : ℕ) → All (λ j. j < length names) keys → k < length names → All (λ j. j < length names) (append_once nat_eq keys k)
-  signalled_nodes keys k nodes node = by (is_in nat_eq k keys)
-    where
-      by : (b : Bool) → All (λ j. j < length names) (if b then keys else keys ++ k ∷ [])
-      by true = nodes
-      by false = All-push (λ j. j < length names) keys k nodes node
-
-  -- slots are signalled, one after another
-  pub signalled_keys : (keys more : List ℕ) → All (λ j. j < length names) keys → All (λ j. j < length names) more
-      → map (name_at names) (fold (append_once nat_eq) keys more) ≡ fold (append_once name_eq) (map (name_at names) keys) (map (name_at names) more)
-  signalled_keys keys [] nodes all = refl
-  signalled_keys keys (k ∷ more) nodes all =
-      let node = All-head (λ j. j < length names) k more all in
-      signalled_keys (append_once nat_eq keys k) more (signalled_nodes keys k nodes node) (All-tail (λ j. j < length names) k more all)
-      ∙ ap (λ xs. fold (append_once name_eq) xs (map (name_at names) more)) (signalled_key keys k nodes node)
-
-  -- the shadow roots of hosts among nodes, by keys as by names: so those of `roots_below`
-  pub roots_keys : (hosts : List ShadowHost) → HostsAreNodes names hosts → (ks : List ℕ) → All (λ j. j < length names) ks
-      → map (name_at names) (filter_map (root_of_host hosts) ks) ≡ filter_map (root_named names hosts) (map (name_at names) ks)
-  roots_keys hosts nodes [] all = refl
-  roots_keys hosts nodes (k ∷ ks) all =
-      let here = root-named names distinct hosts nodes k (All-head (λ j. j < length names) k ks all) in
-      let rest = roots_keys hosts nodes ks (All-tail (λ j. j < length names) k ks all) in
-      by (root_of_host hosts k) ∙ (λ j. cons_option (here j) (rest j))
-    where
-      by : (m : Option ℕ) → map (name_at names) (cons_option m (filter_map (root_of_host hosts) ks)) ≡ cons_option (option_map (name_at names) m) (map (name_at names) (filter_map (root_of_host hosts) ks))
-      by None = refl
-      by (Some r) = refl

@@ -19,7 +19,7 @@ use Rattle.dom_tree.specs.Owners.{trees_of_owner}
 use Rattle.dom_tree.proofs.Owned.{read_own}
 use Rattle.dom_mutation.specs.Contents.{Contents, world_of}
 use Rattle.dom_mutation.specs.Hosting.{AreMadeFrom, host_names, host_owners, component_named, AreHostsOf}
-use Rattle.dom_mutation.specs.OwnTables.{place_of}
+use Rattle.dom_cursors.specs.OwnTables.{place_of}
 use Rattle.dom_mutation.proofs.Worlds.{In, Single, part_at, part_off, in_there}
 
 -- ---- places in a list

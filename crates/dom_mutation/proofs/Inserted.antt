@@ -18,9 +18,9 @@ use Rattle.dom_model.proofs.OwnerLaws.{name_eq-same}
 use Rattle.dom_tree.proofs.Once.{times_in, times_in-tree, one-true}
 use Rattle.dom_mutation.specs.Doc.{DocState, planned, placed_all, name_in, owner_in, trees_in, MayMove, IsChild, NoneAbove}
 use Rattle.dom_mutation.specs.Hosting.{PlansOwn, IsAlone}
-use Rattle.dom_mutation.proofs.Paths.{Lacks, lacks_from, lacks_to}
-use Rattle.dom_mutation.proofs.Moves.{below_lacks}
-use Rattle.dom_mutation.proofs.Near.{Each, each_all, parent_path}
+use Rattle.dom_tree_laws.proofs.Paths.{Lacks, lacks_from, lacks_to}
+use Rattle.dom_tree_laws.proofs.Moves.{below_lacks}
+use Rattle.dom_tree_laws.proofs.Near.{Each, each_all, parent_path}
 use Rattle.dom_mutation.proofs.Made.{planned_then}
 use Rattle.dom_mutation.proofs.OwnPlans.{plans_then, plans_turn, plans_each_own, plans_room, plans_placing, plans_emptying, children_own}
 use Rattle.dom_mutation.proofs.Placed.{Counted, once_in, before_lacks}

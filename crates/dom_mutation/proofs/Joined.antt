@@ -21,14 +21,14 @@ use Rattle.dom_tree.specs.Forest.{name_at}
 use Rattle.dom_tree.proofs.Once.{times_in}
 use Rattle.dom_mutation.specs.Doc.{DocState, planned, name_in, owner_in, trees_in, IsOwnNode}
 use Rattle.dom_mutation.specs.Hosting.{IsAlone}
-use Rattle.dom_mutation.proofs.Paths.{Lacks, swapped, IsOnce, path_none, path_gone, path_head}
-use Rattle.dom_mutation.proofs.Moves.{none_or_some}
-use Rattle.dom_mutation.proofs.Near.{NoTwice, children_once, next_child, once_subtree}
-use Rattle.dom_mutation.proofs.Once.{names_once}
+use Rattle.dom_tree_laws.proofs.Paths.{Lacks, swapped, IsOnce, path_none, path_gone, path_head}
+use Rattle.dom_tree_laws.proofs.Moves.{none_or_some}
+use Rattle.dom_tree_laws.proofs.Near.{NoTwice, children_once, next_child, once_subtree}
+use Rattle.dom_tree_laws.proofs.Once.{names_once}
 use Rattle.dom_mutation.proofs.Made.{planned_then}
 use Rattle.dom_mutation.proofs.OwnPlans.{plans_then, plans_data, plans_joins}
 use Rattle.dom_mutation.proofs.Placed.{Counted, once_in}
-use Rattle.dom_mutation.proofs.Covering.{walked, StandsIn, left, Walks, walks, first_inside}
+use Rattle.dom_tree_laws.proofs.Covering.{walked, StandsIn, left, Walks, walks, first_inside}
 use Rattle.dom_mutation.proofs.Listing.{all_push}
 use Rattle.dom_mutation.proofs.Replaced.{lacks_after}
 

@@ -19,7 +19,7 @@ use Rattle.dom_isolation.proofs.KeptOffsets.{join_at-keeps}
 use Rattle.dom_isolation.proofs.KindCommands.{has_node-times}
 use Rattle.dom_isolation.proofs.PlanTexts.{leads-normalizing_text}
 use Rattle.dom_mutation.proofs.BoundedPlans.{normalized_text-keeps, normalized_text-leaves}
-use Rattle.dom_mutation.proofs.Turns.{all_drop}
+use Rattle.dom_tree_laws.proofs.Lists.{all_drop}
 use Rattle.dom_mutation.proofs.Made.{alone_after, alone_made, plan_alone, planned_turn}
 use Rattle.dom_mutation.proofs.OwnPlans.{plans_normalizing_text}
 

@@ -20,9 +20,10 @@ use Rattle.dom_traversal.specs.Walkers.{KeyedWalker, walker_view}
 use Rattle.dom_observers.specs.Tables.{TablesOf}
 use Rattle.dom_observers.specs.Naming.{named_tables, IsKey, SpeaksOf}
 use Rattle.dom_observers.proofs.Speaking.{same_tables, speaks_more}
-use Rattle.dom_mutation.specs.OwnTables.{KeyedTables, tables_with, tables_view, EachItem, IsOwnIterator, IsOwnWalker, AreTablesOf, IsLeft, AreLeft}
+use Rattle.dom_cursors.specs.OwnTables.{KeyedTables, EachItem, IsLeft, AreLeft}
+use Rattle.dom_mutation.specs.AllTables.{tables_with, tables_view, IsOwnIterator, IsOwnWalker, AreTablesOf}
 use Rattle.dom_mutation.specs.Doc.{named_trees}
-use Rattle.dom_mutation.proofs.Standing.{KeepsAbove, above_added}
+use Rattle.dom_tree_laws.proofs.Standing.{KeepsAbove, above_added}
 use Rattle.dom_mutation.proofs.Own.{adjusted_own}
 
 -- ---- where nothing that stands above a node ceases to

@@ -1,7 +1,6 @@
 -- Lemmas of the changes of documents.
 pub mod Worlds
 pub mod Places
-pub mod Leaving
 pub mod Quiet
 pub mod Numbers
 pub mod Held
@@ -21,14 +20,8 @@ pub mod Cursors
 pub mod Passing
 pub mod Tasks
 pub mod Made
-pub mod Paths
-pub mod Moves
-pub mod Near
-pub mod Standing
 pub mod Own
 pub mod Keeping
-pub mod Once
-pub mod Covering
 pub mod Placed
 pub mod Turns
 pub mod Listing
@@ -39,7 +32,6 @@ pub mod Grown
 pub mod Tails
 pub mod Emptied
 pub mod Joined
-pub mod Signals
 pub mod HostedWorlds
 pub mod HostedKeys
 pub mod HostedSteps
@@ -57,7 +49,6 @@ pub mod RangedWorlds
 pub mod OwnParts
 pub mod RangedFits
 pub mod BoundedPlans
-pub mod OwnOrder
 pub mod RangedCalls
 pub mod ExactJoins
 pub mod RangedOwners

@@ -22,7 +22,7 @@ use Rattle.dom_observers.specs.Naming.{named_tables, named_change, IsKey, Speaks
 use Rattle.dom_ranges.specs.Settings.{named_ranges}
 use Rattle.dom_ranges.specs.Tables.{ranges_of}
 use Rattle.dom_mutation.specs.Contents.{part_with}
-use Rattle.dom_mutation.specs.OwnTables.{tables_with, AllTables, with_observers}
+use Rattle.dom_mutation.specs.AllTables.{tables_with, AllTables, with_observers}
 use Rattle.dom_mutation.specs.Doc.{own_tables, attached_of, shown_tables, contents, world_from, IsHeld, MakesSaying}
 use Rattle.dom_mutation.proofs.Worlds.{IsChangeOf, there_same, part_at, part_off, changed}
 use Rattle.dom_mutation.proofs.Places.{single_owners}

@@ -25,7 +25,7 @@ use Rattle.dom_observers.proofs.Naming.{making_law, observing_law, disconnected_
 use Rattle.dom_observers.specs.Views.{change_of, notice_of}
 use Rattle.dom_observers.specs.declared.change.Change.{Change as Record}
 use Rattle.dom_observers.proofs.Speaking.{speaks_none, speaks_made, speaks_observing, speaks_disconnected, speaks_emptied, speaks_notified, all_queued, all_got}
-use Rattle.dom_mutation.specs.OwnTables.{AllTables, with_observers}
+use Rattle.dom_mutation.specs.AllTables.{AllTables, with_observers}
 use Rattle.dom_mutation.specs.Doc.{DocState, world_from, state_from, IsHeld, Makes, MakesSaying, NamesNodes, notice_in, notices_of}
 use Rattle.dom_mutation.proofs.Held.{held_observers}
 use Rattle.dom_mutation.proofs.Observed.{with_seen, has_observer, there_observer, queues_in, part_seen, held_seen, makes_seen, seen_world}

@@ -17,7 +17,7 @@ use Rattle.dom_model.specs.Command.{Filter}
 use Rattle.dom_tree.specs.Owners.{AreOwned, trees_of_owner}
 use Rattle.dom_tree.proofs.Owned.{read_own, stays_own}
 use Rattle.dom_traversal.proofs.Lists.{In, is_in-from}
-use Rattle.dom_mutation.proofs.Near.{Each, each_all}
+use Rattle.dom_tree_laws.proofs.Near.{Each, each_all}
 
 -- ---- lists whose items two tests treat alike
 

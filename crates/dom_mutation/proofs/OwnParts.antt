@@ -20,7 +20,7 @@ use Rattle.dom_tree.proofs.Owned.{own_trees}
 use Rattle.dom_mutation.specs.Contents.{Contents, part_in}
 use Rattle.dom_mutation.specs.Numbering.{AreNumbered}
 use Rattle.dom_mutation.proofs.Numbers.{pick_first, pick_second}
-use Rattle.dom_mutation.proofs.Once.{name_found, once_forest, once_own}
+use Rattle.dom_tree_laws.proofs.Once.{name_found, once_forest, once_own}
 
 -- ---- an owner's part
 

@@ -19,9 +19,10 @@ use Rattle.dom_tree.specs.Forest.{NamedTrees, name_at}
 use Rattle.dom_traversal.specs.Iterators.{KeyedIterator, IsIteratorOf, iterator_view, iterator_at}
 use Rattle.dom_traversal.specs.Walkers.{KeyedWalker, IsWalkerOf, walker_view, walker_at}
 use Rattle.dom_traversal.proofs.Counts.{StandOnce, above-itself}
-use Rattle.dom_mutation.specs.OwnTables.{KeyedTables, EachItem, place_of, table_of, IsOwnIterator, IsOwnWalker, AreTablesOf, AllTables, no_keyed_tables, with_table_at}
+use Rattle.dom_cursors.specs.OwnTables.{KeyedTables, EachItem, place_of, table_of, no_keyed_tables}
+use Rattle.dom_mutation.specs.AllTables.{IsOwnIterator, IsOwnWalker, AreTablesOf, AllTables, with_table_at}
 use Rattle.dom_mutation.specs.Doc.{DocState, own_tables, world_from, state_from, IsHeld, Makes}
-use Rattle.dom_mutation.proofs.Places.{set_items, push_items}
+use Rattle.dom_cursors.proofs.Items.{set_items, push_items}
 use Rattle.dom_tree.specs.Owners.{AreOwned}
 use Rattle.dom_mutation.proofs.Own.{moved_own}
 use Rattle.dom_mutation.proofs.Held.{table_there}

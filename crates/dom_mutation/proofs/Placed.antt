@@ -14,10 +14,10 @@ use Rattle.dom_model.specs.Changes.{Observing, observed, suppressed, removing, r
 use Rattle.dom_tree.specs.Forest.{name_at}
 use Rattle.dom_mutation.specs.Doc.{DocState, planned, stepped, name_in, owner_in, trees_in, MayMove, IsChild, KeepsPaths}
 use Rattle.dom_mutation.specs.Hosting.{IsAlone}
-use Rattle.dom_mutation.proofs.Paths.{Lacks, lacks_from, IsOnce}
-use Rattle.dom_mutation.proofs.Once.{once_counted}
-use Rattle.dom_mutation.proofs.Moves.{path_taken, path_placed, parent_taken}
-use Rattle.dom_mutation.proofs.Near.{path_mapped, parent_path, next_child}
+use Rattle.dom_tree_laws.proofs.Paths.{Lacks, lacks_from, IsOnce}
+use Rattle.dom_tree_laws.proofs.Once.{once_counted}
+use Rattle.dom_tree_laws.proofs.Moves.{path_taken, path_placed, parent_taken}
+use Rattle.dom_tree_laws.proofs.Near.{path_mapped, parent_path, next_child}
 use Rattle.dom_mutation.proofs.Made.{after_append, trees_after, alone_made}
 use Rattle.dom_mutation.proofs.OwnPlans.{plans_removing, plans_adopting}
 

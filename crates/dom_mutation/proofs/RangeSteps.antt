@@ -15,7 +15,7 @@ use Rattle.dom_ranges.proofs.Naming.{rewritten-named}
 use Rattle.dom_tree.specs.Forest.{NamedTrees}
 use Rattle.dom_mutation.specs.Contents.{Contents, part_in}
 use Rattle.dom_mutation.specs.Doc.{DocState, contents, world_from, state_from, IsHeld, owner_in, stepped}
-use Rattle.dom_mutation.specs.OwnTables.{AllTables, with_live}
+use Rattle.dom_mutation.specs.AllTables.{AllTables, with_live}
 use Rattle.dom_mutation.specs.Ranging.{IsOwnPoint, ranged}
 use Rattle.dom_mutation.proofs.Places.{single_owners}
 use Rattle.dom_mutation.proofs.RangedCalls.{set_change, rewritten_own, written_few}

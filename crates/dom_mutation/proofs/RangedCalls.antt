@@ -28,7 +28,7 @@ use Rattle.dom_tree.specs.Owners.{AreOwned, trees_of_owner}
 use Rattle.dom_mutation.specs.Contents.{Contents, part_in, world_of}
 use Rattle.dom_mutation.specs.Doc.{Makes, named_trees}
 use Rattle.dom_mutation.specs.Ranging.{IsOwnPoint, AreRangesOf, ranged}
-use Rattle.dom_mutation.proofs.OwnOrder.{IsOwnIn, with_start-own, with_end-own}
+use Rattle.dom_ranges.proofs.OwnOrder.{IsOwnIn, with_start-own, with_end-own}
 use Rattle.dom_mutation.proofs.Worlds.{Single, IsChangeOf, part_at, there_same, changed}
 
 -- ---- an owner's list is another one

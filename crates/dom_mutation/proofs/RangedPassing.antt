@@ -26,7 +26,7 @@ use Rattle.dom_traversal.proofs.Counts.{StandOnce, StandAlone}
 use Rattle.dom_tree.specs.Forest.{NamedTrees, name_at}
 use Rattle.dom_mutation.specs.Contents.{Contents, part_in, world_of}
 use Rattle.dom_mutation.specs.Doc.{DocState, contents, world_from, state_from, IsHeld, Makes, name_in, owner_in}
-use Rattle.dom_mutation.specs.OwnTables.{AllTables, with_live}
+use Rattle.dom_mutation.specs.AllTables.{AllTables, with_live}
 use Rattle.dom_mutation.specs.Ranging.{IsOwnPoint, AreRangesOf, ranged}
 use Rattle.dom_mutation.proofs.Places.{single_owners}
 use Rattle.dom_mutation.proofs.RangedCalls.{set_makes, set_ranges, make_effect, drop_effect, collapse_effect, points_effect, start_effect, end_effect, range_read, made_own, made_few, dropped_own, rewritten_own, written_few}

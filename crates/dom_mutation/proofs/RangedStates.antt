@@ -30,7 +30,7 @@ use Rattle.dom_tree.proofs.OwnChanges.{changed_node}
 use Rattle.dom_slots.specs.Kept.{AreSlotsOf}
 use Rattle.dom_mutation.specs.Contents.{part_in, part_with}
 use Rattle.dom_mutation.specs.Doc.{DocState, named_trees, contents, state_from, world_from, IsHeld, name_in, owner_in, trees_in, stepped, planned, IsChild, IsOwnNode, MayCome}
-use Rattle.dom_mutation.specs.OwnTables.{AllTables, with_live}
+use Rattle.dom_mutation.specs.AllTables.{AllTables, with_live}
 use Rattle.dom_mutation.specs.Ranging.{AreRangesOf}
 use Rattle.dom_mutation.proofs.BoundedPlans.{length_few}
 use Rattle.dom_mutation.proofs.Held.{are_hosts, held_changed, due_kept, TellApart}
@@ -38,7 +38,7 @@ use Rattle.dom_mutation.proofs.OwnParts.{own_part}
 use Rattle.dom_mutation.proofs.RangedFits.{room_fits, data_fits, data_fits_shorter, join_fits}
 use Rattle.dom_mutation.proofs.RangedSteps.{data_ranged}
 use Rattle.dom_mutation.proofs.RangedWorlds.{data_told, join_told}
-use Rattle.dom_mutation.proofs.Standing.{keeps_changed}
+use Rattle.dom_tree_laws.proofs.Standing.{keeps_changed}
 use Rattle.dom_mutation.proofs.Shown.{state_with, known, owner_there}
 use Rattle.dom_mutation.proofs.Worlds.{part_at, part_off, there_same}
 

@@ -22,7 +22,7 @@ use Rattle.dom_observers.proofs.Naming.{taken_law, told_law}
 use Rattle.dom_observers.proofs.Ascending.{path_keys-named}
 use Rattle.dom_observers.proofs.Speaking.{speaks_told}
 use Rattle.dom_mutation.specs.Contents.{part_in}
-use Rattle.dom_mutation.specs.OwnTables.{AllTables, with_observers, with_queue}
+use Rattle.dom_mutation.specs.AllTables.{AllTables, with_observers, with_queue}
 use Rattle.dom_mutation.specs.Doc.{DocState, contents, world_from, state_from, IsHeld, IsDue, name_in, owner_in, stepped}
 use Rattle.dom_mutation.proofs.Worlds.{there_same}
 use Rattle.dom_mutation.proofs.HostedSteps.{record_hosted}

@@ -1,4 +1,4 @@
--- The shadow roots of the hosts in the tree of a node, listed in tree order, and node documents set one tree after another.
+-- Node documents set one tree after another.
 use Rattle.std.proofs.Common.{◌≡◌, ℕ, ◌<◌, ◌≤◌, true, ◌||◌, List, [], ◌∷◌, ◌++◌, All, map, fold, filter_map, length, Option, Some, None, option_map, refl, sym, ap, subst, ◌∙◌}
 use Rattle.std.specs.List.{cons_option}
 use Rattle.std.specs.Option.{ForSome}
@@ -18,83 +18,18 @@ use Rattle.dom_tree.proofs.OwnChanges.{changed_subtree}
 use Rattle.dom_slots.proofs.Recast.{keeps_if, slots-recast}
 use Rattle.dom_mutation.specs.Contents.{Contents, world_of}
 use Rattle.dom_mutation.specs.Doc.{DocState, named_trees, contents, world_from, state_from, IsHeld, name_in, owner_in, stepped}
-use Rattle.dom_mutation.specs.Hosting.{document_in, under_each, roots_below}
-use Rattle.dom_mutation.specs.OwnTables.{AllTables}
+use Rattle.dom_mutation.specs.Hosting.{document_in, roots_below}
+use Rattle.dom_node_trees.specs.Documents.{under_each}
+use Rattle.dom_mutation.specs.AllTables.{AllTables}
 use Rattle.dom_mutation.proofs.Held.{are_hosts, held_changed}
 use Rattle.dom_mutation.proofs.HostedDocuments.{documents_world}
 use Rattle.dom_mutation.proofs.Shown.{known, owner_there, step_done}
-use Rattle.dom_mutation.proofs.Standing.{keeps_changed_below}
-use Rattle.dom_mutation.proofs.Covering.{walked, left, StandsIn, Walks, walks, first_inside, above_inside}
-use Rattle.dom_mutation.proofs.Near.{once_subtree}
-use Rattle.dom_mutation.proofs.Once.{names_once}
-use Rattle.dom_mutation.proofs.Paths.{IsOnce}
+use Rattle.dom_tree_laws.proofs.Standing.{keeps_changed_below}
+use Rattle.dom_tree_laws.proofs.Covering.{walked, left, StandsIn, Walks, walks, first_inside, above_inside}
+use Rattle.dom_tree_laws.proofs.Near.{once_subtree}
+use Rattle.dom_tree_laws.proofs.Once.{names_once}
+use Rattle.dom_tree_laws.proofs.Paths.{IsOnce}
 use Rattle.dom_tree.proofs.Once.{times_in}
-
-module _ (f : NamedTrees) (hosts : List ShadowHost) (top : ℕ) where
-  abbrev pub below : List NodeName
-  below = inclusive_descendants f.trees (name_at f.names top)
-
-  -- how far the loop has come that lists them
-  pub record Lists (keys : List ℕ) (at : Option ℕ) : Type 0 where
-    pub listed : map (name_at f.names) keys ≡ filter_map (root_named f.names hosts) (walked (inclusive_descendants f.trees (name_at f.names top)) (option_map (name_at f.names) at))
-    pub stands : StandsIn (inclusive_descendants f.trees (name_at f.names top)) (option_map (name_at f.names) at)
-    pub nodes : All (λ k. k < length f.names) keys
-    pub here : ForSome at (λ k. k < length f.names)
-
-  pub lists_first : top < length f.names → 1 ≤ times_in f.trees (name_at f.names top) → Lists [] (Some top)
-  lists_first within there =
-      let x = name_at f.names top in
-      let first = first_inside f.trees x there in
-      record {
-        listed = ap (filter_map (root_named f.names hosts)) (sym (ap (items_before name_eq x) first.1 ∙ cond-true (name_eq x x) [] (x ∷ items_before name_eq x first.0) (name_eq-same x)));
-        stands = ap (is_in name_eq x) first.1 ∙ ap (λ b. b || is_in name_eq x first.0) (name_eq-same x);
-        nodes = All-nil (λ k. k < length f.names);
-        here = λ j e. let same : top ≡ j = cc in subst (λ i. i < length f.names) same within;
-      }
-
-  module _ (once : IsOnce f.trees) (keys : List ℕ) (at : Option ℕ) (k : ℕ) (is : at ≡ Some k) (lists : Lists keys at) where
-    abbrev y : NodeName
-    y = name_at f.names k
-
-    stands_at : StandsIn below (option_map (name_at f.names) (Some k))
-    stands_at = subst (λ (o : Option ℕ). StandsIn below (option_map (name_at f.names) o)) is lists.stands
-
-    -- what the forest asks
-    pub lists_above : is_inclusive_ancestor f.trees (name_at f.names top) (name_at f.names k) ≡ true
-    lists_above = above_inside f.trees once (name_at f.names top) y stands_at
-
-    module _ (next : Option ℕ) (found : option_map (name_at f.names) next ≡ first_of (items_after name_eq (name_at f.names k) (inclusive_descendants f.trees (name_at f.names top)))) where
-      walk : Walks below y (option_map (name_at f.names) next)
-      walk = subst (λ o. Walks below y o) (sym found) (walks below (names_once (subtree f.trees (name_at f.names top)) (once_subtree f.trees (name_at f.names top) once)) y stands_at)
-
-      pub lists_fewer : left below (option_map (name_at f.names) next) < left below (option_map (name_at f.names) at)
-      lists_fewer = subst (λ (o : Option ℕ). left below (option_map (name_at f.names) next) < left below (option_map (name_at f.names) o)) (sym is) walk.fewer
-
-      module _ (distinct : AreDistinct f.names) (nodes : HostsAreNodes f.names hosts) (near : ForSome next (λ j. j < length f.names)) where
-        before : map (name_at f.names) keys ≡ filter_map (root_named f.names hosts) (items_before name_eq y below)
-        before = subst (λ (o : Option ℕ). map (name_at f.names) keys ≡ filter_map (root_named f.names hosts) (walked below (option_map (name_at f.names) o))) is lists.listed
-
-        more : filter_map (root_named f.names hosts) (walked below (option_map (name_at f.names) next)) ≡ map (name_at f.names) keys ++ cons_option (option_map (name_at f.names) (root_of_host hosts k)) []
-        more =
-            ap (filter_map (root_named f.names hosts)) walk.more
-            ∙ (filter_map-append (root_named f.names hosts) (items_before name_eq y below) (y ∷ [])
-            ∙ (ap (λ xs. xs ++ filter_map (root_named f.names hosts) (y ∷ [])) (sym before) ∙ ap (λ m. map (name_at f.names) keys ++ cons_option m []) (sym (root-named f.names distinct hosts nodes k (lists.here k is)))))
-
-        pub lists_root : (r : ℕ) → root_of_host hosts k ≡ Some r → Lists (keys ++ r ∷ []) next
-        lists_root r root = record {
-          listed = map-append (name_at f.names) keys (r ∷ []) ∙ sym (more ∙ ap (λ (m : Option ℕ). map (name_at f.names) keys ++ cons_option (option_map (name_at f.names) m) []) root);
-          stands = walk.stands;
-          nodes = All-push (λ j. j < length f.names) keys r lists.nodes (root-node f.names hosts nodes k r root);
-          here = near;
-        }
-
-        pub lists_none : root_of_host hosts k ≡ None → Lists keys next
-        lists_none root = record {
-          listed = sym (more ∙ (ap (λ (m : Option ℕ). map (name_at f.names) keys ++ cons_option (option_map (name_at f.names) m) []) root ∙ append-nil (map (name_at f.names) keys)));
-          stands = walk.stands;
-          nodes = lists.nodes;
-          here = near;
-        }
 
 -- one tree after another, in what is held
 pub documents_trees : (d : NodeName) (c : Contents) (xs : List NodeName) → fold (document_in d) c xs ≡ record c { trees = fold (under_each d) c.trees xs }

@@ -19,9 +19,9 @@ use Rattle.dom_tree.specs.Forest.{name_at}
 use Rattle.dom_mutation.specs.Hosting.{AreMadeFrom, IsShadowRoot, AreShadowRoots}
 use Rattle.dom_mutation.proofs.EveryNode.{EachNode, each_placed, each_taken, each_put_root, each_mapped, each_listed, each_among}
 use Rattle.dom_mutation.proofs.Grown.{new_root}
-use Rattle.dom_mutation.proofs.Moves.{path_placed, path_taken}
-use Rattle.dom_mutation.proofs.Near.{path_mapped}
-use Rattle.dom_mutation.proofs.Paths.{Lacks, IsOnce}
+use Rattle.dom_tree_laws.proofs.Moves.{path_placed, path_taken}
+use Rattle.dom_tree_laws.proofs.Near.{path_mapped}
+use Rattle.dom_tree_laws.proofs.Paths.{Lacks, IsOnce}
 
 -- ---- kinds by names
 

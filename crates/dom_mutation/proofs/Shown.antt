@@ -14,11 +14,12 @@ use Rattle.dom_model.specs.WorldSteps.{world_step}
 use Rattle.dom_tree.specs.Forest.{NamedTrees, name_at}
 use Rattle.dom_tree.specs.Owners.{trees_of_owner, IsReadOwn, IsOwnChange}
 use Rattle.dom_tree.proofs.Owned.{read_own}
-use Rattle.dom_mutation.specs.OwnTables.{KeyedTables, place_of, table_of, AllTables}
+use Rattle.dom_cursors.specs.OwnTables.{KeyedTables, place_of, table_of}
+use Rattle.dom_mutation.specs.AllTables.{AllTables}
 use Rattle.dom_mutation.specs.Doc.{DocState, named_trees, contents, state_from, world_from, IsHeld, name_in, owner_in, trees_in, stepped}
 use Rattle.dom_mutation.proofs.Worlds.{part_at, part_off}
 use Rattle.dom_mutation.proofs.Places.{table_placed}
-use Rattle.dom_mutation.proofs.Standing.{KeepsAbove}
+use Rattle.dom_tree_laws.proofs.Standing.{KeepsAbove}
 use Rattle.dom_slots.specs.Kept.{AreSlotsOf}
 use Rattle.dom_mutation.proofs.Held.{held_changed, table_there}
 use Rattle.dom_mutation.proofs.Steps.{record_world}

@@ -30,8 +30,9 @@ use Rattle.dom_observers.specs.Paths.{path_keys}
 use Rattle.dom_observers.specs.Naming.{IsKey, SpeaksOf, TellApart}
 use Rattle.dom_mutation.specs.Contents.{Contents, part_in, world_of}
 use Rattle.dom_mutation.specs.Hosting.{signals_in}
-use Rattle.dom_mutation.specs.Signalled.{SignalTables, HasSignalled, HasLeft}
-use Rattle.dom_mutation.specs.OwnTables.{KeyedTables, AllTables, owners_up_to, place_of, table_of, AreTablesOf, AreLeft, AreFirst, signals_of, with_live, with_signals, with_table_at, with_observers}
+use Rattle.dom_node_trees.specs.Signalled.{SignalTables, HasSignalled, HasLeft}
+use Rattle.dom_cursors.specs.OwnTables.{KeyedTables, owners_up_to, place_of, table_of, AreLeft}
+use Rattle.dom_mutation.specs.AllTables.{AllTables, AreTablesOf, AreFirst, signals_of, with_live, with_signals, with_table_at, with_observers}
 use Rattle.dom_mutation.specs.Ranging.{AreRangesOf, ranged}
 use Rattle.dom_mutation.specs.Doc.{DocState, named_trees, own_tables, shown_tables, contents, world_from, state_from, IsHeld, IsDue, name_in, owner_in, stepped}
 use Rattle.dom_mutation.proofs.BoundedPlans.{index_few}
@@ -43,9 +44,9 @@ use Rattle.dom_mutation.proofs.RangedFits.{removal_fits}
 use Rattle.dom_mutation.proofs.RangedKeeping.{ranges_stay}
 use Rattle.dom_mutation.proofs.RangedSteps.{removal_ranged}
 use Rattle.dom_mutation.proofs.Shown.{state_with, owner_there}
-use Rattle.dom_mutation.proofs.Signals.{all_appended, all_named}
+use Rattle.dom_node_trees.proofs.Signals.{all_appended, all_named}
 use Rattle.dom_mutation.proofs.Tasks.{due_signalled}
-use Rattle.dom_mutation.proofs.Standing.{KeepsAbove}
+use Rattle.dom_tree_laws.proofs.Standing.{KeepsAbove}
 use Rattle.dom_mutation.proofs.Steps.{left_own, left_speaks, left_off, left_part, left_change}
 use Rattle.dom_mutation.proofs.Worlds.{IsChangeOf}
 

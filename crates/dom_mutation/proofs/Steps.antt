@@ -33,7 +33,8 @@ use Rattle.dom_traversal.specs.Walkers.{walker_view}
 use Rattle.dom_ranges.specs.Settings.{named_ranges}
 use Rattle.dom_ranges.specs.Tables.{ranges_of}
 use Rattle.dom_mutation.specs.Contents.{Contents, part_with, part_in, world_of}
-use Rattle.dom_mutation.specs.OwnTables.{KeyedTables, tables_with, place_of, table_of, AreTablesOf, AreLeft, AllTables, no_keyed_tables, with_table, with_observers}
+use Rattle.dom_cursors.specs.OwnTables.{KeyedTables, place_of, table_of, AreLeft, no_keyed_tables}
+use Rattle.dom_mutation.specs.AllTables.{tables_with, AreTablesOf, AllTables, with_table, with_observers}
 use Rattle.dom_mutation.specs.Doc.{named_trees, own_tables, attached_of, shown_tables, contents, world_from, IsHeld}
 use Rattle.dom_mutation.proofs.Worlds.{IsChangeOf}
 use Rattle.dom_mutation.proofs.Places.{table_set, table_set_other}

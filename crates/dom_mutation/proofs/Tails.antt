@@ -10,8 +10,8 @@ use Rattle.dom_model.specs.TextChanges.{placing_tail}
 use Rattle.dom_tree.proofs.Names.{name_eq-true}
 use Rattle.dom_mutation.specs.Doc.{DocState, planned, stepped, name_in, owner_in, trees_in, MayMove, IsChild}
 use Rattle.dom_mutation.specs.Hosting.{IsAlone}
-use Rattle.dom_mutation.proofs.Paths.{Lacks, lacks_from, lacks_to}
-use Rattle.dom_mutation.proofs.Near.{parent_path}
+use Rattle.dom_tree_laws.proofs.Paths.{Lacks, lacks_from, lacks_to}
+use Rattle.dom_tree_laws.proofs.Near.{parent_path}
 use Rattle.dom_mutation.proofs.Made.{planned_then}
 use Rattle.dom_mutation.proofs.OwnPlans.{plans_inserting}
 use Rattle.dom_mutation.proofs.Placed.{Counted, once_in}

@@ -6,8 +6,8 @@ use Rattle.dom_base.specs.declared.NodeName.{NodeName}
 use Rattle.dom_base.specs.declared.Owner.{Owner}
 use Rattle.dom_model.specs.Turns.{is_owned_by, without_signals}
 use Rattle.dom_tree.specs.Forest.{NamedTrees, name_at}
-use Rattle.dom_mutation.specs.OwnTables.{AllTables}
-use Rattle.dom_mutation.specs.Signalled.{is_key_of, is_other_key}
+use Rattle.dom_mutation.specs.AllTables.{AllTables}
+use Rattle.dom_node_trees.specs.Signalled.{is_key_of, is_other_key}
 use Rattle.dom_mutation.specs.Doc.{DocState, IsHeld, contents, world_from, state_from, name_in}
 use Rattle.dom_mutation.proofs.Held.{due_kept}
 use Rattle.dom_mutation.proofs.RangedKeeping.{ranges_stay}

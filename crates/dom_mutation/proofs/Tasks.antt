@@ -6,7 +6,7 @@ use Rattle.dom_base.specs.declared.NodeName.{NodeName}
 use Rattle.dom_base.specs.declared.Owner.{Owner}
 use Rattle.dom_model.specs.World.{World, Task, notify_task, is_there, is_notify_of, queued_notify}
 use Rattle.dom_tree.specs.Forest.{NamedTrees}
-use Rattle.dom_mutation.specs.OwnTables.{AllTables, with_queue}
+use Rattle.dom_mutation.specs.AllTables.{AllTables, with_queue}
 use Rattle.dom_mutation.specs.Doc.{DocState, IsHeld, IsDue, world_from, state_from, with_tasks}
 use Rattle.dom_mutation.proofs.Held.{held_tasks}
 

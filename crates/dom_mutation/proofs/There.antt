@@ -8,7 +8,8 @@ use Rattle.dom_base.specs.declared.Owner.{Owner}
 use Rattle.dom_model.specs.Tree.{Trees}
 use Rattle.dom_model.specs.World.{part_of, is_there}
 use Rattle.dom_tree.specs.Forest.{NamedTrees}
-use Rattle.dom_mutation.specs.OwnTables.{KeyedTables, AllTables, place_of, table_of, no_keyed_tables}
+use Rattle.dom_cursors.specs.OwnTables.{KeyedTables, place_of, table_of, no_keyed_tables}
+use Rattle.dom_mutation.specs.AllTables.{AllTables}
 use Rattle.dom_mutation.specs.Doc.{DocState, world_from, state_from}
 use Rattle.dom_mutation.proofs.Cursors.{has_iterator, has_walker}
 use Rattle.dom_mutation.proofs.Held.{table_there, there_table}

@@ -9,7 +9,8 @@ use Rattle.dom_model.specs.Changes.{Plan, Observing, in_turn, placing, removing}
 use Rattle.dom_tree.specs.Forest.{name_at}
 use Rattle.dom_mutation.specs.Doc.{DocState, planned, name_in, owner_in, trees_in, MayMove, IsChild, KeepsPaths, NoneAbove}
 use Rattle.dom_mutation.specs.Hosting.{IsAlone}
-use Rattle.dom_mutation.proofs.Paths.{lacks_to}
+use Rattle.dom_tree_laws.proofs.Lists.{all_drop}
+use Rattle.dom_tree_laws.proofs.Paths.{lacks_to}
 use Rattle.dom_mutation.proofs.Placed.{Counted, before_lacks, removal_keeps}
 use Rattle.dom_mutation.proofs.Made.{planned_turn, alone_made}
 use Rattle.dom_mutation.proofs.OwnPlans.{plans_removing, plans_placing}
@@ -116,11 +117,6 @@ empties_next how top all d k rest e f owner empties is keeps =
     }
 
 -- ---- the loops, by their indices
-
-pub all_drop : (P : ℕ → Type 0) (i : ℕ) (xs : List ℕ) → AllByRecursion P xs → AllByRecursion P (drop i xs)
-all_drop P zero xs h = h
-all_drop P (suc i) [] h = tt
-all_drop P (suc i) (x ∷ xs) h = all_drop P i xs h.1
 
 -- a step of a loop that places nodes
 pub places_on : (parent : ℕ) (before : Option ℕ) (all : List ℕ) (d : DocState) (i k : ℕ) (e f : DocState) → Counted d

@@ -29,11 +29,12 @@ use Rattle.dom_mutation.specs.declared.doc.removing.Telling.TheVariants.{Observe
 use Rattle.dom_isolation.specs.Bounds.{HasBounds}
 use Rattle.dom_mutation.specs.Contents.{Contents, Tables, world_of}
 use Rattle.dom_slots.specs.Hosts.{ShadowHost}
-use Rattle.dom_mutation.specs.Signalled.{AreSignals}
+use Rattle.dom_node_trees.specs.Signalled.{AreSignals}
 use Rattle.dom_mutation.specs.Hosting.{host_names, AreMadeFrom}
 use Rattle.dom_mutation.specs.Ranging.{AreRangesOf}
 use Rattle.dom_mutation.specs.Numbering.{AreNumbered}
-use Rattle.dom_mutation.specs.OwnTables.{KeyedTables, AllTables, no_keyed_tables, tables_view, owners_up_to, table_of, AreTablesOf, tables_of, signals_of}
+use Rattle.dom_cursors.specs.OwnTables.{KeyedTables, no_keyed_tables, owners_up_to, table_of}
+use Rattle.dom_mutation.specs.AllTables.{AllTables, tables_view, AreTablesOf, tables_of, signals_of}
 use Rattle.dom_observers.specs.Tables.{TablesOf, no_tables as no_observers}
 use Rattle.dom_observers.specs.Owners.{tables_of as observers_of}
 use Rattle.dom_observers.specs.Naming.{IsKey, SpeaksOf, IsChangeAt, named_change}

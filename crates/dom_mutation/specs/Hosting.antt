@@ -90,10 +90,6 @@ signals_in c ss = fold signal_in c ss
 abbrev pub document_in : NodeName → Contents → NodeName → Contents
 document_in d c x = record c { trees = change_subtree (with_document d) x c.trees }
 
--- the trees where they do
-abbrev pub under_each : NodeName → Trees → NodeName → Trees
-under_each d ts x = change_subtree (with_document d) x ts
-
 -- the shadow roots of the hosts in the tree of a node, in tree order; hosts are the page's, so none stands below another
 -- (DOM Standard, concept: shadow-including inclusive descendant)
 abbrev pub roots_below : Contents → List ShadowHost → NodeName → List NodeName

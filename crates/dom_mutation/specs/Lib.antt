@@ -1,7 +1,6 @@
 -- What contracts see of a `Doc`.
 pub mod Contents
-pub mod OwnTables
-pub mod Signalled
+pub mod AllTables
 pub mod Doc
 pub mod Hosting
 pub mod Ranging

@@ -16,7 +16,6 @@ ghost use Rattle.dom_tree.specs.Forest.{name_at, node_from};
 ghost use Rattle.dom_tree.specs.Owners.{trees_of_owner, AreOwned};
 ghost use Rattle.dom_slots.specs.Kept.{AreSlotsOf};
 ghost use Rattle.dom_slots.specs.Shadows.{shadows, IsShownBy};
-ghost use Rattle.dom_mutation.specs.OwnTables.{table_of, place_of};
 ghost use Rattle.dom_mutation.specs.Doc.{made};
 
 mod attaching;
@@ -33,15 +32,15 @@ mod reads;
 mod records;
 mod removing;
 mod replacing;
-mod signals;
+mod settling;
 mod splitting;
 mod steps;
 mod tasks;
 mod texts;
 
-use crate::tables::OwnTables;
 pub use attributes::is_name;
 use dom_base::{Fault, Kind, Owner};
+use dom_cursors::{OwnTables, table_of};
 use dom_microtasks::Queue;
 use dom_observers::Observers;
 use dom_ranges::RangeTable;
@@ -172,26 +171,5 @@ impl Doc {
         let added = self.forest.add(owner, node);
         self.forest.nodes_stand_once();
         added
-    }
-}
-
-/// An owner's tables, if it is there. No component has the number 0.
-fn table_of(tables: &[OwnTables], owner: Owner) -> Option<&OwnTables>
-    ensures { option_map (λ t. t.now) result ≡ table_of tables.now owner }
-{
-    match owner {
-        Owner::Page => tables.get(0),
-        Owner::Component(0) => None,
-        Owner::Component(number) => tables.get(number as usize),
-    }
-}
-
-/// An owner's place among the owners.
-fn place_of(owner: Owner) -> usize
-    ensures { result ≡ place_of owner }
-{
-    match owner {
-        Owner::Page => 0,
-        Owner::Component(number) => number as usize,
     }
 }

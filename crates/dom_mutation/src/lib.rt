@@ -2,6 +2,5 @@
 #![tactic(auto)]
 
 mod doc;
-mod tables;
 
 pub use doc::{Doc, is_name};

@@ -14,7 +14,7 @@ use Rattle.dom_model.specs.Ranges.{Range, at, is_contained}
 use Rattle.dom_model.specs.RangeOps.{cutting_data, outermost_contained}
 use Rattle.dom_model.specs.TextChanges.{replacing_data}
 use Rattle.dom_model.specs.Tree.{Trees, Node, has_data, kind_of, nodes, names_of, parent_of, index_of, root_of, inclusive_ancestors, length_of}
-use Rattle.dom_mutation.proofs.OwnOrder.{has_owner}
+use Rattle.dom_ranges.proofs.OwnOrder.{has_owner}
 use Rattle.dom_tree.proofs.Owned.{own_trees, read_own, stays_own}
 use Rattle.dom_tree.specs.Owners.{AreOwned, trees_of_owner}
 use Rattle.dom_traversal.proofs.Children.{Has-names}

@@ -17,7 +17,7 @@ use Rattle.dom_model.specs.Ranges.{Range, from_to}
 use Rattle.dom_model.specs.RangeOps.{range_text_of}
 use Rattle.dom_model.specs.Names.{name_eq, is_in}
 use Rattle.dom_model.specs.Tree.{Trees, Node, nodes, names_of, kind_of, is_text, has_data, children_of, root_of, length_of}
-use Rattle.dom_mutation.proofs.OwnOrder.{same_root-own, has_owner, has_all}
+use Rattle.dom_ranges.proofs.OwnOrder.{same_root-own, has_owner, has_all}
 use Rattle.dom_tree.proofs.Owned.{own_trees, read_own, stays_own}
 use Rattle.dom_tree.specs.Forest.{NamedTrees}
 use Rattle.dom_tree.specs.Owners.{AreOwned, trees_of_owner}

@@ -11,7 +11,7 @@ use Rattle.dom_model.specs.Ranges.{Range, at, is_contained}
 use Rattle.dom_model.specs.Extract.{cut_start, cut_end}
 use Rattle.dom_model.specs.RangeOps.{range_text_of, text_part}
 use Rattle.dom_model.specs.Tree.{Trees, Node, node_in, kind_of, is_text, inclusive_descendants, root_of, length_of}
-use Rattle.dom_mutation.proofs.OwnOrder.{is_before-own, same_root-own, has_own, once_trees}
+use Rattle.dom_ranges.proofs.OwnOrder.{is_before-own, same_root-own, has_own, once_trees}
 use Rattle.dom_tree.proofs.Owned.{read_own, stays_own}
 use Rattle.dom_tree.specs.Owners.{AreOwned, trees_of_owner}
 use Rattle.dom_traversal.proofs.Children.{Has-names}

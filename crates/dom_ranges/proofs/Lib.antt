@@ -8,3 +8,4 @@ pub mod Climbing
 pub mod Naming
 pub mod Standing
 pub mod Vacant
+pub mod OwnOrder

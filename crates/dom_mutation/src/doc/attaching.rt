@@ -10,14 +10,14 @@ ghost use Rattle.dom_model.specs.World.{part_of, component_made, shadow_root_of}
 ghost use Rattle.dom_slots.specs.Hosts.{root_of_host};
 ghost use Rattle.dom_slots.specs.Kept.{AreSlotsOf};
 ghost use Rattle.dom_tree.specs.Forest.{name_at, next_name, count_of, err_of};
-ghost use Rattle.dom_mutation.specs.OwnTables.{no_keyed_tables};
+ghost use Rattle.dom_cursors.specs.OwnTables.{no_keyed_tables};
 ghost use Rattle.dom_mutation.specs.Doc.{name_in, owner_in, attaching_refusal};
 
 use super::hosts::may_be_host;
-use super::signals::settle;
+use super::settling::settle;
 use crate::Doc;
-use crate::tables::OwnTables;
 use dom_base::{Fault, Kind, MAX_COMPONENTS, Owner, Refusal};
+use dom_cursors::OwnTables;
 use dom_slots::{Slots, new_nodes_are_free};
 use dom_tree::{Forest, NodeData};
 use indexmap::IndexMap;

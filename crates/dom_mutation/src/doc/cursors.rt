@@ -10,9 +10,9 @@ ghost use Rattle.dom_model.specs.CommandRefusals.{past_limit};
 ghost use Rattle.dom_traversal.specs.Filters.{filter_of};
 ghost use Rattle.dom_mutation.specs.Doc.{name_in, owner_in, Makes};
 
-use super::{place_of, table_of};
 use crate::Doc;
 use dom_base::{Fault, Move, Owner};
+use dom_cursors::{place_of, table_of};
 use dom_traversal::Filter;
 use node_arena::Key;
 

@@ -11,10 +11,11 @@ ghost use Rattle.dom_isolation.specs.Bounds.{HasBounds};
 ghost use Rattle.dom_mutation.specs.Doc.{name_in, owner_in, trees_in, stepped, planned, IsChild, IsOwnNode, MayCome, JoinsFit};
 
 use super::data::spliced;
-use super::place_of;
-use super::signals::{link, remove_attr, set_attr, settle, unlink};
+use super::settling::settle;
 use crate::Doc;
 use dom_base::DomStr;
+use dom_cursors::place_of;
+use dom_node_trees::{link, remove_attr, set_attr, unlink};
 use dom_observers::Observers;
 use dom_traversal::iterators_stay;
 use node_arena::Key;

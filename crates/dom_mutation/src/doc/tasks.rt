@@ -4,10 +4,10 @@ ghost use Rattle.dom_model.specs.World.{micro_task};
 ghost use Rattle.dom_model.specs.Turns.{is_owned_by, without_signals};
 ghost use Rattle.dom_mutation.specs.Doc.{name_in, with_tasks};
 
-use super::signals::{other_slots, own_slots};
 use crate::Doc;
 use dom_base::Owner;
 use dom_microtasks::Queue;
+use dom_node_trees::{other_slots, own_slots};
 use node_arena::Key;
 use std::alloc::AllocError;
 use std::mem;

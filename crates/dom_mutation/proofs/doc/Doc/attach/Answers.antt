@@ -2,7 +2,7 @@ use Rattle.std.proofs.Common.{refl, arith}
 use Rattle.dom_model.specs.Tree.{node_in}
 use Rattle.dom_tree.specs.Forest.{name_at}
 use Rattle.dom_observers.specs.Owners.{tables_of as observers_of}
-use Rattle.dom_mutation.specs.OwnTables.{tables_of}
+use Rattle.dom_mutation.specs.AllTables.{tables_of}
 use Rattle.dom_mutation.specs.Doc.{all_tables}
 use Rattle.dom_mutation.proofs.Held.{given_up}
 use Rattle.dom_mutation.proofs.Attachable.{accepted, new_owner, held_then, names_then, world_then}

@@ -1,7 +1,7 @@
 use Rattle.std.proofs.Common.{option_map}
 use Rattle.dom_model.specs.Tree.{children_of}
 use Rattle.dom_mutation.specs.Doc.{name_in, trees_in}
-use Rattle.dom_mutation.proofs.Covering.{left}
+use Rattle.dom_tree_laws.proofs.Covering.{left}
 use Rattle.dom_mutation.proofs.Listing.{Lists}
 use Rattle.dom_mutation.proofs.doc.Doc.children.Given as goal
 

@@ -1,5 +1,5 @@
 use Rattle.std.proofs.Common.{List, Some, None, ap, ◌∙◌}
-use Rattle.dom_mutation.specs.OwnTables.{KeyedTables, table_of}
+use Rattle.dom_cursors.specs.OwnTables.{KeyedTables, table_of}
 use Rattle.dom_mutation.specs.Doc.{all_tables}
 use Rattle.dom_mutation.proofs.There.{iterator_there}
 use Rattle.dom_mutation.proofs.doc.Doc.has_iter.Goals as goal

@@ -6,7 +6,7 @@ use Rattle.dom_slots.specs.Hosts.{host_named}
 use Rattle.dom_tree.specs.Forest.{name_at}
 use Rattle.dom_mutation.specs.Doc.{DocState, name_in}
 use Rattle.dom_mutation.proofs.Connected.{connected_alone, connected_hosted}
-use Rattle.dom_mutation.proofs.Once.{times_count}
+use Rattle.dom_tree_laws.proofs.Once.{times_count}
 use Rattle.dom_mutation.proofs.doc.Doc.is_connected.Goals as goal
 
 pub root-above-requires : goal.root-above-requires

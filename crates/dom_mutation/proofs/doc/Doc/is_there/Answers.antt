@@ -1,7 +1,7 @@
 use Rattle.std.proofs.Common.{◌≡◌, List, Option, Some, None, option_map, refl, subst, ap, ◌∙◌}
 use Rattle.std.specs.Prelude.{is_some}
 use Rattle.dom_model.specs.World.{is_there}
-use Rattle.dom_mutation.specs.OwnTables.{KeyedTables, table_of}
+use Rattle.dom_cursors.specs.OwnTables.{KeyedTables, table_of}
 use Rattle.dom_mutation.specs.Doc.{DocState, all_tables}
 use Rattle.dom_mutation.proofs.There.{there_is}
 use Rattle.dom_mutation.proofs.doc.Doc.is_there.Goals as goal

@@ -4,12 +4,11 @@ use Rattle.dom_model.specs.Names.{name_eq}
 use Rattle.dom_isolation.specs.Worlds.{IsPart}
 use Rattle.dom_model.specs.Tree.{Node, Trees, nodes, has_node}
 use Rattle.dom_model.specs.World.{part_of, is_there}
-use Rattle.dom_tree.specs.Owners.{trees_of_owner}
-use Rattle.dom_mutation.proofs.Once.{once_forest, once_own, times_count}
+use Rattle.dom_tree.specs.Owners.{trees_of_owner, AreOf}
+use Rattle.dom_tree_laws.proofs.Once.{once_forest, once_own, times_count}
 use Rattle.dom_tree.specs.Forest.{name_at}
 use Rattle.dom_mutation.specs.Doc.{DocState, owner_in, contents, all_tables}
 use Rattle.dom_mutation.specs.Hosting.{IsAlone}
-use Rattle.dom_tree.specs.Owners.{AreOf}
 use Rattle.dom_tree.proofs.Owned.{AreOf-own}
 use Rattle.dom_model.specs.CommandRefusals.{past_limit}
 use Rattle.dom_mutation.proofs.Held.{are_hosts}

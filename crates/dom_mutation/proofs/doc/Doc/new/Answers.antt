@@ -5,7 +5,8 @@ use Rattle.dom_model.specs.Names.{node_of}
 use Rattle.dom_model.specs.TreeChanges.{with_node}
 use Rattle.dom_tree.specs.Forest.{NamedTrees, next_name, node_from}
 use Rattle.dom_tree.specs.declared.data.NodeData.{NodeData}
-use Rattle.dom_mutation.specs.OwnTables.{KeyedTables, no_keyed_tables, no_slots, tables_of}
+use Rattle.dom_cursors.specs.OwnTables.{KeyedTables, no_keyed_tables}
+use Rattle.dom_mutation.specs.AllTables.{no_slots, tables_of}
 use Rattle.dom_slots.specs.Kept.{SlotsNow}
 use Rattle.dom_mutation.proofs.Held.{first_held}
 use Rattle.dom_observers.specs.Tables.{no_tables as no_observers}

@@ -7,12 +7,12 @@ use Rattle.dom_tree.specs.Forest.{name_at}
 use Rattle.dom_tree.proofs.OwnChanges.{put}
 use Rattle.dom_mutation.specs.Doc.{name_in, owner_in, trees_in, contents, all_tables}
 use Rattle.dom_traversal.proofs.Counts.{Once-forest, Has-forest}
-use Rattle.dom_mutation.proofs.Once.{once_forest}
-use Rattle.dom_mutation.proofs.Standing.{keeps_placed}
+use Rattle.dom_tree_laws.proofs.Once.{once_forest}
+use Rattle.dom_tree_laws.proofs.Standing.{keeps_placed}
 use Rattle.dom_slots.specs.declared.step.Step.TheVariants.{Place}
 use Rattle.dom_observers.specs.Owners.{tables_of as observers_of}
-use Rattle.dom_mutation.specs.Signalled.{signal_tables}
-use Rattle.dom_mutation.specs.OwnTables.{tables_of}
+use Rattle.dom_node_trees.specs.Signalled.{signal_tables}
+use Rattle.dom_mutation.specs.AllTables.{tables_of}
 use Rattle.dom_mutation.proofs.Held.{are_hosts}
 use Rattle.dom_mutation.proofs.HostedSteps.{place_hosted}
 use Rattle.dom_mutation.proofs.Signalling.{tree_held, tree_state}

@@ -2,7 +2,7 @@ use Rattle.std.proofs.Common.{◌≡◌, ◌<◌, ℕ, List, All, map, fold, len
 use Rattle.dom_base.specs.declared.NodeName.{NodeName}
 use Rattle.dom_model.specs.Tree.{Trees}
 use Rattle.dom_tree.specs.Forest.{NamedTrees, name_at}
-use Rattle.dom_mutation.specs.Hosting.{under_each}
+use Rattle.dom_node_trees.specs.Documents.{under_each}
 use Rattle.dom_mutation.proofs.Roots.{documents_are_held, documents_are_set}
 use Rattle.dom_mutation.proofs.doc.Doc.set_document.Goals as goal
 

@@ -2,7 +2,7 @@ use Rattle.std.proofs.Common.{◌<◌, length, true, ap, sym, arith}
 use Rattle.dom_model.specs.Names.{name_eq, is_in}
 use Rattle.dom_model.specs.Tree.{is_inclusive_ancestor}
 use Rattle.dom_tree.specs.Forest.{name_at}
-use Rattle.dom_mutation.proofs.Once.{times_count}
+use Rattle.dom_tree_laws.proofs.Once.{times_count}
 use Rattle.dom_mutation.proofs.Shown.{known, shown}
 use Rattle.dom_mutation.proofs.Joined.{stands_there}
 use Rattle.dom_mutation.proofs.doc.Doc.stands.Goals as goal

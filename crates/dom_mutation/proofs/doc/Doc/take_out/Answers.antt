@@ -4,8 +4,9 @@ use Rattle.std.proofs.lemmas.List.{length-set}
 use Rattle.dom_model.specs.Tree.{parent_of}
 use Rattle.dom_tree.specs.Forest.{name_at}
 use Rattle.dom_observers.specs.Owners.{tables_of as observers_of}
-use Rattle.dom_mutation.specs.Signalled.{signal_tables}
-use Rattle.dom_mutation.specs.OwnTables.{place_of, tables_of}
+use Rattle.dom_node_trees.specs.Signalled.{signal_tables}
+use Rattle.dom_cursors.specs.OwnTables.{place_of}
+use Rattle.dom_mutation.specs.AllTables.{tables_of}
 use Rattle.dom_mutation.specs.Doc.{all_tables, name_in, trees_in}
 use Rattle.dom_mutation.proofs.Held.{table_there}
 use Rattle.dom_mutation.proofs.Observing.{none_held}

@@ -1,6 +1,6 @@
 use Rattle.std.proofs.Common.{◌<◌, All, filter, map, length, sym, ap, subst, ◌∙◌}
 use Rattle.dom_mutation.specs.Doc.{name_in}
-use Rattle.dom_mutation.specs.Signalled.{is_key_of, is_other_key}
+use Rattle.dom_node_trees.specs.Signalled.{is_key_of, is_other_key}
 use Rattle.dom_mutation.proofs.Taking.{taken_names, taken_nodes, rest_held, rest_state}
 use Rattle.dom_mutation.proofs.doc.Doc.take_signals.Goals as goal
 

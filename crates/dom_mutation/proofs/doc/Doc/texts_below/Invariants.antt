@@ -1,6 +1,6 @@
 use Rattle.std.proofs.Common.{option_map}
 use Rattle.dom_mutation.specs.Doc.{name_in}
-use Rattle.dom_mutation.proofs.Covering.{left}
+use Rattle.dom_tree_laws.proofs.Covering.{left}
 use Rattle.dom_mutation.proofs.Joined.{Gathers, below_of}
 use Rattle.dom_mutation.proofs.doc.Doc.texts_below.Given as goal
 

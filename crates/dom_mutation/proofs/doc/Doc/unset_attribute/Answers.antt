@@ -5,14 +5,14 @@ use Rattle.dom_slots.specs.declared.step.Step.TheVariants.{Attribute}
 use Rattle.dom_tree.specs.Forest.{name_at}
 use Rattle.dom_tree.proofs.OwnChanges.{changed_node}
 use Rattle.dom_observers.specs.Owners.{tables_of as observers_of}
-use Rattle.dom_mutation.specs.Signalled.{signal_tables}
-use Rattle.dom_mutation.specs.OwnTables.{tables_of}
+use Rattle.dom_node_trees.specs.Signalled.{signal_tables}
+use Rattle.dom_mutation.specs.AllTables.{tables_of}
 use Rattle.dom_mutation.specs.Doc.{contents, all_tables}
 use Rattle.dom_mutation.proofs.Held.{are_hosts}
 use Rattle.dom_mutation.proofs.HostedSteps.{attribute_hosted}
 use Rattle.dom_mutation.proofs.Shown.{owner_there}
 use Rattle.dom_mutation.proofs.Signalling.{tree_held, tree_state}
-use Rattle.dom_mutation.proofs.Standing.{keeps_changed}
+use Rattle.dom_tree_laws.proofs.Standing.{keeps_changed}
 use Rattle.dom_mutation.proofs.Steps.{trees_change}
 use Rattle.dom_mutation.proofs.doc.Doc.unset_attribute.Goals as goal
 

@@ -1,0 +1,3 @@
+-- Lemmas of cursors by their numbers.
+pub mod Items
+mod Leaving

@@ -1,0 +1,2 @@
+-- What contracts see of cursors.
+pub mod OwnTables

@@ -1,0 +1,205 @@
+//! What one owner has of cursors, and where each owner's are.
+ghost use Rattle.std.specs.Prelude.{◌≡◌, ℕ, ◌<◌, ◌≤◌, ◌↔◌, ◌⊎◌, ◌++◌, ◌∷◌, [], length, true, false, is_some, slice_get, slice_set, IfOk, IfErr, OnOk, OnErr};
+ghost use Rattle.std.specs.Option.{option_map, ForSome};
+ghost use Rattle.dom_base.specs.declared.Refusal.TheVariants.{Limit};
+ghost use Rattle.dom_model.specs.Traversal.{iterator_next_node, iterator_previous_node, walker_move};
+ghost use Rattle.dom_tree.specs.Forest.{name_at};
+ghost use Rattle.dom_traversal.specs.Filters.{filter_of};
+ghost use Rattle.dom_traversal.specs.Iterators.{KeyedIterator, iterator_view, iterator_at, IsIteratorOf};
+ghost use Rattle.dom_traversal.specs.Walkers.{walker_view, walker_at, IsWalkerOf};
+ghost use Rattle.dom_cursors.specs.OwnTables.{EachItem, AreLeft, no_keyed_tables, table_of, place_of};
+
+use dom_base::{Fault, MAX_NODES, Move, Owner, Refusal};
+use dom_traversal::{Filter, Iter, Walker};
+use dom_tree::Forest;
+use node_arena::Key;
+use std::alloc::Global;
+use std::marker::Model;
+
+/// One owner's iterators and walkers, each by its number.
+#[derive(Drop)]
+pub struct OwnTables {
+    iterators: Vec<Iter>,
+    walkers: Vec<Walker>,
+}
+
+impl Model for OwnTables {
+    ghost use Rattle.dom_cursors.specs.OwnTables.{KeyedTables};
+
+    ghost Value = { KeyedTables };
+
+    ghost view = { λ t. record { iterators = t.iterators.items; walkers = t.walkers.items } };
+}
+
+impl OwnTables {
+    /// Empty tables.
+    pub fn new(alloc: Global) -> Self
+        ensures { result ≡ no_keyed_tables }
+    {
+        OwnTables {
+            iterators: Vec::new(alloc),
+            walkers: Vec::new(alloc),
+        }
+    }
+
+    /// Whether there is an iterator of a number.
+    pub fn has_iter(&self, number: u32) -> bool
+        ensures { result ≡ is_some (slice_get self.now.iterators number) }
+    {
+        self.iterators.get(number as usize).is_some()
+    }
+
+    /// Whether there is a walker of a number.
+    pub fn has_walker(&self, number: u32) -> bool
+        ensures { result ≡ is_some (slice_get self.now.walkers number) }
+    {
+        self.walkers.get(number as usize).is_some()
+    }
+
+    /// Adds an iterator just before its root, and gives its number. Refused with `Limit` where there are a million.
+    pub fn add_iter(&mut self, root: Key, filter: Filter) -> Result<u32, Fault>
+        requires { length self.old.iterators ≤ 1000000 }
+        ensures number { IfOk result (λ n. n ≡ length self.old.iterators) }
+        ensures added { OnOk result (self.new ≡ record self.old { iterators = self.old.iterators ++ record { root = root; reference = root; before = true; filter = filter_of filter } ∷ [] }) }
+        ensures limit { (result ≡ Err (Fault.Refused Limit)) ↔ (length self.old.iterators ≡ 1000000) }
+        ensures other { IfErr result (λ fault. (fault ≡ Fault.Refused Limit) ⊎ (fault ≡ Fault.Memory)) }
+        ensures err { OnErr result (self.new ≡ self.old) }
+    {
+        let number = self.iterators.len();
+        if number == MAX_NODES as usize {
+            return Err(Fault::Refused(Refusal::Limit));
+        }
+        self.iterators.push(Iter::new(root, filter))?;
+        Ok(number as u32)
+    }
+
+    /// Adds a walker at its root, and gives its number. Refused with `Limit` where there are a million.
+    pub fn add_walker(&mut self, root: Key, filter: Filter) -> Result<u32, Fault>
+        requires { length self.old.walkers ≤ 1000000 }
+        ensures number { IfOk result (λ n. n ≡ length self.old.walkers) }
+        ensures added { OnOk result (self.new ≡ record self.old { walkers = self.old.walkers ++ record { root = root; current = root; filter = filter_of filter } ∷ [] }) }
+        ensures limit { (result ≡ Err (Fault.Refused Limit)) ↔ (length self.old.walkers ≡ 1000000) }
+        ensures other { IfErr result (λ fault. (fault ≡ Fault.Refused Limit) ⊎ (fault ≡ Fault.Memory)) }
+        ensures err { OnErr result (self.new ≡ self.old) }
+    {
+        let number = self.walkers.len();
+        if number == MAX_NODES as usize {
+            return Err(Fault::Refused(Refusal::Limit));
+        }
+        self.walkers.push(Walker::new(root, filter))?;
+        Ok(number as u32)
+    }
+
+    /// Lets each iterator leave the tree of a node that is about to be removed (DOM Standard, NodeIterator pre-remove
+    /// steps).
+    pub fn leave(&mut self, forest: &Forest, node: Key)
+        requires node_is_node { node < length forest.now.names }
+        requires iterators { EachItem (IsIteratorOf forest.now) self.old.iterators }
+        ensures iterators { AreLeft forest.now node self.old.iterators self.new.iterators }
+        ensures walkers { self.new.walkers ≡ self.old.walkers }
+    {
+        for iterator in self.iterators.iter_mut() {
+            iterator.on_remove(forest, node);
+        }
+    }
+
+    /// Moves an iterator on.
+    pub fn iter_next(&mut self, forest: &Forest, number: u32) -> Option<Key>
+        requires there { is_some (slice_get self.old.iterators number) ≡ true }
+        requires iterators { EachItem (IsIteratorOf forest.now) self.old.iterators }
+        ensures value { ForSome (slice_get self.old.iterators number) (λ i. option_map (name_at forest.now.names) result ≡ iterator_next_node forest.now.trees (iterator_view forest.now.names i)) }
+        ensures state { ForSome (slice_get self.old.iterators number) (λ i. self.new ≡ record self.old { iterators = slice_set self.old.iterators number (iterator_at i false result) }) }
+        ensures kept { ForSome (slice_get self.old.iterators number) (λ i. IsIteratorOf forest.now (iterator_at i false result)) }
+    {
+        let iterator = &mut self.iterators[number as usize];
+        iterator.next(forest)
+    }
+
+    /// Moves an iterator back.
+    pub fn iter_previous(&mut self, forest: &Forest, number: u32) -> Option<Key>
+        requires there { is_some (slice_get self.old.iterators number) ≡ true }
+        requires iterators { EachItem (IsIteratorOf forest.now) self.old.iterators }
+        ensures value { ForSome (slice_get self.old.iterators number) (λ i. option_map (name_at forest.now.names) result ≡ iterator_previous_node forest.now.trees (iterator_view forest.now.names i)) }
+        ensures state { ForSome (slice_get self.old.iterators number) (λ i. self.new ≡ record self.old { iterators = slice_set self.old.iterators number (iterator_at i true result) }) }
+        ensures kept { ForSome (slice_get self.old.iterators number) (λ i. IsIteratorOf forest.now (iterator_at i true result)) }
+    {
+        let iterator = &mut self.iterators[number as usize];
+        iterator.previous(forest)
+    }
+
+    /// Where an iterator stands.
+    pub fn iter_at(&self, number: u32) -> (Key, bool)
+        requires { is_some (slice_get self.now.iterators number) ≡ true }
+        ensures { ForSome (slice_get self.now.iterators number) (λ i. result ≡ (i.reference, i.before)) }
+    {
+        self.iterators[number as usize].at()
+    }
+
+    /// Moves a walker.
+    pub fn walk(&mut self, forest: &Forest, number: u32, step: Move) -> Option<Key>
+        requires there { is_some (slice_get self.old.walkers number) ≡ true }
+        requires walkers { EachItem (IsWalkerOf forest.now) self.old.walkers }
+        ensures value { ForSome (slice_get self.old.walkers number) (λ w. option_map (name_at forest.now.names) result ≡ walker_move forest.now.trees (walker_view forest.now.names w) step) }
+        ensures state { ForSome (slice_get self.old.walkers number) (λ w. self.new ≡ record self.old { walkers = slice_set self.old.walkers number (walker_at w result) }) }
+        ensures kept { ForSome (slice_get self.old.walkers number) (λ w. IsWalkerOf forest.now (walker_at w result)) }
+    {
+        let walker = &mut self.walkers[number as usize];
+        walk(walker, forest, step)
+    }
+
+    /// The current node of a walker.
+    pub fn walker_at(&self, number: u32) -> Key
+        requires { is_some (slice_get self.now.walkers number) ≡ true }
+        ensures { ForSome (slice_get self.now.walkers number) (λ w. result ≡ w.current) }
+    {
+        self.walkers[number as usize].at()
+    }
+
+    /// Makes a node the current one of a walker.
+    pub fn set_walker(&mut self, number: u32, current: Key)
+        requires { is_some (slice_get self.old.walkers number) ≡ true }
+        ensures { ForSome (slice_get self.old.walkers number) (λ w. self.new ≡ record self.old { walkers = slice_set self.old.walkers number (record w { current = current }) }) }
+    {
+        let walker = &mut self.walkers[number as usize];
+        walker.set(current);
+    }
+}
+
+/// Moves a walker.
+fn walk(walker: &mut Walker, forest: &Forest, step: Move) -> Option<Key>
+    requires { IsWalkerOf forest.now walker.old }
+    ensures value { option_map (name_at forest.now.names) result ≡ walker_move forest.now.trees (walker_view forest.now.names walker.old) step }
+    ensures state { walker.new ≡ walker_at walker.old result }
+    ensures kept { IsWalkerOf forest.now walker.new }
+{
+    match step {
+        Move::Parent => walker.parent(forest),
+        Move::First => walker.first(forest),
+        Move::Last => walker.last(forest),
+        Move::Next => walker.next(forest),
+        Move::Previous => walker.previous(forest),
+        Move::NextSibling => walker.next_sibling(forest),
+        Move::PreviousSibling => walker.previous_sibling(forest),
+    }
+}
+
+/// An owner's tables, if it is there. No component has the number 0.
+pub fn table_of(tables: &[OwnTables], owner: Owner) -> Option<&OwnTables>
+    ensures { option_map (λ t. t.now) result ≡ table_of tables.now owner }
+{
+    match owner {
+        Owner::Page => tables.get(0),
+        Owner::Component(0) => None,
+        Owner::Component(number) => tables.get(number as usize),
+    }
+}
+
+/// An owner's place among the owners.
+pub fn place_of(owner: Owner) -> usize
+    ensures { result ≡ place_of owner }
+{
+    match owner {
+        Owner::Page => 0,
+        Owner::Component(number) => number as usize,
+    }
+}

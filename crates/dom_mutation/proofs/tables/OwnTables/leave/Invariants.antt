@@ -1,5 +1,0 @@
-use Rattle.dom_mutation.proofs.Leaving.{HaveLeft}
-use Rattle.dom_mutation.proofs.tables.OwnTables.leave.Given as goal
-
-abbrev pub invariant-loop-iterator : goal.invariant-loop-iterator
-invariant-loop-iterator l = HaveLeft l.forest l.node l.initial.iterator-items l.iterator-items l.iterator-index

@@ -1,0 +1,105 @@
+-- Slots that are signalled, one after another, by their keys as by their names.
+use Rattle.std.proofs.Common.{◌≡◌, ℕ, ◌+◌, ◌<◌, Bool, true, false, ◌||◌, inl, inr, List, [], ◌∷◌, ◌++◌, All, map, fold, take, length, get_or, nat_eq, Option, Some, None, refl, sym, ap, subst, ◌∙◌}
+use Rattle.std.specs.Prelude.{if◌then◌else◌}
+use Rattle.std.specs.List.{AllByRecursion}
+use Rattle.std.proofs.lemmas.Bool.{cases_Bool}
+use Rattle.std.proofs.lemmas.List.Elements.{All-head, All-tail}
+use Rattle.std.proofs.lemmas.List.Sums.{fold_more}
+use Rattle.dom_base.specs.declared.NodeName.{NodeName}
+use Rattle.dom_model.specs.Names.{name_eq, append_once, is_in}
+use Rattle.dom_model.specs.Tree.{Trees}
+use Rattle.dom_tree.proofs.Names.{name_eq-true}
+use Rattle.dom_model.specs.World.{Task, queued_notify}
+use Rattle.dom_slots.specs.Hosts.{ShadowHost}
+use Rattle.dom_slots.specs.Kept.{SlotsNow, BegunStep, AreSlotsOf, IsBegun, IsEndOf}
+use Rattle.dom_slots.specs.Shadows.{shadow_trees}
+use Rattle.dom_slots.specs.Steps.{StepHasNodes, IsStepFrom, step_signals}
+use Rattle.dom_slots.specs.declared.step.Step.{Step}
+use Rattle.dom_slots.proofs.Ended.{step-ends}
+use Rattle.dom_slots.proofs.Hosted.{AreDistinct}
+use Rattle.dom_tree.specs.Forest.{NamedTrees, name_at}
+use Rattle.dom_node_trees.specs.Signalled.{SignalTables, signal_tables, HasSignalled}
+use Rattle.dom_node_trees.proofs.SignalledKeys.{signalled_keys, signalled_nodes}
+
+-- the tasks with the notification of a slot's owner queued
+abbrev pub queued_by : List NodeName → List Task → ℕ → List Task
+queued_by names tasks slot = queued_notify (name_at names slot).owner tasks
+
+-- one item more of a fold
+pub fold_next : {X Y : Type 0} (f : Y → X → Y) (z : Y) (xs : List X) (i : ℕ) (x : X) → i < length xs → x ≡ get_or xs i x → fold f z (take (i + 1) xs) ≡ f (fold f z (take i xs)) x
+fold_next f z xs i x within is = fold_more f z xs i x within ∙ ap (f (fold f z (take i xs))) (sym is)
+
+queued_names : (names : List NodeName) (tasks : List Task) (keys : List ℕ) → fold (queued_by names) tasks keys ≡ fold (λ (ts : List Task) (s : NodeName). queued_notify s.owner ts) tasks (map (name_at names) keys)
+queued_names names tasks [] = refl
+queued_names names tasks (k ∷ keys) = queued_names names (queued_by names tasks k) keys
+
+nodes_fold : (names : List NodeName) → AreDistinct names → (keys more : List ℕ) → All (λ j. j < length names) keys → All (λ j. j < length names) more → All (λ j. j < length names) (fold (append_once nat_eq) keys more)
+nodes_fold names distinct keys [] nodes all = nodes
+nodes_fold names distinct keys (k ∷ more) nodes all =
+    nodes_fold names distinct (append_once nat_eq keys k) more (signalled_nodes names distinct keys k nodes (All-head (λ j. j < length names) k more all)) (All-tail (λ j. j < length names) k more all)
+
+-- what holds of all of some names and others, each once, holds of both
+module _ (P : NodeName → Type 0) where
+  found : (xs : List NodeName) (x : NodeName) → is_in name_eq x xs ≡ true → AllByRecursion P xs → P x
+  found [] x e all = cc
+  found (y ∷ xs) x e all = elim (cases_Bool (name_eq x y)) [
+    | inl same ↦ subst P (sym (name_eq-true x y same)) all.0
+    | inr other ↦ found xs x (sym (ap (λ b. b || is_in name_eq x xs) other) ∙ e) all.1
+  ]
+
+  ending : (xs : List NodeName) (x : NodeName) → AllByRecursion P (xs ++ x ∷ []) → AllByRecursion P xs × P x
+  ending [] x all = (tt, all.0)
+  ending (y ∷ xs) x all = let rest = ending xs x all.1 in ((all.0, rest.0), rest.1)
+
+  appended : (xs : List NodeName) (x : NodeName) → AllByRecursion P (append_once name_eq xs x) → AllByRecursion P xs × P x
+  appended xs x = by (is_in name_eq x xs) refl
+    where
+      by : (b : Bool) → is_in name_eq x xs ≡ b → AllByRecursion P (if b then xs else xs ++ x ∷ []) → AllByRecursion P xs × P x
+      by true e all = (all, found xs x e all)
+      by false e all = ending xs x all
+
+  pub all_appended : (xs more : List NodeName) → AllByRecursion P (fold (append_once name_eq) xs more) → AllByRecursion P xs × AllByRecursion P more
+  all_appended xs [] all = (all, tt)
+  all_appended xs (x ∷ more) all =
+      let rest = all_appended (append_once name_eq xs x) more all in
+      let here = appended xs x rest.0 in (here.0, (here.1, rest.1))
+
+-- what holds of the names of nodes holds of those of some keys
+pub all_named : (P : NodeName → Type 0) (names : List NodeName) → ((k : ℕ) → k < length names → P (name_at names k)) → (keys : List ℕ) → All (λ k. k < length names) keys → AllByRecursion P (map (name_at names) keys)
+all_named P names each [] all = tt
+all_named P names each (k ∷ keys) all = (each k (All-head (λ j. j < length names) k keys all), all_named P names each keys (All-tail (λ j. j < length names) k keys all))
+
+-- all the slots of a step
+pub all_signalled : (names : List NodeName) → AreDistinct names → (was now : Trees) (step : Step) (left : Option ℕ) (slots kept : SlotsNow) (signalled : List ℕ) (tasks : List Task) (keys : List ℕ)
+    → kept.hosts ≡ slots.hosts → kept.begun ≡ None → AreSlotsOf (record { names = names; trees = now }) kept → All (λ k. k < length names) signalled → All (λ k. k < length names) keys
+    → map (name_at names) keys ≡ step_signals names (shadow_trees names was slots.hosts) (shadow_trees names now slots.hosts) step left
+    → (more : List ℕ) (later : List Task) → more ≡ fold (append_once nat_eq) signalled keys → later ≡ fold (queued_by names) tasks keys
+    → HasSignalled names was now step left (signal_tables slots signalled tasks) (signal_tables kept more later)
+all_signalled names distinct was now step left slots kept signalled tasks keys hosts free are nodes keys_nodes told more later is_more is_later = record {
+  hosts = hosts;
+  held = record { free = free; slots = are; nodes = subst (All (λ k. k < length names)) (sym is_more) (nodes_fold names distinct signalled keys nodes keys_nodes) };
+  signalled = ap (map (name_at names)) is_more ∙ (signalled_keys names distinct signalled keys nodes keys_nodes ∙ ap (fold (append_once name_eq) (map (name_at names) signalled)) told);
+  tasks = is_later ∙ (queued_names names tasks keys ∙ ap (fold (λ (ts : List Task) (s : NodeName). queued_notify s.owner ts) tasks) told);
+}
+
+-- A step that was begun with some slots, and is done.
+module _ (f g : NamedTrees) (slots middle : SlotsNow) (step : Step) (begun : (b : BegunStep) × (middle.begun ≡ Some b) × IsBegun f slots.hosts step b) (names : g.names ≡ f.names) (hosts : middle.hosts ≡ slots.hosts) where
+  -- it can be ended
+  pub ends : StepHasNodes f.names step → AreSlotsOf f slots → middle.table ≡ slots.table → IsStepFrom f.names f.trees g.trees step begun.0.left → IsEndOf f.trees g middle begun.0
+  ends nodes are table is = step-ends f g slots middle step begun.0 names nodes are hosts table begun.1 begun.2 is
+
+  -- and its signals are those of the step
+  pub told : (signalled : List ℕ) (tasks : List Task) (after : SignalTables) → HasSignalled g.names f.trees g.trees begun.0.step begun.0.left (signal_tables middle signalled tasks) after
+      → HasSignalled f.names f.trees g.trees step begun.0.left (signal_tables slots signalled tasks) after
+  told signalled tasks after h =
+      let left = begun.0.left in
+      let here = subst (λ t. HasSignalled f.names f.trees g.trees t left (signal_tables middle signalled tasks) after) begun.2.same
+      (subst (λ ns. HasSignalled ns f.trees g.trees begun.0.step left (signal_tables middle signalled tasks) after) names h) in
+      record {
+        hosts = here.hosts ∙ hosts;
+        held = here.held;
+        signalled = subst (λ (hs : List ShadowHost). map (name_at f.names) after.signalled
+            ≡ fold (append_once name_eq) (map (name_at f.names) signalled) (step_signals f.names (shadow_trees f.names f.trees hs) (shadow_trees f.names g.trees hs) step left)) hosts here.signalled;
+        tasks = subst (λ (hs : List ShadowHost). after.tasks
+            ≡ fold (λ (ts : List Task) (s : NodeName). queued_notify s.owner ts) tasks (step_signals f.names (shadow_trees f.names f.trees hs) (shadow_trees f.names g.trees hs) step left)) hosts here.tasks;
+      }

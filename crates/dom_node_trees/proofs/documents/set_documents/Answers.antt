@@ -1,0 +1,40 @@
+use Rattle.std.proofs.Common.{◌≡◌, List, Some, refl, sym, ap, subst, ◌∙◌, arith}
+use Rattle.dom_base.specs.declared.NodeName.{NodeName}
+use Rattle.dom_model.specs.Tree.{is_inclusive_ancestor}
+use Rattle.dom_model.specs.TreeChanges.{change_node, under_document}
+use Rattle.dom_tree.specs.Forest.{name_at}
+use Rattle.dom_tree_laws.proofs.Once.{once_forest, times_count}
+use Rattle.dom_tree_laws.proofs.Covering.{Sets, sets_first, sets_above, sets_on}
+use Rattle.dom_node_trees.proofs.documents.set_documents.Goals as goal
+
+pub loop-at-init : goal.loop-at-init
+loop-at-init c =
+    let f = c.args.forest.now in
+    let once = c.nodes_stand_once.ensures.once c.args.top c.requires.top_is_node in
+    let times = times_count f.trees (name_at f.names c.args.top) in
+    (refl, sets_first f.names (name_at f.names c.args.document) f.trees c.args.top c.requires.top_is_node (omega arith))
+
+pub following-at-requires-clause-within : goal.following-at-requires-clause-within
+following-at-requires-clause-within c =
+    let f = c.args.forest.now in
+    let g = c.loop-at.forest in
+    let d = name_at f.names c.args.document in
+    let top = name_at f.names c.args.top in
+    let names = c.set_document.ensures.names ∙ c.loop-at.invariant.0 in
+    let at = subst (Sets f.names d top f.trees g.trees) c.in-Some.is c.loop-at.invariant.1 in
+    let changed = c.set_document.ensures.trees ∙ ap (λ ns. change_node (under_document (Some (name_at ns c.args.document))) (name_at ns c.in-Some.node) g.trees) c.loop-at.invariant.0 in
+    subst (λ (ns : List NodeName). is_inclusive_ancestor c.set_document.new.self.trees (name_at ns c.args.top) (name_at ns c.in-Some.node) ≡ _) (sym names)
+    (sets_above f.names d top f.trees g.trees c.set_document.new.self.trees (once_forest f.names f.trees c.nodes_stand_once.ensures.once c.nodes_stand_once.ensures.only) c.in-Some.node at changed)
+
+pub loop-at-smaller : goal.loop-at-smaller
+loop-at-smaller c =
+    (sets_on c.args.forest.now c.loop-at.forest c.set_document.new.self c.args.top c.args.document c.in-Some.node c.loop-at.at c.following-at.result
+    (once_forest c.args.forest.now.names c.args.forest.now.trees c.nodes_stand_once.ensures.once c.nodes_stand_once.ensures.only) c.in-Some.is c.loop-at.invariant.0 c.loop-at.invariant.1
+    c.set_document.ensures.names c.set_document.ensures.trees c.following-at.ensures.value c.following-at.ensures.node).2
+
+pub loop-at-preserved : goal.loop-at-preserved
+loop-at-preserved c =
+    let on = sets_on c.args.forest.now c.loop-at.forest c.set_document.new.self c.args.top c.args.document c.in-Some.node c.loop-at.at c.following-at.result
+    (once_forest c.args.forest.now.names c.args.forest.now.trees c.nodes_stand_once.ensures.once c.nodes_stand_once.ensures.only) c.in-Some.is c.loop-at.invariant.0 c.loop-at.invariant.1
+    c.set_document.ensures.names c.set_document.ensures.trees c.following-at.ensures.value c.following-at.ensures.node in
+    (on.0, on.1)

@@ -1,0 +1,13 @@
+use Rattle.std.proofs.Common.{◌≡◌, option_map}
+use Rattle.dom_model.specs.Tree.{inclusive_descendants}
+use Rattle.dom_tree.specs.Forest.{name_at}
+use Rattle.dom_tree_laws.proofs.Covering.{Sets, left}
+use Rattle.dom_node_trees.proofs.documents.set_documents.Given as goal
+
+abbrev pub invariant-loop-at : goal.invariant-loop-at
+invariant-loop-at l =
+    (l.forest.names ≡ l.initial.forest.names)
+    × Sets l.initial.forest.names (name_at l.initial.forest.names l.document) (name_at l.initial.forest.names l.top) l.initial.forest.trees l.forest.trees l.at
+
+abbrev pub decreases-loop-at : goal.decreases-loop-at
+decreases-loop-at l = left (inclusive_descendants l.initial.forest.trees (name_at l.initial.forest.names l.top)) (option_map (name_at l.initial.forest.names) l.at)

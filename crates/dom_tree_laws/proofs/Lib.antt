@@ -1,0 +1,8 @@
+-- Laws on trees where each name stands once.
+pub mod Lists
+pub mod Paths
+pub mod Moves
+pub mod Near
+pub mod Once
+pub mod Covering
+pub mod Standing
