@@ -12,7 +12,7 @@ use dom_tree::Forest;
 use node_arena::Key;
 use std::alloc::{AllocError, Global};
 
-/// How many nodes an event at a target visits, if it has no related node (DOM Standard, concept: event path). Where
+/// How many nodes an event at a target visits, if it has no related node (DOM Standard, 2.2: path). Where
 /// memory is refused there is no answer.
 pub fn count_visits(
     alloc: Global,

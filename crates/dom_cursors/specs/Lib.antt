@@ -1,2 +1,2 @@
--- What contracts see of cursors.
+-- What contracts see of cursors. Unmarked: own rules, about what the code holds and its contracts say.
 pub mod OwnTables

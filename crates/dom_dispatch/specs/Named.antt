@@ -62,7 +62,7 @@ module _ (names : List NodeName) where
     pub node : v.node < length names
     pub target : v.target < length names
 
--- What is done by keys is what is done by names (DOM Standard, 2.7: add and remove an event listener).
+-- What is done by keys is what is done by names (DOM Standard, 2.7: add an event listener, remove an event listener).
 abbrev pub ListenedByNames : Type 0
 ListenedByNames =
     (names : List NodeName) → TellApart names → (ls : List (Listener ℕ)) → AllByRecursion (IsListenerAt names) ls → (x : ℕ) → x < length names → (words : ListenerWords) →

@@ -1,4 +1,4 @@
-//! Listeners and the dispatch of events (DOM Standard, 2.7 EventTarget and 2.9 Dispatching events): the table of listeners,
+//! Listeners and the dispatch of events (DOM Standard, 2.7 and 2.9): the table of listeners,
 //! dispatches along event paths, and laws by which a dispatch by keys is the dispatch in a world.
 #![tactic(auto)]
 

@@ -1,3 +1,4 @@
+-- Unmarked: own rules, about runs and sessions.
 pub mod Session
 pub mod Streams
 pub mod Run

@@ -1,3 +1,4 @@
+-- Unmarked: own rules, what an example is.
 pub mod Example
 pub mod TreeExamples
 pub mod ObserverExamples

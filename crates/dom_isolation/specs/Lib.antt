@@ -1,4 +1,4 @@
--- What holds of every world that the document machine reaches, and the isolation laws.
+-- What holds of every world that the document machine reaches, and the isolation laws. Unmarked: own rules, what holds of the two machines.
 pub mod Worlds
 pub mod Tables
 pub mod Laws

@@ -19,7 +19,7 @@ use Rattle.dom_isolation.specs.Worlds.{IsThere}
 abbrev pub IsNodeIn : Trees → NodeName → Type 0
 IsNodeIn ts x = IsTrue (has_node ts x)
 
--- Both ends of a range are at nodes, which have one root (own rule; DOM Standard, 5.3: range's root).
+-- Both ends of a range are at nodes, which have one root (own rule; DOM Standard, 5.5: range's root).
 pub record HasEnds (ts : Trees) (r : Range NodeName) : Type 0 where
   pub start : IsNodeIn ts r.start.node
   pub end : IsNodeIn ts r.end.node

@@ -32,7 +32,7 @@ FinishKeepsWhole = (only_log : Bool) (w : World) → IsReached only_log w → Is
 abbrev pub ScriptsStayWhole : {L : Type 0} → (L → Line) → Type 0
 ScriptsStayWhole {L = L} read = (ls : List L) → IsWhole (run_lines first_world (map read ls)).0
 
--- Both ends of each live range of a part have one root (DOM Standard, 5.3: a range's root is the root of its start node).
+-- Both ends of each live range of a part have one root (DOM Standard, 5.5: range's root: it is the root of its start node).
 abbrev pub HasOneRoots : Part → Type 0
 HasOneRoots p = (k : ℕ) (r : Range NodeName) → range_at p k ≡ Some r → IsTrue (same_root p.trees r.start.node r.end.node)
 

@@ -1,4 +1,4 @@
--- What contracts see of a `Doc`.
+-- What contracts see of a `Doc`. Unmarked: own rules, about what the code holds and its contracts say.
 pub mod Contents
 pub mod AllTables
 pub mod Doc

@@ -20,7 +20,7 @@ pub record PathNow : Type 0 where
   pub items : List Item
   pub views : List (View ℕ)
 
--- An item of an event path (DOM Standard, 2.9: an event path's struct): the node, the event's target where the node is that,
+-- An item of an event path (DOM Standard, 2.2: path: its struct): the node, the event's target where the node is that,
 -- the related node as it is seen there, whether the node is a shadow root, and whether it is the slot of the node before.
 pub record PathItem : Type 0 where
   pub node : NodeName

@@ -4,7 +4,7 @@ ghost use Rattle.dom_path.specs.Stands.{is_hidden_item};
 
 use node_arena::Key;
 
-/// An item of an event path (DOM Standard, 2.9: an event path's struct). The default only fills the unused places of a path.
+/// An item of an event path (DOM Standard, 2.2: path: its struct). The default only fills the unused places of a path.
 #[derive(Clone, Copy, Default)]
 pub struct Item {
     /// The node that is visited.

@@ -1,3 +1,4 @@
+-- Unmarked: own rules, those of the line protocol.
 pub mod Keeping
 pub mod Lines
 pub mod Steps

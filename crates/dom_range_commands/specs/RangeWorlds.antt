@@ -11,7 +11,7 @@ use Rattle.dom_range_ops.specs.Extractions.{ShadowRootsHaveNoParent}
 abbrev pub HasFirstNodes : World → Type 0
 HasFirstNodes w = (o : Owner) → IsThere w o → IsNodeIn (part_of w o).trees (first_node (part_of w o))
 
--- both ends of each live range are at nodes of its owner, which have one root (DOM Standard, 5.3: range's root)
+-- both ends of each live range are at nodes of its owner, which have one root (DOM Standard, 5.5: range's root)
 abbrev pub HasRangeEnds : World → Type 0
 HasRangeEnds w = (o : Owner) → AllByRecursion (EndsIn (part_of w o).trees) (part_of w o).ranges
 

@@ -21,7 +21,7 @@ pub record AreEnds (f : NamedTrees) (points : Points) : Type 0 where
   pub end : points.end.0 < length f.names
   pub one_root : same_root f.trees (name_at f.names points.start.0) (name_at f.names points.end.0) ≡ true
 
--- the text of the contained nodes of some (DOM Standard, Range, stringification behavior)
+-- the text of the contained nodes of some (DOM Standard, 5.5: stringification behavior)
 abbrev pub contained_text : Trees → Range NodeName → List NodeName → DomString
 contained_text ts r xs = flat_map (text_part ts r) (filter (is_contained ts r) xs)
 

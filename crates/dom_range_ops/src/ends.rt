@@ -14,7 +14,7 @@ use dom_ranges::Points;
 use dom_tree::Forest;
 use node_arena::Key;
 
-/// Whether both ends of a range are one boundary point (DOM Standard, concept: range, collapsed), whatever the names of the
+/// Whether both ends of a range are one boundary point (DOM Standard, 5.3: collapsed), whatever the names of the
 /// nodes are that tell them apart.
 pub(crate) fn is_collapsed(points: &Points) -> bool
     ensures { (names : List Name) → (name_at names points.now.start.0 ≡ name_at names points.now.end.0 → points.now.start.0 ≡ points.now.end.0) → result ≡ is_collapsed name_eq (range_at_points names points.now) }

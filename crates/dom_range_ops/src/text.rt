@@ -1,4 +1,4 @@
-//! The text of a live range (DOM Standard, Range, stringification behavior).
+//! The text of a live range (DOM Standard, 5.5: stringification behavior).
 ghost use Rattle.std.specs.Prelude.{◌≡◌, ◌<◌, ◌++◌, length, true, false, is_some, slice_range, IfOk, OnOk};
 ghost use Rattle.std.specs.Option.{ForSome};
 ghost use Rattle.dom_isolation.specs.Bounds.{HasBounds};
@@ -20,7 +20,7 @@ use node_arena::Key;
 use std::alloc::{AllocError, Global};
 
 /// The text of an owner's live range, in code units: the part of its start node, the contained Texts in tree order and the
-/// part of its end node, of which nodes but Texts have none (DOM Standard, Range, stringification behavior). The nodes from
+/// part of its end node, of which nodes but Texts have none (DOM Standard, 5.5: stringification behavior). The nodes from
 /// the start to the end are walked once, by their links. It is refused where memory for the answer is refused.
 pub fn range_text(alloc: Global, doc: &Doc, owner: Owner, number: u32) -> Result<DomStr, AllocError>
     requires there { is_some (range_at (part_of doc.now.world owner) number) ≡ true }

@@ -30,7 +30,7 @@ is_key_before f b c = is_before f.trees (named_boundary f.names b) (named_bounda
 abbrev pub have_one_root : NamedTrees → Boundary ℕ → Boundary ℕ → Bool
 have_one_root f b c = same_root f.trees (name_at f.names b.node) (name_at f.names c.node)
 
--- the range with this start (DOM Standard, concept: range, set the start or end)
+-- the range with this start (DOM Standard, 5.5: set the start or end)
 abbrev pub start_set : NamedTrees → Boundary ℕ → Range ℕ → Range ℕ
 start_set f b r = if have_one_root f b r.end && not (is_key_before f r.end b) then from_to b r.end else from_to b b
 

@@ -1,4 +1,4 @@
-//! Ranges with another start or end (DOM Standard, concept: range, set the start or end).
+//! Ranges with another start or end (DOM Standard, 5.5: set the start or end).
 ghost use Rattle.std.specs.Prelude.{◌≡◌, ◌<◌, length};
 ghost use Rattle.dom_model.specs.Ranges.{at};
 ghost use Rattle.dom_ranges.specs.Tables.{range_from, BothEnds};

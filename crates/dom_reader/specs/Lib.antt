@@ -1,3 +1,4 @@
+-- Unmarked: own rules, those of the line protocol.
 pub mod Views
 pub mod Filters
 pub mod Streams

@@ -1,4 +1,5 @@
 -- The grammar of selectors, as a relation between texts and selectors (CSS Selectors Level 4, 4 and 18, in this project's part).
+-- Unmarked: CSS Selectors Level 4.
 use Rattle.std.specs.Prelude.{◌≡◌, ℕ, true, false, List, [], ◌∷◌, ◌++◌, map, fold, codes}
 use Rattle.std.specs.List.{list_all}
 use Rattle.dom_model.specs.Names.{Word, DomString, is_name, is_empty}

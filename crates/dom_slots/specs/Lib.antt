@@ -1,3 +1,4 @@
+-- Unmarked: own rules, about what the code holds and its contracts say.
 pub mod Hosts
 pub mod Shadows
 pub mod Tables

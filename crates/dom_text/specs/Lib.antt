@@ -1,4 +1,4 @@
--- The text of the line protocol.
+-- The text of the line protocol. Unmarked: own rules, those of the line protocol.
 pub mod Words
 pub mod Lines
 pub mod Tokens

@@ -1,3 +1,4 @@
+-- Unmarked: own rules, about what the code holds and its contracts say.
 pub mod Table
 pub mod Rows
 pub mod Forest

@@ -1,2 +1,3 @@
+-- Unmarked: own rules, those of the line protocol.
 pub mod Gives
 pub mod Strings

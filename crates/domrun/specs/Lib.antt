@@ -1,2 +1,3 @@
+-- Unmarked: own rules, about the program's words and endings.
 pub mod Exits
 pub mod Words

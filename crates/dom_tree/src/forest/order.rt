@@ -77,7 +77,7 @@ impl Forest {
     }
 
     /// The number of code units of a Text or a Comment, and of another node that of its children, which are counted
-    /// (DOM Standard, concept: node length).
+    /// (DOM Standard, 4.2: length).
     pub fn length(&self, key: Key) -> usize
         requires { key < length self.now.names }
         ensures { result ≡ length_of self.now.trees (name_at self.now.names key) }
