@@ -10,3 +10,5 @@ mod printer;
 mod reader;
 #[cfg(test)]
 mod run;
+#[cfg(test)]
+mod session;
