@@ -185,7 +185,7 @@ IsSortedIn-back es first high node n e sorted i j d from le l = sorted i j d le 
 
 module _ (es now : List RangeEnd) (first high node : ℕ) (order : first ≤ high) (within : high ≤ length es) (same : length now ≡ length es) (gathered : AreAt es first high node) (sorted : IsSortedBeside es first high node) where
   -- the ends at the node come before some that stand before them
-  pub IsSortedByNode-earlier : (before : ℕ) → before < first → ((k : ℕ) (d : RangeEnd) → k < before → (get_or es k d).node < node) → ((k : ℕ) (d : RangeEnd) → before ≤ k → k < first → node ≤ (get_or es k d).node)
+  pub IsSortedByNode-earlier : (before : ℕ) → before < first → ((k : ℕ) (d : RangeEnd) → k < before → (get_or es k d).node ≤ node) → ((k : ℕ) (d : RangeEnd) → before ≤ k → k < first → node < (get_or es k d).node)
       → IsTurned es now before first high → IsSortedByNode now
   IsSortedByNode-earlier before some less more turned =
       IsSortedByNode-turned es now before first high (omega arith) order within same turned
@@ -208,8 +208,8 @@ module _ (es now : List RangeEnd) (first high node : ℕ) (order : first ≤ hig
       (λ i j d f g h k. omega (arith, more i d f g, gathered j d h k))
 
   -- the ends at the node come behind some that stand behind them
-  pub IsSortedByNode-later : (behind : ℕ) → high ≤ behind → behind ≤ length es → ((k : ℕ) (d : RangeEnd) → k < first → (get_or es k d).node < node) → ((k : ℕ) (d : RangeEnd) → high ≤ k → k < behind → (get_or es k d).node < node)
-      → ((k : ℕ) (d : RangeEnd) → behind ≤ k → k < length es → node ≤ (get_or es k d).node) → IsTurned es now first high behind → IsSortedByNode now
+  pub IsSortedByNode-later : (behind : ℕ) → high ≤ behind → behind ≤ length es → ((k : ℕ) (d : RangeEnd) → k < first → (get_or es k d).node ≤ node) → ((k : ℕ) (d : RangeEnd) → high ≤ k → k < behind → (get_or es k d).node ≤ node)
+      → ((k : ℕ) (d : RangeEnd) → behind ≤ k → k < length es → node < (get_or es k d).node) → IsTurned es now first high behind → IsSortedByNode now
   IsSortedByNode-later behind from inside less next more turned =
       IsSortedByNode-turned es now first high behind order from inside same turned
       (λ i j d le l off. elim (cases_lt j first) [

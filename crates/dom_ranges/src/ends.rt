@@ -31,21 +31,21 @@ impl Part {
     }
 }
 
-/// Where the ends at a node begin, or would begin, in a part of a list that is sorted there.
+/// Where the ends at a node are at their end, or would be, in a part of a list that is sorted there.
 fn place_in(ends: &[RangeEnd], part: Part, node: Key) -> usize
     requires order { part.first ≤ part.behind }
     requires within { part.behind ≤ length ends.now }
     requires sorted { IsSortedIn ends.now part }
     ensures first { part.first ≤ result }
     ensures behind { result ≤ part.behind }
-    ensures less { (k : ℕ) (d : RangeEnd) → part.first ≤ k → k < result → (slice_index_or ends.now k d).node < node }
-    ensures more { (k : ℕ) (d : RangeEnd) → result ≤ k → k < part.behind → node ≤ (slice_index_or ends.now k d).node }
+    ensures less { (k : ℕ) (d : RangeEnd) → part.first ≤ k → k < result → (slice_index_or ends.now k d).node ≤ node }
+    ensures more { (k : ℕ) (d : RangeEnd) → result ≤ k → k < part.behind → node < (slice_index_or ends.now k d).node }
 {
     let mut low = part.first;
     let mut high = part.behind;
     while low < high {
         let middle = low + (high - low) / 2;
-        if ends[middle].node < node {
+        if ends[middle].node <= node {
             low = middle + 1;
         } else {
             high = middle;
@@ -60,12 +60,8 @@ pub(crate) fn part_of(ends: &[RangeEnd], node: Key) -> Part
     ensures within { result.behind ≤ length ends.now }
     ensures all { (k : ℕ) (d : RangeEnd) → k < length ends.now → (slice_index_or ends.now k d).node ≡ node → is_in result k ≡ true }
 {
-    let whole = Part {
-        first: 0,
-        behind: ends.len(),
-    };
     Part {
-        first: place_in(ends, whole, node),
+        first: ends.partition_point(|end| end.node < node),
         behind: ends.partition_point(|end| end.node <= node),
     }
 }
@@ -102,8 +98,8 @@ fn turn(ends: &mut [RangeEnd], first: usize, middle: usize, behind: usize)
     ends[first..behind].rotate_left(middle - first);
 }
 
-/// Sorts a list that is sorted but for ends from `low` to `high` that are at one node. Only they, and what stands between
-/// them and the place of that node, are moved.
+/// Sorts a list that is sorted but for ends from `low` to `high` that are at one node. They come behind the others there: only they,
+/// and what stands between them and that place, are moved.
 pub(crate) fn settle(ends: &mut [RangeEnd], low: usize, high: usize, node: Key)
     requires within { high ≤ length ends.old }
     requires order { low ≤ high }
@@ -129,7 +125,7 @@ pub(crate) fn settle(ends: &mut [RangeEnd], low: usize, high: usize, node: Key)
     turn(ends, first, high, behind);
 }
 
-/// Where an end stands in a sorted list that has it.
+/// Where an end stands in a sorted list that has it. Of the ends at its node the last ones, which came latest, are looked at first.
 fn find(ends: &[RangeEnd], end: RangeEnd) -> usize
     requires sorted { IsSortedByNode ends.now }
     requires there { IsListedOnce ends.now end }
@@ -137,9 +133,11 @@ fn find(ends: &[RangeEnd], end: RangeEnd) -> usize
     ensures found { (d : RangeEnd) → slice_index_or ends.now result d ≡ end }
 {
     let part = part_of(ends, end.node);
-    for place in part.first..part.behind {
-        if ends[place].slot == end.slot && ends[place].is_end == end.is_end {
-            return place;
+    let mut behind = part.behind;
+    while part.first < behind {
+        behind -= 1;
+        if ends[behind].slot == end.slot && ends[behind].is_end == end.is_end {
+            return behind;
         }
     }
     part.first
