@@ -6,14 +6,16 @@
 //! run's own.
 #![tactic(auto)]
 
-ghost use Rattle.std.specs.Prelude.{◌≡◌};
+ghost use Rattle.std.specs.Prelude.{◌≡◌, true, false, Err};
 ghost use Rattle.domrun.specs.Exits.{status_of, text_of};
 
+mod buffers;
 mod stop;
 #[cfg(test)]
 mod tests;
 mod words;
 
+use crate::buffers::{Input, Keeper, Output};
 use crate::stop::Stop;
 use crate::words::{Request, request_of};
 use dom_base::Owner;
@@ -62,15 +64,33 @@ fn run_request(rt: &HostRuntime, request: Request<'_>) -> Result<(), Stop> {
     }
 }
 
-/// Runs the lines of a reader, and writes to standard output.
+/// Runs the lines of a reader, and writes to standard output, in large pieces where many lines are read at once.
 fn run_reader<R: Read + Drop>(
     rt: &HostRuntime,
     reader: R,
     view: Option<Owner>,
 ) -> Result<(), Stop> {
-    let mut source = FromReader::new(reader);
-    let mut sink = IntoWriter::new(io::writer(rt));
-    run(rt.alloc(), &mut source, &mut sink, view).map_err(Stop::Run)
+    let alloc = rt.alloc();
+    let output = Output::new(alloc, io::writer(rt)).map_err(|_| Stop::Run(RunFault::Memory))?;
+    let input = Input::new(alloc, reader, &output).map_err(|_| Stop::Run(RunFault::Memory))?;
+    let mut source = FromReader::new(input);
+    let mut sink = IntoWriter::new(Keeper::new(&output));
+    let ended = run(alloc, &mut source, &mut sink, view);
+    let is_written = !output.has_failed() && output.hand_on().is_ok();
+    fault_of(ended, is_written).map_err(Stop::Run)
+}
+
+/// How a run has ended, with what came of handing its output on: output that was not taken is a failed write, in whichever
+/// call it was found.
+fn fault_of(ended: Result<(), RunFault>, is_written: bool) -> Result<(), RunFault>
+    ensures written { is_written ≡ true → result ≡ ended }
+    ensures lost { is_written ≡ false → result ≡ Err RunFault.Write }
+{
+    if is_written {
+        ended
+    } else {
+        Err(RunFault::Write)
+    }
 }
 
 /// The exit status of a run, and what is written to standard error, without its line feed; nothing where the text is empty.
