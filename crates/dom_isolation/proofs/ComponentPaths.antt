@@ -1,5 +1,5 @@
 -- The path of an event of a component's node: none of its nodes is the page's, unless the event goes out to the host.
-use Rattle.std.proofs.Common.{eqb, ◌≡◌, ◌≢◌, zero, Bool, true, false, not, ◌&&◌, ◌||◌, List, [], ◌∷◌, ◌++◌, find, filter, flat_map, take_while, Option, Some, None, unwrap_or, map, refl, sym, ap, ◌∙◌, true≢false, subst, append-nil}
+use Rattle.std.proofs.Common.{eqb, ◌≡◌, ◌≢◌, ℕ, zero, Bool, true, false, not, ◌&&◌, ◌||◌, List, [], ◌∷◌, ◌++◌, find, filter, flat_map, take_while, Option, Some, None, unwrap_or, map, refl, sym, ap, ◌∙◌, true≢false, subst, append-nil}
 use Rattle.std.specs.Prelude.{if◌then◌else◌, is_some, option_to_list}
 use Rattle.std.specs.List.{AllByRecursion}
 use Rattle.std.proofs.lemmas.List.Elements.{filter-append}
@@ -16,7 +16,7 @@ use Rattle.dom_isolation.proofs.Lists.{all-append, all-then, all-from, all-flat_
 use Rattle.dom_isolation.proofs.Tests.{by_cases}
 use Rattle.dom_isolation.proofs.Trees.{by_times, ancestors-absent, ancestors-present}
 use Rattle.dom_isolation.proofs.Hiding.{IsInTree, ancestors-in_tree, ancestors-owned, page-not_hidden, in_tree-hidden}
-use Rattle.dom_isolation.proofs.PagePaths.{is_page_node, IsSeen, IsInSome, seen-in_some, in_some-foreign, slot_way, slot_way-in_some, way-seen, way-pages, uncut, view_at-page}
+use Rattle.dom_isolation.proofs.PagePaths.{is_page_node, IsSeen, IsInSome, seen-in_some, in_some-foreign, slot_way, slots-behind, slots-first, slot_way-in_some, way-seen, way-pages, uncut, view_at-page}
 use Rattle.dom_isolation.proofs.Dispatches.{is_page_view}
 
 -- the node is no page node
@@ -24,14 +24,17 @@ abbrev pub Foreign : NodeName → Type 0
 Foreign y = IsForeignTo Page y
 
 -- A way up from a component's node has no page node.
-ways-foreign : (w : World) → IsWorld w → (xs : List NodeName) → AllByRecursion Foreign xs → AllByRecursion Foreign (flat_map (with_slots max_depth w) xs)
-ways-foreign w i [] h = tt
-ways-foreign w i (x ∷ xs) h =
-    (h.0, all-append Foreign (slot_way w x) (flat_map (with_slots max_depth w) xs) (all-then (IsInSome w) Foreign (in_some-foreign w) (slot_way w x) (slot_way-in_some w i x)) (ways-foreign w i xs h.1))
+ways-foreign : (w : World) → IsWorld w → (depth : ℕ) (xs : List NodeName) → AllByRecursion Foreign xs → AllByRecursion Foreign (flat_map (with_slots depth w) xs)
+ways-foreign w i depth [] h = tt
+ways-foreign w i depth (x ∷ xs) h =
+    subst (AllByRecursion Foreign) (sym (slots-first depth w x xs)) (
+      h.0,
+      all-append Foreign (slot_way depth w x) (flat_map (with_slots depth w) xs) (all-then (IsInSome w) Foreign (in_some-foreign w) (slot_way depth w x) (slot_way-in_some depth w i x)) (ways-foreign w i depth xs h.1),
+    )
 
 -- the whole way up
 pub way_up-foreign : (w : World) → IsWorld w → (x : NodeName) → Foreign x → AllByRecursion Foreign (way_up w x)
-way_up-foreign w i x f = ways-foreign w i (ancestors_at w x) (all-then (IsOf x.owner) Foreign (λ y e p. f (sym e ∙ p)) (ancestors_at w x) (ancestors-owned w i x))
+way_up-foreign w i x f = ways-foreign w i max_depth (ancestors_at w x) (all-then (IsOf x.owner) Foreign (λ y e p. f (sym e ∙ p)) (ancestors_at w x) (ancestors-owned w i x))
 
 -- nor has what is left of a list without page nodes
 abbrev pub cut_at : World → NodeName → Option NodeName → List NodeName → List NodeName
@@ -124,7 +127,7 @@ event_path-outward w x host u =
 way_up-in_some : (w : World) → IsWorld w → (x : NodeName) → IsInTree w x.owner x → AllByRecursion (IsInSome w) (way_up w x)
 way_up-in_some w i x t =
     all-flat_map (IsInSome w) (with_slots max_depth w) (ancestors_at w x)
-    (all-then (IsInTree w x.owner) (λ y. AllByRecursion (IsInSome w) (with_slots max_depth w y)) (λ y s. ((x.owner, s), slot_way-in_some w i y)) (ancestors_at w x) (ancestors-in_tree w i x.owner x t))
+    (all-then (IsInTree w x.owner) (λ y. AllByRecursion (IsInSome w) (with_slots max_depth w y)) (λ y s. subst (AllByRecursion (IsInSome w)) (sym (slots-behind max_depth w y)) ((x.owner, s), slot_way-in_some max_depth w i y)) (ancestors_at w x) (ancestors-in_tree w i x.owner x t))
 
 -- the views at page nodes are those of the event at the host
 pub views-outward : (w : World) → IsWorld w → (x host : NodeName) → IsUnder w x host → filter is_page_view (views w x None true) ≡ plain_views (part_of w Page).trees host None
@@ -137,8 +140,8 @@ views-outward w i x host u =
     let pages : filter is_page_node (inner ++ outer) ≡ up =
     filter-append is_page_node inner outer
     ∙ ap (λ xs. xs ++ filter is_page_node outer) (filter_none is_page_node inner (all-then (IsInSome w) (λ y. is_page_node y ≡ false) (λ y t. ne-owner_eq y.owner Page (in_some-foreign w y t)) inner inside))
-    ∙ way-pages w i up owned in
-    let seen = all-append (IsSeen w) inner outer (all-then (IsInSome w) (IsSeen w) (seen-in_some w i) inner inside) (way-seen w i up owned) in
+    ∙ way-pages w i max_depth up owned in
+    let seen = all-append (IsSeen w) inner outer (all-then (IsInSome w) (IsSeen w) (seen-in_some w i) inner inside) (way-seen w i max_depth up owned) in
     let at : (y : NodeName) → y.owner ≡ Page → view_at w x None (inner ++ outer) y ≡ plain_view host None up y =
     λ y e. view_at-page w x host None (inner ++ outer) up y (retarget-under w i x host y u e) refl
     (filter_same (λ z. not (is_hidden_from w y z)) is_page_node (inner ++ outer) (all-then (IsSeen w) (λ z. not (is_hidden_from w y z) ≡ is_page_node z) (λ z s. s y e) (inner ++ outer) seen) ∙ pages) in
@@ -172,5 +175,5 @@ views-related w i x y host u v =
 
     present : ((rest : List NodeName) × (ancestors_at w host ≡ host ∷ rest)) → AllByRecursion Foreign (cut_at w x (Some y) (way_up w x ++ way_up w host))
     present at =
-        subst (λ up. AllByRecursion Foreign (cut_at w x (Some y) (way_up w x ++ flat_map (with_slots max_depth w) up))) (sym at.1)
-        (all-before Foreign (λ z. not (ends_at w x (Some y) z)) (way_up w x) host (slot_way w host ++ flat_map (with_slots max_depth w) at.0) (ap not (ends-at_host w i x y host u v)) (way_up-foreign w i x u.tree.foreign))
+        subst (λ up. AllByRecursion Foreign (cut_at w x (Some y) (way_up w x ++ up))) (sym (ap (flat_map (with_slots max_depth w)) at.1 ∙ slots-first max_depth w host at.0))
+        (all-before Foreign (λ z. not (ends_at w x (Some y) z)) (way_up w x) host (slot_way max_depth w host ++ flat_map (with_slots max_depth w) at.0) (ap not (ends-at_host w i x y host u v)) (way_up-foreign w i x u.tree.foreign))

@@ -1,5 +1,5 @@
 -- Every line keeps the kinds of nodes: no command makes a shadow root, and `attach` makes hosts of elements alone.
-use Rattle.std.proofs.Common.{◌≡◌, ◌≢◌, ℕ, suc, ◌+◌, ◌≤◌, Bool, true, false, not, ◌||◌, List, [], ◌∷◌, ◌++◌, length, find, unwrap_or, Option, Some, None, option_map, refl, sym, ap, ◌∙◌, arith, true≢false, subst}
+use Rattle.std.proofs.Common.{◌≡◌, ◌≢◌, suc, ◌+◌, ◌≤◌, Bool, true, false, not, ◌||◌, List, [], ◌∷◌, ◌++◌, length, find, unwrap_or, Option, Some, None, option_map, refl, sym, ap, ◌∙◌, arith, true≢false, subst}
 use Rattle.std.specs.Prelude.{⊤, nat_lt, is_some}
 use Rattle.std.specs.List.{AllByRecursion}
 use Rattle.std.specs.Option.{option_or}
@@ -13,7 +13,7 @@ use Rattle.dom_base.specs.declared.Kind.TheVariants.{Document, Fragment, Shadow,
 use Rattle.dom_base.specs.declared.Refusal.{Refusal}
 use Rattle.dom_base.specs.declared.Refusal.TheVariants.{NotSupported, Limit}
 use Rattle.dom_base.specs.declared.TheConstants.{MAX_COMPONENTS}
-use Rattle.dom_model.specs.Names.{name_eq, is_in}
+use Rattle.dom_model.specs.Names.{ComponentName, name_eq, is_in}
 use Rattle.dom_model.specs.Tree.{Trees, none, tree, Node, nodes, names_of, node_in, kind_of, children_of, has_node, no_node, is_element, is_text, is_document}
 use Rattle.dom_model.specs.Command.{Command, Line, no_owner, no_command, command, Spelled}
 use Rattle.dom_model.specs.CommandNames.{named, nodes_exist}
@@ -105,7 +105,7 @@ page-rules =
     }
 
 -- The rules of plans, for a component with its shadow root.
-record ComponentKinds (k : ℕ) (p : Part) : Type 0 where
+record ComponentKinds (k : ComponentName) (p : Part) : Type 0 where
   owner : p.owner ≡ Component k
   own : IsOwn (shadow_root_of (Component k)) p
   kinds : HasKinds p
@@ -115,13 +115,13 @@ abbrev MayMake : NodeName → Step → Type 0
 MayMake r s = Allowed r s × MakesNoShadow s
 
 -- a node that is not the shadow root is none
-component-read : (k : ℕ) (p : Part) → ComponentKinds k p → (x : NodeName) → IsOther (shadow_root_of (Component k)) x → (node_in p.trees x).kind ≢ Shadow
+component-read : (k : ComponentName) (p : Part) → ComponentKinds k p → (x : NodeName) → IsOther (shadow_root_of (Component k)) x → (node_in p.trees x).kind ≢ Shadow
 component-read k p i x m =
     let r = shadow_root_of (Component k) in
     read-no_shadow p x i.kinds (λ b. let same : x ≡ r = subst (λ o. MayBeShadow o x) i.owner b in true≢false (sym (name_eq-same r) ∙ ap (λ y. name_eq y r) (sym same) ∙ m))
 
 -- the rules hold
-component-rules : (k : ℕ) → IsKept (ComponentKinds k) (MayMake (shadow_root_of (Component k))) (IsOther (shadow_root_of (Component k)))
+component-rules : (k : ComponentName) → IsKept (ComponentKinds k) (MayMake (shadow_root_of (Component k))) (IsOther (shadow_root_of (Component k)))
 component-rules k =
     let r = shadow_root_of (Component k) in
     let root = shadow-rules r in
@@ -302,7 +302,7 @@ attach-free p x h =
     }
 
 -- a new component's part
-kinds-root : (k : ℕ) (d : Option NodeName) → HasKinds (part_with_root (Component k) Shadow d)
+kinds-root : (k : ComponentName) (d : Option NodeName) → HasKinds (part_with_root (Component k) Shadow d)
 kinds-root k d = record { shadows = ((λ e. refl), tt, tt); hosts = tt; once = λ x. omega arith }
 
 -- attaching keeps the kinds

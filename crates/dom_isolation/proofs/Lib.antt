@@ -21,7 +21,6 @@ pub mod FirstWorld
 pub mod StepKeeps
 pub mod PageRuns
 pub mod PageTexts
-pub mod ForeignNames
 pub mod TreeChangeLaws
 pub mod PartSteps
 pub mod Plans

@@ -1,5 +1,5 @@
 -- Steps in the world keep the tables of all parts, and each signalled slot a node.
-use Rattle.std.proofs.Common.{◌≡◌, ◌≢◌, ◌≤◌, ℕ, Bool, true, false, ◌&&◌, List, [], ◌∷◌, ◌++◌, filter, filter_map, flat_map, find, fold, position, Option, Some, None, option_map, refl, sym, ap, ◌∙◌, arith, true≢false, subst}
+use Rattle.std.proofs.Common.{◌≡◌, ◌≢◌, ◌≤◌, Bool, true, false, ◌&&◌, List, [], ◌∷◌, ◌++◌, filter, filter_map, flat_map, find, fold, position, Option, Some, None, option_map, refl, sym, ap, ◌∙◌, arith, true≢false, subst}
 use Rattle.std.specs.Prelude.{if◌then◌else◌, option_to_list, unwrap_or}
 use Rattle.std.specs.List.{AllByRecursion, cons_option}
 use Rattle.std.specs.Option.{option_and_then}
@@ -7,7 +7,7 @@ use Rattle.std.proofs.lemmas.Bool.{and_parts}
 use Rattle.dom_base.specs.declared.NodeName.{NodeName}
 use Rattle.dom_base.specs.declared.Owner.{Owner}
 use Rattle.dom_base.specs.declared.Owner.TheVariants.{Page, Component}
-use Rattle.dom_model.specs.Names.{DomString, name_eq, owner_eq, node_of, max_depth, is_empty, is_in}
+use Rattle.dom_model.specs.Names.{ComponentName, DomString, name_eq, owner_eq, node_of, max_depth, is_empty, is_in}
 use Rattle.dom_model.specs.Tree.{Trees, Node, nodes, node_in, no_node, subtree, inclusive_descendants, parent_of, is_element}
 use Rattle.dom_model.specs.Part.{Part}
 use Rattle.dom_model.specs.Slots.{is_slot_element, slottable_name, slot_in, slot_of, has_slot_name, assigned, is_changed, is_bare_slot, own_slots, slots_among, other_slots, signals, with_signal}
@@ -257,7 +257,7 @@ no-components w g o n (x ∷ xs) h =
     ap (λ c. cons_option c (filter_map (component_at w) xs)) none_at ∙ no-components w g o n xs h.1
 
 -- so the parts of others alone
-part-documents : (w : World) → Ground w → (k : ℕ) (x d : NodeName) → x.owner ≡ Component k → (v : World) → part_of (fold (with_shadow_document d) v (components_below max_depth w x)) (Component k) ≡ part_of v (Component k)
+part-documents : (w : World) → Ground w → (k : ComponentName) (x d : NodeName) → x.owner ≡ Component k → (v : World) → part_of (fold (with_shadow_document d) v (components_below max_depth w x)) (Component k) ≡ part_of v (Component k)
 part-documents w g k x d e v =
     let o = Component k in
     let ts = trees_with w x in
@@ -267,7 +267,7 @@ part-documents w g k x d e v =
     ap (λ cs. part_of (fold (with_shadow_document d) v cs) o) nothing_below
 
 -- a component's step in its part
-part-component_step : (k : ℕ) (w : World) (s : Step) → Ground w → Fits (part_of w (Component k)) s → part_of (world_step (Component k) w s) (Component k) ≡ part_step (part_of w (Component k)) s
+part-component_step : (k : ComponentName) (w : World) (s : Step) → Ground w → Fits (part_of w (Component k)) s → part_of (world_step (Component k) w s) (Component k) ≡ part_step (part_of w (Component k)) s
 part-component_step k w (place x parent before) g h = let o = Component k in part_of-with_signals w (stepped o w (place x parent before)) x parent true o ∙ part_of-stepped w o (place x parent before)
 part-component_step k w (take_out x) g h = let o = Component k in part_of-with_removal_signals w (stepped o w (take_out x)) x (parent_of (part_of w o).trees x) o ∙ part_of-stepped w o (take_out x)
 part-component_step k w (set_attribute x a v) g h = let o = Component k in part_of-with_signals w (stepped o w (set_attribute x a v)) x x false o ∙ part_of-stepped w o (set_attribute x a v)

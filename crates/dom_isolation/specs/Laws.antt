@@ -1,9 +1,9 @@
 -- The isolation laws, each about one step of the two machines: what the page sees of the document machine is what the page
 -- machine does.
-use Rattle.std.specs.Prelude.{◌≡◌, ◌≢◌, ℕ, Bool, false, List, ◌++◌, filter, fold, map, Option, None, Some, is_some, option_to_list, IsTrue, true}
+use Rattle.std.specs.Prelude.{◌≡◌, ◌≢◌, Bool, false, List, ◌++◌, filter, fold, map, Option, None, Some, is_some, option_to_list, IsTrue, true}
 use Rattle.std.specs.List.{AllByRecursion}
 use Rattle.dom_base.specs.declared.Owner.{Owner}
-use Rattle.dom_base.specs.declared.Owner.TheVariants.{Page, Component}
+use Rattle.dom_base.specs.declared.Owner.TheVariants.{Page}
 use Rattle.dom_base.specs.declared.NodeName.{NodeName}
 use Rattle.dom_base.specs.declared.Kind.TheVariants.{Shadow}
 use Rattle.dom_model.specs.Tree.{has_node}
@@ -95,10 +95,10 @@ PageDispatchAgrees =
 -- one of a component
 abbrev pub ComponentDispatchAgrees : Type 0
 ComponentDispatchAgrees =
-    (w : World) (k : ℕ) → IsQuiet w → (x : Spelled) (e : EventWords) (related : Option Spelled) →
+    (w : World) (o : Owner) → o ≢ Page → IsQuiet w → (x : Spelled) (e : EventWords) (related : Option Spelled) →
     let c = Command.dispatch x e related in
-    part_refusal (part_of w (Component k)) c ≡ None →
-    page_run (perform w (Component k) c) ≡ run_each page_outward (page_of w) (option_to_list (outward_dispatch w (Component k) c))
+    part_refusal (part_of w o) c ≡ None →
+    page_run (perform w o c) ≡ run_each page_outward (page_of w) (option_to_list (outward_dispatch w o c))
 
 -- One notification of a component shows nothing; and the ending of a turn does to the page what its own tasks do.
 abbrev pub NotificationIsUnseen : Type 0
