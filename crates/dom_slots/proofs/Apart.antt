@@ -30,7 +30,7 @@ use Rattle.dom_slots.proofs.Attributed.{parent-changed, changed-keeps}
 use Rattle.dom_slots.proofs.Choices.{third-fails}
 use Rattle.dom_slots.proofs.Ended.{told-signals}
 use Rattle.dom_slots.proofs.Grafts.{Spot, Splits, splits, grafted, root-grafts, root-unparented, below-absent, below-grafts, Has-put_below, Once-without}
-use Rattle.dom_slots.proofs.Moved.{IsAside, Outside, root-aside, moved-keeps}
+use Rattle.dom_slots.proofs.Moved.{AreBoth, IsAside, Outside, root-aside, moved-keeps}
 use Rattle.dom_slots.proofs.OwnSignals.{own-signalled}
 use Rattle.dom_slots.proofs.Rooted.{root-below}
 use Rattle.dom_slots.proofs.Settled.{KeepsAssigned}
@@ -63,11 +63,12 @@ host-key names (g ∷ hosts) nodes r h e = by (name_eq r (name_at names g.root))
 -- a tree that is moved, where both are the same trees with it
 moved_so : (names : List NodeName) (hosts : List ShadowHost) (x : NodeName) (was now : Trees) → IsAside names hosts x was now → (s : Splits was x) → (q : Spot) → now ≡ grafted s.node s.below q (without x was) → KeepsAssigned names hosts x was now
 moved_so names hosts x was now aside s q is =
-    let apart = λ (y : NodeName) (h : Has (without x was) y) (i : Has (tree s.node s.below none) y). without-apart was x y aside.once_was h (subst (λ (ts : Trees). Has ts y) (sym s.alone) i) in
+    let apart = λ (y : NodeName) (h : Has (without x was) y) (i : Has (tree s.node s.below none) y). without-apart was x y aside.both.once_was h (subst (λ (ts : Trees). Has ts y) (sym s.alone) i) in
     subst (λ ts. KeepsAssigned names hosts x ts now) (sym s.whole)
     (subst (KeepsAssigned names hosts x (grafted s.node s.below s.spot (without x was))) (sym is)
     (subst (λ z. KeepsAssigned names hosts z (grafted s.node s.below s.spot (without x was)) (grafted s.node s.below q (without x was))) s.name
     (moved-keeps names hosts s.node s.below (without x was) s.spot q apart
+    (subst (λ ts. AreBoth names hosts ts (grafted s.node s.below q (without x was))) s.whole (subst (AreBoth names hosts was) is aside.both))
     (subst (λ z. IsAside names hosts z (grafted s.node s.below s.spot (without x was)) (grafted s.node s.below q (without x was))) (sym s.name)
     (subst (λ ts. IsAside names hosts x ts (grafted s.node s.below q (without x was))) s.whole (subst (IsAside names hosts x was) is aside))))))
 
@@ -77,21 +78,21 @@ module _ (names : List NodeName) (hosts : List ShadowHost) (x : NodeName) (was n
 
   removal_keeps : now ≡ taken_out x was → KeepsAssigned names hosts x was now
   removal_keeps is =
-      let s = splits was x aside.once_was at_was in
+      let s = splits was x aside.both.once_was at_was in
       let w = root-grafts s.node s.below x rest in
       moved_so names hosts x was now aside s w.0 (is ∙ (ap (λ (ts : Trees). put_root x ts rest) s.alone ∙ w.1))
 
   -- and x has no parent any more
   removal_unparented : now ≡ taken_out x was → parent_of now x ≡ None
   removal_unparented is =
-      let s = splits was x aside.once_was at_was in
-      let off : Has rest s.node.name → ⊥ = λ h. without-apart was x s.node.name aside.once_was h (subst (λ (ts : Trees). Has ts s.node.name) (sym s.alone) (inl refl)) in
+      let s = splits was x aside.both.once_was at_was in
+      let off : Has rest s.node.name → ⊥ = λ h. without-apart was x s.node.name aside.both.once_was h (subst (λ (ts : Trees). Has ts s.node.name) (sym s.alone) (inl refl)) in
       ap (λ (ts : Trees). parent_of ts x) (is ∙ ap (λ (ts : Trees). put_root x ts rest) s.alone)
       ∙ subst (λ z. parent_of (put_root x (tree s.node s.below none) rest) z ≡ None) s.name (root-unparented s.node s.below x rest off)
 
   module _ (parent : NodeName) (before : Option NodeName) (is : now ≡ placed x parent before was) where
     abbrev split : Splits was x
-    split = splits was x aside.once_was at_was
+    split = splits was x aside.both.once_was at_was
 
     now_is : now ≡ put_below parent before (tree split.node split.below none) rest
     now_is = is ∙ ap (λ (ts : Trees). put_below parent before ts rest) split.alone
@@ -102,12 +103,12 @@ module _ (names : List NodeName) (hosts : List ShadowHost) (x : NodeName) (was n
       | inl h ↦ h
       | inr off ↦
           let gone : now ≡ rest = now_is ∙ below-absent split.node split.below parent before rest off in
-          absurd (without-apart was x x aside.once_was (subst (λ (ts : Trees). Has ts x) gone at_now) (subst (λ (ts : Trees). Has ts x) (sym split.alone) (inl split.name)))
+          absurd (without-apart was x x aside.both.once_was (subst (λ (ts : Trees). Has ts x) gone at_now) (subst (λ (ts : Trees). Has ts x) (sym split.alone) (inl split.name)))
     ]
 
     place_keeps : KeepsAssigned names hosts x was now
     place_keeps =
-        let w = below-grafts split.node split.below parent before rest (Once-without was x aside.once_was) parent_there in
+        let w = below-grafts split.node split.below parent before rest (Once-without was x aside.both.once_was) parent_there in
         moved_so names hosts x was now aside split w.0 (now_is ∙ w.1)
 
     -- and is in no shadow tree
@@ -115,8 +116,8 @@ module _ (names : List NodeName) (hosts : List ShadowHost) (x : NodeName) (was n
     parent_unhosted at =
         let below : Has (subtree now parent) x =
         subst (λ z. Has (subtree now parent) z) split.name
-        (subst (λ (ts : Trees). Has (subtree ts parent) split.node.name) (sym now_is) (Has-put_below split.node split.below parent before rest (Once-without was x aside.once_was) parent_there)) in
-        ap (host_named names hosts) (sym (root-below now aside.once_now parent x at below)) ∙ root-aside names hosts x was now aside at_now
+        (subst (λ (ts : Trees). Has (subtree ts parent) split.node.name) (sym now_is) (Has-put_below split.node split.below parent before rest (Once-without was x aside.both.once_was) parent_there)) in
+        ap (host_named names hosts) (sym (root-below now aside.both.once_now parent x at below)) ∙ root-aside names hosts x was now aside at_now
 
 -- other attributes are another node of the same name
 attribute_name : (a : Word) (v : Option DomString) (n : Node) → (with_attribute a v n).name ≡ n.name
@@ -155,12 +156,14 @@ module _ (was : Trees) (f : NamedTrees) (s : SlotsNow) (b : BegunStep) (ended : 
 
   aside_from : Outside f.names s.hosts f.trees (parent_of was x) → IsAside f.names s.hosts x was f.trees
   aside_from left = record {
-    once_was = Once-forest record { names = f.names; trees = was } ended.stands.once ended.stands.only;
-    once_now = Once-forest f stands.once stands.only;
+    both = record {
+      once_was = Once-forest record { names = f.names; trees = was } ended.stands.once ended.stands.only;
+      once_now = Once-forest f stands.once stands.only;
+      stands = hosts_stand;
+    };
     node = tests.0;
     left = left;
     parent = tests.2;
-    stands = hosts_stand;
   }
 
   abbrev At : Step → NodeName
@@ -200,7 +203,7 @@ module _ (was : Trees) (f : NamedTrees) (s : SlotsNow) (b : BegunStep) (ended : 
           let same : parent_of f.trees z ≡ parent_of was z = ap (λ ts. parent_of ts z) is.2 ∙ parent-changed z g (attribute_name is.0 is.1) was z in
           let a = subst (IsAside f.names s.hosts z was) is.2 (aside (subst (Outside f.names s.hosts f.trees) same up)) in (
             subst (KeepsAssigned f.names s.hosts z was) (sym is.2)
-                (changed-keeps z g (attribute_name is.0 is.1) f.names s.hosts was a (there_was y nodes) (subst (λ (ts : Trees). Has ts z) is.2 (there_now y nodes))),
+                (changed-keeps z g (attribute_name is.0 is.1) f.names s.hosts was a.both a (there_was y nodes) (subst (λ (ts : Trees). Has ts z) is.2 (there_now y nodes))),
             λ k e. refl,
             λ e. absurd (none-some y (sym e)),
           )

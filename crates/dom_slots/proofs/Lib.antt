@@ -21,4 +21,6 @@ pub mod Grafts
 pub mod Settled
 pub mod Moved
 pub mod Attributed
+pub mod Looks
+pub mod Far
 pub mod Apart
