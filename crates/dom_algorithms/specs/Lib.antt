@@ -1,0 +1,2 @@
+-- What contracts see of the algorithms.
+pub mod Observing
