@@ -25,7 +25,7 @@ use Rattle.dom_tree_laws.proofs.Once.{name_found, once_forest, once_own}
 -- ---- an owner's part
 
 -- both counts of a name in trees
-times_same : (ts : Trees) (x : NodeName) → Rattle.dom_tree.proofs.Once.times_in ts x ≡ times_in ts x
+pub times_same : (ts : Trees) (x : NodeName) → Rattle.dom_tree.proofs.Once.times_in ts x ≡ times_in ts x
 times_same none x = times_in-none x
 times_same (tree n c r) x =
     let a = times_in-tree n c r x in let b = times_same c x in let d = times_same r x in
