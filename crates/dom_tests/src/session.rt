@@ -35,5 +35,4 @@ fn want_of_memory_is_final(rt: HostRuntime) {
             }
         }
     }
-    assert!(rt; session.line(b"p docof n1").is_ok());
 }
