@@ -1,0 +1,118 @@
+"""The public calls of crates/*/src, and the definitions of crates/*/specs that the contract of each leads to.
+
+A contract leads to the definitions that its `ensures` clauses name, and to those that these name in their turn. A definition is known by
+its crate, its file and its name, as the `use` lines have it.
+"""
+import os
+import re
+from dataclasses import dataclass
+
+import sources
+
+USE = re.compile(r"\s*(?:ghost )?use Rattle\.(\w+)\.specs\.(\w+)(?:\.\{(.*)\}| as (\w+))")
+WORD = re.compile(r"(?:(\w+)\.)?([A-Za-z_]\w*)")
+CALL = re.compile(r"( *)pub fn (\w+)")
+OWNER = re.compile(r"impl(?:<[^>]*>)? (?:.* for )?(\w+)")
+HEAD = re.compile(r"(?: *(?:abbrev|unfoldable|opaque) )?(?:pub )?(?:(?:record|data) )?([A-Za-z_]\w*)[ :({]")
+
+
+@dataclass
+class Call:
+    """A public call: its crate, its file, its name with its type's or else its crate's in front, and the words of its `ensures` clauses."""
+
+    crate: str
+    path: str
+    name: str
+    words: set
+
+
+def lines_of(path):
+    """The lines of a file of the repository."""
+    with open(os.path.join(sources.ROOT, path), encoding="utf-8") as file:
+        return file.read().split("\n")
+
+
+def uses_of(lines):
+    """What the names stand for that a file brings in: definitions by their crate, file and name, and files by their crate and name."""
+    found = {}
+    for match in filter(None, map(USE.match, lines)):
+        crate, file, names, alias = match.groups()
+        if alias:
+            found[alias] = (crate, file)
+        for part in (names or "").split(", "):
+            name, _, other = part.partition(" as ")
+            found[other or name] = (crate, file, name)
+    return found
+
+
+def named_in(text, uses, here):
+    """The definitions that a text names, by what its file brings in, or else by `here`, the crate and the file of the text."""
+    found = set()
+    for front, name in WORD.findall(text):
+        if len(uses.get(front, ())) == 2:
+            found.add((*uses[front], name))
+        elif len(uses.get(name, ())) == 3:
+            found.add(uses[name])
+        elif here and name not in uses:
+            found.add((*here, name))
+    return found
+
+
+def calls_in(crate, path):
+    """The public calls of a file."""
+    found, owner, indent = [], None, None
+    lines = lines_of(path)
+    uses = uses_of(lines)
+    for line in lines:
+        owner = OWNER.match(line)[1] if OWNER.match(line) else None if line == "}" else owner
+        match = CALL.match(line)
+        if match:
+            indent = match[1]
+            found.append(Call(crate, path, f"{owner if indent else crate}::{match[2]}", set()))
+        if indent is not None and line.strip().startswith("ensures"):
+            found[-1].words |= named_in(line, uses, None)
+        if indent is not None and (line in (indent + "{", indent + "}") or line.endswith("{}")):
+            indent = None
+    return found
+
+
+def all_calls():
+    """Every public call of crates/*/src, by its name; where two have one name, both."""
+    found = {}
+    for crate in sources.crates():
+        for path in sources.files_below(f"crates/{crate}/src", ".rt"):
+            for call in calls_in(crate, path):
+                found.setdefault(call.name, []).append(call)
+    return found
+
+
+def definitions_named(path, here):
+    """What each definition of a file of specs names."""
+    found, name = {}, None
+    lines = lines_of(path)
+    uses = uses_of(lines)
+    for line in lines:
+        match = HEAD.match(line)
+        if match and not line.startswith(("use ", "--", "infix")):
+            name = match[1]
+        if name and not line.startswith("--"):
+            found.setdefault((*here, name), set()).update(named_in(line, uses, here) - {(*here, name)})
+    return found
+
+
+def all_named():
+    """What each definition of crates/*/specs names."""
+    found = {}
+    for crate in sources.crates():
+        for path in sources.files_below(f"crates/{crate}/specs", ".antt"):
+            found |= definitions_named(path, (crate, os.path.basename(path)[:-len(".antt")]))
+    return found
+
+
+def led_to(call, named):
+    """The definitions that the contract of a call leads to."""
+    found, ahead = set(), set(call.words)
+    while ahead:
+        found |= ahead
+        ahead = {other for one in ahead for other in named.get(one, ())} - found
+    return found
