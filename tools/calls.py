@@ -13,17 +13,25 @@ USE = re.compile(r"\s*(?:ghost )?use Rattle\.(\w+)\.specs\.(\w+)(?:\.\{(.*)\}| a
 WORD = re.compile(r"(?:(\w+)\.)?([A-Za-z_]\w*)")
 CALL = re.compile(r"( *)pub fn (\w+)")
 OWNER = re.compile(r"impl(?:<[^>]*>)? (?:.* for )?(\w+)")
+CLAUSE = re.compile(r"\s*ensures\*?(?: (\w+))? \{")
 HEAD = re.compile(r"(?: *(?:abbrev|unfoldable|opaque) )?(?:pub )?(?:(?:record|data) )?([A-Za-z_]\w*)[ :({]")
 
 
 @dataclass
 class Call:
-    """A public call: its crate, its file, its name with its type's or else its crate's in front, and the words of its `ensures` clauses."""
+    """A public call: its crate, its file, its name with its type's or else its crate's in front, the names of its `ensures` clauses, and
+    the definitions that these name."""
 
     crate: str
     path: str
     name: str
+    clauses: set
     words: set
+
+    def link(self, folder):
+        """A link to the call from a page in a folder of the repository: its file below src/ and its name, to that file."""
+        file = self.path.removeprefix(f"crates/{self.crate}/src/")
+        return f"[`{file}: {self.name}`]({os.path.relpath(os.path.join(sources.ROOT, self.path), folder)})"
 
 
 def lines_of(path):
@@ -68,8 +76,10 @@ def calls_in(crate, path):
         match = CALL.match(line)
         if match:
             indent = match[1]
-            found.append(Call(crate, path, f"{owner if indent else crate}::{match[2]}", set()))
-        if indent is not None and line.strip().startswith("ensures"):
+            found.append(Call(crate, path, f"{owner if indent else crate}::{match[2]}", set(), set()))
+        clause = CLAUSE.match(line)
+        if indent is not None and clause:
+            found[-1].clauses.add(clause[1])
             found[-1].words |= named_in(line, uses, None)
         if indent is not None and (line in (indent + "{", indent + "}") or line.endswith("{}")):
             indent = None

@@ -3,7 +3,9 @@ import os
 
 import references
 import sections
+import sources
 
+FOLDER = os.path.join(sources.ROOT, "docs")
 HEAD = """# The DOM Standard, section by section
 
 For whoever knows the DOM Standard and asks where one of its algorithms stands here, what is proved of it, and what is not here at all.
@@ -47,7 +49,7 @@ def rows(names, number, by_name, known):
     for name, shown in names.items():
         if shown:
             call, example = shown
-            cells = [name, definition_links(by_name[(number, name)]), link(call, known[call][0].path)]
+            cells = [name, definition_links(by_name[(number, name)]), known[call][0].link(FOLDER)]
             found.append(f"| {' | '.join(cells)} | {link(os.path.basename(example), f'examples/{example}.in')} |")
     return found
 
