@@ -9,7 +9,7 @@ from dataclasses import dataclass
 
 import sources
 
-USE = re.compile(r"\s*(?:ghost )?use Rattle\.(\w+)\.specs\.(\w+)(?:\.\{(.*)\}| as (\w+))")
+USE = re.compile(r"\s*(?:ghost |pub )?use Rattle\.(\w+)\.specs\.(\w+)(?:\.\{(.*)\}| as (\w+))")
 WORD = re.compile(r"(?:(\w+)\.)?([A-Za-z_]\w*)")
 CALL = re.compile(r"( *)pub fn (\w+)")
 OWNER = re.compile(r"impl(?:<[^>]*>)? (?:.* for )?(\w+)")
@@ -97,13 +97,15 @@ def all_calls():
 
 
 def definitions_named(path, here):
-    """What each definition of a file of specs names."""
-    found, name = {}, None
+    """What each definition of a file of specs names, and what those stand for that the file hands on."""
+    name = None
     lines = lines_of(path)
     uses = uses_of(lines)
+    handed_on = uses_of([line for line in lines if line.startswith("pub use ")])
+    found = {(*here, name): {what} for name, what in handed_on.items() if len(what) == 3}
     for line in lines:
         match = HEAD.match(line)
-        if match and not line.startswith(("use ", "--", "infix")):
+        if match and not line.startswith(("use ", "pub use ", "--", "infix")):
             name = match[1]
         if name and not line.startswith("--"):
             found.setdefault((*here, name), set()).update(named_in(line, uses, here) - {(*here, name)})
