@@ -4,6 +4,7 @@ ghost use Rattle.node_arena.specs.Nodes.{IsInclusiveAncestor};
 
 use node_arena::{Arena, Key};
 use std::alloc::{AllocError, Global};
+use std::cell::Cell;
 use std::process::Abort;
 use std::test::Fail;
 
@@ -318,5 +319,32 @@ fn payloads_go_with_the_arena(rt: HostRuntime) -> Result<(), Fail> {
         let key = arena.add(payload)?;
         assert_eq!(rt; arena.payload(key).as_slice(), [number].as_slice());
     }
+    Ok(())
+}
+
+// A payload that counts how often payloads were dropped.
+struct Counted<'a> {
+    drops: &'a Cell<u32>,
+}
+
+impl Drop for Counted<'_> {
+    fn drop(self) {
+        let Counted { drops } = self;
+        drops.set(drops.get().wrapping_add(1));
+    }
+}
+
+#[test]
+fn each_payload_is_dropped_once_with_its_arena(rt: HostRuntime) -> Result<(), Fail> {
+    let drops = Cell::new(0);
+    let mut arena = Arena::new(rt.alloc());
+    let root = arena.add(Counted { drops: &drops })?;
+    for _ in 0..999 {
+        let child = arena.add(Counted { drops: &drops })?;
+        link(&rt, &mut arena, root, child, None);
+    }
+    assert_eq!(rt; drops.get(), 0);
+    drop(arena);
+    assert_eq!(rt; drops.get(), 1000);
     Ok(())
 }
