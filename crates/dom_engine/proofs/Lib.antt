@@ -6,3 +6,4 @@ pub mod PieceLaws
 pub mod ReadLaws
 pub mod PageRuns
 pub mod PagePrefixes
+mod ForeignLines

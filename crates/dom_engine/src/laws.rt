@@ -1,4 +1,8 @@
 //! Laws of runs, over the definitions that the contract of `run` cites. They make no calls.
+ghost use Rattle.std.specs.Prelude.{ℕ, List};
+ghost use Rattle.dom_model.specs.Command.{Line};
+ghost use Rattle.dom_model.specs.Isolation.{SamePage};
+ghost use Rattle.dom_engine.specs.Session.{ForeignLinesAreRefused};
 ghost use Rattle.dom_engine.specs.PageLaws.{PageTextIsThePageMachines, SamePageText, PageSeesLinesNamed, PageSeesPrefix};
 
 /// What a run writes with the page's view is the page machine's output on the trace of the lines read, where no component
@@ -7,9 +11,11 @@ pub fn page_text()
     ensures { PageTextIsThePageMachines }
 {}
 
-/// Two inputs with equal traces have equal text of the page, where no component listener stops or cancels.
+/// Two scripts with equal traces give the page equal output, where no component listener stops or cancels: lists of lines, by
+/// whatever reading, and the text that runs of two inputs write with the page's view.
 pub fn same_page()
-    ensures { SamePageText }
+    ensures lines { (read : List ℕ → Line) → SamePage read }
+    ensures text { SamePageText }
 {}
 
 /// What a fault leaves of a run, where no component listener of its lines stops or cancels: on `Read`, `Memory` and `InputLimit` the
@@ -19,4 +25,11 @@ pub fn same_page()
 pub fn page_prefix()
     ensures lines { PageSeesLinesNamed }
     ensures prefix { PageSeesPrefix }
+{}
+
+/// A line, the page's or a component's, whose command names another owner's node is refused (own rule): as `busy` where it is a
+/// component's and the page's turn is open, else as `foreign`. Nothing changes but that another component's open turn ends.
+/// `Session::line` answers just so.
+pub fn law_foreign_lines()
+    ensures { ForeignLinesAreRefused }
 {}

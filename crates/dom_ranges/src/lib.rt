@@ -3,11 +3,13 @@
 
 mod change;
 mod ends;
+mod laws;
 mod moving;
 mod numbers;
 mod order;
 mod setting;
 mod table;
 
+pub use laws::law_keys_stand_for_names;
 pub use order::is_before;
 pub use table::{Points, RangeTable};

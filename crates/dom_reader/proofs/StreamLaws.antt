@@ -1,12 +1,11 @@
 -- Laws of lines that come in pieces: whatever the pieces, the lines are those of the whole stream.
 use Rattle.std.proofs.Common.{◌≡◌, ℕ, zero, suc, ◌+◌, ◌-◌, ◌≤◌, Bool, true, false, eqb, List, [], ◌∷◌, ◌++◌, length, take, map, min, refl, sym, ap, ◌∙◌, append_assoc, arith, inl, inr}
-use Rattle.std.specs.List.{flat_map}
 use Rattle.std.proofs.lemmas.Bool.{cases_lt}
 use Rattle.std.proofs.lemmas.List.{map-append, length-append, length-take, take_all}
 use Rattle.std.proofs.Math.Seq.{take-append-add}
 use Rattle.dom_text.specs.Lines.{line_feed, lines_of, Cut, byte_before, cut_of, last_line, max_line, kept_line}
 use Rattle.dom_text.proofs.LineLaws.{lines_of-cut, cut_of-pieces}
-use Rattle.dom_reader.specs.Streams.{IsOneLine, kept_cut, fed, after_lines, fed_all, IsKept}
+use Rattle.dom_reader.specs.Streams.{IsOneLine, kept_cut, fed, after_lines, fed_all, stream_of, IsKept}
 
 -- ---- what is kept of a line
 
@@ -143,10 +142,6 @@ fed-pieces kept first second =
     ∙ ap kept_cut (cut_of-pieces (kept ++ first) second)
     ∙ kept_after (cut_of (kept ++ first)).finished (cut_of ((cut_of (kept ++ first)).rest ++ second))
     ∙ ap (after_lines (fed kept first).finished) (sym (fed-kept (cut_of (kept ++ first)).rest second (rest-one_line (kept ++ first))))
-
--- the bytes of pieces
-abbrev pub stream_of : List (List ℕ) → List ℕ
-stream_of pieces = flat_map (λ piece. piece) pieces
 
 -- no bytes leave what is kept as it is
 pub fed-none : (kept : List ℕ) → IsKept kept → fed kept [] ≡ record { finished = []; rest = kept }

@@ -1,7 +1,7 @@
 -- Lines as they are kept while their bytes come in pieces.
 use Rattle.std.specs.Prelude.{◌≡◌, ℕ, ◌+◌, ◌≤◌, ◌==◌, false, List, [], ◌∷◌, map, take, ◌++◌, length}
-use Rattle.std.specs.List.{AllByRecursion}
-use Rattle.dom_text.specs.Lines.{line_feed, max_line, Cut, cut_of, kept_line}
+use Rattle.std.specs.List.{AllByRecursion, flat_map}
+use Rattle.dom_text.specs.Lines.{line_feed, max_line, Cut, cut_of, kept_line, last_line, lines_of}
 
 -- a cut as it is kept: of each line, and of the rest, as much as is kept of a line
 abbrev pub kept_cut : Cut → Cut
@@ -14,6 +14,10 @@ fed kept piece = kept_cut (cut_of (kept ++ piece))
 -- a cut behind finished lines
 abbrev pub after_lines : List (List ℕ) → Cut → Cut
 after_lines lines cut = record { finished = lines ++ cut.finished; rest = cut.rest }
+
+-- pieces one after another
+abbrev pub stream_of : List (List ℕ) → List ℕ
+stream_of pieces = flat_map (λ piece. piece) pieces
 
 -- what pieces make of the bytes that are kept, one fed after the other
 abbrev pub fed_all : List ℕ → List (List ℕ) → Cut
@@ -32,3 +36,13 @@ IsOneLine bytes = AllByRecursion (λ b. (b == line_feed) ≡ false) bytes
 pub record IsKept (bytes : List ℕ) : Type 0 where
   pub one_line : IsOneLine bytes
   pub short : length bytes ≤ max_line + 1
+
+-- pieces fed one after another make of the bytes that are kept what their stream makes of them in one piece
+abbrev pub PiecesAreTheirStream : Type 0
+PiecesAreTheirStream = (kept : List ℕ) (pieces : List (List ℕ)) → IsKept kept → fed_all kept pieces ≡ fed kept (stream_of pieces)
+
+-- from a new splitter on, with its last line behind them, they complete the lines of their stream, as they are kept
+abbrev pub PiecesGiveTheirLines : Type 0
+PiecesGiveTheirLines =
+    (pieces : List (List ℕ)) →
+    (fed_all [] pieces).finished ++ last_line (fed_all [] pieces).rest ≡ map kept_line (lines_of (stream_of pieces))

@@ -5,6 +5,7 @@
 mod commands;
 mod filters;
 mod keywords;
+mod laws;
 mod line;
 mod lookup;
 mod nodes;
@@ -22,6 +23,7 @@ use dom_words::NotRead;
 pub use line::{
     Command, EventWords, Filter, Line, ListenerWords, NameFilter, ObserveWords, Show, Spelled,
 };
+pub use laws::law_pieces;
 pub use nodes::owner_of;
 pub use splitter::Splitter;
 use std::alloc::{AllocError, Global};
