@@ -38,9 +38,9 @@ find_else p f (g ∷ hosts) h e = by (p g) refl (find_else p f hosts h)
     by false i deeper = ap (λ (b : Bool). option_map f (if b then Some g else find p (hosts ++ h ∷ []))) i ∙ deeper (sym (ap (λ (b : Bool). option_map f (if b then Some g else find p hosts)) i) ∙ e)
 
 -- nothing is found where no slot is
-no_slot : (name : DomString) (ns : List Node) → names_of (filter is_slot_element ns) ≡ [] → option_map (λ (n : Node). n.name) (find (has_slot_name name) ns) ≡ None
-no_slot name [] e = refl
-no_slot name (n ∷ ns) e = by (is_slot_element n) refl (no_slot name ns)
+pub no-slot_named : (name : DomString) (ns : List Node) → names_of (filter is_slot_element ns) ≡ [] → option_map (λ (n : Node). n.name) (find (has_slot_name name) ns) ≡ None
+no-slot_named name [] e = refl
+no-slot_named name (n ∷ ns) e = by (is_slot_element n) refl (no-slot_named name ns)
   where
     by : (b : Bool) → is_slot_element n ≡ b → (names_of (filter is_slot_element ns) ≡ [] → option_map (λ (m : Node). m.name) (find (has_slot_name name) ns) ≡ None) → option_map (λ (m : Node). m.name) (find (has_slot_name name) (n ∷ ns)) ≡ None
     by true i deeper = let off : n.name ∷ names_of (filter is_slot_element ns) ≡ [] = sym (ap (λ (b : Bool). names_of (if b then n ∷ filter is_slot_element ns else filter is_slot_element ns)) i) ∙ e in cc
@@ -61,7 +61,7 @@ module _ (names : List NodeName) (ts : Trees) (hosts : List ShadowHost) (h : Sha
     where
       by : (o : Option DomString) → option_and_then (λ name. option_map (λ (m : Node). m.name) (find (has_slot_name name) (nodes (subtree ts (name_at names h.root))))) o ≡ None
       by None = refl
-      by (Some name) = no_slot name (nodes (subtree ts (name_at names h.root))) bare
+      by (Some name) = no-slot_named name (nodes (subtree ts (name_at names h.root))) bare
 
   from_root : (n : Node) (p : NodeName) → option_and_then (λ r. slot_in (subtree ts r) n) (root_named names (hosts ++ h ∷ []) p) ≡ option_and_then (λ r. slot_in (subtree ts r) n) (root_named names hosts p)
   from_root n p = by (root_named names hosts p) refl
@@ -105,7 +105,7 @@ module _ (names : List NodeName) (ts : Trees) (hosts : List ShadowHost) (h : Sha
 
 -- ---- nothing is assigned to a node of a tree without slots
 
-in_filter : (q : NodeName → Bool) (y : NodeName) (xs : List NodeName) → In y (filter q xs) → (q y ≡ true) × In y xs
+pub in_filter : (q : NodeName → Bool) (y : NodeName) (xs : List NodeName) → In y (filter q xs) → (q y ≡ true) × In y xs
 in_filter q y [] i = absurd i
 in_filter q y (x ∷ xs) i = by (q x) refl (in_filter q y xs)
   where
@@ -113,7 +113,7 @@ in_filter q y (x ∷ xs) i = by (q x) refl (in_filter q y xs)
     by true e deeper = elim (subst (In y) (filter-yes q x xs e) i) [ inl same ↦ (ap q same ∙ e, inl same) | inr j ↦ let d = deeper j in (d.0, inr d.1) ]
     by false e deeper = let d = deeper (subst (In y) (filter-no q x xs e) i) in (d.0, inr d.1)
 
-to_filter : (q : NodeName → Bool) (y : NodeName) (xs : List NodeName) → q y ≡ true → In y xs → In y (filter q xs)
+pub to_filter : (q : NodeName → Bool) (y : NodeName) (xs : List NodeName) → q y ≡ true → In y xs → In y (filter q xs)
 to_filter q y [] e i = i
 to_filter q y (x ∷ xs) e (inl same) = subst (In y) (sym (filter-yes q x xs (ap q (sym same) ∙ e))) (inl same)
 to_filter q y (x ∷ xs) e (inr i) = by (q x) refl (to_filter q y xs e i)

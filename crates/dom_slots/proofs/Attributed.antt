@@ -11,16 +11,16 @@ use Rattle.dom_traversal.proofs.Lists.{name_eq-true, name_eq-other}
 use Rattle.dom_traversal.proofs.Shapes.{Has, has_or_not}
 use Rattle.dom_slots.specs.Hosts.{ShadowHost, host_named}
 use Rattle.dom_slots.proofs.Grafts.{others}
-use Rattle.dom_slots.proofs.Moved.{IsAside, root-aside}
+use Rattle.dom_slots.proofs.Moved.{AreBoth, IsAside, root-aside}
 use Rattle.dom_slots.proofs.Recast.{nodes_recast, path_recast, subtree_recast, children_recast, found_recast}
 use Rattle.dom_slots.proofs.Rooted.{root-within}
 use Rattle.dom_slots.proofs.Settled.{IsSettled, KeepsHosts, KeepsAssigned, assigned-unhosted, assigned-settled}
 
 module _ (x : NodeName) (g : Node → Node) (keeps : (n : Node) → (g n).name ≡ n.name) where
-  abbrev changed : Node → Node
+  abbrev pub changed : Node → Node
   changed n = if name_eq n.name x then g n else n
 
-  changed_name : (n : Node) → (changed n).name ≡ n.name
+  pub changed_name : (n : Node) → (changed n).name ≡ n.name
   changed_name n = by (name_eq n.name x)
     where
       by : (b : Bool) → (if b then g n else n).name ≡ n.name
@@ -44,38 +44,43 @@ module _ (x : NodeName) (g : Node → Node) (keeps : (n : Node) → (g n).name �
     | inr e ↦ rw e (found_off y other ns)
   ]
 
-  node_off : (ts : Trees) (y : NodeName) → (y ≡ x → ⊥) → node_in (change_node g x ts) y ≡ node_in ts y
+  pub node_off : (ts : Trees) (y : NodeName) → (y ≡ x → ⊥) → node_in (change_node g x ts) y ≡ node_in ts y
   node_off ts y other =
       let named : Node → Bool = λ n. name_eq n.name y in
       ap (λ ns. unwrap_or (find named ns) (no_node y)) (nodes_recast changed changed_name ts)
       ∙ ap (λ o. unwrap_or o (no_node y)) (found_recast changed changed_name named (λ n. ap (λ z. name_eq z y) (changed_name n)) (nodes ts) ∙ found_off y other (nodes ts))
 
-  module _ (names : List NodeName) (hosts : List ShadowHost) (was : Trees) (aside : IsAside names hosts x was (change_node g x was)) (at_was : Has was x) (at_now : Has (change_node g x was) x) where
+  module _ (names : List NodeName) (hosts : List ShadowHost) (was : Trees) (both : AreBoth names hosts was (change_node g x was)) where
     abbrev now : Trees
     now = change_node g x was
 
-    root_same : (y : NodeName) → root_of was y ≡ root_of now y
+    pub root_same : (y : NodeName) → root_of was y ≡ root_of now y
     root_same y = ap (λ path. unwrap_or (last_of path) y) (sym (path_recast changed changed_name was y))
 
-    settled : (y : NodeName) → Has was y → IsSettled was now y ⊎ ((host_named names hosts (root_of was y) ≡ None) × (host_named names hosts (root_of now y) ≡ None))
-    settled y h = elim (has_or_not (subtree was (root_of was y)) x) [
-      | inl i ↦
-          let none_was : host_named names hosts (root_of was y) ≡ None =
-          ap (host_named names hosts) (sym (root-within was aside.once_was y x h i) ∙ root_same x) ∙ root-aside names hosts x was now aside at_now in
-          inr (none_was, ap (host_named names hosts) (sym (root_same y)) ∙ none_was)
-      | inr away ↦ inl record { root = root_same y; tree = sym (subtree_recast changed changed_name was (root_of was y) ∙ changed_off (subtree was (root_of was y)) away) }
-    ]
+    -- a node stays in its tree where x does not stand in it
+    pub changed-settled : (y : NodeName) → (Has (subtree was (root_of was y)) x → ⊥) → IsSettled was now y
+    changed-settled y away = record { root = root_same y; tree = sym (subtree_recast changed changed_name was (root_of was y) ∙ changed_off (subtree was (root_of was y)) away) }
 
-    keeps_hosts : KeepsHosts names hosts x was now
+    pub keeps_hosts : KeepsHosts names hosts x was now
     keeps_hosts = record {
-      stands = aside.stands;
+      stands = both.stands;
       children = λ r h e. ap (others x) (sym (children_recast changed changed_name was h));
       contents = λ r h c e i j other. sym (node_off was c other);
     }
 
-    -- all that is assigned to others stays
-    pub changed-keeps : KeepsAssigned names hosts x was now
-    changed-keeps y h k not_was not_now = elim (settled y h) [
-      | inl s ↦ assigned-settled names hosts was now aside.once_was aside.once_now y h k s x keeps_hosts not_was not_now
-      | inr e ↦ assigned-unhosted names hosts was now aside.once_was aside.once_now y e.0 e.1
-    ]
+    module _ (aside : IsAside names hosts x was (change_node g x was)) (at_was : Has was x) (at_now : Has (change_node g x was) x) where
+      settled : (y : NodeName) → Has was y → IsSettled was now y ⊎ ((host_named names hosts (root_of was y) ≡ None) × (host_named names hosts (root_of now y) ≡ None))
+      settled y h = elim (has_or_not (subtree was (root_of was y)) x) [
+        | inl i ↦
+            let none_was : host_named names hosts (root_of was y) ≡ None =
+            ap (host_named names hosts) (sym (root-within was both.once_was y x h i) ∙ root_same x) ∙ root-aside names hosts x was now aside at_now in
+            inr (none_was, ap (host_named names hosts) (sym (root_same y)) ∙ none_was)
+        | inr away ↦ inl (changed-settled y away)
+      ]
+
+      -- all that is assigned to others stays
+      pub changed-keeps : KeepsAssigned names hosts x was now
+      changed-keeps y h k not_was not_now = elim (settled y h) [
+        | inl s ↦ assigned-settled names hosts was now both.once_was both.once_now y h k s x keeps_hosts not_was not_now
+        | inr e ↦ assigned-unhosted names hosts was now both.once_was both.once_now y e.0 e.1
+      ]

@@ -1,34 +1,38 @@
--- What the end of a step signals, from the tables before and after it.
-use Rattle.std.proofs.Common.{◌≡◌, ℕ, ◌<◌, Bool, not, List, [], Some, map, length, refl, sym, ap, subst, ◌∙◌}
-use Rattle.std.specs.Option.{option_map, option_map_or}
+-- What the end of a step signals, and what stands before and after it.
+use Rattle.std.proofs.Common.{◌≡◌, ℕ, ◌<◌, Bool, true, false, not, List, [], ◌∷◌, ◌++◌, None, Some, map, length, refl, sym, ap, subst, ◌∙◌, true≢false}
+use Rattle.std.specs.Prelude.{find, if◌then◌else◌, option_to_list}
+use Rattle.std.specs.Option.{option_map, option_map_or, option_and_then}
+use Rattle.std.proofs.lemmas.Bool.{or_parts, true_from_ne_false}
+use Rattle.std.proofs.lemmas.List.Elements.{All-nil}
+use Rattle.std.proofs.lemmas.List.Folds.{list_any-append}
+use Rattle.std.proofs.lemmas.Option.{same_Some, none-some, get_or_from_slice_get, slice_get_within}
 use Rattle.dom_base.specs.declared.NodeName.{NodeName}
-use Rattle.dom_model.specs.Names.{name_eq, list_eq}
-use Rattle.dom_model.specs.Tree.{Trees}
+use Rattle.dom_base.specs.declared.Owner.TheVariants.{Page}
+use Rattle.dom_model.specs.Names.{name_eq, is_in, list_eq, node_of}
+use Rattle.dom_model.specs.Slots.{slot_in, slots_among}
+use Rattle.dom_model.specs.Tree.{Trees, node_in, has_node, subtree, parent_of}
 use Rattle.dom_tree.specs.Forest.{NamedTrees, name_at}
-use Rattle.dom_slots.specs.Hosts.{ShadowHost}
-use Rattle.dom_slots.specs.Kept.{BegunStep, SlotsNow, AreSlotsOf, IsBegun, IsEndOf}
-use Rattle.dom_slots.specs.Shadows.{shadows, shadow_trees, slot_at, assigned_at, is_changed_at, signalled_by}
+use Rattle.dom_traversal.proofs.Counts.{Once-forest, Has-forest}
+use Rattle.dom_traversal.proofs.Lists.{In}
+use Rattle.dom_traversal.proofs.Shapes.{Has}
+use Rattle.dom_slots.specs.Hosts.{ShadowHost, HostsAreNodes, host_named}
+use Rattle.dom_slots.specs.Insides.{own_slots}
+use Rattle.dom_slots.specs.Kept.{BegunStep, SlotsNow, StandsOnce, AreSlotsOf, IsBegun, IsEndOf}
+use Rattle.dom_slots.specs.Renewals.{AreRenewed}
+use Rattle.dom_slots.specs.Shadows.{ShadowTrees, shadows, shadow_trees, slot_at, assigned_at, is_assigned_at, is_changed_at, signalled_by}
 use Rattle.dom_slots.specs.Steps.{StepHasNodes, IsStepFrom, step_node, around_of, is_move, left_by, step_signals}
 use Rattle.dom_slots.specs.declared.step.Step.{Step}
 use Rattle.dom_slots.specs.declared.step.Step.TheVariants.{Place, Removal, Attribute}
-use Rattle.dom_slots.specs.Tables.{SlotTable, list_of, has_other_list, IsTableOf}
-use Rattle.dom_slots.proofs.Hosted.{AreDistinct}
-use Rattle.dom_slots.proofs.Signalled.{list_eq-named}
+use Rattle.dom_slots.specs.Tables.{SlotTable, list_of, IsTableOf}
+use Rattle.dom_slots.proofs.Moved.{AreBoth}
+use Rattle.dom_slots.proofs.Signalled.{list_eq-self}
+use Rattle.dom_slots.proofs.Within.{slots-within}
 
 -- the node of a step is a node
 pub node-within : (names : List NodeName) (step : Step) → StepHasNodes names step → step_node step < length names
 node-within names (Place x parent before) nodes = nodes.0
 node-within names (Removal x) nodes = nodes
 node-within names (Attribute x) nodes = nodes
-
--- tables differ at a node just where what is assigned to it does
-pub changed-told : (f : NamedTrees) (apart : AreDistinct f.names) (hosts : List ShadowHost) (was : Trees) (old new : SlotTable)
-    → IsTableOf record { names = f.names; trees = was } hosts old → IsTableOf f hosts new → (k : ℕ) → k < length f.names
-    → is_changed_at (shadow_trees f.names was hosts) (shadows f hosts) (name_at f.names k) ≡ has_other_list old new k
-changed-told f apart hosts was old new before after k node =
-    sym (ap not (list_eq-named f.names apart (list_of old k) (list_of new k) (before.nodes k) (after.nodes k)
-    ∙ (ap (λ xs. list_eq name_eq xs (map (name_at f.names) (list_of new k))) (before.lists k node)
-    ∙ ap (list_eq name_eq (assigned_at (shadow_trees f.names was hosts) (name_at f.names k))) (after.lists k node))))
 
 -- what is signalled around a node, by the tables
 abbrev pub told_by : NamedTrees → List ShadowHost → (NodeName → Bool) → BegunStep → List NodeName
@@ -62,3 +66,96 @@ step-ends old new before after step b names nodes slots hosts table begun is mov
       slots = record { hosts = slots.hosts; table = slots.table };
     } in
     subst (λ f. IsEndOf old.trees f after b) (sym there) (subst (λ s. IsEndOf old.trees here s b) (sym its) done)
+
+-- ---- hosts are nodes
+
+host-key : (names : List NodeName) (hosts : List ShadowHost) → HostsAreNodes names hosts → (r h : NodeName) → host_named names hosts r ≡ Some h → (k : ℕ) × (k < length names) × (name_at names k ≡ h)
+host-key names [] nodes r h e = absurd (none-some h e)
+host-key names (g ∷ hosts) nodes r h e = by (name_eq r (name_at names g.root)) e (host-key names hosts nodes.2 r h)
+  where
+    by : (b : Bool) → option_map (λ (k : ShadowHost). name_at names k.host) (if b then Some g else find (λ k. name_eq r (name_at names k.root)) hosts) ≡ Some h
+        → (host_named names hosts r ≡ Some h → (k : ℕ) × (k < length names) × (name_at names k ≡ h)) → (k : ℕ) × (k < length names) × (name_at names k ≡ h)
+    by true is deeper = (g.host, nodes.0, same_Some (name_at names g.host) h is)
+    by false is deeper = deeper is
+
+-- ---- before and after a step
+
+module _ (was : Trees) (f : NamedTrees) (s : SlotsNow) (b : BegunStep) (ended : IsEndOf was f s b) (stands : StandsOnce f) where
+  abbrev x : NodeName
+  x = name_at f.names (step_node b.step)
+
+  abbrev before : ShadowTrees
+  before = shadow_trees f.names was s.hosts
+
+  abbrev after : ShadowTrees
+  after = shadows f s.hosts
+
+  abbrev own : List NodeName
+  own = own_slots f s.hosts b.slot b.step
+
+  abbrev pub is-other : NodeName → Bool
+  is-other = is_changed_at before after
+
+  pub there-was : (k : ℕ) → k < length f.names → Has was (name_at f.names k)
+  there-was k within = Has-forest record { names = f.names; trees = was } ended.stands.once k within
+
+  pub there-now : (k : ℕ) → k < length f.names → Has f.trees (name_at f.names k)
+  there-now k within = Has-forest f stands.once k within
+
+  pub both-stand : AreBoth f.names s.hosts was f.trees
+  both-stand = record {
+    once_was = Once-forest record { names = f.names; trees = was } ended.stands.once ended.stands.only;
+    once_now = Once-forest f stands.once stands.only;
+    stands = λ r h e. let w = host-key f.names s.hosts ended.slots.hosts r h e in (subst (Has was) w.2 (there-was w.0 w.1), subst (Has f.trees) w.2 (there-now w.0 w.1));
+  }
+
+  -- what is none of the own slots had the node not assigned to it, and has not
+  pub not-own : (y : NodeName) → is_in name_eq y own ≡ false → (is_assigned_at before y x ≡ false) × (is_assigned_at after y x ≡ false)
+  not-own y other =
+      let parts : (is_in name_eq y (option_to_list (option_map (name_at f.names) b.slot)) ≡ false) × (is_in name_eq y (option_to_list (slot_at after x)) ≡ false) =
+      or_parts _ _ (sym (list_any-append (name_eq y) (option_to_list (option_map (name_at f.names) b.slot)) (option_to_list (slot_at after x))) ∙ other) in
+      (ap (λ o. is_in name_eq y (option_to_list o)) (sym ended.slot) ∙ parts.0, parts.1)
+
+  -- a node that had no parent and has none has no own slots
+  pub none-own : parent_of was x ≡ None → parent_of f.trees x ≡ None → own ≡ []
+  none-own up_was up_now =
+      let none_was : option_to_list (option_map (name_at f.names) b.slot) ≡ [] =
+      ap option_to_list (ended.slot ∙ ap (λ o. option_and_then (λ r. slot_in (subtree was r) (node_in was x)) (option_and_then before.shadow_of o)) up_was) in
+      let none_now : option_to_list (slot_at after x) ≡ [] = ap (λ o. option_to_list (option_and_then (λ r. slot_in (subtree f.trees r) (node_in f.trees x)) (option_and_then after.shadow_of o))) up_now in
+      ap (λ ys. ys ++ option_to_list (slot_at after x)) none_was ∙ none_now
+
+  -- before the first list is renewed
+  pub none-renewed : AreRenewed f s.hosts is-other s.table [] [] s.table []
+  none-renewed = record {
+    others = λ k within. ap (λ xs. not (list_eq name_eq xs (assigned_at after (name_at f.names k)))) (sym (ended.slots.table.lists k within));
+    renewed = λ k within i. absurd (true≢false (sym i));
+    kept = λ k within i. refl;
+    nodes = ended.slots.table.nodes;
+    beyond = ended.slots.table.beyond;
+    keys_nodes = All-nil (λ k. k < length f.names);
+    keys_are = refl;
+    among = λ y i. absurd (true≢false (sym i));
+  }
+
+  -- where what is assigned to all but these slots stays
+  module _ (slots : List NodeName) (stays : (k : ℕ) → k < length f.names → is_in name_eq (name_at f.names k) slots ≡ false → assigned_at before (name_at f.names k) ≡ assigned_at after (name_at f.names k)) where
+    -- those whose nodes are others are among them
+    other-among : (y : NodeName) → has_node f.trees y ≡ true → is-other y ≡ true → is_in name_eq y slots ≡ true
+    other-among y h other =
+        let found = stands.only y h in
+        let named : name_at f.names found.0 ≡ y = get_or_from_slice_get f.names found.0 y (node_of Page 0) found.1 in
+        true_from_ne_false (is_in name_eq y slots)
+        (λ off. true≢false (sym other ∙ (subst (λ z. is-other z ≡ false) named
+        (ap (λ xs. not (list_eq name_eq xs (assigned_at after (name_at f.names found.0)))) (stays found.0 (slice_get_within f.names found.0 y found.1) (ap (λ z. is_in name_eq z slots) named ∙ off))
+        ∙ ap not (list_eq-self (assigned_at after (name_at f.names found.0)))))))
+
+    pub others-among : (top y : NodeName) → In y (slots_among (subtree f.trees top)) → is-other y ≡ true → is_in name_eq y slots ≡ true
+    others-among top y i = slots-within (λ u. is-other u ≡ true → is_in name_eq u slots ≡ true) f.trees other-among top y i
+
+    -- where the lists of these are renewed the table is that of the trees now
+    pub renewed-table : (told : List NodeName) (table : SlotTable) (keys : List ℕ) → AreRenewed f s.hosts is-other s.table slots told table keys → IsTableOf f s.hosts table
+    renewed-table told table keys r = record { nodes = r.nodes; lists = λ k within. by k within (is_in name_eq (name_at f.names k) slots) refl; beyond = r.beyond }
+      where
+        by : (k : ℕ) → k < length f.names → (b : Bool) → is_in name_eq (name_at f.names k) slots ≡ b → map (name_at f.names) (list_of table k) ≡ assigned_at after (name_at f.names k)
+        by k within true i = r.renewed k within i
+        by k within false i = ap (map (name_at f.names)) (r.kept k within i) ∙ (ended.slots.table.lists k within ∙ stays k within i)

@@ -10,7 +10,7 @@ pub mod Signalled
 pub mod Entering
 pub mod Ended
 pub mod OwnSignals
-pub mod Unchanged
+pub mod Within
 pub mod Renewing
 pub mod Hostless
 pub mod Attaching
@@ -21,4 +21,8 @@ pub mod Grafts
 pub mod Settled
 pub mod Moved
 pub mod Attributed
+pub mod Looks
+pub mod Far
+pub mod Stepping
 pub mod Apart
+pub mod Inside

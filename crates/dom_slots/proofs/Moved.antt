@@ -17,14 +17,18 @@ use Rattle.dom_slots.proofs.Settled.{IsSettled, KeepsHosts, KeepsAssigned, assig
 abbrev pub Outside : List NodeName → List ShadowHost → Trees → Option NodeName → Type 0
 Outside names hosts ts o = (p : NodeName) → o ≡ Some p → host_named names hosts (root_of ts p) ≡ None
 
--- a step of x that is made outside of shadow trees
-pub record IsAside (names : List NodeName) (hosts : List ShadowHost) (x : NodeName) (was now : Trees) : Type 0 where
+-- trees before and after a step: each node stands once, and the hosts are nodes of both
+pub record AreBoth (names : List NodeName) (hosts : List ShadowHost) (was now : Trees) : Type 0 where
   pub once_was : Once was
   pub once_now : Once now
+  pub stands : (r h : NodeName) → host_named names hosts r ≡ Some h → Has was h × Has now h
+
+-- a step of x that is made outside of shadow trees
+pub record IsAside (names : List NodeName) (hosts : List ShadowHost) (x : NodeName) (was now : Trees) : Type 0 where
+  pub both : AreBoth names hosts was now
   pub node : host_named names hosts x ≡ None
   pub left : Outside names hosts now (parent_of was x)
   pub parent : Outside names hosts now (parent_of now x)
-  pub stands : (r h : NodeName) → host_named names hosts r ≡ Some h → Has was h × Has now h
 
 -- the root of x has no host afterwards
 pub root-aside : (names : List NodeName) (hosts : List ShadowHost) (x : NodeName) (was now : Trees) → IsAside names hosts x was now → Has now x → host_named names hosts (root_of now x) ≡ None
@@ -32,7 +36,7 @@ root-aside names hosts x was now aside at = by (parent_of now x) refl
   where
     by : (o : Option NodeName) → parent_of now x ≡ o → host_named names hosts (root_of now x) ≡ None
     by None e = ap (host_named names hosts) (root-alone now x at e) ∙ aside.node
-    by (Some p) e = ap (host_named names hosts) (root-parent now aside.once_now x p at e) ∙ aside.parent p e
+    by (Some p) e = ap (host_named names hosts) (root-parent now aside.both.once_now x p at e) ∙ aside.parent p e
 
 -- the node of a name is the root of its tree
 node-of_tree : (ts : Trees) → Once ts → (c : NodeName) → Has ts c → (n : Node) × (b : Trees) × (subtree ts c ≡ tree n b none) × (node_in ts c ≡ n)
@@ -51,7 +55,7 @@ not-below ts once x p h e i =
     omega (arith, long, ap (length {A = NodeName}) up.0)
 
 module _ (names : List NodeName) (hosts : List ShadowHost) (m : Node) (d us : Trees) (p q : Spot) (apart : (y : NodeName) → Has us y → Has (tree m d none) y → ⊥)
-    (aside : IsAside names hosts m.name (grafted m d p us) (grafted m d q us)) where
+    (both : AreBoth names hosts (grafted m d p us) (grafted m d q us)) where
   abbrev was : Trees
   was = grafted m d p us
 
@@ -62,54 +66,15 @@ module _ (names : List NodeName) (hosts : List ShadowHost) (m : Node) (d us : Tr
   x = m.name
 
   -- the tree of x in both
-  own_tree : (spot : Spot) → subtree (grafted m d spot us) x ≡ tree m d none
+  pub own_tree : (spot : Spot) → subtree (grafted m d spot us) x ≡ tree m d none
   own_tree spot = tree-own m d spot us x (λ h. apart x h (inl refl)) ∙ subtree-here m d none x refl
 
   in_own : (spot : Spot) (y : NodeName) → Has (tree m d none) y → Has (subtree (grafted m d spot us) x) y
   in_own spot y h = subst (λ (ts : Trees). Has ts y) (sym (own_tree spot)) h
 
   -- other nodes have the roots that they had
-  root_same : (y : NodeName) → (Has (tree m d none) y → ⊥) → root_of was y ≡ root_of now y
+  pub root_same : (y : NodeName) → (Has (tree m d none) y → ⊥) → root_of was y ≡ root_of now y
   root_same y off = ap (λ path. unwrap_or (last_of path) y) (above-others m d p us y off ∙ sym (above-others m d q us y off))
-
-  -- the root of x had no host before
-  root_was : host_named names hosts (root_of was x) ≡ None
-  root_was = by (parent_of was x) refl
-    where
-      by : (o : Option NodeName) → parent_of was x ≡ o → host_named names hosts (root_of was x) ≡ None
-      by None e = ap (host_named names hosts) (root-alone was x (Has-grafted m d p us) e) ∙ aside.node
-      by (Some a) e =
-          let off : Has (tree m d none) a → ⊥ = λ h. not-below was aside.once_was x a (Has-grafted m d p us) e (in_own p a h) in
-          ap (host_named names hosts) (root-parent was aside.once_was x a (Has-grafted m d p us) e ∙ root_same a off) ∙ aside.left a e
-
-  root_now : host_named names hosts (root_of now x) ≡ None
-  root_now = root-aside names hosts x was now aside (Has-grafted m d q us)
-
-  -- each node stays in its tree, or it is in no shadow tree
-  placed_so : (y : NodeName) → Has was y → Has now y → IsSettled was now y ⊎ ((host_named names hosts (root_of was y) ≡ None) × (host_named names hosts (root_of now y) ≡ None))
-  placed_so y h g = elim (has_or_not (tree m d none) y) [
-    | inl i ↦ inr (
-      ap (host_named names hosts) (root-below was aside.once_was x y (Has-grafted m d p us) (in_own p y i)) ∙ root_was,
-      ap (host_named names hosts) (root-below now aside.once_now x y (Has-grafted m d q us) (in_own q y i)) ∙ root_now,
-    )
-    | inr off ↦ elim (has_or_not (subtree was (root_of was y)) x) [
-      | inl i ↦
-          let none_was : host_named names hosts (root_of was y) ≡ None = ap (host_named names hosts) (sym (root-within was aside.once_was y x h i)) ∙ root_was in
-          inr (none_was, ap (host_named names hosts) (sym (root_same y off)) ∙ none_was)
-      | inr away ↦ elim (has_or_not (subtree now (root_of was y)) x) [
-        | inl i ↦
-            let none_now : host_named names hosts (root_of now y) ≡ None =
-            ap (host_named names hosts) (sym (root-within now aside.once_now y x g (subst (λ z. Has (subtree now z) x) (root_same y off) i))) ∙ root_now in
-            inr (ap (host_named names hosts) (root_same y off) ∙ none_now, none_now)
-        | inr away_now ↦
-            let top : Has (tree m d none) (root_of was y) → ⊥ = λ i.
-            let same : root_of was (root_of was y) ≡ root_of was x = root-below was aside.once_was x (root_of was y) (Has-grafted m d p us) (in_own p (root_of was y) i) in
-            let root_is : root_of was x ≡ root_of was y = sym same ∙ root-of_root was aside.once_was y h in
-            away (subst (λ z. Has (subtree was z) x) root_is (in-tree_of_root was aside.once_was x (Has-grafted m d p us))) in
-            inl record { root = root_same y off; tree = tree-others m d p us (root_of was y) top away ∙ sym (tree-others m d q us (root_of was y) top away_now) }
-      ]
-    ]
-  ]
 
   -- ---- hosts
 
@@ -129,10 +94,10 @@ module _ (names : List NodeName) (hosts : List ShadowHost) (m : Node) (d us : Tr
   alike_roots n k b c none e f = absurd e
   alike_roots n k b c (tree l a t) e f = e.0 ∙ sym f.0
 
-  contents_same : (y : NodeName) → Has was y → Has now y → node_in was y ≡ node_in now y
+  pub contents_same : (y : NodeName) → Has was y → Has now y → node_in was y ≡ node_in now y
   contents_same y h g =
-      let v = node-of_tree was aside.once_was y h in
-      let w = node-of_tree now aside.once_now y g in
+      let v = node-of_tree was both.once_was y h in
+      let w = node-of_tree now both.once_now y g in
       v.3 ∙ (elim (has_or_not (tree m d none) y) [
         | inl i ↦ root_of_both v.0 w.0 v.1 w.1 (sym v.2 ∙ ((let off : Has us y → ⊥ = λ j. apart y j i in tree-own m d p us y off ∙ sym (tree-own m d q us y off)) ∙ w.2))
         | inr off ↦
@@ -147,18 +112,100 @@ module _ (names : List NodeName) (hosts : List ShadowHost) (m : Node) (d us : Tr
       root_of_both : (n k : Node) (b c : Trees) → tree n b none ≡ tree k c none → n ≡ k
       root_of_both n k b c e = ap first_root e
 
-  keeps_hosts : KeepsHosts names hosts x was now
+  pub keeps_hosts : KeepsHosts names hosts x was now
   keeps_hosts = record {
-    stands = aside.stands;
+    stands = both.stands;
     children = λ r h e. children_same h;
     contents = λ r h c e i j other.
-        let at = aside.stands r h e in
-        contents_same c (parent-of_child was h c aside.once_was at.0 i).1 (parent-of_child now h c aside.once_now at.1 j).1;
+        let at = both.stands r h e in
+        contents_same c (parent-of_child was h c both.once_was at.0 i).1 (parent-of_child now h c both.once_now at.1 j).1;
   }
 
-  -- so all that is assigned to others stays
-  pub moved-keeps : KeepsAssigned names hosts x was now
-  moved-keeps y h g not_was not_now = elim (placed_so y h g) [
-    | inl s ↦ assigned-settled names hosts was now aside.once_was aside.once_now y h g s x keeps_hosts not_was not_now
-    | inr e ↦ assigned-unhosted names hosts was now aside.once_was aside.once_now y e.0 e.1
-  ]
+  -- a node stays in its tree where x neither stood nor stands in it
+  settled_so : (y : NodeName) → Has was y → (Has (tree m d none) y → ⊥) → (Has (subtree was (root_of was y)) x → ⊥) → (Has (subtree now (root_of was y)) x → ⊥) → IsSettled was now y
+  settled_so y h off away away_now =
+      let top : Has (tree m d none) (root_of was y) → ⊥ = λ i.
+      let same : root_of was (root_of was y) ≡ root_of was x = root-below was both.once_was x (root_of was y) (Has-grafted m d p us) (in_own p (root_of was y) i) in
+      let root_is : root_of was x ≡ root_of was y = sym same ∙ root-of_root was both.once_was y h in
+      away (subst (λ z. Has (subtree was z) x) root_is (in-tree_of_root was both.once_was x (Has-grafted m d p us))) in
+      record { root = root_same y off; tree = tree-others m d p us (root_of was y) top away ∙ sym (tree-others m d q us (root_of was y) top away_now) }
+
+  -- so it is where it stands in the tree of neither parent
+  pub moved-settled : (y : NodeName) → Has was y → Has now y → (Has (subtree now x) y → ⊥) → ((a : NodeName) → parent_of was x ≡ Some a → Has (subtree now (root_of now a)) y → ⊥)
+      → ((a : NodeName) → parent_of now x ≡ Some a → Has (subtree now (root_of now a)) y → ⊥) → IsSettled was now y
+  moved-settled y h g away left parent = settled_so y h off (before (parent_of was x) refl) (after (parent_of now x) refl)
+    where
+      off : Has (tree m d none) y → ⊥
+      off i = away (in_own q y i)
+
+      own_root : Has (subtree now (root_of now y)) y
+      own_root = in-tree_of_root now both.once_now y g
+
+      before : (o : Option NodeName) → parent_of was x ≡ o → Has (subtree was (root_of was y)) x → ⊥
+      before None e i =
+          let same : root_of was y ≡ x = sym (root-within was both.once_was y x h i) ∙ root-alone was x (Has-grafted m d p us) e in
+          off (subst (λ (ts : Trees). Has ts y) (own_tree p) (subst (λ z. Has (subtree was z) y) same (in-tree_of_root was both.once_was y h)))
+      before (Some a) e i =
+          let apart_from : Has (tree m d none) a → ⊥ = λ k. not-below was both.once_was x a (Has-grafted m d p us) e (in_own p a k) in
+          let same : root_of now y ≡ root_of now a =
+          sym (root_same y off) ∙ (sym (root-within was both.once_was y x h i) ∙ (root-parent was both.once_was x a (Has-grafted m d p us) e ∙ root_same a apart_from)) in
+          left a e (subst (λ z. Has (subtree now z) y) same own_root)
+
+      after : (o : Option NodeName) → parent_of now x ≡ o → Has (subtree now (root_of was y)) x → ⊥
+      after None e i =
+          let same : root_of now y ≡ x = sym (root-within now both.once_now y x g (subst (λ z. Has (subtree now z) x) (root_same y off) i)) ∙ root-alone now x (Has-grafted m d q us) e in
+          away (subst (λ z. Has (subtree now z) y) same own_root)
+      after (Some a) e i =
+          let same : root_of now y ≡ root_of now a =
+          sym (root-within now both.once_now y x g (subst (λ z. Has (subtree now z) x) (root_same y off) i)) ∙ root-parent now both.once_now x a (Has-grafted m d q us) e in
+          parent a e (subst (λ z. Has (subtree now z) y) same own_root)
+
+  -- the nodes of a tree that had no parent and has none stay in it
+  pub alone-settled : (y : NodeName) → Has (subtree now x) y → parent_of was x ≡ None → parent_of now x ≡ None → IsSettled was now y
+  alone-settled y i e f =
+      let own : Has (tree m d none) y = subst (λ (ts : Trees). Has ts y) (own_tree q) i in
+      let before : root_of was y ≡ x = root-below was both.once_was x y (Has-grafted m d p us) (in_own p y own) ∙ root-alone was x (Has-grafted m d p us) e in
+      let after : root_of now y ≡ x = root-below now both.once_now x y (Has-grafted m d q us) i ∙ root-alone now x (Has-grafted m d q us) f in
+      record { root = before ∙ sym after; tree = ap (subtree was) before ∙ (own_tree p ∙ (sym (own_tree q) ∙ sym (ap (subtree now) before))) }
+
+  module _ (aside : IsAside names hosts m.name (grafted m d p us) (grafted m d q us)) where
+    -- the root of x had no host before
+    root_was : host_named names hosts (root_of was x) ≡ None
+    root_was = by (parent_of was x) refl
+      where
+        by : (o : Option NodeName) → parent_of was x ≡ o → host_named names hosts (root_of was x) ≡ None
+        by None e = ap (host_named names hosts) (root-alone was x (Has-grafted m d p us) e) ∙ aside.node
+        by (Some a) e =
+            let off : Has (tree m d none) a → ⊥ = λ h. not-below was both.once_was x a (Has-grafted m d p us) e (in_own p a h) in
+            ap (host_named names hosts) (root-parent was both.once_was x a (Has-grafted m d p us) e ∙ root_same a off) ∙ aside.left a e
+
+    root_now : host_named names hosts (root_of now x) ≡ None
+    root_now = root-aside names hosts x was now aside (Has-grafted m d q us)
+
+    -- each node stays in its tree, or it is in no shadow tree
+    placed_so : (y : NodeName) → Has was y → Has now y → IsSettled was now y ⊎ ((host_named names hosts (root_of was y) ≡ None) × (host_named names hosts (root_of now y) ≡ None))
+    placed_so y h g = elim (has_or_not (tree m d none) y) [
+      | inl i ↦ inr (
+        ap (host_named names hosts) (root-below was both.once_was x y (Has-grafted m d p us) (in_own p y i)) ∙ root_was,
+        ap (host_named names hosts) (root-below now both.once_now x y (Has-grafted m d q us) (in_own q y i)) ∙ root_now,
+      )
+      | inr off ↦ elim (has_or_not (subtree was (root_of was y)) x) [
+        | inl i ↦
+            let none_was : host_named names hosts (root_of was y) ≡ None = ap (host_named names hosts) (sym (root-within was both.once_was y x h i)) ∙ root_was in
+            inr (none_was, ap (host_named names hosts) (sym (root_same y off)) ∙ none_was)
+        | inr away ↦ elim (has_or_not (subtree now (root_of was y)) x) [
+          | inl i ↦
+              let none_now : host_named names hosts (root_of now y) ≡ None =
+              ap (host_named names hosts) (sym (root-within now both.once_now y x g (subst (λ z. Has (subtree now z) x) (root_same y off) i))) ∙ root_now in
+              inr (ap (host_named names hosts) (root_same y off) ∙ none_now, none_now)
+          | inr away_now ↦ inl (settled_so y h off away away_now)
+        ]
+      ]
+    ]
+
+    -- so all that is assigned to others stays
+    pub moved-keeps : KeepsAssigned names hosts x was now
+    moved-keeps y h g not_was not_now = elim (placed_so y h g) [
+      | inl s ↦ assigned-settled names hosts was now both.once_was both.once_now y h g s x keeps_hosts not_was not_now
+      | inr e ↦ assigned-unhosted names hosts was now both.once_was both.once_now y e.0 e.1
+    ]

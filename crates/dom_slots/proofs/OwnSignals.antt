@@ -2,7 +2,6 @@
 use Rattle.std.proofs.Common.{◌≡◌, inl, inr, Bool, true, false, ◌||◌, List, [], ◌∷◌, ◌++◌, fold, filter, refl, sym, ap, ◌∙◌, true≢false}
 use Rattle.std.specs.Prelude.{if◌then◌else◌}
 use Rattle.std.proofs.lemmas.Bool.{or_left, or_right}
-use Rattle.std.proofs.lemmas.List.{append-nil}
 use Rattle.std.proofs.lemmas.List.Folds.{list_any-append}
 use Rattle.std.proofs.lemmas.List.Sums.{fold-append}
 use Rattle.dom_base.specs.declared.NodeName.{NodeName}
@@ -60,13 +59,13 @@ passes p y (x ∷ xs) i e = by (p x) refl i (passes p y xs)
     by false h (inl same) deeper = absurd (true≢false (sym e ∙ (ap p same ∙ h)))
     by false h (inr j) deeper = deeper j e
 
--- where the node around is not signalled for itself, and all that pass are own slots, the own slots alone are signalled
-pub own-signalled : (p : NodeName → Bool) (own bare others : List NodeName) → bare ≡ [] → ((y : NodeName) → In y others → p y ≡ true → is_in name_eq y own ≡ true)
-    → distinct name_eq (filter p own ++ bare ++ filter p others) ≡ distinct name_eq (filter p own)
-own-signalled p own bare others none all =
-    ap (λ ys. distinct name_eq (filter p own ++ ys ++ filter p others)) none
-    ∙ (ap (λ ys. distinct name_eq (ys ++ filter p others)) (append-nil (filter p own))
-    ∙ (sym (fold-distinct (filter p own ++ filter p others))
-    ∙ (again_added (filter p own) (filter p others)
-    (λ y i. let w = passing p y others i in is_in-from y (filter p own) (passes p y own (In-from y own (all y w.0 w.1)) w.1))
-    ∙ fold-distinct (filter p own))))
+-- where all others that pass are own slots, they add nothing
+pub own-signalled : (p : NodeName → Bool) (own bare others : List NodeName) → ((y : NodeName) → In y others → p y ≡ true → is_in name_eq y own ≡ true)
+    → distinct name_eq (filter p own ++ bare ++ filter p others) ≡ distinct name_eq (filter p own ++ bare)
+own-signalled p own bare others all =
+    sym (fold-distinct ((filter p own ++ bare) ++ filter p others))
+    ∙ (again_added (filter p own ++ bare) (filter p others)
+    (λ y i.
+    let w = passing p y others i in
+    list_any-append (name_eq y) (filter p own) bare ∙ or_left (is_in name_eq y (filter p own)) _ (is_in-from y (filter p own) (passes p y own (In-from y own (all y w.0 w.1)) w.1)))
+    ∙ fold-distinct (filter p own ++ bare))

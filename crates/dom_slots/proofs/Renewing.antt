@@ -1,8 +1,9 @@
 -- The list of a slot is renewed.
-use Rattle.std.proofs.Common.{◌≡◌, inl, inr, ℕ, ◌<◌, Bool, true, false, not, ◌||◌, List, [], ◌∷◌, ◌++◌, All, map, fold, filter, length, refl, sym, ap, subst, ◌∙◌, true≢false}
+use Rattle.std.proofs.Common.{◌≡◌, inl, inr, ℕ, ◌<◌, Bool, true, false, not, ◌&&◌, ◌||◌, List, [], ◌∷◌, ◌++◌, All, map, fold, filter, length, refl, sym, ap, subst, ◌∙◌, true≢false}
 use Rattle.std.specs.Prelude.{nat_eq, if◌then◌else◌}
 use Rattle.std.proofs.lemmas.Bool.{and_parts, or_parts, or_left, or_right, eqb-true}
 use Rattle.std.proofs.lemmas.List.{append-nil}
+use Rattle.std.proofs.lemmas.List.Elements.{All-nil}
 use Rattle.std.proofs.lemmas.List.Folds.{list_any-append}
 use Rattle.dom_base.specs.declared.NodeName.{NodeName}
 use Rattle.dom_model.specs.Names.{name_eq, list_eq, is_in, append_once}
@@ -140,3 +141,52 @@ module _ (f : NamedTrees) (apart : AreDistinct f.names) (hosts : List ShadowHost
       by : (j : ℕ) (b : Bool) → nat_eq k j ≡ b → list_of table j ≡ (if b then list else list_of table j)
       by j true h = ap (list_of table) (sym (eqb-true k j h)) ∙ same
       by j false h = refl
+
+-- The renewal may be taken up anew: of the table that it left no list that was renewed is another one.
+pub renewed-anew : (f : NamedTrees) (hosts : List ShadowHost) (p : NodeName → Bool) (old : SlotTable) (done told : List NodeName) (table : SlotTable) (keys : List ℕ) → AreRenewed f hosts p old done told table keys
+    → AreRenewed f hosts (λ y. p y && not (is_in name_eq y done)) table [] [] table []
+renewed-anew f hosts p old done told table keys r = record {
+  others = λ k within. by k within (is_in name_eq (name_at f.names k) done) refl;
+  renewed = λ k within i. absurd (true≢false (sym i));
+  kept = λ k within i. refl;
+  nodes = r.nodes;
+  beyond = r.beyond;
+  keys_nodes = All-nil (λ k. k < length f.names);
+  keys_are = refl;
+  among = λ y i. absurd (true≢false (sym i));
+}
+  where
+    and_false : (b : Bool) → (b && false) ≡ false
+    and_false true = refl
+    and_false false = refl
+
+    and_true : (b : Bool) → (b && true) ≡ b
+    and_true true = refl
+    and_true false = refl
+
+    by : (k : ℕ) → k < length f.names → (b : Bool) → is_in name_eq (name_at f.names k) done ≡ b
+        → (p (name_at f.names k) && not (is_in name_eq (name_at f.names k) done)) ≡ not (list_eq name_eq (map (name_at f.names) (list_of table k)) (assigned_at (shadows f hosts) (name_at f.names k)))
+    by k within true i =
+        ap (λ b. p (name_at f.names k) && not b) i
+        ∙ (and_false (p (name_at f.names k))
+        ∙ sym (ap (λ xs. not (list_eq name_eq xs (assigned_at (shadows f hosts) (name_at f.names k)))) (r.renewed k within i) ∙ ap not (list_eq-self (assigned_at (shadows f hosts) (name_at f.names k)))))
+    by k within false i =
+        ap (λ b. p (name_at f.names k) && not b) i
+        ∙ (and_true (p (name_at f.names k))
+        ∙ (r.others k within ∙ ap (λ ks. not (list_eq name_eq (map (name_at f.names) ks) (assigned_at (shadows f hosts) (name_at f.names k)))) (sym (r.kept k within i))))
+
+-- A slot more is signalled, whatever its list.
+pub told-more : (f : NamedTrees) (apart : AreDistinct f.names) (hosts : List ShadowHost) (p : NodeName → Bool) (old : SlotTable) (done told : List NodeName) (table : SlotTable) (keys next : List ℕ) (k : ℕ)
+    → AreRenewed f hosts p old done told table keys → k < length f.names → next ≡ append_once nat_eq keys k → AreRenewed f hosts p old done (told ++ name_at f.names k ∷ []) table next
+told-more f apart hosts p old done told table keys next k r node is =
+    let more = one_signalled f.names apart told keys next k record { nodes = r.keys_nodes; are = r.keys_are } node is in
+    record {
+      others = r.others;
+      renewed = r.renewed;
+      kept = r.kept;
+      nodes = r.nodes;
+      beyond = r.beyond;
+      keys_nodes = more.nodes;
+      keys_are = more.are;
+      among = λ y i pass. list_any-append (name_eq y) told (name_at f.names k ∷ []) ∙ or_left (is_in name_eq y told) _ (r.among y i pass);
+    }

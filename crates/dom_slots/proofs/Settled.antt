@@ -82,6 +82,36 @@ module _ (names : List NodeName) (hosts : List ShadowHost) (was now : Trees) (on
   pub assigned-unhosted : (y : NodeName) → host_named names hosts (root_of was y) ≡ None → host_named names hosts (root_of now y) ≡ None → assigned_at before y ≡ assigned_at after y
   assigned-unhosted y e f = ap (λ o. option_map_or (assigned_under before y) o []) e ∙ sym (ap (λ o. option_map_or (assigned_under after y) o []) f)
 
+  -- a node that has the same root, and that is found alike in the tree of each node
+  module _ (y : NodeName) (same_root : root_of was y ≡ root_of now y)
+      (alike : (r : NodeName) (n : Node) → is_in name_eq y (option_to_list (slot_in (subtree was r) n)) ≡ is_in name_eq y (option_to_list (slot_in (subtree now r) n)))
+      (x : NodeName) (keeps : KeepsHosts names hosts x was now) where
+    -- a child of a host but x is assigned to it in both or in neither
+    child_same : (r h c : NodeName) → host_named names hosts r ≡ Some h → In c (children_of was h) → In c (children_of now h) → (c ≡ x → ⊥) → is_assigned_at before y c ≡ is_assigned_at after y c
+    child_same r h c e i j other =
+        let at = keeps.stands r h e in
+        let up_was : parent_of was c ≡ Some h = (parent-of_child was h c once_was at.0 i).0 in
+        let up_now : parent_of now c ≡ Some h = (parent-of_child now h c once_now at.1 j).0 in
+        ap (λ o. is_in name_eq y (option_to_list (option_and_then (λ q. slot_in (subtree was q) (node_in was c)) (option_and_then (root_named names hosts) o)))) up_was
+        ∙ (from (root_named names hosts h) ∙ sym (ap (λ o. is_in name_eq y (option_to_list (option_and_then (λ q. slot_in (subtree now q) (node_in now c)) (option_and_then (root_named names hosts) o)))) up_now))
+      where
+        from : (o : Option NodeName) → is_in name_eq y (option_to_list (option_and_then (λ q. slot_in (subtree was q) (node_in was c)) o)) ≡ is_in name_eq y (option_to_list (option_and_then (λ q. slot_in (subtree now q) (node_in now c)) o))
+        from None = refl
+        from (Some q) = ap (λ n. is_in name_eq y (option_to_list (slot_in (subtree was q) n))) (keeps.contents r h c e i j other) ∙ alike q (node_in now c)
+
+    -- has assigned to it what was, where x is not and was not
+    pub assigned-found : is_assigned_at before y x ≡ false → is_assigned_at after y x ≡ false → assigned_at before y ≡ assigned_at after y
+    assigned-found not_was not_now = under (host_named names hosts (root_of was y)) refl ∙ ap (λ z. option_map_or (assigned_under after y) (host_named names hosts z) []) same_root
+      where
+        under : (o : Option NodeName) → host_named names hosts (root_of was y) ≡ o → option_map_or (assigned_under before y) o [] ≡ option_map_or (assigned_under after y) o []
+        under None e = refl
+        under (Some h) e =
+            let same = keeps.children (root_of was y) h e in
+            filter-others (is_assigned_at before y) x not_was (children_of was h)
+            ∙ (filter-same (is_assigned_at before y) (is_assigned_at after y) (others x (children_of was h))
+            (λ c i. let w = others-in x c (children_of was h) i in child_same (root_of was y) h c e w.0 (others-in x c (children_of now h) (subst (In c) same i)).0 w.1)
+            ∙ (ap (filter (is_assigned_at after y)) same ∙ sym (filter-others (is_assigned_at after y) x not_now (children_of now h))))
+
   module _ (y : NodeName) (at_was : Has was y) (at_now : Has now y) (settled : IsSettled was now y) where
     -- a node that looks in the tree of any other finds it in both or in neither
     looks_same : (r : NodeName) (n : Node) → is_in name_eq y (option_to_list (slot_in (subtree was r) n)) ≡ is_in name_eq y (option_to_list (slot_in (subtree now r) n))
@@ -100,29 +130,6 @@ module _ (names : List NodeName) (hosts : List ShadowHost) (was now : Trees) (on
               off (subst (λ (ts : Trees). Has ts r) (sym settled.tree) (subst (λ z. Has (subtree now z) r) (sym settled.root) (in-same_tree now once_now r y i)))))
         ]
 
-    module _ (x : NodeName) (keeps : KeepsHosts names hosts x was now) where
-      -- a child of a host but x is assigned to it in both or in neither
-      child_same : (r h c : NodeName) → host_named names hosts r ≡ Some h → In c (children_of was h) → In c (children_of now h) → (c ≡ x → ⊥) → is_assigned_at before y c ≡ is_assigned_at after y c
-      child_same r h c e i j other =
-          let at = keeps.stands r h e in
-          let up_was : parent_of was c ≡ Some h = (parent-of_child was h c once_was at.0 i).0 in
-          let up_now : parent_of now c ≡ Some h = (parent-of_child now h c once_now at.1 j).0 in
-          ap (λ o. is_in name_eq y (option_to_list (option_and_then (λ q. slot_in (subtree was q) (node_in was c)) (option_and_then (root_named names hosts) o)))) up_was
-          ∙ (from (root_named names hosts h) ∙ sym (ap (λ o. is_in name_eq y (option_to_list (option_and_then (λ q. slot_in (subtree now q) (node_in now c)) (option_and_then (root_named names hosts) o)))) up_now))
-        where
-          from : (o : Option NodeName) → is_in name_eq y (option_to_list (option_and_then (λ q. slot_in (subtree was q) (node_in was c)) o)) ≡ is_in name_eq y (option_to_list (option_and_then (λ q. slot_in (subtree now q) (node_in now c)) o))
-          from None = refl
-          from (Some q) = ap (λ n. is_in name_eq y (option_to_list (slot_in (subtree was q) n))) (keeps.contents r h c e i j other) ∙ looks_same q (node_in now c)
-
-      -- to a node of a tree that stays the same is assigned what was, where x is not and was not
-      pub assigned-settled : is_assigned_at before y x ≡ false → is_assigned_at after y x ≡ false → assigned_at before y ≡ assigned_at after y
-      assigned-settled not_was not_now = under (host_named names hosts (root_of was y)) refl ∙ ap (λ z. option_map_or (assigned_under after y) (host_named names hosts z) []) settled.root
-        where
-          under : (o : Option NodeName) → host_named names hosts (root_of was y) ≡ o → option_map_or (assigned_under before y) o [] ≡ option_map_or (assigned_under after y) o []
-          under None e = refl
-          under (Some h) e =
-              let same = keeps.children (root_of was y) h e in
-              filter-others (is_assigned_at before y) x not_was (children_of was h)
-              ∙ (filter-same (is_assigned_at before y) (is_assigned_at after y) (others x (children_of was h))
-              (λ c i. let w = others-in x c (children_of was h) i in child_same (root_of was y) h c e w.0 (others-in x c (children_of now h) (subst (In c) same i)).0 w.1)
-              ∙ (ap (filter (is_assigned_at after y)) same ∙ sym (filter-others (is_assigned_at after y) x not_now (children_of now h))))
+    -- to a node of a tree that stays the same is assigned what was, where x is not and was not
+    pub assigned-settled : (x : NodeName) → KeepsHosts names hosts x was now → is_assigned_at before y x ≡ false → is_assigned_at after y x ≡ false → assigned_at before y ≡ assigned_at after y
+    assigned-settled x keeps not_was not_now = assigned-found y settled.root looks_same x keeps not_was not_now

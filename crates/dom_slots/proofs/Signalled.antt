@@ -1,9 +1,9 @@
 -- Signalled slots by their keys and by their names.
 use Rattle.std.proofs.Common.{◌≡◌, ℕ, ◌<◌, Bool, true, false, ◌&&◌, ◌||◌, not, List, [], ◌∷◌, ◌++◌, All, map, fold, length, filter, refl, sym, ap, subst, ◌∙◌, append_assoc}
 use Rattle.std.specs.Prelude.{nat_eq, if◌then◌else◌, Option, None, Some, MatchOption, option_to_list}
-use Rattle.std.specs.Option.{option_map, ForSome}
+use Rattle.std.specs.Option.{option_map}
 use Rattle.std.proofs.lemmas.List.{append-nil, map-append}
-use Rattle.std.proofs.lemmas.List.Elements.{All-nil, All-push, All-head, All-tail, filter-append}
+use Rattle.std.proofs.lemmas.List.Elements.{All-push, All-head, All-tail}
 use Rattle.std.proofs.lemmas.List.Folds.{list_any-append}
 use Rattle.std.proofs.lemmas.List.Sums.{fold-append}
 use Rattle.dom_base.specs.declared.NodeName.{NodeName}
@@ -107,10 +107,6 @@ module _ (names : List NodeName) (apart : AreDistinct names) where
     pub nodes : All (λ k. k < length names) keys
     pub are : map (name_at names) keys ≡ fold (append_once name_eq) [] xs
 
-  -- none
-  pub none_signalled : (keys : List ℕ) → keys ≡ [] → AreSignalled [] keys
-  none_signalled keys e = record { nodes = subst (All (λ k. k < length names)) (sym e) (All-nil (λ k. k < length names)); are = ap (map (name_at names)) e }
-
   -- one more
   pub one_signalled : (xs : List NodeName) (keys new : List ℕ) (k : ℕ) → AreSignalled xs keys → k < length names → new ≡ append_once nat_eq keys k → AreSignalled (xs ++ name_at names k ∷ []) new
   one_signalled xs keys new k s node e = by (is_in nat_eq k keys) refl
@@ -135,31 +131,6 @@ module _ (names : List NodeName) (apart : AreDistinct names) where
                 ∙ sym (fold-append (append_once name_eq) [] xs (name_at names k ∷ [])))));
           }
 
-  module _ (p : NodeName → Bool) (test : ℕ → Bool) (agree : (k : ℕ) → k < length names → p (name_at names k) ≡ test k) where
-    -- those of a list that pass a test
-    pub more_signalled : (xs : List NodeName) (keys new slots : List ℕ) → AreSignalled xs keys → All (λ k. k < length names) slots → new ≡ fold (append_once nat_eq) keys (filter test slots)
-        → AreSignalled (xs ++ filter p (map (name_at names) slots)) new
-    more_signalled xs keys new [] s nodes e = subst (λ ys. AreSignalled ys new) (sym (append-nil xs)) (subst (AreSignalled xs) (sym e) s)
-    more_signalled xs keys new (k ∷ slots) s nodes e =
-        let rest = All-tail (λ j. j < length names) k slots nodes in
-        by (test k) refl (All-head (λ j. j < length names) k slots nodes) (λ zs ks t f. more_signalled zs ks new slots t rest f)
-      where
-        by : (b : Bool) → test k ≡ b → k < length names
-            → ((zs : List NodeName) (ks : List ℕ) → AreSignalled zs ks → new ≡ fold (append_once nat_eq) ks (filter test slots) → AreSignalled (zs ++ filter p (map (name_at names) slots)) new)
-            → AreSignalled (xs ++ filter p (map (name_at names) (k ∷ slots))) new
-        by true hit node more =
-            let is : AreSignalled ((xs ++ name_at names k ∷ []) ++ filter p (map (name_at names) slots)) new =
-            more (xs ++ name_at names k ∷ []) (append_once nat_eq keys k) (one_signalled xs keys (append_once nat_eq keys k) k s node refl)
-            (e ∙ ap (λ (b : Bool). fold (append_once nat_eq) keys (if b then k ∷ filter test slots else filter test slots)) hit) in
-            subst (λ ys. AreSignalled ys new)
-            (append_assoc xs (name_at names k ∷ []) (filter p (map (name_at names) slots)) ∙ ap (λ ys. xs ++ ys) (sym (filter-yes p (name_at names k) (map (name_at names) slots) (agree k node ∙ hit)))) is
-        by false miss node more =
-            let is : AreSignalled (xs ++ filter p (map (name_at names) slots)) new =
-            more xs keys s (e ∙ ap (λ (b : Bool). fold (append_once nat_eq) keys (if b then k ∷ filter test slots else filter test slots)) miss) in
-            subst (λ ys. AreSignalled ys new) (ap (λ ys. xs ++ ys) (sym (filter-no p (name_at names k) (map (name_at names) slots) (agree k node ∙ miss)))) is
-
--- ---- the slots of one step, list by list
-
 -- keys that are nodes stay so when one is added
 pub node_added : (n : ℕ) (keys : List ℕ) (k : ℕ) → All (λ j. j < n) keys → k < n → All (λ j. j < n) (append_once nat_eq keys k)
 node_added n keys k h node = by (is_in nat_eq k keys)
@@ -167,24 +138,6 @@ node_added n keys k h node = by (is_in nat_eq k keys)
     by : (b : Bool) → All (λ j. j < n) (if b then keys else keys ++ k ∷ [])
     by true = h
     by false = All-push (λ j. j < n) keys k h node
-
--- keys that are nodes stay so when those of a list are added
-pub nodes_added : (n : ℕ) (test : ℕ → Bool) (keys slots : List ℕ) → All (λ k. k < n) keys → All (λ k. k < n) slots → All (λ k. k < n) (fold (append_once nat_eq) keys (filter test slots))
-nodes_added n test keys [] h i = h
-nodes_added n test keys (k ∷ slots) h i =
-    by (test k) refl (All-head (λ j. j < n) k slots i) (λ ks more. nodes_added n test ks slots more (All-tail (λ j. j < n) k slots i))
-  where
-    by : (b : Bool) → test k ≡ b → k < n → ((ks : List ℕ) → All (λ j. j < n) ks → All (λ j. j < n) (fold (append_once nat_eq) ks (filter test slots))) → All (λ j. j < n) (fold (append_once nat_eq) keys (filter test (k ∷ slots)))
-    by true e node more =
-        subst (λ (b : Bool). All (λ j. j < n) (fold (append_once nat_eq) keys (if b then k ∷ filter test slots else filter test slots))) (sym e)
-        (more (append_once nat_eq keys k) (node_added n keys k h node))
-    by false e node more = subst (λ (b : Bool). All (λ j. j < n) (fold (append_once nat_eq) keys (if b then k ∷ filter test slots else filter test slots))) (sym e) (more keys h)
-
--- filters of two lists each, with names in between
-pub regroup : (p : NodeName → Bool) (a b between c d : List NodeName) → (((filter p a ++ filter p b) ++ between) ++ filter p c) ++ filter p d ≡ (filter p (a ++ b) ++ between) ++ filter p (c ++ d)
-regroup p a b between c d =
-    append_assoc ((filter p a ++ filter p b) ++ between) (filter p c) (filter p d)
-    ∙ (ap (λ xs. (xs ++ between) ++ (filter p c ++ filter p d)) (sym (filter-append p a b)) ∙ ap (λ xs. (filter p (a ++ b) ++ between) ++ xs) (sym (filter-append p c d)))
 
 -- a value that may be there, as a list
 pub listed : {X : Type 0} (o : Option X) (xs : List X) → MatchOption o (xs ≡ []) (λ x. xs ≡ x ∷ []) → xs ≡ option_to_list o
@@ -195,8 +148,3 @@ listed (Some x) xs e = e
 pub listed-named : (names : List NodeName) (o : Option ℕ) → map (name_at names) (option_to_list o) ≡ option_to_list (option_map (name_at names) o)
 listed-named names None = refl
 listed-named names (Some k) = refl
-
--- its nodes
-pub listed-nodes : (n : ℕ) (o : Option ℕ) → ForSome o (λ k. k < n) → All (λ k. k < n) (option_to_list o)
-listed-nodes n None h = All-nil (λ k. k < n)
-listed-nodes n (Some k) h = All-push (λ j. j < n) [] k (All-nil (λ j. j < n)) (h k refl)

@@ -7,3 +7,4 @@ pub mod Steps
 pub mod Kept
 pub mod Fields
 pub mod Renewals
+pub mod Insides

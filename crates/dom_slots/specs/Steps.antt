@@ -28,6 +28,12 @@ around_of (Place x parent before) left = Some parent
 around_of (Removal x) left = left
 around_of (Attribute x) left = Some x
 
+-- the parent that a placed node left, for which it is not signalled around
+abbrev pub left_behind : Step → Option ℕ → Option ℕ
+left_behind (Place x parent before) left = left
+left_behind (Removal x) left = None
+left_behind (Attribute x) left = None
+
 -- the parent that a node has before it is placed or removed
 abbrev pub left_by : List NodeName → Trees → Step → Option NodeName
 left_by names ts (Place x parent before) = parent_of ts (name_at names x)

@@ -1,8 +1,6 @@
 -- The table of a `Slots`: which nodes are assigned to each slot.
-use Rattle.std.specs.Prelude.{◌≡◌, ◌⊎◌, ℕ, ◌<◌, ◌≤◌, nat_eq, Bool, false, not, List, [], map, length, All, unwrap_or}
+use Rattle.std.specs.Prelude.{◌≡◌, ℕ, ◌<◌, ◌≤◌, nat_eq, List, [], map, length, All, unwrap_or}
 use Rattle.std.specs.Map.{lookup}
-use Rattle.dom_base.specs.declared.NodeName.{NodeName}
-use Rattle.dom_model.specs.Names.{list_eq, name_eq, is_in}
 use Rattle.dom_tree.specs.Forest.{NamedTrees, name_at}
 use Rattle.dom_slots.specs.Hosts.{ShadowHost}
 use Rattle.dom_slots.specs.Shadows.{shadows, assigned_at}
@@ -15,18 +13,8 @@ SlotTable = List (ℕ × List ℕ)
 abbrev pub list_of : SlotTable → ℕ → List ℕ
 list_of table slot = unwrap_or (lookup (nat_eq slot) table) []
 
--- whether a slot's list in one table is another one in a second
-abbrev pub has_other_list : SlotTable → SlotTable → ℕ → Bool
-has_other_list was now slot = not (list_eq nat_eq (list_of was slot) (list_of now slot))
-
 -- a table has of each node just what is assigned to it in a forest with hosts (DOM Standard, concept: assigned nodes)
 pub record IsTableOf (f : NamedTrees) (hosts : List ShadowHost) (table : SlotTable) : Type 0 where
   pub nodes : (k : ℕ) → All (λ j. j < length f.names) (list_of table k)
   pub lists : (k : ℕ) → k < length f.names → map (name_at f.names) (list_of table k) ≡ assigned_at (shadows f hosts) (name_at f.names k)
   pub beyond : (k : ℕ) → length f.names ≤ k → list_of table k ≡ []
-
--- After the slots of a tree were entered in a table: a node's list is what is assigned to it, or it is as it was and the
--- node is none of these slots.
-abbrev pub IsEntered : NamedTrees → List ShadowHost → List NodeName → SlotTable → SlotTable → ℕ → Type 0
-IsEntered f hosts slots old new k =
-    (map (name_at f.names) (list_of new k) ≡ assigned_at (shadows f hosts) (name_at f.names k)) ⊎ ((list_of new k ≡ list_of old k) × (is_in name_eq (name_at f.names k) slots ≡ false))

@@ -8,6 +8,7 @@ ghost use Rattle.dom_slots.specs.Kept.{AreSlotsOf, StandsOnce};
 
 mod apart;
 mod assigned;
+mod inside;
 mod renewal;
 mod signals;
 

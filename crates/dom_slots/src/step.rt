@@ -1,6 +1,6 @@
 //! Elementary steps of changes of trees, as far as they can signal slots.
 ghost use Rattle.std.specs.Prelude.{◌≡◌};
-ghost use Rattle.dom_slots.specs.Steps.{step_node, is_move, around_of};
+ghost use Rattle.dom_slots.specs.Steps.{step_node, is_move, around_of, left_behind};
 
 use node_arena::Key;
 
@@ -38,6 +38,16 @@ impl Step {
             Step::Place(_, parent, _) => Some(parent),
             Step::Removal(_) => left,
             Step::Attribute(node) => Some(node),
+        }
+    }
+
+    /// The parent that a placed node left, for which it is not signalled around.
+    pub(crate) fn left_behind(self, left: Option<Key>) -> Option<Key>
+        ensures { result ≡ left_behind self left }
+    {
+        match self {
+            Step::Place(_, _, _) => left,
+            _ => None,
         }
     }
 }

@@ -1,7 +1,7 @@
 //! Which nodes are assigned to each slot.
-ghost use Rattle.std.specs.Prelude.{◌≡◌, ◌⊎◌, ℕ, true, false, [], nat_eq, not, if◌then◌else◌, OnOk};
+ghost use Rattle.std.specs.Prelude.{◌≡◌, ℕ, [], nat_eq, not, if◌then◌else◌, OnOk};
 ghost use Rattle.dom_model.specs.Names.{list_eq};
-ghost use Rattle.dom_slots.specs.Tables.{list_of, has_other_list};
+ghost use Rattle.dom_slots.specs.Tables.{list_of};
 
 use indexmap::IndexMap;
 use node_arena::Key;
@@ -57,33 +57,5 @@ impl Table {
     {
         let _ = self.lists.insert(slot, list)?;
         Ok(())
-    }
-
-    /// Whether the list of a slot is another one in a second table.
-    pub(crate) fn differs(&self, other: &Table, slot: Key) -> bool
-        ensures { result ≡ has_other_list self.now other.now slot }
-    {
-        self.list(slot) != other.list(slot)
-    }
-
-    /// Whether no slot has another list in a second table.
-    pub(crate) fn is_same(&self, other: &Table) -> bool
-        ensures { result ≡ true → (k : ℕ) → has_other_list self.now other.now k ≡ false }
-    {
-        self.is_kept_in(other) && other.is_kept_in(self)
-    }
-
-    /// Whether no slot that has a list here has another one in a second table.
-    fn is_kept_in(&self, other: &Table) -> bool
-        ensures { result ≡ true → (k : ℕ) → (list_of self.now k ≡ []) ⊎ (has_other_list self.now other.now k ≡ false) }
-    {
-        let mut index = 0;
-        while index < self.lists.len() {
-            match self.lists.get_index(index) {
-                Some((slot, _)) if !self.differs(other, *slot) => index += 1,
-                _ => return false,
-            }
-        }
-        true
     }
 }

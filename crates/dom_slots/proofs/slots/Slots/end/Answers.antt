@@ -1,5 +1,5 @@
-use Rattle.std.proofs.Common.{◌≡◌, ℕ, ◌<◌, Bool, true, Option, Some, Result, Ok, Err, List, [], ◌∷◌, ◌++◌, All, Vec, Global, length, map, filter, refl, sym, ap, subst, ◌∙◌, arith}
-use Rattle.std.specs.Prelude.{IfOk, option_to_list}
+use Rattle.std.proofs.Common.{◌≡◌, ℕ, Bool, true, Option, Some, Result, Ok, Err, List, [], ◌∷◌, Vec, Global, length, map, filter, refl, sym, ap, subst, ◌∙◌, arith}
+use Rattle.std.specs.Prelude.{IfOk}
 use Rattle.std.specs.Option.{option_map}
 use Rattle.std.proofs.lemmas.Option.{same_Some}
 use Rattle.std.proofs.lemmas.Result.{IfOk-weaker}
@@ -10,12 +10,14 @@ use Rattle.dom_slots.specs.declared.slots.Begun.{Begun}
 use Rattle.dom_slots.specs.Fields.{hosts_in, begun_in}
 use Rattle.dom_slots.specs.Hosts.{ShadowHost, HostsAreNodes}
 use Rattle.dom_slots.specs.Kept.{BegunStep, SlotsNow, StandsOnce, AreSlotsOf, IsEndOf}
+use Rattle.dom_slots.specs.Insides.{own_slots, IsInside}
 use Rattle.dom_slots.specs.Renewals.{AreRenewed}
-use Rattle.dom_slots.specs.Shadows.{shadows, shadow_trees, slot_at, is_changed_at}
+use Rattle.dom_slots.specs.Shadows.{shadows, shadow_trees, is_changed_at}
 use Rattle.dom_slots.specs.Steps.{step_node, step_signals, is_apart}
-use Rattle.dom_slots.specs.Tables.{SlotTable, has_other_list, IsTableOf}
-use Rattle.dom_slots.proofs.Apart.{apart-start, apart-table, apart-keys}
-use Rattle.dom_slots.proofs.Ended.{changed-told, told_by, told-signals}
+use Rattle.dom_slots.specs.Tables.{SlotTable, IsTableOf}
+use Rattle.dom_slots.proofs.Apart.{apart-table, apart-keys}
+use Rattle.dom_slots.proofs.Ended.{none-renewed}
+use Rattle.dom_slots.proofs.Inside.{inside-table, inside-keys, inside-nodes}
 use Rattle.dom_slots.proofs.Hostless.{hostless-signals}
 use Rattle.dom_slots.proofs.slots.Slots.end.Goals as goal
 
@@ -40,103 +42,137 @@ both : {X Y : Type 0} (r : Result X Y) (P Q : X → Type 0) → IfOk r P → IfO
 both (Ok x) P Q p q = (p, q)
 both (Err e) P Q p q = tt
 
--- what is renewed at the end of a step that was begun, by what is held
-module _ (was : Trees) (f : NamedTrees) (s : SlotsNow) (b : BegunStep) (h : IsEndOf was f s b) (stands : StandsOnce f)
-    (apart : is_apart (shadows f s.hosts) (name_at f.names (step_node b.step)) (option_map (name_at f.names) b.left) ≡ true)
-    {E : Type 0} (result : Result (Vec ℕ Global) E) (new : SlotsNow) (hosts : List ShadowHost) (table : SlotTable) (d : BegunStep) (hosts_are : hosts ≡ s.hosts) (table_is : table ≡ s.table) (same : d ≡ b) where
+-- what is renewed at the end of a step that was begun
+module _ (was : Trees) (f : NamedTrees) (s : SlotsNow) (b : BegunStep) (h : IsEndOf was f s b) (stands : StandsOnce f) {E : Type 0} (result : Result (Vec ℕ Global) E) (new : SlotsNow) where
   abbrev p : NodeName → Bool
   p = is_changed_at (shadow_trees f.names was s.hosts) (shadows f s.hosts)
 
-  abbrev own : List ShadowHost → BegunStep → List NodeName
-  own hs e = option_to_list (option_map (name_at f.names) e.slot) ++ option_to_list (slot_at (shadows f hs) (name_at f.names (step_node e.step)))
+  -- lists of slots alone, or those of a step inside of a shadow tree
+  abbrev Own : List ShadowHost → BegunStep → Vec ℕ Global → Type 0
+  Own hs e keys = AreRenewed f hs p s.table (own_slots f hs e.slot e.step) (filter p (own_slots f hs e.slot e.step)) new.table keys.items
 
-  abbrev Renewed : List ShadowHost → BegunStep → Vec ℕ Global → Type 0
-  Renewed hs e keys = AreRenewed f hs p s.table (own hs e) (filter p (own hs e)) new.table keys.items
+  abbrev Inside : List ShadowHost → BegunStep → Vec ℕ Global → Type 0
+  Inside hs e keys = IsInside f hs p s.table e.step e.left e.slot new.table keys.items
 
-  module _ (told : AreRenewed f hosts p s.table [] [] table [] → IfOk result (Renewed hosts d)) where
-    renewed : IfOk result (Renewed s.hosts b)
-    renewed =
-        subst (λ e. IfOk result (Renewed s.hosts e)) same
-        (subst (λ hs. IfOk result (Renewed hs d)) hosts_are
-        (told (subst (λ hs. AreRenewed f hs p s.table [] [] table []) (sym hosts_are) (subst (λ t. AreRenewed f s.hosts p s.table [] [] t []) (sym table_is) (apart-start was f s b h stands apart)))))
+  -- by what is held
+  held : (R : List ShadowHost → BegunStep → Vec ℕ Global → Type 0) (hosts : List ShadowHost) (table : SlotTable) (d : BegunStep) → hosts ≡ s.hosts → table ≡ s.table → d ≡ b
+      → (AreRenewed f hosts p s.table [] [] table [] → IfOk result (R hosts d)) → IfOk result (R s.hosts b)
+  held R hosts table d hosts_are table_is same told =
+      subst (λ e. IfOk result (R s.hosts e)) same
+      (subst (λ hs. IfOk result (R hs d)) hosts_are
+      (told (subst (λ hs. AreRenewed f hs p s.table [] [] table []) (sym hosts_are) (subst (λ t. AreRenewed f s.hosts p s.table [] [] t []) (sym table_is) (none-renewed was f s b h stands)))))
 
-    keys_are : IfOk result (λ keys. map (name_at f.names) keys.items ≡ step_signals f.names (shadow_trees f.names was s.hosts) (shadows f s.hosts) b.step b.left)
-    keys_are = IfOk-weaker result (Renewed s.hosts b) _ (λ keys r. apart-keys was f s b h stands apart new.table keys.items r) renewed
-
-    keys_nodes : IfOk result (λ keys. All (λ k. k < length f.names) keys.items)
-    keys_nodes = IfOk-weaker result (Renewed s.hosts b) _ (λ keys r. r.keys_nodes) renewed
-
-    slots_are : IfOk result (λ keys. new.hosts ≡ hosts) → IfOk result (λ keys. AreSlotsOf f new)
-    slots_are stay =
-        IfOk-weaker result (λ keys. Renewed s.hosts b keys × (new.hosts ≡ hosts)) (λ keys. AreSlotsOf f new)
-        (λ keys w.
-        let hs : new.hosts ≡ s.hosts = w.1 ∙ hosts_are in
-        record {
-          hosts = subst (HostsAreNodes f.names) (sym hs) h.slots.hosts;
-          table = subst (λ hosts. IsTableOf f hosts new.table) (sym hs) (apart-table was f s b h stands apart new.table keys.items w.0);
-        }) (both result (Renewed s.hosts b) (λ keys. new.hosts ≡ hosts) renewed stay)
+  -- where the table is that of the trees now, these are its slots
+  slots_are : (hosts : List ShadowHost) → hosts ≡ s.hosts → IfOk result (λ keys. IsTableOf f s.hosts new.table) → IfOk result (λ keys. new.hosts ≡ hosts) → IfOk result (λ keys. AreSlotsOf f new)
+  slots_are hosts hosts_are table stay =
+      IfOk-weaker result (λ keys. IsTableOf f s.hosts new.table × (new.hosts ≡ hosts)) (λ keys. AreSlotsOf f new)
+      (λ keys w.
+      let hs : new.hosts ≡ s.hosts = w.1 ∙ hosts_are in
+      record { hosts = subst (HostsAreNodes f.names) (sym hs) h.slots.hosts; table = subst (λ hosts. IsTableOf f hosts new.table) (sym hs) w.0 })
+      (both result (λ keys. IsTableOf f s.hosts new.table) (λ keys. new.hosts ≡ hosts) table stay)
 
 pub returns-in-Some-clause-value : goal.returns-in-Some-clause-value
 returns-in-Some-clause-value c =
     λ was b h.
-    let f = c.args.forest.now in
     let s = c.args.self.now in
+    let f = c.args.forest.now in
+    let stands : StandsOnce f = record { once = c.nodes_stand_once.ensures.once; only = c.nodes_stand_once.ensures.only } in
     let hosts_are : hosts_in c.self.inside.hosts.entries ≡ s.hosts = ap (λ (t : SlotsNow). t.hosts) c.self.view_is in
     let same : begun_in c.in-Some.begun ≡ b =
     begun-same c.take.result c.in-Some.begun b c.in-Some.is (ap (option_map begun_in) c.take.ensures.value ∙ (ap (λ (t : SlotsNow). t.begun) c.self.view_is ∙ h.begun)) in
     let apart = begun-apart f (hosts_in c.self.inside.hosts.entries) s.hosts (begun_in c.in-Some.begun) b hosts_are same c.if-is_apart.ensures in
+    let result = c.own_signals.result in
+    let new = c.own_signals.new.self in
     let p : NodeName → Bool = is_changed_at (shadow_trees f.names was s.hosts) (shadows f s.hosts) in
-    keys_are was f s b h record { once = c.nodes_stand_once.ensures.once; only = c.nodes_stand_once.ensures.only } apart c.own_signals.result c.own_signals.new.self (hosts_in c.self.inside.hosts.entries) c.self.inside.table (begun_in c.in-Some.begun) hosts_are
-    (ap (λ (t : SlotsNow). t.table) c.self.view_is) same (c.own_signals.ensures.renewed p s.table)
+    let renewed = held was f s b h stands result new (Own was f s b h stands result new) (hosts_in c.self.inside.hosts.entries) c.self.inside.table (begun_in c.in-Some.begun) hosts_are (ap (λ (t : SlotsNow). t.table) c.self.view_is) same (c.own_signals.ensures.renewed p s.table) in
+    IfOk-weaker result (Own was f s b h stands result new s.hosts b) _ (λ keys r. apart-keys was f s b h stands apart new.table keys.items r) renewed
 
 pub returns-in-Some-clause-nodes : goal.returns-in-Some-clause-nodes
 returns-in-Some-clause-nodes c =
     let was = c.requires.0 in
     let b = c.requires.1 in
     let h = c.requires.2 in
-    let f = c.args.forest.now in
     let s = c.args.self.now in
+    let f = c.args.forest.now in
+    let stands : StandsOnce f = record { once = c.nodes_stand_once.ensures.once; only = c.nodes_stand_once.ensures.only } in
     let hosts_are : hosts_in c.self.inside.hosts.entries ≡ s.hosts = ap (λ (t : SlotsNow). t.hosts) c.self.view_is in
     let same : begun_in c.in-Some.begun ≡ b =
     begun-same c.take.result c.in-Some.begun b c.in-Some.is (ap (option_map begun_in) c.take.ensures.value ∙ (ap (λ (t : SlotsNow). t.begun) c.self.view_is ∙ h.begun)) in
     let apart = begun-apart f (hosts_in c.self.inside.hosts.entries) s.hosts (begun_in c.in-Some.begun) b hosts_are same c.if-is_apart.ensures in
+    let result = c.own_signals.result in
+    let new = c.own_signals.new.self in
     let p : NodeName → Bool = is_changed_at (shadow_trees f.names was s.hosts) (shadows f s.hosts) in
-    keys_nodes was f s b h record { once = c.nodes_stand_once.ensures.once; only = c.nodes_stand_once.ensures.only } apart c.own_signals.result c.own_signals.new.self (hosts_in c.self.inside.hosts.entries) c.self.inside.table (begun_in c.in-Some.begun) hosts_are
-    (ap (λ (t : SlotsNow). t.table) c.self.view_is) same (c.own_signals.ensures.renewed p s.table)
+    let renewed = held was f s b h stands result new (Own was f s b h stands result new) (hosts_in c.self.inside.hosts.entries) c.self.inside.table (begun_in c.in-Some.begun) hosts_are (ap (λ (t : SlotsNow). t.table) c.self.view_is) same (c.own_signals.ensures.renewed p s.table) in
+    IfOk-weaker result (Own was f s b h stands result new s.hosts b) _ (λ keys r. r.keys_nodes) renewed
 
 pub returns-in-Some-clause-slots : goal.returns-in-Some-clause-slots
 returns-in-Some-clause-slots c =
     let was = c.requires.0 in
     let b = c.requires.1 in
     let h = c.requires.2 in
-    let f = c.args.forest.now in
     let s = c.args.self.now in
+    let f = c.args.forest.now in
+    let stands : StandsOnce f = record { once = c.nodes_stand_once.ensures.once; only = c.nodes_stand_once.ensures.only } in
     let hosts_are : hosts_in c.self.inside.hosts.entries ≡ s.hosts = ap (λ (t : SlotsNow). t.hosts) c.self.view_is in
     let same : begun_in c.in-Some.begun ≡ b =
     begun-same c.take.result c.in-Some.begun b c.in-Some.is (ap (option_map begun_in) c.take.ensures.value ∙ (ap (λ (t : SlotsNow). t.begun) c.self.view_is ∙ h.begun)) in
     let apart = begun-apart f (hosts_in c.self.inside.hosts.entries) s.hosts (begun_in c.in-Some.begun) b hosts_are same c.if-is_apart.ensures in
+    let result = c.own_signals.result in
+    let new = c.own_signals.new.self in
     let p : NodeName → Bool = is_changed_at (shadow_trees f.names was s.hosts) (shadows f s.hosts) in
-    slots_are was f s b h record { once = c.nodes_stand_once.ensures.once; only = c.nodes_stand_once.ensures.only } apart c.own_signals.result c.own_signals.new.self (hosts_in c.self.inside.hosts.entries) c.self.inside.table (begun_in c.in-Some.begun) hosts_are
-    (ap (λ (t : SlotsNow). t.table) c.self.view_is) same (c.own_signals.ensures.renewed p s.table) c.own_signals.ensures.hosts
+    let renewed = held was f s b h stands result new (Own was f s b h stands result new) (hosts_in c.self.inside.hosts.entries) c.self.inside.table (begun_in c.in-Some.begun) hosts_are (ap (λ (t : SlotsNow). t.table) c.self.view_is) same (c.own_signals.ensures.renewed p s.table) in
+    let table = IfOk-weaker result (Own was f s b h stands result new s.hosts b) (λ keys. IsTableOf f s.hosts new.table) (λ keys r. apart-table was f s b h stands apart new.table keys.items r) renewed in
+    slots_are was f s b h stands result new (hosts_in c.self.inside.hosts.entries) hosts_are table c.own_signals.ensures.hosts
 
-pub returns-in_ok-now-in-Some-2-clause-value : goal.returns-in_ok-now-in-Some-2-clause-value
-returns-in_ok-now-in-Some-2-clause-value c =
+pub returns-in-Some-2-clause-value : goal.returns-in-Some-2-clause-value
+returns-in-Some-2-clause-value c =
     λ was b h.
-    let f = c.args.forest.now in
     let s = c.args.self.now in
-    let hosts = s.hosts in
-    let p : NodeName → Bool = is_changed_at (shadow_trees f.names was hosts) (shadows f hosts) in
-    let hosts_are : hosts_in c.self.inside.hosts.entries ≡ hosts = ap (λ (t : SlotsNow). t.hosts) c.self.view_is in
+    let f = c.args.forest.now in
+    let stands : StandsOnce f = record { once = c.nodes_stand_once.ensures.once; only = c.nodes_stand_once.ensures.only } in
+    let hosts_are : hosts_in c.self.inside.hosts.entries ≡ s.hosts = ap (λ (t : SlotsNow). t.hosts) c.self.view_is in
     let same : begun_in c.in-Some.begun ≡ b =
     begun-same c.take.result c.in-Some.begun b c.in-Some.is (ap (option_map begun_in) c.take.ensures.value ∙ (ap (λ (t : SlotsNow). t.begun) c.self.view_is ∙ h.begun)) in
-    let mine : IsEndOf was f s (begun_in c.in-Some.begun) = subst (IsEndOf was f s) (sym same) h in
-    let old_is : c.replace-was.result ≡ s.table = c.replace-was.ensures.value ∙ ap (λ (t : SlotsNow). t.table) c.self.view_is in
-    let told : (k : ℕ) → k < length f.names → p (name_at f.names k) ≡ has_other_list c.replace-was.result c.replace-was.new.dest k = λ k node.
-    changed-told f c.nodes_stand_once.ensures.distinct hosts was s.table c.in_ok-now-in-Some-2.now h.slots.table (subst (λ hs. IsTableOf f hs c.in_ok-now-in-Some-2.now) hosts_are c.in_ok-now-in-Some-2.ensures) k node
-    ∙ (ap (λ (t : SlotTable). has_other_list t c.in_ok-now-in-Some-2.now k) (sym old_is) ∙ ap (λ (t : SlotTable). has_other_list c.replace-was.result t k) (sym c.replace-was.ensures.after)) in
-    let value : IfOk c.signals.result (λ keys. map (name_at f.names) keys.items ≡ told_by f (hosts_in c.self.inside.hosts.entries) p (begun_in c.in-Some.begun)) = c.signals.ensures.value p told in
-    subst (λ d. IfOk c.signals.result (λ keys. map (name_at f.names) keys.items ≡ step_signals f.names (shadow_trees f.names was hosts) (shadows f hosts) d.step d.left)) same
-    (subst (λ xs. IfOk c.signals.result (λ keys. map (name_at f.names) keys.items ≡ xs)) (ap (λ hs. told_by f hs p (begun_in c.in-Some.begun)) hosts_are ∙ told-signals was f s (begun_in c.in-Some.begun) mine) value)
+    let result = c.inside_signals.result in
+    let new = c.inside_signals.new.self in
+    let p : NodeName → Bool = is_changed_at (shadow_trees f.names was s.hosts) (shadows f s.hosts) in
+    let renewed = held was f s b h stands result new (Inside was f s b h stands result new) (hosts_in c.self.inside.hosts.entries) c.self.inside.table (begun_in c.in-Some.begun) hosts_are (ap (λ (t : SlotsNow). t.table) c.self.view_is) same (c.inside_signals.ensures.renewed p s.table) in
+    IfOk-weaker result (Inside was f s b h stands result new s.hosts b) _ (λ keys r. inside-keys was f s b h stands new.table keys.items r) renewed
+
+pub returns-in-Some-2-clause-nodes : goal.returns-in-Some-2-clause-nodes
+returns-in-Some-2-clause-nodes c =
+    let was = c.requires.0 in
+    let b = c.requires.1 in
+    let h = c.requires.2 in
+    let s = c.args.self.now in
+    let f = c.args.forest.now in
+    let stands : StandsOnce f = record { once = c.nodes_stand_once.ensures.once; only = c.nodes_stand_once.ensures.only } in
+    let hosts_are : hosts_in c.self.inside.hosts.entries ≡ s.hosts = ap (λ (t : SlotsNow). t.hosts) c.self.view_is in
+    let same : begun_in c.in-Some.begun ≡ b =
+    begun-same c.take.result c.in-Some.begun b c.in-Some.is (ap (option_map begun_in) c.take.ensures.value ∙ (ap (λ (t : SlotsNow). t.begun) c.self.view_is ∙ h.begun)) in
+    let result = c.inside_signals.result in
+    let new = c.inside_signals.new.self in
+    let p : NodeName → Bool = is_changed_at (shadow_trees f.names was s.hosts) (shadows f s.hosts) in
+    let renewed = held was f s b h stands result new (Inside was f s b h stands result new) (hosts_in c.self.inside.hosts.entries) c.self.inside.table (begun_in c.in-Some.begun) hosts_are (ap (λ (t : SlotsNow). t.table) c.self.view_is) same (c.inside_signals.ensures.renewed p s.table) in
+    IfOk-weaker result (Inside was f s b h stands result new s.hosts b) _ (λ keys r. inside-nodes was f s b h stands new.table keys.items r) renewed
+
+pub returns-in-Some-2-clause-slots : goal.returns-in-Some-2-clause-slots
+returns-in-Some-2-clause-slots c =
+    let was = c.requires.0 in
+    let b = c.requires.1 in
+    let h = c.requires.2 in
+    let s = c.args.self.now in
+    let f = c.args.forest.now in
+    let stands : StandsOnce f = record { once = c.nodes_stand_once.ensures.once; only = c.nodes_stand_once.ensures.only } in
+    let hosts_are : hosts_in c.self.inside.hosts.entries ≡ s.hosts = ap (λ (t : SlotsNow). t.hosts) c.self.view_is in
+    let same : begun_in c.in-Some.begun ≡ b =
+    begun-same c.take.result c.in-Some.begun b c.in-Some.is (ap (option_map begun_in) c.take.ensures.value ∙ (ap (λ (t : SlotsNow). t.begun) c.self.view_is ∙ h.begun)) in
+    let result = c.inside_signals.result in
+    let new = c.inside_signals.new.self in
+    let p : NodeName → Bool = is_changed_at (shadow_trees f.names was s.hosts) (shadows f s.hosts) in
+    let renewed = held was f s b h stands result new (Inside was f s b h stands result new) (hosts_in c.self.inside.hosts.entries) c.self.inside.table (begun_in c.in-Some.begun) hosts_are (ap (λ (t : SlotsNow). t.table) c.self.view_is) same (c.inside_signals.ensures.renewed p s.table) in
+    let table = IfOk-weaker result (Inside was f s b h stands result new s.hosts b) (λ keys. IsTableOf f s.hosts new.table) (λ keys r. inside-table was f s b h stands new.table keys.items r) renewed in
+    slots_are was f s b h stands result new (hosts_in c.self.inside.hosts.entries) hosts_are table c.inside_signals.ensures.hosts
 
 pub returns-then-is_empty-clause-value : goal.returns-then-is_empty-clause-value
 returns-then-is_empty-clause-value c =

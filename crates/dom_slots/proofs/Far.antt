@@ -1,0 +1,131 @@
+-- What is assigned to a node stays where no slot is moved and no slot has an attribute changed, and where the node is no slot
+-- of a tree that a slot joins, leaves or is changed in.
+use Rattle.std.proofs.Common.{◌≡◌, ◌⊎◌, inl, inr, true, false, List, [], ◌∷◌, Some, None, sym, ap, subst, ◌∙◌, true≢false}
+use Rattle.std.specs.Prelude.{option_to_list}
+use Rattle.std.proofs.lemmas.Bool.{cases_Bool}
+use Rattle.std.proofs.lemmas.Option.{none-some}
+use Rattle.dom_base.specs.declared.NodeName.{NodeName}
+use Rattle.dom_model.specs.Names.{name_eq, is_in}
+use Rattle.dom_model.specs.Slots.{is_slot_element, slots_among}
+use Rattle.dom_model.specs.Tree.{Trees, none, tree, Node, node_in, subtree, parent_of, root_of, inclusive_descendants}
+use Rattle.dom_model.specs.TreeChanges.{change_node}
+use Rattle.dom_tree.specs.Forest.{name_at}
+use Rattle.dom_traversal.proofs.Children.{In-names}
+use Rattle.dom_traversal.proofs.Lists.{In, is_in-not}
+use Rattle.dom_traversal.proofs.Shapes.{Has, Once, has_or_not}
+use Rattle.dom_slots.specs.Hosts.{ShadowHost}
+use Rattle.dom_slots.specs.Shadows.{shadow_trees, is_assigned_at, assigned_at}
+use Rattle.dom_slots.proofs.Attaching.{in_filter, to_filter}
+use Rattle.dom_slots.proofs.Attributed as Attributed
+use Rattle.dom_slots.proofs.Entering.{NoneHas, unslotted}
+use Rattle.dom_slots.proofs.Grafts.{Spot, grafted}
+use Rattle.dom_slots.proofs.Looks.{grafted-found, changed-slot, changed-found}
+use Rattle.dom_slots.proofs.Moved.{AreBoth}
+use Rattle.dom_slots.proofs.Moved as Moved
+use Rattle.dom_slots.proofs.Named.{named-filter}
+use Rattle.dom_slots.proofs.Rooted.{root-within, in-tree_of_root}
+use Rattle.dom_slots.proofs.Settled.{IsSettled, KeepsAssigned, assigned-found, assigned-settled}
+
+-- ---- slots and nodes that are none
+
+module _ (ts : Trees) (once : Once ts) where
+  -- a slot of a tree is among its slots
+  pub slot-among : (top y : NodeName) → Has (subtree ts top) y → is_slot_element (node_in ts y) ≡ true → In y (slots_among (subtree ts top))
+  slot-among top y i e =
+      subst (In y) (sym (named-filter ts once is_slot_element top)) (to_filter (λ z. is_slot_element (node_in ts z)) y (inclusive_descendants ts top) e (In-names (subtree ts top) y i))
+
+  -- a node that is no slot is not
+  none_among : (names : List NodeName) (hosts hs : List ShadowHost) (y : NodeName) → is_slot_element (node_in ts y) ≡ false → NoneHas record { names = names; trees = ts } hosts y hs
+  none_among names hosts [] y e = tt
+  none_among names hosts (h ∷ hs) y e = (
+    is_in-not y (slots_among (subtree ts (name_at names h.root)))
+        (λ i. true≢false (sym (in_filter (λ z. is_slot_element (node_in ts z)) y (inclusive_descendants ts (name_at names h.root)) (subst (In y) (named-filter ts once is_slot_element (name_at names h.root)) i)).0 ∙ e)),
+    none_among names hosts hs y e,
+  )
+
+  -- and nothing is assigned to it
+  no_slot-unassigned : (names : List NodeName) (hosts : List ShadowHost) (y : NodeName) → is_slot_element (node_in ts y) ≡ false → [] ≡ assigned_at (shadow_trees names ts hosts) y
+  no_slot-unassigned names hosts y e = unslotted record { names = names; trees = ts } hosts y (none_among names hosts hosts y e)
+
+-- a slot that stands neither below x nor in the tree of a parent of x, the one before a step or the one behind it
+pub record IsAway (x : NodeName) (was now : Trees) (y : NodeName) : Type 0 where
+  pub below : Has (subtree now x) y → ⊥
+  pub left : (a : NodeName) → parent_of was x ≡ Some a → Has (subtree now (root_of now a)) y → ⊥
+  pub parent : (a : NodeName) → parent_of now x ≡ Some a → Has (subtree now (root_of now a)) y → ⊥
+
+-- nothing below x is a slot, or this node is none, or one that is away
+abbrev pub IsFar : NodeName → Trees → Trees → NodeName → Type 0
+IsFar x was now y = (slots_among (subtree now x) ≡ []) ⊎ (is_slot_element (node_in now y) ≡ true → IsAway x was now y)
+
+-- what is assigned to such nodes stays, where they are not the old and not the new slot of x
+abbrev pub KeepsFar : List NodeName → List ShadowHost → NodeName → Trees → Trees → Type 0
+KeepsFar names hosts x was now =
+    (y : NodeName) → Has was y → Has now y → is_assigned_at (shadow_trees names was hosts) y x ≡ false → is_assigned_at (shadow_trees names now hosts) y x ≡ false → IsFar x was now y
+    → assigned_at (shadow_trees names was hosts) y ≡ assigned_at (shadow_trees names now hosts) y
+
+-- ---- a tree that is moved
+
+module _ (names : List NodeName) (hosts : List ShadowHost) (m : Node) (d us : Trees) (p q : Spot) (apart : (y : NodeName) → Has us y → Has (tree m d none) y → ⊥)
+    (both : AreBoth names hosts (grafted m d p us) (grafted m d q us)) where
+  abbrev was : Trees
+  was = grafted m d p us
+
+  abbrev now : Trees
+  now = grafted m d q us
+
+  abbrev x : NodeName
+  x = m.name
+
+  pub far-kept : KeepsFar names hosts x was now
+  far-kept y h g not_was not_now far = elim (cases_Bool (is_slot_element (node_in now y))) [
+    | inl e ↦ by e far
+    | inr e ↦
+        sym (no_slot-unassigned was both.once_was names hosts y (ap is_slot_element (Moved.contents_same names hosts m d us p q apart both y h g) ∙ e)) ∙ no_slot-unassigned now both.once_now names hosts y e
+  ]
+    where
+      by : is_slot_element (node_in now y) ≡ true → IsFar x was now y → assigned_at (shadow_trees names was hosts) y ≡ assigned_at (shadow_trees names now hosts) y
+      by e (inr away) =
+          let a = away e in
+          assigned-settled names hosts was now both.once_was both.once_now y h g (Moved.moved-settled names hosts m d us p q apart both y h g a.below a.left a.parent) x (Moved.keeps_hosts names hosts m d us p q apart both) not_was not_now
+      by e (inl bare) =
+          let below : Has (subtree now x) y → ⊥ = λ i. subst (In y) bare (slot-among now both.once_now x y i e) in
+          let off : Has (tree m d none) y → ⊥ = λ i. below (subst (λ (ts : Trees). Has ts y) (sym (Moved.own_tree names hosts m d us p q apart both q)) i) in
+          let own : slots_among (tree m d none) ≡ [] = ap slots_among (sym (Moved.own_tree names hosts m d us p q apart both q)) ∙ bare in
+          assigned-found names hosts was now both.once_was both.once_now y (Moved.root_same names hosts m d us p q apart both y off)
+          (λ r n. ap (λ o. is_in name_eq y (option_to_list o)) (grafted-found m d own us p q apart r n)) x (Moved.keeps_hosts names hosts m d us p q apart both) not_was not_now
+
+  -- where x had no parent and has none, all that is assigned to others stays
+  pub alone-kept : parent_of was x ≡ None → parent_of now x ≡ None → KeepsAssigned names hosts x was now
+  alone-kept e f y h g not_was not_now =
+      assigned-settled names hosts was now both.once_was both.once_now y h g settled x (Moved.keeps_hosts names hosts m d us p q apart both) not_was not_now
+    where
+      settled : IsSettled was now y
+      settled = elim (has_or_not (subtree now x) y) [
+        | inl i ↦ Moved.alone-settled names hosts m d us p q apart both y i e f
+        | inr off ↦ Moved.moved-settled names hosts m d us p q apart both y h g off (λ a is. absurd (none-some a (sym e ∙ is))) (λ a is. absurd (none-some a (sym f ∙ is)))
+      ]
+
+-- ---- a node whose attributes are changed
+
+module _ (x : NodeName) (g : Node → Node) (keeps : (n : Node) → (g n).name ≡ n.name) (element : (n : Node) → is_slot_element (g n) ≡ is_slot_element n)
+    (names : List NodeName) (hosts : List ShadowHost) (ts : Trees) (two : AreBoth names hosts ts (change_node g x ts)) where
+  -- it is no slot, or this node is none, or one that does not stand in its tree
+  abbrev pub IsApart : NodeName → Type 0
+  IsApart y = (is_slot_element (node_in (change_node g x ts) x) ≡ false) ⊎ (is_slot_element (node_in (change_node g x ts) y) ≡ true → Has (subtree (change_node g x ts) (root_of (change_node g x ts) x)) y → ⊥)
+
+  -- what is assigned to such nodes stays
+  pub changed-far : (y : NodeName) → Has ts y → Has (change_node g x ts) y → is_assigned_at (shadow_trees names ts hosts) y x ≡ false → is_assigned_at (shadow_trees names (change_node g x ts) hosts) y x ≡ false → IsApart y
+      → assigned_at (shadow_trees names ts hosts) y ≡ assigned_at (shadow_trees names (change_node g x ts) hosts) y
+  changed-far y h i not_was not_now (inl off) =
+      assigned-found names hosts ts (change_node g x ts) two.once_was two.once_now y (Attributed.root_same x g keeps names hosts ts two y)
+      (λ r n. ap (λ o. is_in name_eq y (option_to_list o)) (changed-found x g keeps element ts two.once_was (sym (changed-slot x g keeps element ts x) ∙ off) r n)) x (Attributed.keeps_hosts x g keeps names hosts ts two) not_was not_now
+  changed-far y h i not_was not_now (inr apart) = elim (cases_Bool (is_slot_element (node_in (change_node g x ts) y))) [
+    | inl e ↦
+        assigned-settled names hosts ts (change_node g x ts) two.once_was two.once_now y h i
+        (Attributed.changed-settled x g keeps names hosts ts two y (λ j.
+        let same : root_of (change_node g x ts) y ≡ root_of (change_node g x ts) x =
+        sym (Attributed.root_same x g keeps names hosts ts two y) ∙ (sym (root-within ts two.once_was y x h j) ∙ Attributed.root_same x g keeps names hosts ts two x) in
+        apart e (subst (λ z. Has (subtree (change_node g x ts) z) y) same (in-tree_of_root (change_node g x ts) two.once_now y i)))) x (Attributed.keeps_hosts x g keeps names hosts ts two) not_was not_now
+    | inr e ↦
+        sym (no_slot-unassigned ts two.once_was names hosts y (sym (changed-slot x g keeps element ts y) ∙ e)) ∙ no_slot-unassigned (change_node g x ts) two.once_now names hosts y e
+  ]

@@ -1,0 +1,298 @@
+-- A step inside of a shadow tree changes at most what is assigned to the old and to the new slot of its node and, where it
+-- moves a slot or changes its attributes, to the slots of the trees that it concerns.
+use Rattle.std.proofs.Common.{◌≡◌, ◌⊎◌, inl, inr, ℕ, ◌<◌, Bool, true, false, not, ◌&&◌, List, [], ◌++◌, All, map, filter, length, Option, None, Some, fold, refl, sym, ap, subst, ◌∙◌, true≢false}
+use Rattle.std.specs.Option.{option_map, option_map_or}
+use Rattle.std.proofs.lemmas.Bool.{or_parts, false_from_ne_true}
+use Rattle.std.proofs.lemmas.List.Folds.{list_any-append}
+use Rattle.std.proofs.lemmas.Option.{same_Some, none-some}
+use Rattle.dom_base.specs.declared.NodeName.{NodeName}
+use Rattle.dom_model.specs.Names.{Word, DomString, name_eq, is_in, append_once}
+use Rattle.dom_model.specs.Slots.{is_slot_element, slots_among}
+use Rattle.dom_model.specs.Tree.{Trees, none, tree, Node, node_in, subtree, parent_of, root_of}
+use Rattle.dom_model.specs.TreeChanges.{with_attribute}
+use Rattle.dom_tree.specs.Forest.{NamedTrees, name_at}
+use Rattle.dom_traversal.proofs.Lists.{In, is_in-from, In-parts}
+use Rattle.dom_traversal.proofs.Shapes.{Has, subtree-present}
+use Rattle.dom_slots.specs.Hosts.{ShadowHost}
+use Rattle.dom_slots.specs.Insides.{tree_slots, own_slots, bare_around, slots_around, left_slots, MovesNone, AreMoved, MayMove, IsInside}
+use Rattle.dom_slots.specs.Kept.{BegunStep, SlotsNow, StandsOnce, IsEndOf}
+use Rattle.dom_slots.specs.Renewals.{AreRenewed}
+use Rattle.dom_slots.specs.Shadows.{ShadowTrees, shadows, shadow_trees, is_assigned_at, assigned_at, is_changed_at, signalled_by}
+use Rattle.dom_slots.specs.Steps.{StepHasNodes, step_node, is_move, around_of, left_by, IsStepFrom, step_signals}
+use Rattle.dom_slots.specs.Tables.{SlotTable, list_of, IsTableOf}
+use Rattle.dom_slots.specs.declared.step.Step.{Step}
+use Rattle.dom_slots.specs.declared.step.Step.TheVariants.{Place, Removal, Attribute}
+use Rattle.dom_slots.proofs.Ended.{told-signals, there-was, there-now, both-stand, not-own, none-own, others-among, renewed-table}
+use Rattle.dom_slots.proofs.Far.{IsAway, IsFar, KeepsFar, slot-among, far-kept, alone-kept, changed-far}
+use Rattle.dom_slots.proofs.Grafts.{Spot, grafted}
+use Rattle.dom_slots.proofs.Moved.{AreBoth}
+use Rattle.dom_slots.proofs.OwnSignals.{own-signalled}
+use Rattle.dom_slots.proofs.Renewing.{renewed-anew}
+use Rattle.dom_slots.proofs.Rooted.{root-parent}
+use Rattle.dom_slots.proofs.Settled.{KeepsAssigned}
+use Rattle.dom_slots.proofs.Signalled.{fold-distinct}
+use Rattle.dom_slots.proofs.Stepping.{removal-unparented, removal-so, place-so, place-root, attribute-name}
+
+-- other attributes leave it a slot, or none
+attribute-slot : (a : Word) (v : Option DomString) (n : Node) → is_slot_element (with_attribute a v n) ≡ is_slot_element n
+attribute-slot a None n = refl
+attribute-slot a (Some v) n = refl
+
+-- a tree that is moved from no parent to none
+abbrev AloneKept : List NodeName → List ShadowHost → NodeName → Trees → Trees → Type 0
+AloneKept names hosts x was now = parent_of was x ≡ None → parent_of now x ≡ None → KeepsAssigned names hosts x was now
+
+alone-so : (names : List NodeName) (hosts : List ShadowHost) (m : Node) (d us : Trees) (p q : Spot) → ((y : NodeName) → Has us y → Has (tree m d none) y → ⊥) → AreBoth names hosts (grafted m d p us) (grafted m d q us)
+    → AloneKept names hosts m.name (grafted m d p us) (grafted m d q us)
+alone-so names hosts m d us p q apart both e g = alone-kept names hosts m d us p q apart both e g
+
+far-so : (names : List NodeName) (hosts : List ShadowHost) (m : Node) (d us : Trees) (p q : Spot) → ((y : NodeName) → Has us y → Has (tree m d none) y → ⊥) → AreBoth names hosts (grafted m d p us) (grafted m d q us)
+    → KeepsFar names hosts m.name (grafted m d p us) (grafted m d q us)
+far-so names hosts m d us p q apart both = far-kept names hosts m d us p q apart both
+
+module _ (was : Trees) (f : NamedTrees) (s : SlotsNow) (b : BegunStep) (ended : IsEndOf was f s b) (stands : StandsOnce f) where
+  abbrev before : ShadowTrees
+  before = shadow_trees f.names was s.hosts
+
+  abbrev after : ShadowTrees
+  after = shadows f s.hosts
+
+  abbrev At : Step → NodeName
+  At step = name_at f.names (step_node step)
+
+  both : AreBoth f.names s.hosts was f.trees
+  both = both-stand was f s b ended stands
+
+  here_was : (k : ℕ) → k < length f.names → Has was (name_at f.names k)
+  here_was = there-was was f s b ended stands
+
+  here_now : (k : ℕ) → k < length f.names → Has f.trees (name_at f.names k)
+  here_now = there-now was f s b ended stands
+
+  -- a slot that is not among those of a tree does not stand in it
+  off_slots : (top y : NodeName) → is_slot_element (node_in f.trees y) ≡ true → is_in name_eq y (slots_among (subtree f.trees top)) ≡ false → Has (subtree f.trees top) y → ⊥
+  off_slots top y e off i = true≢false (sym (is_in-from y (slots_among (subtree f.trees top)) (slot-among f.trees both.once_now top y i e)) ∙ off)
+
+  -- a node stands in its own tree
+  own_tree : (x : NodeName) → Has f.trees x → Has (subtree f.trees x) x
+  own_tree x h = let w = subtree-present f.trees x h in subst (λ (ts : Trees). Has ts x) (sym w.2) (inl w.3)
+
+  -- who is no slot around, and none of a tree that was left
+  abbrev IsBeyond : Step → NodeName → Type 0
+  IsBeyond step y =
+      (k : ℕ) × (around_of step b.left ≡ Some k) × (is_in name_eq y (slots_around f s.hosts step (name_at f.names k)) ≡ false) × (is_in name_eq y (left_slots f s.hosts step b.left) ≡ false)
+
+  beyond_parts : (step : Step) (y : NodeName) (beyond : IsBeyond step y) → (is_in name_eq y (tree_slots f.trees (name_at f.names beyond.0)) ≡ false) × (is_in name_eq y (slots_among (subtree f.trees (At step))) ≡ false)
+  beyond_parts step y beyond =
+      or_parts _ _ (sym (list_any-append (name_eq y) (tree_slots f.trees (name_at f.names beyond.0)) (slots_among (subtree f.trees (At step)))) ∙ beyond.2)
+
+  -- a slot in no tree that was left does not stand in that one
+  not_left : (y a : NodeName) (o : Option ℕ) → option_map (name_at f.names) o ≡ Some a → is_in name_eq y (option_map_or (λ k. tree_slots f.trees (name_at f.names k)) o []) ≡ false → is_in name_eq y (tree_slots f.trees a) ≡ false
+  not_left y a None e off = absurd (none-some a e)
+  not_left y a (Some k) e off = subst (λ z. is_in name_eq y (tree_slots f.trees z) ≡ false) (same_Some (name_at f.names k) a e) off
+
+  -- what is assigned to a node stays that is neither the old nor the new slot, where no slot is moved or it is beyond
+  abbrev Stays : Step → Type 0
+  Stays step =
+      (y : NodeName) → Has was y → Has f.trees y → is_assigned_at before y (At step) ≡ false → is_assigned_at after y (At step) ≡ false → (MovesNone f s.hosts step ⊎ IsBeyond step y)
+      → assigned_at before y ≡ assigned_at after y
+
+  stays : Stays b.step
+  stays = by b.step ended.nodes ended.step ended.left_is
+    where
+      by : (step : Step) → StepHasNodes f.names step → IsStepFrom f.names was f.trees step b.left → option_map (name_at f.names) b.left ≡ left_by f.names was step → Stays step
+      by (Place z parent next) nodes is left y h i not_was not_now may =
+          place-so f.names s.hosts (KeepsFar f.names s.hosts) (far-so f.names s.hosts) (name_at f.names z) was f.trees both (here_was z nodes.0) (here_now z nodes.0) (name_at f.names parent) (option_map (name_at f.names) next) is y h i not_was not_now
+          (far may)
+        where
+          x : NodeName
+          x = name_at f.names z
+
+          up : NodeName
+          up = name_at f.names parent
+
+          far : MovesNone f s.hosts (Place z parent next) ⊎ IsBeyond (Place z parent next) y → IsFar x was f.trees y
+          far (inl (inl bare)) = inl bare
+          far (inl (inr no_move)) = absurd (true≢false no_move.0)
+          far (inr beyond) = inr away
+            where
+              same_tree : (a : NodeName) → parent_of f.trees x ≡ Some a → root_of f.trees a ≡ root_of f.trees up
+              same_tree a e =
+                  sym (root-parent f.trees both.once_now x a (here_now z nodes.0) e)
+                  ∙ place-root x was f.trees both.once_was (here_was z nodes.0) (here_now z nodes.0) up (option_map (name_at f.names) next) is both.once_now (here_now parent nodes.1)
+
+              off_up : is_in name_eq y (tree_slots f.trees up) ≡ false
+              off_up = subst (λ k. is_in name_eq y (tree_slots f.trees (name_at f.names k)) ≡ false) (sym (same_Some parent beyond.0 beyond.1)) (beyond_parts (Place z parent next) y beyond).0
+
+              away : is_slot_element (node_in f.trees y) ≡ true → IsAway x was f.trees y
+              away slot = record {
+                below = off_slots x y slot (beyond_parts (Place z parent next) y beyond).1;
+                left = λ a e. off_slots (root_of f.trees a) y slot (not_left y a b.left (left ∙ e) beyond.3);
+                parent = λ a e j. off_slots (root_of f.trees up) y slot off_up (subst (λ t. Has (subtree f.trees t) y) (same_tree a e) j);
+              }
+      by (Removal z) nodes is left y h i not_was not_now may =
+          removal-so f.names s.hosts (KeepsFar f.names s.hosts) (far-so f.names s.hosts) (name_at f.names z) was f.trees both (here_was z nodes) is.1 y h i not_was not_now (far may)
+        where
+          x : NodeName
+          x = name_at f.names z
+
+          far : MovesNone f s.hosts (Removal z) ⊎ IsBeyond (Removal z) y → IsFar x was f.trees y
+          far (inl (inl bare)) = inl bare
+          far (inl (inr no_move)) = absurd (true≢false no_move.0)
+          far (inr beyond) = inr away
+            where
+              off_left : (a : NodeName) → parent_of was x ≡ Some a → is_in name_eq y (tree_slots f.trees a) ≡ false
+              off_left a e =
+                  let same : name_at f.names beyond.0 ≡ a = same_Some (name_at f.names beyond.0) a (sym (ap (option_map (name_at f.names)) beyond.1) ∙ (left ∙ e)) in
+                  subst (λ t. is_in name_eq y (tree_slots f.trees t) ≡ false) same (beyond_parts (Removal z) y beyond).0
+
+              away : is_slot_element (node_in f.trees y) ≡ true → IsAway x was f.trees y
+              away slot = record {
+                below = off_slots x y slot (beyond_parts (Removal z) y beyond).1;
+                left = λ a e. off_slots (root_of f.trees a) y slot (off_left a e);
+                parent = λ a e. absurd (none-some a (sym (removal-unparented x was f.trees both.once_was (here_was z nodes) is.1) ∙ e));
+              }
+      by (Attribute z) nodes is left y h i not_was not_now may =
+          subst Kept (sym is.2) (λ two j not_so apart. changed-far x (with_attribute is.0 is.1) (attribute-name is.0 is.1) (attribute-slot is.0 is.1) f.names s.hosts was two y h j not_was not_so apart) both i not_now (apart_so may)
+        where
+          x : NodeName
+          x = name_at f.names z
+
+          IsApart : Trees → Type 0
+          IsApart ts = (is_slot_element (node_in ts x) ≡ false) ⊎ (is_slot_element (node_in ts y) ≡ true → Has (subtree ts (root_of ts x)) y → ⊥)
+
+          Kept : Trees → Type 0
+          Kept ts =
+              AreBoth f.names s.hosts was ts → Has ts y → is_assigned_at (shadow_trees f.names ts s.hosts) y x ≡ false → IsApart ts → assigned_at before y ≡ assigned_at (shadow_trees f.names ts s.hosts) y
+
+          apart_so : MovesNone f s.hosts (Attribute z) ⊎ IsBeyond (Attribute z) y → IsApart f.trees
+          apart_so (inl (inl bare)) = inl (false_from_ne_true _ (λ slot. subst (In x) bare (slot-among f.trees both.once_now x x (own_tree x (here_now z nodes)) slot)))
+          apart_so (inl (inr no_slot)) = inl no_slot.1
+          apart_so (inr beyond) =
+              inr (λ slot. off_slots (root_of f.trees x) y slot (subst (λ k. is_in name_eq y (tree_slots f.trees (name_at f.names k)) ≡ false) (sym (same_Some z beyond.0 beyond.1)) (beyond_parts (Attribute z) y beyond).0))
+
+  -- where there is no node around, the node of the step had no parent and has none
+  abbrev IsAlone : Step → Type 0
+  IsAlone step = KeepsAssigned f.names s.hosts (At step) was f.trees × (parent_of was (At step) ≡ None) × (parent_of f.trees (At step) ≡ None)
+
+  alone : around_of b.step b.left ≡ None → IsAlone b.step
+  alone = by b.step ended.nodes ended.step ended.left_is
+    where
+      by : (step : Step) → StepHasNodes f.names step → IsStepFrom f.names was f.trees step b.left → option_map (name_at f.names) b.left ≡ left_by f.names was step → around_of step b.left ≡ None → IsAlone step
+      by (Place z parent next) nodes is left e = absurd (none-some parent (sym e))
+      by (Attribute z) nodes is left e = absurd (none-some z (sym e))
+      by (Removal z) nodes is left e =
+          let x = name_at f.names z in
+          let up_was : parent_of was x ≡ None = sym left ∙ ap (option_map (name_at f.names)) e in
+          let up_now = removal-unparented x was f.trees both.once_was (here_was z nodes) is.1 in
+          (removal-so f.names s.hosts (AloneKept f.names s.hosts) (alone-so f.names s.hosts) x was f.trees both (here_was z nodes) is.1 up_was up_now, up_was, up_now)
+
+  abbrev x : NodeName
+  x = At b.step
+
+  abbrev own : List NodeName
+  own = own_slots f s.hosts b.slot b.step
+
+  abbrev is_other : NodeName → Bool
+  is_other = is_changed_at before after
+
+  -- the same by keys
+  abbrev KeepsBut : List NodeName → Type 0
+  KeepsBut slots = (k : ℕ) → k < length f.names → is_in name_eq (name_at f.names k) slots ≡ false → assigned_at before (name_at f.names k) ≡ assigned_at after (name_at f.names k)
+
+  none_around : around_of b.step b.left ≡ None → KeepsBut own
+  none_around e k within other =
+      let none = not-own was f s b ended stands (name_at f.names k) other in
+      (alone e).0 (name_at f.names k) (here_was k within) (here_now k within) none.0 none.1
+
+  none_moved : MovesNone f s.hosts b.step → KeepsBut own
+  none_moved moves k within other =
+      let off = not-own was f s b ended stands (name_at f.names k) other in
+      stays (name_at f.names k) (here_was k within) (here_now k within) off.0 off.1 (inl moves)
+
+  -- the slots that are renewed with a signal
+  abbrev told_slots : ℕ → List NodeName
+  told_slots around = own ++ slots_around f s.hosts b.step (name_at f.names around)
+
+  moved : (around : ℕ) → around_of b.step b.left ≡ Some around → (k : ℕ) → k < length f.names → is_in name_eq (name_at f.names k) (told_slots around) ≡ false
+      → is_in name_eq (name_at f.names k) (left_slots f s.hosts b.step b.left) ≡ false → assigned_at before (name_at f.names k) ≡ assigned_at after (name_at f.names k)
+  moved around e k within other off =
+      let y = name_at f.names k in
+      let parts = or_parts _ _ (sym (list_any-append (name_eq y) own (slots_around f s.hosts b.step (name_at f.names around))) ∙ other) in
+      let none = not-own was f s b ended stands y parts.0 in
+      stays y (here_was k within) (here_now k within) none.0 none.1 (inr (around, e, parts.1, off))
+
+  -- ---- the lists that are renewed
+
+  moved_table : (around : ℕ) → around_of b.step b.left ≡ Some around → (told : List NodeName) (table : SlotTable) (keys : List ℕ)
+      → AreMoved f s.hosts is_other s.table own told b.step b.left (name_at f.names around) table keys → IsTableOf f s.hosts table
+  moved_table around e told table keys m = record { nodes = late.1.nodes; lists = λ k within. by k within (is_in name_eq (name_at f.names k) lefts) refl; beyond = late.1.beyond }
+    where
+      lefts : List NodeName
+      lefts = left_slots f s.hosts b.step b.left
+
+      q : NodeName → Bool
+      q y = is_other y && not (is_in name_eq y (told_slots around))
+
+      late : (others : List ℕ) × AreRenewed f s.hosts q m.0 lefts (filter q lefts) table others
+      late = m.2 q (renewed-anew f s.hosts is_other s.table (told_slots around) (told ++ filter is_other (slots_around f s.hosts b.step (name_at f.names around))) m.0 keys m.1)
+
+      early : (k : ℕ) → k < length f.names → is_in name_eq (name_at f.names k) lefts ≡ false → (c : Bool) → is_in name_eq (name_at f.names k) (told_slots around) ≡ c → map (name_at f.names) (list_of m.0 k) ≡ assigned_at after (name_at f.names k)
+      early k within off true i = m.1.renewed k within i
+      early k within off false i = ap (map (name_at f.names)) (m.1.kept k within i) ∙ (ended.slots.table.lists k within ∙ moved around e k within i off)
+
+      by : (k : ℕ) → k < length f.names → (c : Bool) → is_in name_eq (name_at f.names k) lefts ≡ c → map (name_at f.names) (list_of table k) ≡ assigned_at after (name_at f.names k)
+      by k within true i = late.1.renewed k within i
+      by k within false i = ap (map (name_at f.names)) (late.1.kept k within i) ∙ early k within i (is_in name_eq (name_at f.names k) (told_slots around)) refl
+
+  module _ (table : SlotTable) (keys : List ℕ) (inside : IsInside f s.hosts is_other s.table b.step b.left b.slot table keys) where
+    -- where slots may have been moved around a node
+    abbrev MayMoveAt : ℕ → Type 0
+    MayMoveAt k = MayMove f s.hosts is_other s.table own (filter is_other own ++ bare_around f s.hosts b.step (name_at f.names k)) b.step b.left (name_at f.names k) table keys
+
+    -- the table is that of the trees now
+    pub inside-table : IsTableOf f s.hosts table
+    inside-table = by (around_of b.step b.left) refl
+      where
+        at : (k : ℕ) → around_of b.step b.left ≡ Some k → MayMoveAt k → IsTableOf f s.hosts table
+        at k e (inl r) = renewed-table was f s b ended stands own (none_moved r.0) (filter is_other own ++ bare_around f s.hosts b.step (name_at f.names k)) table keys r.1
+        at k e (inr m) = moved_table k e (filter is_other own ++ bare_around f s.hosts b.step (name_at f.names k)) table keys m
+
+        by : (o : Option ℕ) → around_of b.step b.left ≡ o → IsTableOf f s.hosts table
+        by None e = renewed-table was f s b ended stands own (none_around e) (filter is_other own) table keys (inside.alone e)
+        by (Some k) e = at k e (inside.around k e)
+
+    -- the keys are those of the slots that are signalled
+    pub inside-keys : map (name_at f.names) keys ≡ step_signals f.names before after b.step b.left
+    inside-keys = by (around_of b.step b.left) refl ∙ told-signals was f s b ended
+      where
+        told_at : Option ℕ → List NodeName
+        told_at o = option_map_or (λ around. signalled_by is_other after (option_map (name_at f.names) b.slot) x (name_at f.names around) (is_move b.step)) o []
+
+        at : (k : ℕ) → MayMoveAt k → map (name_at f.names) keys ≡ told_at (Some k)
+        at k (inl r) =
+            let y = name_at f.names k in
+            let bare = bare_around f s.hosts b.step y in
+            let more : (z : NodeName) → In z (slots_around f s.hosts b.step y) → is_other z ≡ true → is_in name_eq z own ≡ true = λ z i. elim (In-parts z (tree_slots f.trees y) (slots_among (subtree f.trees x)) i) [
+              | inl j ↦ others-among was f s b ended stands own (none_moved r.0) (root_of f.trees y) z j
+              | inr j ↦ others-among was f s b ended stands own (none_moved r.0) x z j
+            ] in
+            r.1.keys_are ∙ (fold-distinct (filter is_other own ++ bare) ∙ sym (own-signalled is_other own bare (slots_around f s.hosts b.step y) more))
+        at k (inr m) =
+            m.1.keys_are ∙ fold-distinct ((filter is_other own ++ bare_around f s.hosts b.step (name_at f.names k)) ++ filter is_other (slots_around f s.hosts b.step (name_at f.names k)))
+
+        by : (o : Option ℕ) → around_of b.step b.left ≡ o → map (name_at f.names) keys ≡ told_at o
+        by None e = (inside.alone e).keys_are ∙ ap (λ ys. fold (append_once name_eq) [] (filter is_other ys)) (none-own was f s b ended stands (alone e).1 (alone e).2)
+        by (Some k) e = at k (inside.around k e)
+
+    -- and nodes
+    pub inside-nodes : All (λ k. k < length f.names) keys
+    inside-nodes = by (around_of b.step b.left) refl
+      where
+        at : (k : ℕ) → MayMoveAt k → All (λ k. k < length f.names) keys
+        at k (inl r) = r.1.keys_nodes
+        at k (inr m) = m.1.keys_nodes
+
+        by : (o : Option ℕ) → around_of b.step b.left ≡ o → All (λ k. k < length f.names) keys
+        by None e = (inside.alone e).keys_nodes
+        by (Some k) e = at k (inside.around k e)

@@ -1,0 +1,24 @@
+use Rattle.std.proofs.Common.{◌≡◌, ◌&&◌, ◌++◌, Bool, true, List, [], ◌∷◌, sym, ap, subst, ◌∙◌}
+use Rattle.std.specs.Prelude.{if◌then◌else◌}
+use Rattle.dom_base.specs.declared.NodeName.{NodeName}
+use Rattle.dom_tree.specs.Forest.{name_at}
+use Rattle.dom_slots.specs.Renewals.{AreRenewed}
+use Rattle.dom_slots.specs.Shadows.{shadows, is_bare_at}
+use Rattle.dom_slots.specs.Steps.{is_move}
+use Rattle.dom_slots.proofs.Renewing.{told-more}
+use Rattle.dom_slots.proofs.slots.Slots.add_bare.Goals as goal
+
+-- a choice by two tests
+both : (xs : List NodeName) (m b : Bool) → m ≡ true → b ≡ true → xs ≡ (if m && b then xs else [])
+both xs m b e f = ap (λ c. if c && true then xs else []) (sym e) ∙ ap (λ c. if m && c then xs else []) (sym f)
+
+pub returns-in_ok-add_once : goal.returns-in_ok-add_once
+returns-in_ok-add_once c =
+    λ p old done told table r.
+    let f = c.args.forest.now in
+    let hosts = c.args.self.now.hosts in
+    let y = name_at f.names c.args.around in
+    let next = c.add_once.new.signals.items in
+    subst (λ ys. AreRenewed f hosts p old done (told ++ ys) table next)
+    (both (y ∷ []) (is_move c.args.step) (is_bare_at (shadows f hosts) y) (sym c.if-is_move.ensures) (sym c.in_ok-is_bare.ensures ∙ c.if-branch.true))
+    (told-more f c.nodes_stand_once.ensures.distinct hosts p old done told table c.args.signals.now.items next c.args.around r c.requires.around c.in_ok-add_once.ensures)

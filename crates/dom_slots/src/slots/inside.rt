@@ -1,0 +1,155 @@
+//! Steps that are made inside of shadow trees.
+ghost use Rattle.std.specs.Prelude.{◌≡◌, ◌⊎◌, ℕ, ◌<◌, ◌++◌, [], false, Bool as Truth, List, map, length, filter, All, OnOk, IfOk};
+ghost use Rattle.std.specs.Option.{ForSome};
+ghost use Rattle.dom_base.specs.declared.NodeName.{NodeName as Name};
+ghost use Rattle.dom_model.specs.Slots.{is_slot_element, slots_among};
+ghost use Rattle.dom_model.specs.Tree.{node_in, subtree};
+ghost use Rattle.dom_tree.specs.Forest.{name_at};
+ghost use Rattle.dom_slots.specs.Hosts.{HostsAreNodes};
+ghost use Rattle.dom_slots.specs.Insides.{tree_slots, bare_around, left_slots, MayMove, IsInside};
+ghost use Rattle.dom_slots.specs.Renewals.{AreRenewed};
+ghost use Rattle.dom_slots.specs.Shadows.{shadows, is_bare_at};
+ghost use Rattle.dom_slots.specs.Steps.{StepHasNodes, step_node, is_move};
+ghost use Rattle.dom_slots.specs.Tables.{SlotTable};
+
+use super::Begun;
+use crate::Slots;
+use crate::changes::add_once;
+use crate::find::{is_slot, slots_below};
+use crate::step::Step;
+use dom_tree::Forest;
+use node_arena::Key;
+use std::alloc::AllocError;
+
+impl Slots {
+    /// Renews the lists that a step inside of a shadow tree may have changed, and gives the slots that it signals: the old and
+    /// the new slot of its node, the node around, and where a slot was moved or changed those of the trees that it concerns.
+    pub(super) fn inside_signals(
+        &mut self,
+        forest: &Forest,
+        begun: Begun,
+    ) -> Result<Vec<Key>, AllocError>
+        requires hosts { HostsAreNodes forest.now.names self.old.hosts }
+        requires nodes { StepHasNodes forest.now.names begun.step }
+        requires left { ForSome begun.left (λ k. k < length forest.now.names) }
+        requires slot { ForSome begun.slot (λ k. k < length forest.now.names) }
+        ensures hosts { IfOk result (λ keys. self.new.hosts ≡ self.old.hosts) }
+        ensures begun { IfOk result (λ keys. self.new.begun ≡ self.old.begun) }
+        ensures renewed { (p : Name → Truth) (old : SlotTable) → AreRenewed forest.now self.old.hosts p old [] [] self.old.table [] → IfOk result (λ keys. IsInside forest.now self.old.hosts p old begun.step begun.left begun.slot self.new.table keys.items) }
+    {
+        let kept = begun;
+        let mut signals = self.own_signals(forest, kept)?;
+        if let Some(around) = begun.step.around(begun.left) {
+            let step = begun.step;
+            self.add_bare(forest, step, around, &mut signals)?;
+            self.renew_moved(forest, begun, around, &mut signals)?;
+        }
+        Ok(signals)
+    }
+
+    /// Adds the node around to the signals, where a child was placed or removed and it is a slot without assigned nodes.
+    fn add_bare(
+        &self,
+        forest: &Forest,
+        step: Step,
+        around: Key,
+        signals: &mut Vec<Key>,
+    ) -> Result<(), AllocError>
+        requires hosts { HostsAreNodes forest.now.names self.now.hosts }
+        requires around { around < length forest.now.names }
+        ensures { (p : Name → Truth) (old : SlotTable) (done told : List Name) (table : SlotTable) → AreRenewed forest.now self.now.hosts p old done told table signals.old.items → OnOk result (AreRenewed forest.now self.now.hosts p old done (told ++ bare_around forest.now self.now.hosts step (name_at forest.now.names around)) table signals.new.items) }
+    {
+        forest.nodes_stand_once();
+        if step.is_move() && self.is_bare(forest, around)? {
+            add_once(signals, around)?;
+        }
+        Ok(())
+    }
+
+    /// Whether a node is a slot of a shadow tree and nothing is assigned to it.
+    fn is_bare(&self, forest: &Forest, key: Key) -> Result<bool, AllocError>
+        requires hosts { HostsAreNodes forest.now.names self.now.hosts }
+        requires node { key < length forest.now.names }
+        ensures { IfOk result (λ bare. bare ≡ is_bare_at (shadows forest.now self.now.hosts) (name_at forest.now.names key)) }
+    {
+        forest.nodes_stand_once();
+        if !is_slot(forest, key) || self.host_of(forest.root(key)).is_none() {
+            return Ok(false);
+        }
+        let list = self.assigned_now(forest, key)?;
+        Ok(list.is_empty())
+    }
+
+    /// Renews, where a step moves a slot or changes its attributes, the lists of the slots in the tree around and in the tree
+    /// of its node, and then those of the tree that a placed node left, which are not signalled.
+    fn renew_moved(
+        &mut self,
+        forest: &Forest,
+        begun: Begun,
+        around: Key,
+        signals: &mut Vec<Key>,
+    ) -> Result<(), AllocError>
+        requires hosts { HostsAreNodes forest.now.names self.old.hosts }
+        requires nodes { StepHasNodes forest.now.names begun.step }
+        requires left { ForSome begun.left (λ k. k < length forest.now.names) }
+        requires around { around < length forest.now.names }
+        ensures hosts { OnOk result (self.new.hosts ≡ self.old.hosts) }
+        ensures begun { OnOk result (self.new.begun ≡ self.old.begun) }
+        ensures renewed { (p : Name → Truth) (old : SlotTable) (done told : List Name) → AreRenewed forest.now self.old.hosts p old done told self.old.table signals.old.items → OnOk result (MayMove forest.now self.old.hosts p old done told begun.step begun.left (name_at forest.now.names around) self.new.table signals.new.items) }
+    {
+        let kept = begun;
+        let moved = self.moved_slots(forest, kept)?;
+        if moved.is_empty() {
+            return Ok(());
+        }
+        self.renew_tree(forest, around, signals)?;
+        self.renew(forest, &moved, signals)?;
+        self.renew_left(forest, begun)
+    }
+
+    /// The slots that a step moves, or the slots below a slot whose attributes it changes.
+    fn moved_slots(&self, forest: &Forest, begun: Begun) -> Result<Vec<Key>, AllocError>
+        requires { StepHasNodes forest.now.names begun.step }
+        ensures value { IfOk result (λ keys. (map (name_at forest.now.names) keys.items ≡ slots_among (subtree forest.now.trees (name_at forest.now.names (step_node begun.step)))) ⊎ ((keys.items ≡ []) × (is_move begun.step ≡ false) × (is_slot_element (node_in forest.now.trees (name_at forest.now.names (step_node begun.step))) ≡ false))) }
+        ensures nodes { IfOk result (λ keys. All (λ k. k < length forest.now.names) keys.items) }
+    {
+        if !begun.step.is_move() && !is_slot(forest, begun.step.node()) {
+            return Ok(Vec::new(self.alloc));
+        }
+        slots_below(self.alloc, forest, begun.step.node())
+    }
+
+    /// Renews the lists of the slots in the tree in which a node stands, and adds those to the signals whose lists were others.
+    fn renew_tree(
+        &mut self,
+        forest: &Forest,
+        node: Key,
+        signals: &mut Vec<Key>,
+    ) -> Result<(), AllocError>
+        requires hosts { HostsAreNodes forest.now.names self.old.hosts }
+        requires node { node < length forest.now.names }
+        ensures hosts { OnOk result (self.new.hosts ≡ self.old.hosts) }
+        ensures begun { OnOk result (self.new.begun ≡ self.old.begun) }
+        ensures renewed { (p : Name → Truth) (old : SlotTable) (done told : List Name) → AreRenewed forest.now self.old.hosts p old done told self.old.table signals.old.items → OnOk result (AreRenewed forest.now self.old.hosts p old (done ++ tree_slots forest.now.trees (name_at forest.now.names node)) (told ++ filter p (tree_slots forest.now.trees (name_at forest.now.names node))) self.new.table signals.new.items) }
+    {
+        let slots = slots_below(self.alloc, forest, forest.root(node))?;
+        self.renew(forest, &slots, signals)
+    }
+
+    /// Renews the lists of the slots in the tree that a placed node left.
+    fn renew_left(&mut self, forest: &Forest, begun: Begun) -> Result<(), AllocError>
+        requires hosts { HostsAreNodes forest.now.names self.old.hosts }
+        requires left { ForSome begun.left (λ k. k < length forest.now.names) }
+        ensures hosts { OnOk result (self.new.hosts ≡ self.old.hosts) }
+        ensures begun { OnOk result (self.new.begun ≡ self.old.begun) }
+        ensures renewed { (q : Name → Truth) → AreRenewed forest.now self.old.hosts q self.old.table [] [] self.old.table [] → OnOk result ((keys : List ℕ) × AreRenewed forest.now self.old.hosts q self.old.table (left_slots forest.now self.old.hosts begun.step begun.left) (filter q (left_slots forest.now self.old.hosts begun.step begun.left)) self.new.table keys) }
+    {
+        match begun.step.left_behind(begun.left) {
+            Some(left) => {
+                let mut signals = Vec::new(self.alloc);
+                self.renew_tree(forest, left, &mut signals)
+            }
+            None => Ok(()),
+        }
+    }
+}
