@@ -2,6 +2,7 @@ pub mod Kept
 pub mod Choices
 pub mod Shown
 pub mod Named
+pub mod Firsts
 pub mod Walks
 pub mod Hosted
 pub mod Siblings

@@ -1,12 +1,12 @@
 -- Slots, assigned nodes and signals in trees with shadow hosts, whoever owns the nodes.
-use Rattle.std.specs.Prelude.{◌≡◌, ◌≢◌, Bool, not, ◌&&◌, List, [], ◌∷◌, ◌++◌, filter, Option, None, option_map, option_to_list, is_some, if◌then◌else◌}
+use Rattle.std.specs.Prelude.{◌≡◌, ◌≢◌, Bool, false, not, ◌&&◌, List, [], ◌∷◌, ◌++◌, filter, find, Option, None, option_map, option_to_list, is_some, if◌then◌else◌}
 use Rattle.std.specs.Option.{option_and_then, option_map_or}
 use Rattle.dom_base.specs.declared.Owner.{Owner}
 use Rattle.dom_base.specs.declared.NodeName.{NodeName}
-use Rattle.dom_model.specs.Names.{name_eq, is_in, is_empty, distinct, list_eq}
-use Rattle.dom_model.specs.Tree.{Trees, node_in, parent_of, children_of, root_of, subtree}
+use Rattle.dom_model.specs.Names.{DomString, text_eq, name_eq, is_in, is_empty, distinct, list_eq}
+use Rattle.dom_model.specs.Tree.{Trees, Node, nodes, node_in, parent_of, children_of, root_of, subtree}
 use Rattle.dom_model.specs.World.{World, part_of, component_at, host_of, shadow_root_of}
-use Rattle.dom_model.specs.Slots.{is_slot_element, slot_in, slots_among}
+use Rattle.dom_model.specs.Slots.{is_slot_element, has_slot_name, slot_name, slottable_name, slot_in, slots_among}
 use Rattle.dom_tree.specs.Forest.{NamedTrees}
 use Rattle.dom_tree.specs.Owners.{AreOwned, trees_of_owner}
 use Rattle.dom_slots.specs.Hosts.{ShadowHost, host_named, root_named}
@@ -25,6 +25,10 @@ shadow_trees names ts hosts = record { trees = ts; shadow_of = root_named names 
 abbrev pub shadows : NamedTrees → List ShadowHost → ShadowTrees
 shadows f hosts = shadow_trees f.names f.trees hosts
 
+-- whether a node looks for a slot of this name
+abbrev pub looks_for : DomString → Node → Bool
+looks_for name n = option_map_or (λ a. text_eq a name) (slottable_name n) false
+
 module _ (s : ShadowTrees) where
   -- the slot of a node: the first of its name in the shadow tree of its parent (DOM Standard, concept: find a slot)
   abbrev pub slot_at : NodeName → Option NodeName
@@ -33,6 +37,11 @@ module _ (s : ShadowTrees) where
   -- whether y is the slot of x
   abbrev pub is_assigned_at : NodeName → NodeName → Bool
   is_assigned_at y x = is_in name_eq y (option_to_list (slot_at x))
+
+  -- whether y is the first slot of its own name in the shadow tree of a host
+  abbrev pub is_first_at : NodeName → NodeName → Bool
+  is_first_at host y =
+      is_in name_eq y (option_to_list (option_and_then (λ r. option_map (λ (n : Node). n.name) (find (has_slot_name (slot_name (node_in s.trees y))) (nodes (subtree s.trees r)))) (s.shadow_of host)))
 
   -- the host's children whose slot y is, in their order
   abbrev pub assigned_under : NodeName → NodeName → List NodeName

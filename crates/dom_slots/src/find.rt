@@ -5,6 +5,7 @@ ghost use Rattle.dom_model.specs.Slots.{is_slot_element, has_slot_name, slottabl
 ghost use Rattle.dom_model.specs.Names.{text_eq};
 ghost use Rattle.dom_model.specs.Tree.{Node, node_in, nodes, subtree};
 ghost use Rattle.dom_tree.specs.Forest.{name_at};
+ghost use Rattle.dom_slots.specs.Shadows.{looks_for};
 
 use dom_base::Kind;
 use dom_tree::Forest;
@@ -63,7 +64,7 @@ fn has_name(forest: &Forest, key: Key, name: &[u16]) -> bool
 }
 
 /// The name of a slot, empty without the attribute (DOM Standard, concept: slot, name).
-fn slot_name(forest: &Forest, key: Key) -> &[u16]
+pub(crate) fn slot_name(forest: &Forest, key: Key) -> &[u16]
     requires { key < length forest.now.names }
     ensures { result.now ≡ slot_name (node_in forest.now.trees (name_at forest.now.names key)) }
 {
@@ -86,6 +87,17 @@ pub(crate) fn slottable_name(forest: &Forest, key: Key) -> Option<&[u16]>
         },
         Kind::Text => Some(&[]),
         _ => None,
+    }
+}
+
+/// Whether a node looks for a slot of this name.
+pub(crate) fn looks_for(forest: &Forest, key: Key, name: &[u16]) -> bool
+    requires { key < length forest.now.names }
+    ensures { result ≡ looks_for name.now (node_in forest.now.trees (name_at forest.now.names key)) }
+{
+    match slottable_name(forest, key) {
+        Some(wanted) => is_same(wanted, name),
+        None => false,
     }
 }
 

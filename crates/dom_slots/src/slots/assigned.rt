@@ -4,10 +4,10 @@ ghost use Rattle.std.specs.Option.{option_map, ForSome};
 ghost use Rattle.dom_tree.specs.Forest.{name_at};
 ghost use Rattle.dom_slots.specs.Hosts.{HostsAreNodes};
 ghost use Rattle.dom_slots.specs.Kept.{AreSlotsOf};
-ghost use Rattle.dom_slots.specs.Shadows.{shadows, slot_at, assigned_at, assigned_under};
+ghost use Rattle.dom_slots.specs.Shadows.{shadows, slot_at, is_first_at, assigned_at, assigned_under};
 
 use crate::Slots;
-use crate::find::{slot_named, slottable_name};
+use crate::find::{looks_for, slot_name, slot_named, slottable_name};
 use dom_tree::Forest;
 use node_arena::Key;
 use std::alloc::AllocError;
@@ -68,7 +68,7 @@ impl Slots {
         }
     }
 
-    /// The children of a host whose slot this one is.
+    /// The children of a host whose slot this one is: where it is the first of its name, those that look for that name.
     fn assigned_under(&self, forest: &Forest, host: Key, slot: Key) -> Result<Vec<Key>, AllocError>
         requires host_is_node { host < length forest.now.names }
         requires slot_is_node { slot < length forest.now.names }
@@ -78,13 +78,32 @@ impl Slots {
     {
         forest.nodes_stand_once();
         let mut keys = Vec::new(self.alloc);
+        if !self.is_first(forest, host, slot) {
+            return Ok(keys);
+        }
+        let name = slot_name(forest, slot);
         let mut at = forest.first(host);
         while let Some(child) = at {
-            if self.slot_now(forest, child) == Some(slot) {
+            if looks_for(forest, child, name) {
                 keys.push(child)?;
             }
             at = forest.next(child);
         }
         Ok(keys)
+    }
+
+    /// Whether a slot is the first of its name in the shadow tree of a host. This walks through that tree, and none of the
+    /// host's children needs to.
+    fn is_first(&self, forest: &Forest, host: Key, slot: Key) -> bool
+        requires host_is_node { host < length forest.now.names }
+        requires slot_is_node { slot < length forest.now.names }
+        requires hosts { HostsAreNodes forest.now.names self.now.hosts }
+        ensures { result ≡ is_first_at (shadows forest.now self.now.hosts) (name_at forest.now.names host) (name_at forest.now.names slot) }
+    {
+        forest.nodes_stand_once();
+        match self.root_of(host) {
+            Some(root) => slot_named(forest, root, slot_name(forest, slot)) == Some(slot),
+            None => false,
+        }
     }
 }

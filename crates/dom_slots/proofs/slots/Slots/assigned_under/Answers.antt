@@ -1,19 +1,21 @@
-use Rattle.std.proofs.Common.{◌≡◌, ◌<◌, ◌∷◌, ◌++◌, Bool, Some, All, length, map, sym, ap, subst, ◌∙◌, arith}
-use Rattle.std.specs.Prelude.{filter, option_to_list}
-use Rattle.std.specs.Option.{option_map, option_eq}
-use Rattle.node_arena.specs.contracts.key.KeyPartialEq.TheImpl as KeyImpl
+use Rattle.std.proofs.Common.{◌≡◌, ◌<◌, ◌&&◌, ◌∷◌, ◌++◌, Bool, All, length, map, sym, ap, subst, ◌∙◌, arith}
+use Rattle.std.specs.Prelude.{filter}
+use Rattle.std.specs.Option.{option_map}
 use Rattle.std.proofs.lemmas.List.{append-nil}
 use Rattle.dom_base.specs.declared.NodeName.{NodeName}
-use Rattle.dom_model.specs.Names.{name_eq, is_in, items_after}
-use Rattle.dom_model.specs.Tree.{children_of}
+use Rattle.dom_model.specs.Names.{name_eq, items_after}
+use Rattle.dom_model.specs.Slots.{slot_name}
+use Rattle.dom_model.specs.Tree.{node_in, children_of}
 use Rattle.dom_tree.specs.Forest.{name_at}
+use Rattle.dom_traversal.proofs.Children.{parent-of_child}
 use Rattle.dom_traversal.proofs.Counts.{Once-forest, Has-forest}
-use Rattle.dom_slots.specs.Shadows.{shadows, is_assigned_at}
-use Rattle.dom_slots.proofs.Hosted.{found-test}
+use Rattle.dom_traversal.proofs.Lists.{filter-none}
+use Rattle.dom_slots.specs.Shadows.{shadows, is_assigned_at, looks_for}
+use Rattle.dom_slots.proofs.Firsts.{assigned-first}
 use Rattle.dom_slots.proofs.Siblings.{from_item, first_step, next_step, length-next}
 use Rattle.dom_slots.proofs.Walks.{collect-yes, collect-no}
 use Rattle.dom_slots.proofs.slots.Slots.assigned_under.Goals as goal
-use Rattle.dom_slots.proofs.slots.Slots.assigned_under.Goals.{then-eq+in_ok-push, else-eq}
+use Rattle.dom_slots.proofs.slots.Slots.assigned_under.Goals.{then-looks_for+in_ok-push, else-looks_for}
 
 pub loop-at-init : goal.loop-at-init
 loop-at-init c =
@@ -28,8 +30,8 @@ loop-at-init c =
       left = ap (λ ks. map (name_at f.names) ks ++ filter test (from_item (children_of f.trees h) (option_map (name_at f.names) c.first-at.result))) c.new-keys.ensures.items ∙ ap (filter test) step.0;
     }
 
-pub slot_now-requires-clause-node_is_node : goal.slot_now-requires-clause-node_is_node
-slot_now-requires-clause-node_is_node c = (c.loop-at.invariant.child c.in-Some.child c.in-Some.is).node
+pub looks_for-requires : goal.looks_for-requires
+looks_for-requires c = (c.loop-at.invariant.child c.in-Some.child c.in-Some.is).node
 
 pub next-at-requires : goal.next-at-requires
 next-at-requires c = (c.loop-at.invariant.child c.in-Some.child c.in-Some.is).node
@@ -57,12 +59,18 @@ loop-at-preserved c =
     let xs = items_after name_eq (name_at f.names k) (children_of f.trees h) in
     let left : map (name_at f.names) c.loop-at.keys.items ++ filter test (name_at f.names k ∷ xs) ≡ all =
     ap (λ o. map (name_at f.names) c.loop-at.keys.items ++ filter test (from_item (children_of f.trees h) (option_map (name_at f.names) o))) (sym c.in-Some.is) ∙ c.loop-at.invariant.left in
-    let new = c.if-eq.keys.items in
-    let tested : option_eq KeyImpl.ghosts.eq c.slot_now.result (Some c.args.slot) ≡ test (name_at f.names k) =
-    found-test f.names e.distinct c.slot_now.result c.args.slot c.slot_now.ensures.node c.requires.slot_is_node ∙ ap (λ o. is_in name_eq (name_at f.names c.args.slot) (option_to_list o)) c.slot_now.ensures.value in
-    let is : All (λ j. j < length f.names) new × (map (name_at f.names) new ++ filter test xs ≡ all) = elim c.if-eq.branch [
-      | then-eq+in_ok-push w ↦ collect-yes f.names test c.loop-at.keys.items k child.node xs all c.loop-at.invariant.nodes left new (ap (λ v. v.items) w.keys-is ∙ w.in_ok-push.ensures.items) (sym (w.if-eq.ensures ∙ tested))
-      | else-eq w ↦ collect-no f.names test c.loop-at.keys.items k child.node xs all c.loop-at.invariant.nodes left new (ap (λ v. v.items) w.keys-is) (sym (w.if-eq.ensures ∙ tested))
+    let new = c.if-looks_for.keys.items in
+    let s = shadows f c.args.self.now.hosts in
+    let y = name_at f.names c.args.slot in
+    let own = slot_name (node_in f.trees y) in
+    let n = node_in f.trees (name_at f.names k) in
+    let tested : looks_for c.slot_name-name.result.now n ≡ test (name_at f.names k) =
+    ap (λ a. looks_for a n) c.slot_name-name.ensures
+    ∙ (ap (λ b. b && looks_for own n) c.if-not-is_first.ensures ∙ sym (assigned-first s (Once-forest f e.once e.only) h y (name_at f.names k) child.parent)) in
+    let is : All (λ j. j < length f.names) new × (map (name_at f.names) new ++ filter test xs ≡ all) = elim c.if-looks_for.branch [
+      | then-looks_for+in_ok-push w ↦
+          collect-yes f.names test c.loop-at.keys.items k child.node xs all c.loop-at.invariant.nodes left new (ap (λ v. v.items) w.keys-is ∙ w.in_ok-push.ensures.items) (sym (w.if-looks_for.ensures ∙ tested))
+      | else-looks_for w ↦ collect-no f.names test c.loop-at.keys.items k child.node xs all c.loop-at.invariant.nodes left new (ap (λ v. v.items) w.keys-is) (sym (w.if-looks_for.ensures ∙ tested))
     ] in
     record { child = step.1; nodes = is.0; left = ap (λ ys. map (name_at f.names) new ++ filter test ys) (sym step.0) ∙ is.1 }
 
@@ -73,3 +81,18 @@ returns-clause-value c =
     let test : NodeName → Bool = is_assigned_at (shadows f c.args.self.now.hosts) (name_at f.names c.args.slot) in
     sym (append-nil (map (name_at f.names) c.loop-at.keys.items))
     ∙ (ap (λ o. map (name_at f.names) c.loop-at.keys.items ++ filter test (from_item (children_of f.trees h) (option_map (name_at f.names) o))) (sym c.in_default.is) ∙ c.loop-at.invariant.left)
+
+pub returns-then-not-is_first-clause-value : goal.returns-then-not-is_first-clause-value
+returns-then-not-is_first-clause-value c =
+    let f = c.args.forest.now in
+    let s = shadows f c.args.self.now.hosts in
+    let h = name_at f.names c.args.host in
+    let y = name_at f.names c.args.slot in
+    let e = c.nodes_stand_once.ensures in
+    let once = Once-forest f e.once e.only in
+    let own = slot_name (node_in f.trees y) in
+    ap (map (name_at f.names)) c.new-keys.ensures.items
+    ∙ sym (filter-none (is_assigned_at s y) (children_of f.trees h)
+    (λ x i.
+    assigned-first s once h y x (parent-of_child f.trees h x once (Has-forest f e.once c.args.host c.requires.host_is_node) i).0
+    ∙ ap (λ b. b && looks_for own (node_in f.trees x)) (sym c.if-not-is_first.ensures)))
