@@ -6,8 +6,8 @@ Usage: bench/bench.py [PROGRAM]      (PROGRAM: the built domrun, crates/domrun/o
 Each kind of script is made twice, the second one four times as long. For each is printed: its lines, the seconds that the
 program takes (the best of three runs), microseconds per line, and how many times as long as `wc -l` that is. Where the
 microseconds per line of the longer script are more than twice those of the shorter one, the kind is marked 'grows'.
-Then come the kinds with hosts, each at two sizes a factor of eight apart: the number of hosts, or of one host's children. There
-the lines that make the page are timed alone too, and the microseconds are those of the lines behind them.
+Then come the kinds with hosts and one with ranges, each at two sizes a factor of eight apart: the number of hosts, of one host's
+children, or of ranges. There the lines that make the page are timed alone too, and the microseconds are those of the lines behind them.
 Nothing here is part of the gate.
 """
 import os
@@ -185,7 +185,22 @@ def coming_and_going(slottables):
         yield f"p append n2 n{child}"
 
 
-SIZED = ((slotted_hosts, (112, 900)), (plain_parents, (112, 900)), (slotted_children, (125, 1000)))
+def ranged_text(ranges):
+    """A Text with so many ranges is replaced in part, again and again; the ranges start at all of its offsets in turn."""
+    return with_ranges(ranges), (f'p replace-data n1 {turn * 7 % 900} 2 "ab"' for turn in range(20_000))
+
+
+def with_ranges(ranges):
+    """The lines that make that Text of 1,000 code units and its ranges, each of ten code units."""
+    yield f'p new text "{"x" * 1000}"'
+    for number in range(ranges):
+        at = number * 13 % 990
+        yield "p range-new"
+        yield f"p range-start r{number} n1 {at}"
+        yield f"p range-end r{number} n1 {at + 10}"
+
+
+SIZED = ((slotted_hosts, (112, 900)), (plain_parents, (112, 900)), (slotted_children, (125, 1000)), (ranged_text, (125, 1000)))
 
 
 KINDS = (wide, front, down, up, moves, attributes, data, splits, reads, iterators, removals, queries)
