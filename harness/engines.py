@@ -40,7 +40,7 @@ def run_program(program, script):
 
 
 def run_programs(program, scripts):
-    with ThreadPoolExecutor(2) as pool:
+    with ThreadPoolExecutor(os.cpu_count() or 1) as pool:
         return list(pool.map(lambda script: run_program(program, script), scripts))
 
 

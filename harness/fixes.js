@@ -273,6 +273,27 @@
     } };
   }
 
+  // In a shadow tree the host has no features, so that no `*` matches it (CSS Scoping, section 3.2.2): each `*` says so.
+  function planQuery(run, owner, [root, text]) {
+    if (!("host" in root)) return null;
+    const narrowed = text.replace(/"[^"]*"|'[^']*'|:not\([\t\n\f\r ]*\*|\*(?!=)/g, (part) => (part === "*" ? "*:not(:host)" : part));
+    return narrowed === text ? null : { call: (query) => {
+      const plain = query();
+      const answer = queryOrNull(run, owner, root, narrowed) || plain;
+      if (answer !== plain) run.met.add("host-matched");
+      return answer;
+    } };
+  }
+
+  // What a DOM answers that knows `:host`; null: it knows none.
+  function queryOrNull(run, owner, root, text) {
+    try {
+      return run.showList(owner, root.querySelectorAll(text));
+    } catch {
+      return null;
+    }
+  }
+
   // A record of children in which none came and none went is left out.
   function withoutEmpty(taken) {
     const isEmpty = ({ type, addedNodes, removedNodes }) => type === "childList" && addedNodes.length + removedNodes.length === 0;
@@ -294,6 +315,7 @@
     "refused-end-moves": (run, owner, name, values) => (name === "range-start" || name === "range-end" ? planEnd(run, values) : null),
     "contents-left": (run, owner, name, values) => (name === "delete" || name === "extract" ? planContents(values[0]) : null),
     "split-alone": (run, owner, name, values) => (name === "split" ? after(planSplitAlone(owner, values)) : null),
+    "host-matched": (run, owner, name, values) => (name === "query" ? planQuery(run, owner, values) : null),
     "empty-records": () => ({ after: withoutEmpty }),
     "iterator-kept": planIterators,
     "root-left": planRoots,

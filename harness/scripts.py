@@ -8,9 +8,11 @@ on every machine. While a script is made it is run line by line in domrun, which
 """
 import argparse
 import collections
+import os
 import random
 import re
 import sys
+from concurrent.futures import ThreadPoolExecutor
 
 import engines
 from draft import Draft, Node, Owner
@@ -307,8 +309,10 @@ def made(program, seed, number, lines):
 
 
 def random_scripts(program, seed, count, lines, first=0):
-    """The scripts of a seed, from number `first` on."""
-    return ["".join(line + "\n" for line in made(program, seed, number, lines).lines) for number in range(first, first + count)]
+    """The scripts of a seed, from number `first` on. They are made side by side, since each waits for the program line by line."""
+    with ThreadPoolExecutor(2 * (os.cpu_count() or 1)) as pool:
+        makers = pool.map(lambda number: made(program, seed, number, lines), range(first, first + count))
+        return ["".join(line + "\n" for line in maker.lines) for maker in makers]
 
 
 def print_coverage(makers):
