@@ -40,22 +40,11 @@ class Comparison:
             found[i] = known.judge(self.engine.name, given[i], wanted[i], output, met)
         return found
 
-    def show(self, script):
-        """Prints the first difference of a script, with the lines before it."""
-        wanted = engines.run_program(self.program, script).splitlines()
-        fixes = [output for output, _ in engines.answers(self.engine, [script]) + engines.answers(self.engine, [script], known.FIXES)]
-        print(script, end="")
-        for title, output in zip(("as it is", "with each named difference made good"), fixes):
-            got = output.splitlines()
-            at = known.first_difference(wanted, got)
-            if at is None:
-                print(f"-- {title}: no difference")
-                continue
-            print(f"-- {title}: at `{known.line_of(script, wanted, at)}`")
-            for line in wanted[max(0, at - 3):at]:
-                print(f"     both: {line}")
-            print(f"   domrun: {wanted[at] if at < len(wanted) else '(no line)'}")
-            print(f"   engine: {got[at] if at < len(got) else '(no line)'}")
+    def show(self, given):
+        """For each script a text with it and its first difference, with the lines before that."""
+        wanted = engines.run_programs(self.program, given)
+        plain, fixed = (engines.answers(self.engine, given, fixes) for fixes in ((), known.FIXES))
+        return [shown(*outputs) for outputs in zip(given, wanted, (output for output, _ in plain), (output for output, _ in fixed))]
 
     def stays(self, tried, wanted_lines):
         """The scripts of these that stay unexplained."""
@@ -78,6 +67,22 @@ class Comparison:
             else:
                 size //= 2
         return "".join(line + "\n" for line in lines)
+
+
+def shown(script, wanted, plain, fixed):
+    """A script and the first difference of what an engine wrote for it, as it is and with each named difference made good."""
+    wanted, text = wanted.splitlines(), script
+    for title, output in (("as it is", plain), ("with each named difference made good", fixed)):
+        got = output.splitlines()
+        at = known.first_difference(wanted, got)
+        if at is None:
+            text += f"-- {title}: no difference\n"
+            continue
+        text += f"-- {title}: at `{known.line_of(script, wanted, at)}`\n"
+        text += "".join(f"     both: {line}\n" for line in wanted[max(0, at - 3):at])
+        text += f"   domrun: {wanted[at] if at < len(wanted) else '(no line)'}\n"
+        text += f"   engine: {got[at] if at < len(got) else '(no line)'}\n"
+    return text
 
 
 def names_made(program, lines):
@@ -136,7 +141,7 @@ def compare(comparison, batches, shown):
             if names is None:
                 print(f"== {title}: unexplained")
             if names is None and counts["unexplained"] <= shown:
-                comparison.show(comparison.small(script))
+                print(comparison.show([comparison.small(script)])[0], end="")
         sys.stdout.flush()
     report(counts, total)
     return 1 if counts["unexplained"] else 0
@@ -152,13 +157,13 @@ def random_batches(words):
 
 
 def print_known(comparison):
-    """Prints each named difference, with the script that shows it and whether it does so in this engine."""
-    for name, difference in known.KNOWN.items():
-        names = comparison.judged([difference.script])[0]
+    """Prints each named difference, with the script that shows it and whether it does so in this engine. Gives the status."""
+    given = [difference.script for difference in known.KNOWN.values()]
+    judged, texts = comparison.judged(given), comparison.show(given)
+    for (name, difference), names, text in zip(known.KNOWN.items(), judged, texts):
         says = "is not here" if names == set() else "is UNEXPLAINED here" if names is None else "is here: " + ", ".join(sorted(names))
-        print(f"== {name} ({difference.sort}): {difference.text}. It {says}.")
-        comparison.show(difference.script)
-    return 0
+        print(f"== {name} ({difference.sort}): {difference.text}. It {says}.\n{text}", end="")
+    return 1 if None in judged else 0
 
 
 def print_examples(comparison):
