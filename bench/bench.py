@@ -8,6 +8,7 @@ program takes (the best of three runs), microseconds per line, and how many time
 microseconds per line of the longer script are more than twice those of the shorter one, the kind is marked 'grows'.
 Then come the kinds with hosts and one with ranges, each at two sizes a factor of eight apart: the number of hosts, of one host's
 children, or of ranges. There the lines that make the page are timed alone too, and the microseconds are those of the lines behind them.
+At last short lines are answered one by one through a pipe and through the Python binding.
 Nothing here is part of the gate.
 """
 import os
@@ -17,6 +18,7 @@ import tempfile
 import time
 
 PROGRAM = os.path.join(os.path.dirname(os.path.abspath(__file__)), "..", "crates", "domrun", "out", "domrun")
+BINDING = os.path.join(os.path.dirname(os.path.abspath(__file__)), "..", "bindings", "python")
 LENGTHS = (10_000, 40_000)
 
 
@@ -239,6 +241,43 @@ def timed_behind(program, kind, size, folder):
     return len(others), taken[0], (taken[1] - taken[0]) / len(others) * 1e6
 
 
+def by_pipe(program, lines):
+    """The seconds in which a program that stays answers lines one by one, each read before the next is written."""
+    with subprocess.Popen([program], stdin=subprocess.PIPE, stdout=subprocess.PIPE) as child:
+        start = time.perf_counter()
+        for line in lines:
+            child.stdin.write(line + b"\n")
+            child.stdin.flush()
+            child.stdout.readline()
+        taken = time.perf_counter() - start
+        child.stdin.close()
+    return taken
+
+
+def by_library(lines):
+    """The seconds in which a session of the Python binding answers them."""
+    sys.path.insert(0, BINDING)
+    from owlantimony import Session
+
+    with Session() as session:
+        start = time.perf_counter()
+        for line in lines:
+            session.line_bytes(line)
+        return time.perf_counter() - start
+
+
+def embedded(program):
+    """Short lines, each with one line of answer, through a pipe and through the library: microseconds per line, the best of three."""
+    lines = [line.encode("ascii") for line in reads(LENGTHS[0])]
+    piped = min(by_pipe(program, lines) for _ in range(3)) / len(lines) * 1e6
+    try:
+        linked = min(by_library(lines) for _ in range(3)) / len(lines) * 1e6
+    except OSError as fault:
+        print(f"embedded: no library, which bindings/check --build makes: {fault}")
+        return
+    print(f"embedded, {len(lines)} lines one by one: {piped:.1f} us/line through a pipe, {linked:.1f} through the library from Python")
+
+
 def main():
     program = sys.argv[1] if len(sys.argv) > 1 else PROGRAM
     print(f"{'kind':<12}{'lines':>9}{'seconds':>10}{'us/line':>10}{'x wc -l':>10}")
@@ -256,6 +295,7 @@ def main():
             for size in sizes:
                 lines, made, micros = timed_behind(program, kind, size, folder)
                 print(f"{kind.__name__:<18}{size:>6}{lines:>9}{made:>10.3f}{micros:>10.2f}")
+    embedded(program)
 
 
 if __name__ == "__main__":

@@ -11,7 +11,7 @@ import sources
 
 USE = re.compile(r"\s*(?:ghost |pub )?use Rattle\.(\w+)\.specs\.(\w+)(?:\.\{(.*)\}| as (\w+))")
 WORD = re.compile(r"(?:(\w+)\.)?([A-Za-z_]\w*)")
-CALL = re.compile(r"( *)pub fn (\w+)")
+CALL = re.compile(r"( *)pub (?:extern \"C\" )?fn (\w+)")
 OWNER = re.compile(r"impl(?:<[^>]*>)? (?:.* for )?(\w+)")
 CLAUSE = re.compile(r"\s*ensures\*?(?: (\w+))? \{")
 HEAD = re.compile(r"(?: *(?:abbrev|unfoldable|opaque) )?(?:pub )?(?:(?:record|data) )?([A-Za-z_]\w*)[ :({]")

@@ -15,3 +15,4 @@ pub use fault::RunFault;
 pub use runner::run;
 pub use session::Session;
 pub use streams::{FromReader, IntoWriter, Sink, Source};
+pub use view::lines_seen_by;

@@ -1,6 +1,6 @@
 //! Which lines of its output a run writes.
 
-ghost use Rattle.std.specs.Prelude.{◌≡◌, ◌<◌, IfOk, filter};
+ghost use Rattle.std.specs.Prelude.{◌≡◌, ◌<◌, IfOk, Some, filter};
 ghost use Rattle.dom_text.specs.Lines.{cut_of, text_of_lines, begins_with, owner_prefix};
 ghost use Rattle.dom_engine.specs.Run.{viewed, EndsWriting};
 
@@ -64,6 +64,30 @@ fn prefix_of(alloc: Global, owner: Owner) -> Result<Vec<u8>, AllocError>
         Owner::Component(number) => format!(in alloc; "c{number} ")?,
     };
     Ok(word.into_bytes())
+}
+
+/// The lines of a text that begin with the owner's word and a space, each with its 0x0A (own rule). An error is want of memory.
+pub fn lines_seen_by(alloc: Global, owner: Owner, text: &[u8]) -> Result<Vec<u8>, AllocError>
+    ensures { IfOk result (λ lines. lines.items ≡ viewed (Some owner) text.now) }
+{
+    let prefix = prefix_of(alloc, owner)?;
+    lines_with(alloc, &prefix, text)
+}
+
+/// The lines of the text that begin with the prefix.
+fn lines_with(alloc: Global, prefix: &[u8], text: &[u8]) -> Result<Vec<u8>, AllocError>
+    ensures { IfOk result (λ lines. lines.items ≡ text_of_lines (filter (begins_with prefix.now) (cut_of text.now).finished)) }
+{
+    let mut lines = Vec::new(alloc);
+    let mut rest = text;
+    while let Some(at) = line_end(rest) {
+        let (line, later) = rest.split_at(at + 1);
+        if line[..at].starts_with(prefix) {
+            lines.extend_from_slice(line)?;
+        }
+        rest = later;
+    }
+    Ok(lines)
 }
 
 /// Writes the lines of the text that begin with the prefix.

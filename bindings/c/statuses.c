@@ -1,0 +1,112 @@
+/*
+ * Calls each function where it answers another status than OWLANTIMONY_DONE, and with each request for memory refused in turn.
+ * Writes what is not as it should be. Built with -Wl,--wrap=malloc,--wrap=realloc.
+ */
+#include "owlantimony.h"
+
+#include <stdio.h>
+#include <string.h>
+
+static int faults;
+static long left = -1; /* how many requests for memory are granted; below 0 all are */
+
+void *__real_malloc(size_t size);
+void *__real_realloc(void *block, size_t size);
+
+static bool is_granted(void)
+{
+    if (left > 0)
+        left--;
+    return left != 0;
+}
+
+void *__wrap_malloc(size_t size)
+{
+    return is_granted() ? __real_malloc(size) : NULL;
+}
+
+void *__wrap_realloc(void *block, size_t size)
+{
+    return is_granted() ? __real_realloc(block, size) : NULL;
+}
+
+#define WANT(fact) ((fact) ? (void)0 : (void)(faults++, fprintf(stderr, "%s:%d: %s\n", __FILE__, __LINE__, #fact)))
+
+/* All calls but the one that drops, on a handle: each answers this status. */
+static void all_answer(owlantimony_session *session, uint32_t status)
+{
+    size_t size = 9;
+    char text[4] = "abc";
+    WANT(owlantimony_line(session, "p .", 3, &size) == status && size == 0);
+    size = 9;
+    WANT(owlantimony_finish(session, &size) == status && size == 0);
+    size = 9;
+    WANT(owlantimony_text(session, text, 4, &size) == status && size == 0);
+    size = 9;
+    WANT(owlantimony_view(session, "p", 1, text, 4, &size) == status && size == 0);
+    WANT(!strcmp(text, "abc"));
+}
+
+/* Null pointers, a closed handle, an open one, a buffer that is too short and a word that is no owner's. */
+static void try_statuses(void)
+{
+    owlantimony_session session = OWLANTIMONY_CLOSED;
+    size_t size = 0;
+    char text[64] = "";
+    all_answer(&session, OWLANTIMONY_CLOSED_HANDLE);
+    WANT(owlantimony_drop(&session) == OWLANTIMONY_CLOSED_HANDLE);
+    WANT(owlantimony_new(NULL) == OWLANTIMONY_NULL && owlantimony_drop(NULL) == OWLANTIMONY_NULL);
+    WANT(owlantimony_new(&session) == OWLANTIMONY_DONE);
+    WANT(owlantimony_new(&session) == OWLANTIMONY_OPEN_HANDLE);
+    WANT(owlantimony_line(&session, NULL, 1, &size) == OWLANTIMONY_NULL);
+    WANT(owlantimony_line(&session, "p .", 3, NULL) == OWLANTIMONY_NULL);
+    WANT(owlantimony_text(&session, NULL, 1, &size) == OWLANTIMONY_NULL);
+    WANT(owlantimony_line(&session, NULL, 0, &size) == OWLANTIMONY_DONE && size == 8); /* "! owner", by docs/PROTOCOL.md */
+    WANT(owlantimony_line(&session, "p new element div", 17, &size) == OWLANTIMONY_DONE && size == 8);
+    WANT(owlantimony_text(&session, NULL, 0, &size) == OWLANTIMONY_SHORT && size == 8);
+    WANT(owlantimony_text(&session, text, 7, &size) == OWLANTIMONY_SHORT && size == 8 && !text[0]);
+    WANT(owlantimony_text(&session, text, 64, &size) == OWLANTIMONY_DONE && size == 8 && !strcmp(text, "p ok n1\n"));
+    WANT(owlantimony_view(&session, "x", 1, text, 64, &size) == OWLANTIMONY_OWNER && size == 0);
+    WANT(owlantimony_view(&session, "c1", 2, text, 64, &size) == OWLANTIMONY_DONE && size == 0);
+    WANT(owlantimony_view(&session, "p", 1, text, 3, &size) == OWLANTIMONY_SHORT && size == 8);
+    WANT(owlantimony_view(&session, "p", 1, text, 64, &size) == OWLANTIMONY_DONE && size == 8);
+    WANT(owlantimony_drop(&session) == OWLANTIMONY_DONE && owlantimony_drop(&session) == OWLANTIMONY_CLOSED_HANDLE);
+}
+
+/* A session of two lines and a view where so many requests for memory are granted, and the next one is refused. Gives whether one
+   was. */
+static bool is_refused_after(long granted)
+{
+    owlantimony_session session = OWLANTIMONY_CLOSED;
+    size_t size;
+    char text[64] = "";
+    left = granted + 1;
+    uint32_t status = owlantimony_new(&session);
+    if (status == OWLANTIMONY_DONE)
+        status = owlantimony_line(&session, "p new element div", 17, &size);
+    if (status == OWLANTIMONY_DONE)
+        status = owlantimony_line(&session, "p append n0 n1", 14, &size);
+    if (status == OWLANTIMONY_DONE)
+        status = owlantimony_view(&session, "p", 1, text, 64, &size);
+    left = -1;
+    WANT(status == OWLANTIMONY_DONE || status == OWLANTIMONY_MEMORY);
+    if (status == OWLANTIMONY_DONE)
+        WANT(!strcmp(text, "p ok\n"));
+    else if (session.is_open)
+        all_answer(&session, OWLANTIMONY_MEMORY);
+    else
+        all_answer(&session, OWLANTIMONY_CLOSED_HANDLE);
+    owlantimony_drop(&session);
+    return status == OWLANTIMONY_MEMORY;
+}
+
+int main(void)
+{
+    long tried = 0;
+    try_statuses();
+    while (tried < 1000 && is_refused_after(tried))
+        tried++;
+    WANT(tried > 3 && tried < 1000);
+    printf("statuses: %ld requests for memory refused, %d faults\n", tried, faults);
+    return faults != 0;
+}

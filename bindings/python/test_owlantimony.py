@@ -1,0 +1,82 @@
+"""Replays the stored examples through the Python binding, and tries what it raises. Run by bindings/check."""
+import os
+import unittest
+
+from owlantimony import Closed, NoOwner, Session
+
+EXAMPLES = os.path.join(os.path.dirname(os.path.abspath(__file__)), "..", "..", "examples")
+
+
+def examples():
+    """The paths of all scripts whose answers are stored beside them."""
+    for folder, _, files in sorted(os.walk(EXAMPLES)):
+        for file in sorted(files):
+            path = os.path.join(folder, file[:-3])
+            if file.endswith(".in") and os.path.exists(path + ".out"):
+                yield path
+
+
+def content(path):
+    with open(path, "rb") as file:
+        return file.read()
+
+
+def lines_of(script):
+    """The lines of a script: each ends in a line feed, but for the last, which is a line where it is not empty."""
+    lines = script.split(b"\n")
+    return lines if lines[-1] else lines[:-1]
+
+
+class Examples(unittest.TestCase):
+    def test_all_examples_are_answered_as_stored(self):
+        replayed = 0
+        for path in examples():
+            with self.subTest(os.path.relpath(path, EXAMPLES)), Session() as session:
+                text = b"".join(session.line_bytes(line) for line in lines_of(content(path + ".in")))
+                text += "".join(f"{line}\n" for line in session.finish()).encode()
+                self.assertEqual(text, content(path + ".out"))
+                replayed += 1
+        self.assertGreater(replayed, 100)
+
+
+class Sessions(unittest.TestCase):
+    def test_lines_are_given_without_their_line_feeds(self):
+        with Session() as session:
+            self.assertEqual(session.line("p new element div"), ["p ok n1"])
+            self.assertEqual(session.line("p append n0 n1"), ["p ok"])
+            self.assertEqual(session.line("p tree n0"), ["p ok (n0 document (n1 element div))"])
+            self.assertEqual(session.finish(), [])
+
+    def test_a_view_has_its_owners_lines_alone(self):
+        with Session() as session:
+            for line in ("p new element div", "p append n0 n1", "p attach n1", "p listen n1 pick page log", "p .", "c1 new element b", "c1 append m0 m1"):
+                session.line(line)
+            for line in ("c1 listen m1 pick inner log", "c1 .", "p .", "c1 dispatch m1 pick bubbles composed"):
+                both = session.line(line)
+            self.assertEqual([line.split(" ")[0] for line in both], ["c1", "p", "c1"])
+            self.assertEqual(session.view("p"), [both[1]])
+            self.assertEqual(session.view("c1"), [both[0], both[2]])
+            self.assertEqual(session.view("c2"), [])
+
+    def test_a_word_that_is_no_owners_is_refused(self):
+        with Session() as session:
+            for word in ("", "x", "c", "c0", "c01", "pp"):
+                self.assertRaises(NoOwner, session.view, word)
+
+    def test_a_closed_session_says_so(self):
+        session = Session()
+        session.close()
+        session.close()
+        self.assertRaises(Closed, session.line, "p .")
+        self.assertRaises(Closed, session.finish)
+        self.assertRaises(Closed, session.view, "p")
+
+    def test_sessions_know_nothing_of_each_other(self):
+        with Session() as one, Session() as other:
+            self.assertEqual(one.line("p new element a"), ["p ok n1"])
+            self.assertEqual(other.line("p new element b"), ["p ok n1"])
+            self.assertEqual(one.line("p new element a"), ["p ok n2"])
+
+
+if __name__ == "__main__":
+    unittest.main()
