@@ -97,9 +97,9 @@ def files_below(folder, ending):
 
 
 def crates():
-    """The crates, lowest first, as crates.txt has them."""
+    """The crates, lowest first, as crates.txt has them; the word behind a name says what is built of it."""
     with open(os.path.join(ROOT, "crates.txt"), encoding="utf-8") as file:
-        return [line.split(":")[0] for line in file if line.strip() and not line.startswith("#")]
+        return [line.split(":")[0].split()[0] for line in file if line.strip() and not line.startswith("#")]
 
 
 def all_definitions():
