@@ -1,7 +1,3 @@
 -- What contracts see of a `Doc`. Unmarked: own rules, about what the code holds and its contracts say.
-pub mod Contents
-pub mod AllTables
 pub mod Doc
 pub mod Hosting
-pub mod Ranging
-pub mod Numbering

@@ -1,6 +1,6 @@
 //! The documents of a run.
 ghost use Rattle.std.specs.Prelude.{◌≡◌, ℕ, ◌<◌, ◌↔◌, ◌⊎◌, ◌++◌, ◌∷◌, [], true, false, length, None, IfOk, IfErr, OnOk, OnErr};
-ghost use Rattle.std.specs.Option.{option_map, ForSome};
+ghost use Rattle.std.specs.Option.{ForSome};
 ghost use Rattle.dom_base.specs.declared.Owner.{Owner as OwnerOf};
 ghost use Rattle.dom_base.specs.declared.Owner.TheVariants.{Page};
 ghost use Rattle.dom_base.specs.declared.Refusal.TheVariants.{Limit};
@@ -22,62 +22,43 @@ mod attaching;
 mod attributes;
 mod cursors;
 mod data;
-mod documents;
-mod hosts;
 mod inserting;
 mod normalizing;
 mod observing;
 mod ranging;
 mod reads;
-mod records;
 mod removing;
 mod replacing;
-mod settling;
 mod splitting;
-mod steps;
 mod tasks;
 mod texts;
 
 pub use attributes::is_name;
-use dom_base::{Fault, Kind, Owner};
-use dom_cursors::{OwnTables, table_of};
-use dom_microtasks::Queue;
-use dom_observers::Observers;
-use dom_ranges::RangeTable;
+use dom_base::{Fault, Owner};
+use dom_parts::Parts;
 use dom_slots::Slots;
 use dom_tree::{Forest, NodeData};
-use indexmap::IndexMap;
 use node_arena::Key;
 use std::alloc::{AllocError, Global};
 use std::marker::Model;
 
-/// The nodes of all owners, how they stand, each owner's tables, the page's first, and then those of the components by
-/// their numbers, the observers, the live ranges, the hosts with the slots of their shadow trees, the signalled slots of all
-/// owners in order, and the microtasks.
+/// The nodes of all owners, how they stand, and all that each owner has beside them but its listeners: the page and the
+/// components, their cursors, observers, live ranges, hosts, signalled slots and microtasks.
 #[derive(Drop)]
 pub struct Doc {
-    forest: Forest,
-    tables: Vec<OwnTables>,
-    observers: Observers,
-    ranges: RangeTable,
-    slots: Slots,
-    signalled: Vec<Key>,
-    queue: Queue,
-    alloc: Global,
+    parts: Parts,
 }
 
 impl Model for Doc {
     ghost use Rattle.std.specs.Coded.{codes};
     ghost use Rattle.dom_model.specs.Codes.{trees_code};
-    ghost use Rattle.dom_mutation.specs.Doc.{DocState, all_tables, state_from, IsHeld};
+    ghost use Rattle.dom_mutation.specs.Doc.{DocState};
 
     ghost Value = { DocState };
 
     ghost coded = { Prim.hlevel (codes, trees_code) };
 
-    ghost view = { λ d. state_from d.forest.names d.forest.trees (all_tables d) };
-
-    ghost invariant = { λ d. IsHeld d.forest.names d.forest.trees (all_tables d) };
+    ghost view = { λ d. d.parts };
 }
 
 impl Doc {
@@ -85,37 +66,8 @@ impl Doc {
     pub fn new(alloc: Global) -> Result<Self, AllocError>
         ensures { IfOk result (λ doc. doc ≡ record { names = node_of Page 0 ∷ []; world = first_world }) }
     {
-        let mut forest = Forest::new(alloc);
-        let document = NodeData {
-            kind: Kind::Document,
-            element: String::new(alloc),
-            attributes: IndexMap::new(alloc),
-            text: Vec::new(alloc),
-            document: None,
-        };
-        let mut tables = Vec::new(alloc);
-        match tables.push(OwnTables::new(alloc)) {
-            Ok(()) => (),
-            Err(_) => return Err(AllocError),
-        }
-        let observers = Observers::new(alloc);
-        let ranges = RangeTable::new(alloc);
-        let slots = Slots::new(alloc);
-        let signalled = Vec::new(alloc);
-        let queue = Queue::new(alloc);
-        match forest.add(Owner::Page, document) {
-            Ok(_) => Ok(Doc {
-                forest,
-                tables,
-                observers,
-                ranges,
-                slots,
-                signalled,
-                queue,
-                alloc,
-            }),
-            Err(_) => Err(AllocError),
-        }
+        let parts = Parts::new(alloc)?;
+        Ok(Doc { parts })
     }
 
     /// The forest, for reading.
@@ -125,7 +77,7 @@ impl Doc {
         ensures owned { AreOwned result.now.trees }
         ensures present { (k : ℕ) → k < length self.now.names → is_there self.now.world (name_at self.now.names k).owner ≡ true }
     {
-        &self.forest
+        self.parts.forest()
     }
 
     /// The forest and the slots of its shadow trees, for reading: what an event path is built from.
@@ -136,14 +88,14 @@ impl Doc {
         ensures slots { AreSlotsOf result.0.now result.1.now }
         ensures shown { IsShownBy (shadows result.0.now result.1.now.hosts) self.now.world }
     {
-        (&self.forest, &self.slots)
+        self.parts.forest_and_slots()
     }
 
     /// Whether an owner has a part.
     pub fn is_there(&self, owner: Owner) -> bool
         ensures { result ≡ is_there self.now.world owner }
     {
-        table_of(&self.tables, owner).is_some()
+        self.parts.is_there(owner)
     }
 
     /// How many nodes an owner has (own rule).
@@ -151,7 +103,7 @@ impl Doc {
         requires { is_there self.now.world owner ≡ true }
         ensures { result ≡ (part_of self.now.world owner).node_count }
     {
-        self.forest.node_count(owner)
+        self.parts.node_count(owner)
     }
 
     /// Makes a node with an owner's next number, in a tree of its own, and gives its key. It is refused with `Limit` where the
@@ -169,8 +121,6 @@ impl Doc {
         ensures other { IfErr result (λ fault. (fault ≡ Fault.Refused Limit) ⊎ (fault ≡ Fault.Memory)) }
         ensures err { OnErr result (self.new ≡ self.old) }
     {
-        let added = self.forest.add(owner, node);
-        self.forest.nodes_stand_once();
-        added
+        self.parts.add(owner, node)
     }
 }

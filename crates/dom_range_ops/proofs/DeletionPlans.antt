@@ -23,8 +23,8 @@ use Rattle.dom_model.specs.WorldSteps.{world_after}
 use Rattle.dom_tree.specs.Forest.{name_at}
 use Rattle.dom_mutation.specs.Doc.{DocState, made, planned, stepped, name_in, owner_in, trees_in}
 use Rattle.dom_mutation.specs.Hosting.{PlansOwn, IsAlone}
-use Rattle.dom_mutation.proofs.Made.{made_then, planned_then, plan_alone}
-use Rattle.dom_mutation.proofs.OwnPlans.{plans_then, plans_each, plans_data, plans_removing}
+use Rattle.dom_parts.proofs.Made.{made_then, planned_then, plan_alone}
+use Rattle.dom_parts.proofs.OwnPlans.{plans_then, plans_each, plans_data, plans_removing}
 use Rattle.dom_range_ops.specs.Deletions.{cutting}
 
 -- ---- steps that drop no live range

@@ -11,7 +11,7 @@ use Rattle.dom_model.specs.Tree.{Trees, kind_of, has_data, has_node}
 use Rattle.dom_model.specs.World.{World, part_of}
 use Rattle.dom_mutation.specs.Doc.{DocState, made, name_in, owner_in, trees_in}
 use Rattle.dom_mutation.specs.Hosting.{PlansOwn, IsAlone}
-use Rattle.dom_mutation.proofs.Made.{plan_alone}
+use Rattle.dom_parts.proofs.Made.{plan_alone}
 
 module _ (d e : DocState) (o : Owner) (f : Plan) (alone : IsAlone d.world o) (own : PlansOwn o f) (world : e.world ≡ made o f d.world) where
   abbrev p : Part

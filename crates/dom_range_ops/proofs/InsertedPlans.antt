@@ -14,12 +14,12 @@ use Rattle.dom_model.specs.World.{part_of}
 use Rattle.dom_tree.specs.Forest.{name_at}
 use Rattle.dom_mutation.specs.Doc.{DocState, made, planned, name_in, owner_in, trees_in, IsChild}
 use Rattle.dom_mutation.specs.Hosting.{IsAlone}
-use Rattle.dom_mutation.proofs.Made.{planned_then}
+use Rattle.dom_parts.proofs.Made.{planned_then}
 use Rattle.dom_tree_laws.proofs.Near.{parent_path}
-use Rattle.dom_mutation.proofs.OwnPlans.{plans_removing, plans_inserting}
+use Rattle.dom_parts.proofs.OwnPlans.{plans_removing, plans_inserting}
 use Rattle.dom_tree_laws.proofs.Paths.{Lacks, lacks_from, lacks_to}
-use Rattle.dom_mutation.proofs.Placed.{Counted, once_in, removal_keeps}
-use Rattle.dom_mutation.proofs.Turns.{Stays}
+use Rattle.dom_algorithms.proofs.Placed.{Counted, once_in, removal_keeps}
+use Rattle.dom_algorithms.proofs.Turns.{Stays}
 use Rattle.dom_range_ops.specs.Insertions.{offset_behind}
 
 -- a state by its names and its world

@@ -17,8 +17,8 @@ use Rattle.dom_model.specs.Tree.{has_data, kind_of, length_of, parent_of}
 use Rattle.dom_model.specs.World.{World, part_of}
 use Rattle.dom_mutation.specs.Doc.{made}
 use Rattle.dom_mutation.specs.Hosting.{PlansOwn, IsAlone}
-use Rattle.dom_mutation.proofs.BoundedPlans.{length_few}
-use Rattle.dom_mutation.proofs.Made.{plan_alone}
+use Rattle.dom_parts.proofs.BoundedPlans.{length_few}
+use Rattle.dom_parts.proofs.Made.{plan_alone}
 
 -- whether there is a range of a number
 abbrev has_range : List (Option (Range NodeName)) → ℕ → Type 0

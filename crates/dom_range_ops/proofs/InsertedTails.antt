@@ -29,8 +29,8 @@ use Rattle.dom_model.specs.World.{part_of}
 use Rattle.dom_model.proofs.PartLaws.{owner-part_of}
 use Rattle.dom_mutation.specs.Doc.{DocState, made, planned, name_in, owner_in, trees_in, IsChild}
 use Rattle.dom_mutation.specs.Hosting.{IsAlone}
-use Rattle.dom_mutation.proofs.Made.{made_then}
-use Rattle.dom_mutation.proofs.OwnPlans.{plans_splitting}
+use Rattle.dom_parts.proofs.Made.{made_then}
+use Rattle.dom_parts.proofs.OwnPlans.{plans_splitting}
 use Rattle.dom_tree.specs.Forest.{name_at}
 use Rattle.dom_range_ops.specs.Insertions.{inserting_before_tail}
 use Rattle.dom_range_ops.proofs.InsertedParts.{part-now, now-at, open-kept}

@@ -21,8 +21,8 @@ use Rattle.dom_model.specs.Tree.{Node, node_in, has_node, is_inclusive_ancestor}
 use Rattle.dom_model.specs.World.{World, part_of}
 use Rattle.dom_mutation.specs.Doc.{DocState, made, planned, name_in, owner_in, trees_in, MayMove}
 use Rattle.dom_mutation.specs.Hosting.{IsAlone, PlansOwn}
-use Rattle.dom_mutation.proofs.Made.{plan_alone, made_then}
-use Rattle.dom_mutation.proofs.OwnPlans.{plans_then, plans_inserting}
+use Rattle.dom_parts.proofs.Made.{plan_alone, made_then}
+use Rattle.dom_parts.proofs.OwnPlans.{plans_then, plans_inserting}
 use Rattle.dom_tree.proofs.Owned.{read_own}
 use Rattle.dom_tree.specs.Forest.{NamedTrees, name_at}
 use Rattle.dom_tree.specs.Owners.{AreOwned, trees_of_owner}

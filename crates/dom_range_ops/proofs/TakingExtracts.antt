@@ -16,8 +16,8 @@ use Rattle.dom_model.specs.Tree.{Node}
 use Rattle.dom_model.specs.World.{World, part_of}
 use Rattle.dom_mutation.specs.Doc.{DocState, made, stepped, name_in, owner_in}
 use Rattle.dom_mutation.specs.Hosting.{IsAlone, PlansOwn}
-use Rattle.dom_mutation.proofs.Made.{plan_alone, made_then}
-use Rattle.dom_mutation.proofs.OwnPlans.{plans_then}
+use Rattle.dom_parts.proofs.Made.{plan_alone, made_then}
+use Rattle.dom_parts.proofs.OwnPlans.{plans_then}
 use Rattle.dom_range_ops.proofs.InsertedRanges.{range-kept}
 use Rattle.dom_range_ops.proofs.TakingLoops.{plans-item, item-same, piece-kept}
 use Rattle.dom_range_ops.specs.Pieces.{Item, item_in, made_by}

@@ -18,8 +18,8 @@ use Rattle.dom_model.specs.TreeChanges.{with_name}
 use Rattle.dom_model.specs.World.{World, part_of}
 use Rattle.dom_mutation.specs.Doc.{DocState, made, name_in, owner_in, IsOwnNode}
 use Rattle.dom_mutation.specs.Hosting.{IsAlone, PlansOwn}
-use Rattle.dom_mutation.proofs.Made.{plan_alone, made_then}
-use Rattle.dom_mutation.proofs.OwnPlans.{plans_then, plans_inserting, plans_data}
+use Rattle.dom_parts.proofs.Made.{plan_alone, made_then}
+use Rattle.dom_parts.proofs.OwnPlans.{plans_then, plans_inserting, plans_data}
 use Rattle.dom_range_ops.proofs.TakingDocs.{name-kept, node-kept, plans-below}
 use Rattle.dom_range_ops.proofs.TakingParts.{takes-on, count-item, made-more}
 use Rattle.dom_range_ops.specs.Pieces.{Item, whole_item, cut_item, clone_item, end_item, item_in, made_by}

@@ -1,13 +1,13 @@
 //! Attributes (DOM Standard, 4.9.2 Interface Attr; concepts: change, append, remove an attribute).
-ghost use Rattle.std.specs.Prelude.{◌≡◌, ◌<◌, ◌↔◌, ◌⊎◌, length, true, false, OnOk, IfErr};
-ghost use Rattle.std.specs.List.{list_all};
+ghost use Rattle.std.specs.Prelude.{◌≡◌, ◌<◌, ◌↔◌, ◌⊎◌, length, false, OnOk, IfErr};
 ghost use Rattle.dom_base.specs.declared.Refusal.TheVariants.{InvalidCharacter};
-ghost use Rattle.dom_model.specs.Names.{begins_name, continues_name, is_name};
+ghost use Rattle.dom_model.specs.Names.{is_name};
 ghost use Rattle.dom_model.specs.Changes.{setting_attribute, unsetting_attribute};
 ghost use Rattle.dom_mutation.specs.Doc.{made, name_in, owner_in};
 
 use crate::Doc;
-use dom_base::{DomStr, Fault, Refusal};
+use dom_algorithms::{remove_attr, set_attr};
+use dom_base::{DomStr, Fault};
 use node_arena::Key;
 use std::alloc::AllocError;
 
@@ -23,12 +23,7 @@ impl Doc {
         ensures names { OnOk result (self.new.names ≡ self.old.names) }
         ensures world { OnOk result (self.new.world ≡ made (owner_in self.old node) (setting_attribute (name_in self.old node) name.now value.items) self.old.world) }
     {
-        if !is_name(name.as_bytes()) {
-            return Err(Fault::Refused(Refusal::InvalidCharacter));
-        }
-        self.tell_attribute(node, name)?;
-        self.set_attribute(node, name, value)?;
-        Ok(())
+        set_attr(&mut self.parts, node, name, value)
     }
 
     /// Takes an attribute away from an element. Without it nothing changes. Where memory is refused, the document is only to be
@@ -38,11 +33,7 @@ impl Doc {
         ensures names { OnOk result (self.new.names ≡ self.old.names) }
         ensures world { OnOk result (self.new.world ≡ made (owner_in self.old node) (unsetting_attribute (name_in self.old node) name.now) self.old.world) }
     {
-        if !self.has_attr(node, name) {
-            return Ok(());
-        }
-        self.tell_attribute(node, name)?;
-        self.unset_attribute(node, name)
+        remove_attr(&mut self.parts, node, name)
     }
 }
 
@@ -50,29 +41,5 @@ impl Doc {
 pub fn is_name(text: &[u8]) -> bool
     ensures { result ≡ is_name text.now }
 {
-    match text {
-        [] => false,
-        [first, others @ ..] => begins_name(*first) && all_continue_name(others),
-    }
-}
-
-/// Whether a name can go on with each of these bytes.
-fn all_continue_name(bytes: &[u8]) -> bool
-    ensures { result ≡ list_all continues_name bytes.now }
-{
-    bytes.iter().all(|b| continues_name(*b))
-}
-
-/// Whether a name can begin with this byte.
-fn begins_name(byte: u8) -> bool
-    ensures { result ≡ begins_name byte }
-{
-    byte.is_ascii_alphabetic() || byte == b'_'
-}
-
-/// Whether a name can go on with this byte.
-fn continues_name(byte: u8) -> bool
-    ensures { result ≡ continues_name byte }
-{
-    begins_name(byte) || byte.is_ascii_digit() || byte == b'-'
+    dom_algorithms::is_name(text)
 }

@@ -1,18 +1,17 @@
 //! Iterators and walkers of each owner, by their numbers (DOM Standard, 6 Traversal).
-ghost use Rattle.std.specs.Prelude.{◌≡◌, ◌<◌, ◌↔◌, ◌⊎◌, length, true, is_some, slice_get, Some, IfOk, IfErr, OnErr};
+ghost use Rattle.std.specs.Prelude.{◌≡◌, ◌<◌, ◌↔◌, ◌⊎◌, length, true, is_some, slice_get, IfOk, IfErr, OnErr};
 ghost use Rattle.std.specs.Option.{option_map, ForSome};
 ghost use Rattle.dom_base.specs.declared.Refusal.TheVariants.{Limit};
 ghost use Rattle.dom_model.specs.Command.{Command, own};
 ghost use Rattle.dom_model.specs.Output.{nothing, a_node, an_iterator, a_walker, reference};
 ghost use Rattle.dom_model.specs.Effects.{node_or_null};
-ghost use Rattle.dom_model.specs.World.{part_of, is_there};
+ghost use Rattle.dom_model.specs.World.{part_of};
 ghost use Rattle.dom_model.specs.CommandRefusals.{past_limit};
 ghost use Rattle.dom_traversal.specs.Filters.{filter_of};
 ghost use Rattle.dom_mutation.specs.Doc.{name_in, owner_in, Makes};
 
 use crate::Doc;
 use dom_base::{Fault, Move, Owner};
-use dom_cursors::{place_of, table_of};
 use dom_traversal::Filter;
 use node_arena::Key;
 
@@ -21,20 +20,14 @@ impl Doc {
     pub fn has_iter(&self, owner: Owner, number: u32) -> bool
         ensures { result ≡ is_some (slice_get (part_of self.now.world owner).iterators number) }
     {
-        match table_of(&self.tables, owner) {
-            Some(tables) => tables.has_iter(number),
-            None => false,
-        }
+        self.parts.has_iter(owner, number)
     }
 
     /// Whether an owner has a walker of a number.
     pub fn has_walker(&self, owner: Owner, number: u32) -> bool
         ensures { result ≡ is_some (slice_get (part_of self.now.world owner).walkers number) }
     {
-        match table_of(&self.tables, owner) {
-            Some(tables) => tables.has_walker(number),
-            None => false,
-        }
+        self.parts.has_walker(owner, number)
     }
 
     /// Adds an iterator of an owner just before its root, and gives its number (DOM Standard, createNodeIterator). It is
@@ -48,9 +41,7 @@ impl Doc {
         ensures other { IfErr result (λ fault. (fault ≡ Fault.Refused Limit) ⊎ (fault ≡ Fault.Memory)) }
         ensures err { OnErr result (self.new ≡ self.old) }
     {
-        self.forest.nodes_stand_once();
-        let tables = &mut self.tables[place_of(owner)];
-        tables.add_iter(root, filter)
+        self.parts.iter_make(owner, root, filter)
     }
 
     /// Adds a walker of an owner at its root, and gives its number (DOM Standard, createTreeWalker). It is refused with
@@ -64,8 +55,7 @@ impl Doc {
         ensures other { IfErr result (λ fault. (fault ≡ Fault.Refused Limit) ⊎ (fault ≡ Fault.Memory)) }
         ensures err { OnErr result (self.new ≡ self.old) }
     {
-        let tables = &mut self.tables[place_of(owner)];
-        tables.add_walker(root, filter)
+        self.parts.walk_make(owner, root, filter)
     }
 
     /// Moves an iterator behind the next node that its filter accepts, and answers that node; where there is none, it
@@ -76,8 +66,7 @@ impl Doc {
         ensures node { ForSome result (λ k. k < length self.old.names) }
         ensures world { Makes owner (Command.iterator_next number) (node_or_null (option_map (name_in self.old) result)) self.old.world self.new.world }
     {
-        let tables = &mut self.tables[place_of(owner)];
-        tables.iter_next(&self.forest, number)
+        self.parts.iter_next(owner, number)
     }
 
     /// Moves an iterator before the node before it that its filter accepts, and answers that node; where there is none, it
@@ -88,8 +77,7 @@ impl Doc {
         ensures node { ForSome result (λ k. k < length self.old.names) }
         ensures world { Makes owner (Command.iterator_previous number) (node_or_null (option_map (name_in self.old) result)) self.old.world self.new.world }
     {
-        let tables = &mut self.tables[place_of(owner)];
-        tables.iter_previous(&self.forest, number)
+        self.parts.iter_previous(owner, number)
     }
 
     /// The reference of an iterator, and whether it stands before that one (DOM Standard, referenceNode and
@@ -99,8 +87,7 @@ impl Doc {
         ensures node { result.0 < length self.now.names }
         ensures value { Makes owner (Command.iterator_at number) (reference (name_in self.now result.0) result.1) self.now.world self.now.world }
     {
-        let tables = &self.tables[place_of(owner)];
-        tables.iter_at(number)
+        self.parts.iter_at(owner, number)
     }
 
     /// Moves a walker, and answers its new current node; where there is no node to move to, it stays (DOM Standard,
@@ -111,8 +98,7 @@ impl Doc {
         ensures node { ForSome result (λ k. k < length self.old.names) }
         ensures world { Makes owner (Command.walk number step) (node_or_null (option_map (name_in self.old) result)) self.old.world self.new.world }
     {
-        let tables = &mut self.tables[place_of(owner)];
-        tables.walk(&self.forest, number, step)
+        self.parts.walk(owner, number, step)
     }
 
     /// The current node of a walker (DOM Standard, currentNode).
@@ -121,8 +107,7 @@ impl Doc {
         ensures node { result < length self.now.names }
         ensures value { Makes owner (Command.walker_at number) (a_node (name_in self.now result)) self.now.world self.now.world }
     {
-        let tables = &self.tables[place_of(owner)];
-        tables.walker_at(number)
+        self.parts.walk_at(owner, number)
     }
 
     /// Makes a node of its owner the current one of a walker (DOM Standard, currentNode).
@@ -133,7 +118,6 @@ impl Doc {
         ensures names { self.new.names ≡ self.old.names }
         ensures world { Makes owner (Command.walker_set number (own (name_in self.old current).number)) nothing self.old.world self.new.world }
     {
-        let tables = &mut self.tables[place_of(owner)];
-        tables.set_walker(number, current);
+        self.parts.walk_set(owner, number, current);
     }
 }

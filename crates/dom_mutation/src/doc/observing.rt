@@ -1,5 +1,5 @@
 //! Mutation observers of each owner, by their numbers (DOM Standard, 4.3 Mutation observers).
-ghost use Rattle.std.specs.Prelude.{◌≡◌, ◌<◌, ◌↔◌, ◌⊎◌, ℕ, length, map, true, is_some, slice_get, IfOk, IfErr, OnOk, OnErr};
+ghost use Rattle.std.specs.Prelude.{◌≡◌, ◌<◌, ◌↔◌, ◌⊎◌, length, map, true, is_some, slice_get, IfOk, IfErr, OnOk, OnErr};
 ghost use Rattle.std.specs.List.{AllByRecursion};
 ghost use Rattle.dom_base.specs.declared.Refusal.TheVariants.{Limit, TypeFault};
 ghost use Rattle.dom_model.specs.Command.{Command, own};
@@ -12,8 +12,8 @@ ghost use Rattle.dom_observers.specs.Views.{words_of};
 ghost use Rattle.dom_mutation.specs.Doc.{name_in, owner_in, change_in, notice_in, notices_of, NamesNodes, Makes, MakesSaying};
 
 use crate::Doc;
-use dom_base::{Fault, Owner, Refusal};
-use dom_observers::{Observers, Options, Record};
+use dom_base::{Fault, Owner};
+use dom_observers::{Options, Record};
 use node_arena::Key;
 use std::alloc::AllocError;
 
@@ -22,7 +22,7 @@ impl Doc {
     pub fn has_observer(&self, owner: Owner, number: u32) -> bool
         ensures { result ≡ is_some (slice_get (part_of self.now.world owner).record_queues number) }
     {
-        self.observers.has(owner, number)
+        self.parts.has_observer(owner, number)
     }
 
     /// Adds an observer of an owner, and gives its number (DOM Standard, constructor of MutationObserver). It is refused
@@ -35,7 +35,7 @@ impl Doc {
         ensures other { IfErr result (λ fault. (fault ≡ Fault.Refused Limit) ⊎ (fault ≡ Fault.Memory)) }
         ensures err { OnErr result (self.new ≡ self.old) }
     {
-        self.observers.make(owner)
+        self.parts.observer_make(owner)
     }
 
     /// Registers an observer on a node of its owner, or gives its registration there other options (DOM Standard,
@@ -57,8 +57,7 @@ impl Doc {
         ensures other { IfErr result (λ fault. (fault ≡ Fault.Refused TypeFault) ⊎ (fault ≡ Fault.Memory)) }
         ensures err { OnErr result (self.new ≡ self.old) }
     {
-        self.forest.nodes_stand_once();
-        self.observers.observe(owner, number, node, options)
+        self.parts.observe(owner, number, node, options)
     }
 
     /// Takes the registrations of an observer away, transient ones too, and empties its record queue (DOM Standard,
@@ -68,7 +67,7 @@ impl Doc {
         ensures names { self.new.names ≡ self.old.names }
         ensures world { Makes owner (Command.disconnect number) nothing self.old.world self.new.world }
     {
-        let _ = self.observers.disconnect(owner, number);
+        self.parts.disconnect(owner, number);
     }
 
     /// Empties the record queue of an observer, and gives the records in it, in order (DOM Standard, takeRecords()). The
@@ -79,10 +78,7 @@ impl Doc {
         ensures nodes { AllByRecursion (NamesNodes self.old) result.items }
         ensures world { MakesSaying owner (Command.take number) (map (λ r. recorded number (change_in self.old r)) result.items) (a_count (length result.items)) self.old.world self.new.world }
     {
-        let Some(records) = self.observers.take(owner, number) else {
-            unreachable!()
-        };
-        records
+        self.parts.take_records(owner, number)
     }
 
     /// Empties an owner's set of pending observers, and gives each with the records of its queue, in order; their queues
@@ -95,12 +91,6 @@ impl Doc {
         ensures nodes { IfOk result (λ list. AllByRecursion (λ n. AllByRecursion (NamesNodes self.old) n.1.items) list.items) }
         ensures world { OnOk result (self.new.world ≡ with_part self.old.world (notified (part_of self.old.world owner))) }
     {
-        match self.observers.notify(owner) {
-            Ok(notices) => Ok(notices),
-            Err(error) => {
-                self.observers = Observers::new(self.alloc);
-                Err(error)
-            }
-        }
+        self.parts.notify(owner)
     }
 }

@@ -22,7 +22,7 @@ impl Doc {
     pub fn has_range(&self, owner: Owner, number: u32) -> bool
         ensures { result ≡ is_some (range_at (part_of self.now.world owner) number) }
     {
-        self.ranges.points(owner, number).is_some()
+        self.parts.has_range(owner, number)
     }
 
     /// Makes a live range of an owner with both ends at offset 0 of the owner's first node, and gives its number (DOM
@@ -37,7 +37,7 @@ impl Doc {
         ensures other { IfErr result (λ fault. (fault ≡ Fault.Refused Limit) ⊎ (fault ≡ Fault.Memory)) }
         ensures err { OnErr result (self.new ≡ self.old) }
     {
-        self.ranges.make(owner, first)
+        self.parts.range_make(owner, first)
     }
 
     /// Gives a live range another start, at an offset in a node of its owner; the end goes there too where it stands in
@@ -59,9 +59,7 @@ impl Doc {
         ensures other { IfErr result (λ refusal. refusal ≡ RefusalOf.IndexSize) }
         ensures err { OnErr result (self.new ≡ self.old) }
     {
-        self.forest.nodes_stand_once();
-        self.ranges
-            .set_start(owner, number, &self.forest, node, offset)
+        self.parts.range_set_start(owner, number, node, offset)
     }
 
     /// Gives a live range another end, at an offset in a node of its owner; the start goes there too where it stands in
@@ -83,9 +81,7 @@ impl Doc {
         ensures other { IfErr result (λ refusal. refusal ≡ RefusalOf.IndexSize) }
         ensures err { OnErr result (self.new ≡ self.old) }
     {
-        self.forest.nodes_stand_once();
-        self.ranges
-            .set_end(owner, number, &self.forest, node, offset)
+        self.parts.range_set_end(owner, number, node, offset)
     }
 
     /// Sets both ends of a live range to its start, or to its end (DOM Standard, collapse()).
@@ -94,7 +90,7 @@ impl Doc {
         ensures names { self.new.names ≡ self.old.names }
         ensures world { Makes owner (Command.range_collapse number to_start) nothing self.old.world self.new.world }
     {
-        let _ = self.ranges.collapse(owner, number, to_start);
+        self.parts.range_collapse(owner, number, to_start);
     }
 
     /// Gives a live range both ends, at offsets in nodes of its owner, whichever comes first: the elementary step by which an
@@ -107,7 +103,7 @@ impl Doc {
         requires own_end { owner_in self.old points.end.0 ≡ owner }
         ensures { self.new ≡ stepped owner (set_range number (from_to (at (name_in self.old points.start.0) points.start.1) (at (name_in self.old points.end.0) points.end.1))) self.old }
     {
-        self.ranges.write(owner, number, points);
+        self.parts.range_put(owner, number, points);
     }
 
     /// Drops a live range, whose number is not given again (own rule).
@@ -116,7 +112,7 @@ impl Doc {
         ensures names { self.new.names ≡ self.old.names }
         ensures world { Makes owner (Command.range_drop number) nothing self.old.world self.new.world }
     {
-        let _ = self.ranges.remove(owner, number);
+        self.parts.range_remove(owner, number);
     }
 
     /// The ends of a live range, each a node of its owner and an offset (DOM Standard, interface AbstractRange).
@@ -128,9 +124,6 @@ impl Doc {
         ensures own_end { owner_in self.now result.end.0 ≡ owner }
         ensures value { Makes owner (Command.range_get number) (boundaries (at (name_in self.now result.start.0) result.start.1) (at (name_in self.now result.end.0) result.end.1)) self.now.world self.now.world }
     {
-        let Some(points) = self.ranges.points(owner, number) else {
-            unreachable!()
-        };
-        points
+        self.parts.range_points(owner, number)
     }
 }

@@ -1,8 +1,8 @@
 //! What is read of a node, in its owner's trees.
-ghost use Rattle.std.specs.Prelude.{◌≡◌, ℕ, ◌<◌, ◌≤◌, true, false, length, count_by, is_some};
+ghost use Rattle.std.specs.Prelude.{◌≡◌, ℕ, ◌<◌, ◌≤◌, true, false, length, count_by};
 ghost use Rattle.std.specs.Option.{option_map, ForSome};
-ghost use Rattle.dom_model.specs.Names.{first_of, last_of, name_eq};
-ghost use Rattle.dom_model.specs.Tree.{nodes, node_in, attribute_value, kind_of, parent_of, children_of, next_sibling, previous_sibling, length_of, index_of, has_node, is_inclusive_ancestor, is_document};
+ghost use Rattle.dom_model.specs.Names.{name_eq};
+ghost use Rattle.dom_model.specs.Tree.{nodes, kind_of, parent_of, length_of, index_of, has_node};
 ghost use Rattle.dom_base.specs.declared.NodeName.{NodeName as Name};
 ghost use Rattle.dom_base.specs.declared.Owner.{Owner as OwnerOf};
 ghost use Rattle.dom_model.specs.World.{part_of, is_there, is_connected};
@@ -12,7 +12,7 @@ ghost use Rattle.dom_mutation.specs.Doc.{name_in, owner_in, trees_in};
 ghost use Rattle.dom_mutation.specs.Hosting.{IsAlone};
 
 use crate::Doc;
-use dom_base::{Kind, Owner};
+use dom_base::Kind;
 use node_arena::Key;
 
 impl Doc {
@@ -28,23 +28,7 @@ impl Doc {
         ensures parts { (o : OwnerOf) → IsPart (part_of self.now.world o) }
         ensures stand { (k : ℕ) → k < length self.now.names → has_node (trees_in self.now k) (name_in self.now k) ≡ true }
     {
-        self.forest.nodes_stand_once();
-    }
-
-    /// Holds of every node: it stands in its owner's trees.
-    pub(super) fn stands(&self, node: Key)
-        requires { node < length self.now.names }
-        ensures { is_inclusive_ancestor (trees_in self.now node) (name_in self.now node) (name_in self.now node) ≡ true }
-    {
-        self.forest.nodes_stand_once();
-    }
-
-    /// The owner of a node.
-    pub(super) fn owner(&self, node: Key) -> Owner
-        requires { node < length self.now.names }
-        ensures { result ≡ owner_in self.now node }
-    {
-        self.forest.name(node).owner
+        self.parts.laws();
     }
 
     /// The kind of a node (DOM Standard, interface Node; own rule for a shadow root).
@@ -52,15 +36,7 @@ impl Doc {
         requires { node < length self.now.names }
         ensures { result ≡ kind_of (trees_in self.now node) (name_in self.now node) }
     {
-        self.forest.kind(node)
-    }
-
-    /// The data of a Text or a Comment, in code units.
-    pub(super) fn text(&self, node: Key) -> &[u16]
-        requires { node < length self.now.names }
-        ensures { result.now ≡ (node_in (trees_in self.now node) (name_in self.now node)).text }
-    {
-        self.forest.text(node)
+        self.parts.kind(node)
     }
 
     /// The number of code units of a Text or a Comment, and of another node that of its children, which are counted (DOM
@@ -69,7 +45,7 @@ impl Doc {
         requires { node < length self.now.names }
         ensures { result ≡ length_of (trees_in self.now node) (name_in self.now node) }
     {
-        self.forest.length(node)
+        self.parts.length(node)
     }
 
     /// The place of a node among its parent's children (DOM Standard, concept: index).
@@ -77,7 +53,7 @@ impl Doc {
         requires { node < length self.now.names }
         ensures { result ≡ index_of (trees_in self.now node) (name_in self.now node) }
     {
-        self.forest.index(node)
+        self.parts.index(node)
     }
 
     /// Whether a node's shadow-including root is a document (DOM Standard, concept: connected). Hosts are the page's, so one
@@ -86,23 +62,7 @@ impl Doc {
         requires { node < length self.now.names }
         ensures { result ≡ is_connected self.now.world (name_in self.now node) }
     {
-        self.forest.nodes_stand_once();
-        let root = self.forest.root(node);
-        match self.slots.host_of(root) {
-            Some(host) => {
-                let above = self.forest.root(host);
-                is_document(self.forest.kind(above))
-            }
-            None => is_document(self.forest.kind(root)),
-        }
-    }
-
-    /// Whether a node has an attribute.
-    pub(super) fn has_attr(&self, node: Key, name: &str) -> bool
-        requires { node < length self.now.names }
-        ensures { result ≡ is_some (attribute_value (node_in (trees_in self.now node) (name_in self.now node)) name.now) }
-    {
-        self.forest.attr(node, name).is_some()
+        self.parts.is_connected(node)
     }
 
     /// The parent of a node, which a root has not (DOM Standard, concept: parent).
@@ -112,53 +72,6 @@ impl Doc {
         ensures node { ForSome result (λ k. k < length self.now.names) }
         ensures owner { ForSome result (λ k. owner_in self.now k ≡ owner_in self.now node) }
     {
-        self.forest.parent(node)
+        self.parts.parent(node)
     }
-
-    /// The first child of a node.
-    pub(super) fn first(&self, node: Key) -> Option<Key>
-        requires { node < length self.now.names }
-        ensures value { option_map (name_in self.now) result ≡ first_of (children_of (trees_in self.now node) (name_in self.now node)) }
-        ensures node { ForSome result (λ k. k < length self.now.names) }
-        ensures owner { ForSome result (λ k. owner_in self.now k ≡ owner_in self.now node) }
-    {
-        self.forest.first(node)
-    }
-
-    /// The last child of a node.
-    pub(super) fn last(&self, node: Key) -> Option<Key>
-        requires { node < length self.now.names }
-        ensures value { option_map (name_in self.now) result ≡ last_of (children_of (trees_in self.now node) (name_in self.now node)) }
-        ensures node { ForSome result (λ k. k < length self.now.names) }
-        ensures owner { ForSome result (λ k. owner_in self.now k ≡ owner_in self.now node) }
-    {
-        self.forest.last(node)
-    }
-
-    /// The sibling just after a node.
-    pub(super) fn next(&self, node: Key) -> Option<Key>
-        requires { node < length self.now.names }
-        ensures value { option_map (name_in self.now) result ≡ next_sibling (trees_in self.now node) (name_in self.now node) }
-        ensures node { ForSome result (λ k. k < length self.now.names) }
-        ensures owner { ForSome result (λ k. owner_in self.now k ≡ owner_in self.now node) }
-    {
-        self.forest.next(node)
-    }
-
-    /// The sibling just before a node.
-    pub(super) fn prev(&self, node: Key) -> Option<Key>
-        requires { node < length self.now.names }
-        ensures value { option_map (name_in self.now) result ≡ previous_sibling (trees_in self.now node) (name_in self.now node) }
-        ensures node { ForSome result (λ k. k < length self.now.names) }
-        ensures owner { ForSome result (λ k. owner_in self.now k ≡ owner_in self.now node) }
-    {
-        self.forest.prev(node)
-    }
-}
-
-/// Whether a kind is that of documents.
-fn is_document(kind: Kind) -> bool
-    ensures { result ≡ is_document kind }
-{
-    matches!(kind, Kind::Document)
 }

@@ -4,19 +4,13 @@ ghost use Rattle.dom_base.specs.declared.Refusal.{Refusal as RefusalOf};
 ghost use Rattle.dom_base.specs.declared.Refusal.TheVariants.{Hierarchy, NotSupported};
 ghost use Rattle.dom_model.specs.Tree.{kind_of};
 ghost use Rattle.dom_model.specs.Changes.{removing, adopting, observed};
-ghost use Rattle.dom_mutation.specs.Doc.{made, planned, name_in, owner_in, trees_in, observing_of, adoption_refusal};
+ghost use Rattle.dom_mutation.specs.Doc.{made, name_in, owner_in, trees_in, adoption_refusal};
 
 use crate::Doc;
-use dom_base::{Fault, Kind, Refusal};
+use dom_algorithms::{adopt, remove};
+use dom_base::Fault;
 use node_arena::Key;
 use std::alloc::AllocError;
-
-/// Whether observers are told of a removal or an insertion (DOM Standard, suppress observers flag).
-#[derive(Clone, Copy)]
-pub(super) enum Telling {
-    Observed,
-    Suppressed,
-}
 
 impl Doc {
     /// A node leaves its parent, with a record of the parent. One without a parent stays as it is (DOM Standard, remove). Where
@@ -26,7 +20,7 @@ impl Doc {
         ensures names { OnOk result (self.new.names ≡ self.old.names) }
         ensures world { OnOk result (self.new.world ≡ made (owner_in self.old node) (removing observed (name_in self.old node)) self.old.world) }
     {
-        self.removing(Telling::Observed, node)
+        remove(&mut self.parts, node)
     }
 
     /// A node leaves its parent and gets a node document, with all below it (DOM Standard, adopt). A shadow root is refused
@@ -42,41 +36,6 @@ impl Doc {
         ensures names { OnOk result (self.new.names ≡ self.old.names) }
         ensures world { OnOk result (self.new.world ≡ made (owner_in self.old node) (adopting (name_in self.old document) (name_in self.old node)) self.old.world) }
     {
-        match self.kind(node) {
-            Kind::Document => Err(Fault::Refused(Refusal::NotSupported)),
-            Kind::Shadow => Err(Fault::Refused(Refusal::Hierarchy)),
-            _ => {
-                self.adopting(document, node)?;
-                Ok(())
-            }
-        }
-    }
-
-    /// A removal, of which observers are told or not.
-    pub(super) fn removing(&mut self, how: Telling, node: Key) -> Result<(), AllocError>
-        requires { node < length self.old.names }
-        ensures { OnOk result (self.new ≡ planned (owner_in self.old node) (removing (observing_of how) (name_in self.old node)) self.old) }
-    {
-        let Some(parent) = self.parent(node) else {
-            return Ok(());
-        };
-        let prev = self.prev(node);
-        let next = self.next(node);
-        self.take_out(node)?;
-        if matches!(how, Telling::Observed) {
-            self.tell_children(parent, &[], &[node], prev, next)?;
-        }
-        Ok(())
-    }
-
-    /// A node leaves its parent and gets a node document, with all below it.
-    pub(super) fn adopting(&mut self, document: Key, node: Key) -> Result<(), AllocError>
-        requires document_is_node { document < length self.old.names }
-        requires node_is_node { node < length self.old.names }
-        ensures { OnOk result (self.new ≡ planned (owner_in self.old node) (adopting (name_in self.old document) (name_in self.old node)) self.old) }
-    {
-        self.laws();
-        self.removing(Telling::Observed, node)?;
-        self.change_document(document, node)
+        adopt(&mut self.parts, document, node)
     }
 }

@@ -7,10 +7,8 @@ ghost use Rattle.dom_mutation.specs.Doc.{name_in, with_tasks};
 use crate::Doc;
 use dom_base::Owner;
 use dom_microtasks::Queue;
-use dom_node_trees::{other_slots, own_slots};
 use node_arena::Key;
 use std::alloc::AllocError;
-use std::mem;
 
 impl Doc {
     /// Queues a label of an owner behind all tasks (HTML Standard, queue a microtask). Where memory is refused, nothing
@@ -19,7 +17,7 @@ impl Doc {
         ensures ok { OnOk result (self.new ≡ with_tasks (self.old.world.tasks ++ micro_task owner label.items ∷ []) self.old) }
         ensures err { OnErr result (self.new ≡ self.old) }
     {
-        self.queue.push_micro(owner, label)
+        self.parts.push_micro(owner, label)
     }
 
     /// Takes all tasks out, for them to run (HTML Standard, perform a microtask checkpoint).
@@ -27,7 +25,7 @@ impl Doc {
         ensures tasks { result ≡ self.old.world.tasks }
         ensures rest { self.new ≡ with_tasks [] self.old }
     {
-        mem::replace(&mut self.queue, Queue::new(self.alloc))
+        self.parts.take_tasks()
     }
 
     /// The slots of an owner that are signalled, in their order; then none of that owner is (DOM Standard, notify mutation
@@ -38,9 +36,6 @@ impl Doc {
         ensures rest { OnOk result (self.new ≡ record self.old { world = without_signals self.old.world owner }) }
         ensures err { OnErr result (self.new ≡ self.old) }
     {
-        let own = own_slots(self.alloc, &self.forest, self.signalled.as_slice(), owner)?;
-        let others = other_slots(self.alloc, &self.forest, self.signalled.as_slice(), owner)?;
-        self.signalled = others;
-        Ok(own)
+        self.parts.take_signals(owner)
     }
 }

@@ -2,7 +2,7 @@ use Rattle.std.proofs.Common.{option_map, ap, subst, ◌∙◌}
 use Rattle.dom_model.specs.Changes.{observed, inserting}
 use Rattle.dom_mutation.specs.Doc.{DocState, made, name_in}
 use Rattle.dom_mutation.specs.Hosting.{IsAlone}
-use Rattle.dom_mutation.proofs.OwnPlans.{plans_inserting}
+use Rattle.dom_parts.proofs.OwnPlans.{plans_inserting}
 use Rattle.dom_range_ops.proofs.InsertedPlans.{inserted-before}
 use Rattle.dom_range_ops.proofs.InsertedRanges.{range-kept}
 use Rattle.dom_range_ops.proofs.inserting.insert_before.Goals as goal

@@ -5,7 +5,7 @@ use Rattle.dom_model.specs.Tree.{has_node}
 use Rattle.dom_model.specs.World.{part_of}
 use Rattle.dom_mutation.specs.Doc.{IsChild, made, name_in}
 use Rattle.dom_mutation.specs.Hosting.{IsAlone}
-use Rattle.dom_mutation.proofs.OwnPlans.{plans_splitting}
+use Rattle.dom_parts.proofs.OwnPlans.{plans_splitting}
 use Rattle.dom_range_ops.specs.Texts.{range_at_points}
 use Rattle.dom_range_ops.proofs.InsertedRanges.{range-kept}
 use Rattle.dom_range_ops.proofs.InsertedTails.{split-open, split-apart, split-child, split-bounds, split-whole}

@@ -1,58 +1,11 @@
-use Rattle.std.proofs.Common.{◌≡◌, ◌<◌, ◌≤◌, length, true, false, arith, subst, sym}
+use Rattle.std.proofs.Common.{◌≤◌, subst}
 use Rattle.std.specs.Prelude.{count_by}
 use Rattle.dom_model.specs.Names.{name_eq}
-use Rattle.dom_isolation.specs.Worlds.{IsPart}
-use Rattle.dom_model.specs.Tree.{Node, Trees, nodes, has_node}
-use Rattle.dom_model.specs.World.{part_of, is_there}
-use Rattle.dom_tree.specs.Owners.{trees_of_owner, AreOf}
-use Rattle.dom_tree_laws.proofs.Once.{once_forest, once_own, times_count}
-use Rattle.dom_tree.specs.Forest.{name_at}
-use Rattle.dom_mutation.specs.Doc.{DocState, owner_in, contents, all_tables}
-use Rattle.dom_mutation.specs.Hosting.{IsAlone}
-use Rattle.dom_tree.proofs.Owned.{AreOf-own}
-use Rattle.dom_model.specs.CommandRefusals.{past_limit}
-use Rattle.dom_mutation.proofs.Held.{are_hosts}
-use Rattle.dom_mutation.proofs.Limits.{within_limit}
-use Rattle.dom_mutation.proofs.OwnSteps.{hosted_alone}
-use Rattle.dom_mutation.proofs.RangedStates.{part_everywhere}
-use Rattle.dom_mutation.proofs.Shown.{known, shown, own_in_part, owner_there}
+use Rattle.dom_model.specs.Tree.{Node, nodes}
+use Rattle.dom_model.specs.World.{part_of}
+use Rattle.dom_mutation.specs.Doc.{DocState}
 use Rattle.dom_mutation.proofs.doc.Doc.laws.Goals as goal
 
 pub returns-clause-once : goal.returns-clause-once
 returns-clause-once c o x =
-    let f = c.self.inside.forest in
-    let once = once_own o f.trees (once_forest f.names f.trees c.nodes_stand_once.ensures.once c.nodes_stand_once.ensures.only) x in
-    let times = times_count (trees_of_owner o f.trees) x in
-    let own : count_by (λ (n : Node). name_eq n.name x) (nodes (trees_of_owner o f.trees)) ≤ 1 = omega arith in
-    subst (λ e. count_by (λ (n : Node). name_eq n.name x) (nodes (part_of e.world o).trees) ≤ 1) c.self.view_is
-    (subst (λ (ts : Trees). count_by (λ (n : Node). name_eq n.name x) (nodes ts) ≤ 1) (own_in_part f.names f.trees c.self.invariant o) own)
-
-pub returns-clause-present : goal.returns-clause-present
-returns-clause-present c k k< =
-    let f = c.self.inside.forest in
-    subst (λ e. is_there e.world (owner_in e k) ≡ true) c.self.view_is (owner_there f c.self.invariant c.self.view_is k k<)
-
-pub returns-clause-alone : goal.returns-clause-alone
-returns-clause-alone c k k< =
-    let f = c.self.inside.forest in
-    let o = (name_at f.names k).owner in
-    let now = contents f.names f.trees (all_tables c.self.inside) in
-    subst (λ (e : DocState). IsAlone e.world (owner_in e k)) c.self.view_is record {
-      own = subst (AreOf o) (own_in_part f.names f.trees c.self.invariant o) (AreOf-own o f.trees c.self.invariant.owned.owners);
-      steps = hosted_alone now c.self.inside.slots.hosts (are_hosts f.names f.trees (all_tables c.self.inside) c.self.invariant) o;
-    }
-
-pub returns-clause-limited : goal.returns-clause-limited
-returns-clause-limited c o =
-    let f = c.self.inside.forest in
-    subst (λ e. past_limit (part_of e.world o).node_count 0 ≡ false) c.self.view_is (within_limit f.names f.trees c.self.invariant o)
-
-pub returns-clause-parts : goal.returns-clause-parts
-returns-clause-parts c o =
-    let f = c.self.inside.forest in
-    subst (λ (e : DocState). IsPart (part_of e.world o)) c.self.view_is (part_everywhere f c.self.invariant c.nodes_stand_once.ensures.once c.nodes_stand_once.ensures.only o)
-
-pub returns-clause-stand : goal.returns-clause-stand
-returns-clause-stand c k k< =
-    let f = c.self.inside.forest in
-    sym (shown f c.self.invariant c.self.view_is has_node (λ ns. true) k (sym (c.nodes_stand_once.ensures.present k (known f c.self.invariant c.self.view_is (λ e. k < length e.names) k<))) (λ r. r.presence))
+    subst (λ (d : DocState). count_by (λ (n : Node). name_eq n.name x) (nodes (part_of d.world o).trees) ≤ 1) c.self.view_is (c.laws.ensures.once o x)

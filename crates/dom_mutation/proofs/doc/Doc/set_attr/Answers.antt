@@ -1,9 +1,12 @@
-use Rattle.std.proofs.Common.{Some, ap, ◌∙◌}
-use Rattle.dom_model.specs.Steps.{set_attribute}
-use Rattle.dom_mutation.specs.Doc.{name_in, owner_in, stepped}
+use Rattle.std.proofs.Common.{◌≡◌, subst}
+use Rattle.std.specs.Prelude.{OnOk}
+use Rattle.dom_model.specs.Changes.{setting_attribute}
+use Rattle.dom_mutation.specs.Doc.{DocState, made, name_in, owner_in}
 use Rattle.dom_mutation.proofs.doc.Doc.set_attr.Goals as goal
 
 pub returns-clause-world : goal.returns-clause-world
 returns-clause-world c =
-    ap (λ e. e.world) (c.in_ok-set_attribute.ensures
-    ∙ ap (λ e. stepped (owner_in e c.args.node) (set_attribute (name_in e c.args.node) c.args.name.now (Some c.args.value.items)) e) c.in_ok-tell_attribute.ensures)
+    let x = c.args.node in
+    subst (λ (d : DocState). OnOk c.set_attr.result
+    (c.set_attr.new.parts.world ≡ made (owner_in d x) (setting_attribute (name_in d x) c.args.name.now c.args.value.items) d.world))
+    c.self.view_is c.set_attr.ensures.world

@@ -1,10 +1,12 @@
-use Rattle.std.proofs.Common.{ap, ◌∙◌}
-use Rattle.std.proofs.lemmas.Result.{on_ok_weaker}
-use Rattle.dom_model.specs.TextChanges.{replacing_data}
-use Rattle.dom_mutation.specs.Doc.{name_in, owner_in, planned}
+use Rattle.std.proofs.Common.{◌≡◌, subst}
+use Rattle.std.specs.Prelude.{OnOk}
+use Rattle.dom_model.specs.TextChanges.{replacing_all_data}
+use Rattle.dom_mutation.specs.Doc.{DocState, made, name_in, owner_in}
 use Rattle.dom_mutation.proofs.doc.Doc.set_data.Goals as goal
 
 pub returns-clause-world : goal.returns-clause-world
 returns-clause-world c =
-    let d = c.args.self.now in
-    on_ok_weaker c.replacing_data.result (λ done. ap (λ e. e.world) (done ∙ ap (λ n. planned (owner_in d c.args.node) (replacing_data (name_in d c.args.node) 0 n c.args.data.items) d) c.length-count.ensures)) c.replacing_data.ensures
+    let x = c.args.node in
+    subst (λ (d : DocState). OnOk c.set_data.result
+    (c.set_data.new.parts.world ≡ made (owner_in d x) (replacing_all_data (name_in d x) c.args.data.items) d.world))
+    c.self.view_is c.set_data.ensures.world

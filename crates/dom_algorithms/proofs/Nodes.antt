@@ -1,0 +1,21 @@
+-- Keys of nodes stay keys of nodes where the names stay, and nodes that may be moved are nodes.
+use Rattle.std.proofs.Common.{◌≡◌, ℕ, ◌<◌, List, [], ◌∷◌, length, Option, sym, subst}
+use Rattle.dom_base.specs.declared.NodeName.{NodeName}
+use Rattle.dom_parts.specs.Doc.{DocState, AreNodes, IsNodeIf, MayMove, owner_in}
+use Rattle.std.specs.List.{AllByRecursion}
+
+pub nodes_kept : (d e : DocState) → e.names ≡ d.names → (ks : List ℕ) → AreNodes d ks → AreNodes e ks
+nodes_kept d e same ks all = subst (λ (ns : List NodeName). AllByRecursion (λ k. k < length ns) ks) (sym same) all
+
+pub node_kept : (d e : DocState) → e.names ≡ d.names → (k : Option ℕ) → IsNodeIf d k → IsNodeIf e k
+node_kept d e same k is j at = subst (λ (ns : List NodeName). j < length ns) (sym same) (is j at)
+
+-- nodes that may be moved
+pub movable_nodes : (d : DocState) (parent : ℕ) (before : Option ℕ) (ks : List ℕ) → AllByRecursion (MayMove d parent before) ks → AreNodes d ks
+movable_nodes d parent before [] all = tt
+movable_nodes d parent before (k ∷ ks) all = (all.0.node, movable_nodes d parent before ks all.1)
+
+-- nodes of an owner
+pub own_nodes : (d : DocState) (top : ℕ) (ks : List ℕ) → AllByRecursion (λ k. (k < length d.names) × (owner_in d k ≡ owner_in d top)) ks → AreNodes d ks
+own_nodes d top [] all = tt
+own_nodes d top (k ∷ ks) all = (all.0.0, own_nodes d top ks all.1)

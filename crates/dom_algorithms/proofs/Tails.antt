@@ -1,0 +1,54 @@
+-- The tail of a split Text is placed behind it.
+use Rattle.std.proofs.Common.{◌≡◌, ℕ, ◌<◌, false, length, Option, Some, None, option_map, sym, ap, subst, ◌∙◌}
+use Rattle.std.specs.Option.{ForSome}
+use Rattle.std.proofs.lemmas.Bool.{false_from_ne_true}
+use Rattle.dom_model.specs.Tree.{parent_of, next_sibling, index_of, inclusive_ancestors, is_inclusive_ancestor}
+use Rattle.dom_model.specs.Steps.{split_at}
+use Rattle.dom_model.specs.World.{part_of}
+use Rattle.dom_model.specs.Changes.{Plan, ◌and_then◌, doing, observed, inserting}
+use Rattle.dom_model.specs.TextChanges.{placing_tail}
+use Rattle.dom_tree.proofs.Names.{name_eq-true}
+use Rattle.dom_parts.specs.Doc.{DocState, planned, stepped, name_in, owner_in, trees_in, MayMove, IsChild}
+use Rattle.dom_parts.specs.Hosting.{IsAlone}
+use Rattle.dom_tree_laws.proofs.Paths.{Lacks, lacks_from, lacks_to}
+use Rattle.dom_tree_laws.proofs.Near.{parent_path}
+use Rattle.dom_parts.proofs.Made.{planned_then}
+use Rattle.dom_parts.proofs.OwnPlans.{plans_inserting}
+use Rattle.dom_algorithms.proofs.Placed.{Counted, once_in}
+
+-- the new Text, which stands alone, may be placed there
+pub tail_may : (d : DocState) → Counted d → (parent node new : ℕ) (next : Option ℕ) → IsChild d parent node → new < length d.names → owner_in d new ≡ owner_in d parent
+    → parent_of (trees_in d node) (name_in d new) ≡ None → is_inclusive_ancestor (trees_in d node) (name_in d new) (name_in d node) ≡ false → ForSome next (IsChild d parent) → MayMove d parent next new
+tail_may d counted parent node new next child there owner unlinked off children =
+    let ts = trees_in d parent in
+    let x = name_in d node in
+    let y = name_in d new in
+    let own : trees_in d node ≡ ts = ap (λ o. (part_of d.world o).trees) child.owner in
+    let lacks = subst (Lacks y) (parent_path ts (once_in d counted (owner_in d parent)) x (name_in d parent) child.child) (lacks_from y (inclusive_ancestors ts x) (ap (λ t. is_inclusive_ancestor t y x) (sym own) ∙ off)) in
+    let root : parent_of ts y ≡ None = ap (λ t. parent_of t y) (sym own) ∙ unlinked in
+    record {
+      node = there;
+      owner = owner;
+      not_above = lacks_to y (inclusive_ancestors ts (name_in d parent)) lacks.1;
+      apart = λ b is. false_from_ne_true _ (λ h.
+          let up : parent_of ts y ≡ Some (name_in d parent) = ap (parent_of ts) (name_eq-true y (name_in d b) h) ∙ (children b is).child in
+          cc);
+    }
+
+-- and is
+pub tail_placed : (d f g : DocState) (parent node new : ℕ) (offset : ℕ) (next : Option ℕ) → IsAlone d.world (owner_in d node) → owner_in d node ≡ owner_in d parent → owner_in d new ≡ owner_in d parent
+    → option_map (name_in d) next ≡ next_sibling (trees_in d node) (name_in d node)
+    → f ≡ planned (owner_in d parent) (inserting observed (name_in d new) (name_in d parent) (option_map (name_in d) next)) d
+    → (index : ℕ) → index ≡ index_of (trees_in d node) (name_in d node) → g ≡ stepped (owner_in f node) (split_at (name_in f node) offset (name_in f new) (name_in f parent) index) f
+    → g ≡ planned (owner_in d node) (placing_tail (name_in d node) offset (name_in d new) (Some (name_in d parent))) d
+tail_placed d f g parent node new offset next alone owner new_owner found inserted index stood told =
+    let o = owner_in d node in
+    let x = name_in d node in
+    let y = name_in d new in
+    let p = name_in d parent in
+    let at = index_of (trees_in d node) x in
+    let tell : DocState → DocState = λ s. stepped (owner_in s node) (split_at (name_in s node) offset (name_in s new) (name_in s parent) at) s in
+    let split : Plan = doing (split_at x offset y p at) in
+    told ∙ ap (λ i. stepped (owner_in f node) (split_at (name_in f node) offset (name_in f new) (name_in f parent) i) f) stood ∙ ap tell (inserted ∙ ap (λ w. planned w (inserting observed y p (option_map (name_in d) next)) d) (sym owner))
+    ∙ planned_then o (inserting observed y p (option_map (name_in d) next)) split d alone (plans_inserting o observed y p (option_map (name_in d) next) (new_owner ∙ sym owner))
+    ∙ ap (λ r. planned o (inserting observed y p r and_then split) d) found

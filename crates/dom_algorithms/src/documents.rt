@@ -1,0 +1,47 @@
+//! Node documents (DOM Standard, concepts: node document, adopt).
+ghost use Rattle.std.specs.Prelude.{◌≡◌, ◌<◌, length, OnOk};
+ghost use Rattle.dom_model.specs.Steps.{set_document};
+ghost use Rattle.dom_model.specs.Changes.{changing_document, document_below, has_document};
+ghost use Rattle.dom_parts.specs.Doc.{name_in, owner_in, trees_in, planned};
+
+use dom_base::Kind;
+use dom_parts::Parts;
+use node_arena::Key;
+use std::alloc::AllocError;
+
+/// The node document of what is below a node.
+pub(crate) fn document_below(parts: &Parts, node: Key) -> Key
+    requires { node < length parts.now.names }
+    ensures value { name_in parts.now result ≡ document_below (trees_in parts.now node) (name_in parts.now node) }
+    ensures node { result < length parts.now.names }
+{
+    if matches!(parts.kind(node), Kind::Document) {
+        return node;
+    }
+    parts.document(node).unwrap_or(node)
+}
+
+/// A node with another node document gets this one, with all below it.
+pub(crate) fn change_document(parts: &mut Parts, document: Key, node: Key) -> Result<(), AllocError>
+    requires document_is_node { document < length parts.old.names }
+    requires node_is_node { node < length parts.old.names }
+    ensures { OnOk result (parts.new ≡ planned (owner_in parts.old node) (changing_document (name_in parts.old document) (name_in parts.old node)) parts.old) }
+{
+    if !has_document(parts, node, document) {
+        parts.set_document(node, document)?;
+    }
+    Ok(())
+}
+
+/// Whether a node has another one for its node document.
+fn has_document(parts: &Parts, node: Key, document: Key) -> bool
+    requires node_is_node { node < length parts.now.names }
+    requires document_is_node { document < length parts.now.names }
+    ensures { result ≡ has_document (trees_in parts.now node) (name_in parts.now document) (name_in parts.now node) }
+{
+    parts.laws();
+    match parts.document(node) {
+        Some(own) => own == document,
+        None => false,
+    }
+}

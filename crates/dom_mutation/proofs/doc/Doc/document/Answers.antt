@@ -1,9 +1,0 @@
-use Rattle.std.proofs.Common.{option_map, ap}
-use Rattle.dom_model.specs.Tree.{node_in}
-use Rattle.dom_tree.specs.Forest.{name_at}
-use Rattle.dom_mutation.proofs.Shown.{shown}
-use Rattle.dom_mutation.proofs.doc.Doc.document.Goals as goal
-
-pub returns-clause-value : goal.returns-clause-value
-returns-clause-value c =
-    shown c.self.inside.forest c.self.invariant c.self.view_is (λ ts x. (node_in ts x).document) (λ ns. option_map (name_at ns) c.document.result) c.args.node c.document.ensures.value (λ r. ap (λ n. n.document) r.node)

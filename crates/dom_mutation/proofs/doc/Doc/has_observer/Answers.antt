@@ -1,6 +1,0 @@
-use Rattle.std.proofs.Common.{◌∙◌}
-use Rattle.dom_mutation.proofs.Observing.{observer_is}
-use Rattle.dom_mutation.proofs.doc.Doc.has_observer.Goals as goal
-
-pub returns : goal.returns
-returns c = c.has.ensures ∙ observer_is c.self.inside.forest c.self.invariant c.self.view_is c.args.owner c.args.number

@@ -1,9 +1,0 @@
-use Rattle.std.proofs.Common.{is_some, sym, ap, ◌∙◌}
-use Rattle.dom_mutation.proofs.RangedPassing.{some_of, range_is}
-use Rattle.dom_ranges.specs.Tables.{range_from}
-use Rattle.dom_mutation.proofs.doc.Doc.has_range.Goals as goal
-
-pub returns : goal.returns
-returns c =
-    c.is_some.ensures
-    ∙ (sym (some_of range_from c.points.result) ∙ (ap is_some c.points.ensures ∙ range_is c.self.inside.forest c.self.invariant c.self.view_is c.args.owner c.args.number))

@@ -1,0 +1,6 @@
+use Rattle.std.proofs.Common.{subst, sym}
+use Rattle.dom_mutation.specs.Doc.{DocState, IsChild}
+use Rattle.dom_mutation.proofs.doc.Doc.insert_before.Goals as goal
+
+pub insert-requires-clause-child_is_child : goal.insert-requires-clause-child_is_child
+insert-requires-clause-child_is_child c x is = subst (λ (d : DocState). IsChild d c.args.parent x) (sym c.self.view_is) (c.requires.child_is_child x is)

@@ -1,7 +1,0 @@
-use Rattle.std.proofs.Common.{ap}
-use Rattle.dom_model.specs.Tree.{kind_of}
-use Rattle.dom_mutation.proofs.Shown.{shown}
-use Rattle.dom_mutation.proofs.doc.Doc.kind.Goals as goal
-
-pub returns : goal.returns
-returns c = shown c.self.inside.forest c.self.invariant c.self.view_is kind_of (λ ns. c.kind.result) c.args.node c.kind.ensures (λ r. ap (λ n. n.kind) r.node)

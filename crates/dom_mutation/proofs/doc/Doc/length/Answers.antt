@@ -1,6 +1,0 @@
-use Rattle.dom_model.specs.Tree.{length_of}
-use Rattle.dom_mutation.proofs.Shown.{shown}
-use Rattle.dom_mutation.proofs.doc.Doc.length.Goals as goal
-
-pub returns : goal.returns
-returns c = shown c.self.inside.forest c.self.invariant c.self.view_is length_of (λ ns. c.length.result) c.args.node c.length.ensures (λ r. r.size)

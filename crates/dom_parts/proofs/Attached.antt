@@ -1,0 +1,256 @@
+-- A shadow root is attached: what is held has one host more, so it is still a legal `Doc`, and its world is that of the
+-- definitions.
+use Rattle.std.proofs.Common.{◌≡◌, ◌≢◌, ℕ, zero, suc, ◌<◌, ◌≤◌, ◌⊎◌, inl, inr, true, false, All, List, [], ◌∷◌, ◌++◌, Option, Some, None, map, length, unwrap_or, refl, sym, ap, subst, ◌∙◌, arith}
+use Rattle.std.specs.Prelude.{slice_get}
+use Rattle.std.specs.List.{AllByRecursion}
+use Rattle.std.proofs.lemmas.Bool.{cases_Bool, false_from_ne_true}
+use Rattle.std.proofs.lemmas.List.{length_push, map-append}
+use Rattle.std.proofs.lemmas.List.Elements.{All-head, All-tail}
+use Rattle.std.proofs.lemmas.Option.{same_Some, none-some}
+use Rattle.std.proofs.Math.ListN.{get_or-append}
+use Rattle.std.proofs.Math.Nat.{eq-or-lt_of_le}
+use Rattle.std.proofs.Math.Seq.{get_or-append_seam}
+use Rattle.dom_base.specs.declared.Kind.TheVariants.{Shadow}
+use Rattle.dom_base.specs.declared.NodeName.{NodeName}
+use Rattle.dom_base.specs.declared.Owner.{Owner}
+use Rattle.dom_base.specs.declared.Owner.TheVariants.{Page, Component}
+use Rattle.dom_model.specs.Names.{owner_eq, node_of}
+use Rattle.dom_model.specs.Tree.{node_in}
+use Rattle.dom_model.specs.TreeChanges.{with_node}
+use Rattle.dom_model.specs.DocumentMachine.{new_root, attaching}
+use Rattle.dom_model.specs.World.{Task, is_there, component_made, shadow_root_of}
+use Rattle.dom_model.proofs.OwnerLaws.{owner_eq-true, owner_eq-false}
+use Rattle.dom_slots.specs.Hosts.{ShadowHost}
+use Rattle.dom_slots.specs.Kept.{AreSlotsOf}
+use Rattle.dom_observers.specs.Tables.{TablesOf, no_tables as no_observers}
+use Rattle.dom_observers.specs.Naming.{IsKey, SpeaksOf}
+use Rattle.dom_tree.specs.Forest.{NamedTrees, name_at, count_of}
+use Rattle.dom_ranges.specs.Settings.{named_ranges}
+use Rattle.dom_ranges.specs.Tables.{ranges_of}
+use Rattle.dom_model.specs.Ranges.{Range}
+use Rattle.dom_parts.specs.Contents.{Tables}
+use Rattle.dom_parts.specs.Numbering.{AreNumbered}
+use Rattle.dom_parts.specs.Ranging.{AreRangesOf}
+use Rattle.dom_cursors.specs.OwnTables.{KeyedTables, no_keyed_tables, owners_up_to, owner_at, table_of}
+use Rattle.dom_parts.specs.AllTables.{AllTables, tables_view, AreTablesOf}
+use Rattle.dom_parts.specs.Hosting.{AreMadeFrom, host_names, AreHostsOf, IsAttached}
+use Rattle.dom_parts.specs.Doc.{named_trees, own_tables, shown_tables, contents, world_from, IsHeld, IsDue}
+use Rattle.dom_parts.proofs.AttachedWorlds.{count_none, counted_other, counted_new, component_new, attached_world, attached_hosts}
+use Rattle.dom_parts.proofs.Held.{are_hosts, no_cursors, due_kept}
+use Rattle.dom_parts.proofs.HostedSteps.{names_pushed, names_renamed}
+use Rattle.dom_parts.proofs.Keeping.{tables_more, view_same, speaks_grown}
+use Rattle.dom_parts.proofs.Numbers.{numbered_more}
+use Rattle.dom_parts.proofs.RangedKeeping.{named_grown}
+use Rattle.dom_parts.proofs.RangedOwners.{ranges_attached}
+use Rattle.dom_parts.proofs.Places.{In-push, In-end}
+use Rattle.dom_parts.proofs.Worlds.{In, in_there, there_in}
+
+-- ---- tables of one owner more
+
+get_push : {X : Type 0} (xs : List X) (x : X) → slice_get (xs ++ x ∷ []) (length xs) ≡ Some x
+get_push [] x = refl
+get_push (y ∷ xs) x = get_push xs x
+
+get_other : {X : Type 0} (xs : List X) (x : X) (k : ℕ) → k ≢ length xs → slice_get (xs ++ x ∷ []) k ≡ slice_get xs k
+get_other [] x zero other = absurd (other refl)
+get_other [] x (suc k) other = refl
+get_other (y ∷ xs) x zero other = refl
+get_other (y ∷ xs) x (suc k) other = get_other xs x k (λ e. other (ap suc e))
+
+table_push : {X : Type 0} (xs : List X) (x : X) (n : ℕ) → length xs ≡ suc n → table_of (xs ++ x ∷ []) (Component (suc n)) ≡ Some x
+table_push xs x n long = ap (slice_get (xs ++ x ∷ [])) (sym long) ∙ get_push xs x
+
+table_other : {X : Type 0} (xs : List X) (x : X) (n : ℕ) → length xs ≡ suc n → (q : Owner) → q ≢ Component (suc n) → table_of (xs ++ x ∷ []) q ≡ table_of xs q
+table_other xs x n long Page other = get_other xs x 0 (λ e. omega (arith, e, long))
+table_other xs x n long (Component zero) other = refl
+table_other xs x n long (Component (suc k)) other = get_other xs x (suc k) (λ e. other (ap Component (e ∙ long)))
+
+-- ---- one host more
+
+-- what is made of a forest and tables, when a shadow root is attached to a node
+pub record HasOneHostMore (f g : NamedTrees) (was now : AllTables) (host : ℕ) (d : Option NodeName) : Type 0 where
+  pub names : g.names ≡ f.names ++ shadow_root_of (component_made Page (length was.slots.hosts)) ∷ []
+  pub trees : g.trees ≡ with_node (new_root (shadow_root_of (component_made Page (length was.slots.hosts))) Shadow d) f.trees
+  pub each : now.each ≡ was.each ++ no_keyed_tables ∷ []
+  pub observers : now.observers ≡ was.observers
+  pub tasks : now.tasks ≡ was.tasks
+  pub signalled : now.signalled ≡ was.signalled
+  pub ranges : now.ranges ≡ was.ranges
+  pub hosts : now.slots.hosts ≡ was.slots.hosts ++ record { host = host; root = length f.names; owner = component_made Page (length was.slots.hosts) } ∷ []
+  pub free : now.slots.begun ≡ None
+  pub slots : AreSlotsOf g now.slots
+
+module _ (f g : NamedTrees) (was now : AllTables) (host : ℕ) (d : Option NodeName) (held : IsHeld f.names f.trees was) (within : host < length f.names)
+    (own : (name_at f.names host).owner ≡ Page) (more : HasOneHostMore f g was now host d) where
+  abbrev c : Owner
+  c = component_made Page (length was.slots.hosts)
+
+  abbrev grown : List NodeName
+  grown = f.names ++ shadow_root_of c ∷ []
+
+  abbrev hosts_were : List ShadowHost
+  hosts_were = was.slots.hosts
+
+  -- the new name is no other node's
+  new_name : (k : ℕ) → k < length f.names → name_at f.names k ≢ shadow_root_of c
+  new_name k k< e =
+      let on = sym (ap (λ (x : NodeName). is_there (world_from f.names f.trees was) x.owner) e) ∙ held.present k k< in
+      let off = component_new (contents f.names f.trees was) hosts_were (are_hosts f.names f.trees was held) in
+      cc
+
+  table_new : table_of now.each c ≡ Some no_keyed_tables
+  table_new = ap (λ ts. table_of ts c) more.each ∙ table_push was.each no_keyed_tables (length hosts_were) held.counted
+
+  table_rest : (q : Owner) → q ≢ c → table_of now.each q ≡ table_of was.each q
+  table_rest q other = ap (λ ts. table_of ts q) more.each ∙ table_other was.each no_keyed_tables (length hosts_were) held.counted q other
+
+  own_rest : (q : Owner) → q ≢ c → own_tables now q ≡ own_tables was q
+  own_rest q other = ap (λ t. unwrap_or t no_keyed_tables) (table_rest q other)
+
+  view_rest : (q : Owner) → tables_view grown (own_tables was q) (was.observers q) ≡ tables_view f.names (own_tables was q) (was.observers q)
+  view_rest q = by (table_of was.each q) refl
+    where
+      by : (m : Option KeyedTables) → table_of was.each q ≡ m → tables_view grown (unwrap_or m no_keyed_tables) (was.observers q) ≡ tables_view f.names (unwrap_or m no_keyed_tables) (was.observers q)
+      by None e = view_same f.names (shadow_root_of c) f.trees q no_keyed_tables (was.observers q) (no_cursors (named_trees f.names f.trees) q) (held.speaks q)
+      by (Some t) e = view_same f.names (shadow_root_of c) f.trees q t (was.observers q) (held.own q t e) (held.speaks q)
+
+  -- an owner's tables in names, with these hosts and live ranges
+  abbrev with_those : Tables → List NodeName → List (Option (Range NodeName)) → Tables
+  with_those t xs rs = record t { attached = xs; ranges = rs }
+
+  -- its live ranges by names
+  live_now : (q : Owner) → named_ranges g.names (ranges_of now.ranges q) ≡ named_ranges f.names (ranges_of was.ranges q)
+  live_now q =
+      ap (λ t. named_ranges g.names (ranges_of t q)) more.ranges
+      ∙ (ap (λ ns. named_ranges ns (ranges_of was.ranges q)) more.names ∙ named_grown f.names (shadow_root_of c) was.ranges held.ranges.own q)
+
+  live_new : named_ranges g.names (ranges_of now.ranges c) ≡ []
+  live_new = live_now c ∙ ap (named_ranges f.names) (held.ranges.absent c (component_new (contents f.names f.trees was) hosts_were (are_hosts f.names f.trees was held)))
+
+  view_now : (q : Owner) → q ≢ c → tables_view g.names (own_tables now q) (now.observers q) ≡ tables_view f.names (own_tables was q) (was.observers q)
+  view_now q other =
+      ap (λ (os : Owner → TablesOf ℕ). tables_view g.names (own_tables now q) (os q)) more.observers
+      ∙ (ap (λ ns. tables_view ns (own_tables now q) (was.observers q)) more.names
+      ∙ (ap (λ t. tables_view grown t (was.observers q)) (own_rest q other) ∙ view_rest q))
+
+  unobserved_new : now.observers c ≡ no_observers
+  unobserved_new = ap (λ (os : Owner → TablesOf ℕ). os c) more.observers ∙ held.unobserved c (component_new (contents f.names f.trees was) hosts_were (are_hosts f.names f.trees was held))
+
+  hosts_now : host_names g.names now.slots.hosts ≡ host_names f.names hosts_were ++ name_at f.names host ∷ []
+  hosts_now =
+      let kept = names_pushed f.names (shadow_root_of c) in
+      ap (λ ns. host_names ns now.slots.hosts) more.names
+      ∙ (ap (host_names grown) more.hosts
+      ∙ (map-append (λ (h : ShadowHost). name_at grown h.host) hosts_were _
+      ∙ (ap (λ xs. xs ++ name_at grown host ∷ []) (sym (names_renamed f.names grown kept hosts_were held.signals.slots.hosts)) ∙ ap (λ x. host_names f.names hosts_were ++ x ∷ []) (kept.same host within))))
+
+  names_stay : (ks : List ℕ) → All (λ k. k < length f.names) ks → map (name_at grown) ks ≡ map (name_at f.names) ks
+  names_stay [] all = refl
+  names_stay (k ∷ ks) all =
+      let here = (names_pushed f.names (shadow_root_of c)).same k (All-head (λ j. j < length f.names) k ks all) in
+      let rest = names_stay ks (All-tail (λ j. j < length f.names) k ks all) in
+      λ i. here i ∷ rest i
+
+  one : IsAttached (contents f.names f.trees was) (contents g.names g.trees now) c (name_at f.names host) d
+  one = record {
+    owners = ap (λ ts. owners_up_to (length ts)) more.each ∙ (ap owners_up_to long ∙ ap (λ n. owners_up_to (length was.each) ++ owner_at n ∷ []) held.counted);
+    names = more.names;
+    trees = more.trees;
+    page = (λ i. with_those (view_now Page (λ e. cc) i) (hosts_now i) (live_now Page i));
+    new = ap (λ t. with_those (tables_view g.names (unwrap_or t no_keyed_tables) (now.observers c)) [] (named_ranges g.names (ranges_of now.ranges c))) table_new
+        ∙ (ap (λ (r : TablesOf ℕ). with_those (tables_view g.names no_keyed_tables r) [] (named_ranges g.names (ranges_of now.ranges c))) unobserved_new ∙ ap (with_those (tables_view g.names no_keyed_tables no_observers) []) live_new);
+    rest = λ q page other. by q page other;
+    signalled = ap (λ ns. map (name_at ns) now.signalled) more.names ∙ (ap (map (name_at grown)) more.signalled ∙ names_stay was.signalled held.signals.nodes);
+    tasks = more.tasks;
+  }
+    where
+      long : length (was.each ++ no_keyed_tables ∷ []) ≡ suc (length was.each)
+      long = let pushed = length_push was.each no_keyed_tables in omega (arith, pushed)
+
+      by : (q : Owner) → q ≢ Page → q ≢ c
+          → shown_tables g.names now.slots.hosts q (own_tables now q) (now.observers q) (ranges_of now.ranges q) ≡ shown_tables f.names hosts_were q (own_tables was q) (was.observers q) (ranges_of was.ranges q)
+      by Page page other = absurd (page refl)
+      by (Component k) page other = (λ i. with_those (view_now (Component k) other i) [] (live_now (Component k) i))
+
+  abbrev new_hosts : List ShadowHost
+  new_hosts = hosts_were ++ record { host = host; root = length f.names; owner = c } ∷ []
+
+  hosts_after : AreHostsOf (contents g.names g.trees now) new_hosts
+  hosts_after =
+      attached_hosts (contents f.names f.trees was) hosts_were (are_hosts f.names f.trees was held) held.present (contents g.names g.trees now) (name_at f.names host) d one host within refl own
+
+  -- who was there still is
+  there_after : (q : Owner) → is_there (world_from f.names f.trees was) q ≡ true → is_there (world_from g.names g.trees now) q ≡ true
+  there_after q on = in_there (contents g.names g.trees now) q (subst (In q) (sym one.owners) (In-push q (owners_up_to (length was.each)) c (there_in (contents f.names f.trees was) q on)))
+
+  absent_before : (q : Owner) → is_there (world_from g.names g.trees now) q ≡ false → is_there (world_from f.names f.trees was) q ≡ false
+  absent_before q off = false_from_ne_true (is_there (world_from f.names f.trees was) q) (λ on. let now_on = sym (there_after q on) ∙ off in cc)
+
+  present_after : (k : ℕ) → k < length g.names → is_there (world_from g.names g.trees now) (name_at g.names k).owner ≡ true
+  present_after k k< =
+      ap (λ ns. is_there (world_from g.names g.trees now) (name_at ns k).owner) more.names
+      ∙ at (let shorter = ap length more.names in let pushed = length_push f.names (shadow_root_of c) in let low : k ≤ length f.names = omega (arith, k<, shorter, pushed) in eq-or-lt_of_le low)
+    where
+      at : (k ≡ length f.names) ⊎ (k < length f.names) → is_there (world_from g.names g.trees now) (name_at grown k).owner ≡ true
+      at (inl same) =
+          ap (λ (y : NodeName). is_there (world_from g.names g.trees now) y.owner) (ap (name_at grown) same ∙ get_or-append_seam f.names (shadow_root_of c) [] (node_of Page 0))
+          ∙ in_there (contents g.names g.trees now) c (subst (In c) (sym one.owners) (In-end (owners_up_to (length was.each)) c))
+      at (inr h) =
+          ap (λ (y : NodeName). is_there (world_from g.names g.trees now) y.owner) (get_or-append f.names (shadow_root_of c ∷ []) (node_of Page 0) k h)
+          ∙ there_after (name_at f.names k).owner (held.present k h)
+
+  limited_after : (p : Owner) → count_of p g.names ≤ 1000000
+  limited_after p = elim (cases_Bool (owner_eq p c)) [
+    | inl e ↦
+        let count = counted_new (contents f.names f.trees was) hosts_were (are_hosts f.names f.trees was held) held.present (contents g.names g.trees now) (name_at f.names host) d one in
+        let same = ap (λ (q : Owner). count_of q g.names) (owner_eq-true p c e) in omega (arith, count, same)
+    | inr e ↦
+        let count = counted_other (contents f.names f.trees was) hosts_were (are_hosts f.names f.trees was held) held.present (contents g.names g.trees now) (name_at f.names host) d one p (owner_eq-false p c e) in
+        let few = held.limited p in omega (arith, count, few)
+  ]
+
+  own_after : (q : Owner) (t : KeyedTables) → table_of now.each q ≡ Some t → AreTablesOf (named_trees g.names g.trees) q t
+  own_after q t e = elim (cases_Bool (owner_eq q c)) [
+    | inl same ↦
+        subst (AreTablesOf (named_trees g.names g.trees) q) (same_Some no_keyed_tables t (sym table_new ∙ (ap (table_of now.each) (sym (owner_eq-true q c same)) ∙ e)))
+        record { iterators = λ k i is. absurd (none-some i is); walkers = λ k w is. absurd (none-some w is); few_iterators = omega arith; few_walkers = omega arith }
+    | inr other ↦
+        subst (λ (h : NamedTrees). AreTablesOf h q t) (λ i. named_trees (sym more.names i) (sym more.trees i))
+        (tables_more f.names (shadow_root_of c) f.trees (new_root (shadow_root_of c) Shadow d) refl new_name q t (held.own q t (sym (table_rest q (owner_eq-false q c other)) ∙ e)))
+  ]
+
+  -- none of its nodes was there before
+  uncounted : (k : ℕ) → k < length f.names → (name_at f.names k).owner ≢ c
+  uncounted k k< e =
+      let on = sym (ap (is_there (world_from f.names f.trees was)) e) ∙ held.present k k< in
+      let off = component_new (contents f.names f.trees was) hosts_were (are_hosts f.names f.trees was held) in
+      cc
+
+  -- it is held
+  pub attached_held : length was.slots.hosts < 1000 → IsHeld g.names g.trees now
+  attached_held room = record {
+    owned = hosts_after.owned;
+    present = present_after;
+    absent = hosts_after.absent;
+    limited = limited_after;
+    own = own_after;
+    counted = ap length more.each ∙ (let pushed = length_push was.each no_keyed_tables in let counted = held.counted in let hosts = ap length more.hosts in let longer = length_push hosts_were (record { host = host; root = length f.names; owner = c }) in omega (arith, pushed, counted, hosts, longer));
+    few = let hosts = ap length more.hosts in let longer = length_push hosts_were (record { host = host; root = length f.names; owner = c }) in omega (arith, hosts, longer, room);
+    made = subst (AreMadeFrom g.names 0) (sym more.hosts) hosts_after.made;
+    signals = record { free = more.free; slots = more.slots; nodes = nodes_after };
+    speaks = λ p. subst (λ ns. SpeaksOf (IsKey ns) (now.observers p)) (sym more.names) (subst (λ (os : Owner → TablesOf ℕ). SpeaksOf (IsKey grown) (os p)) (sym more.observers) (speaks_grown f.names (shadow_root_of c) (was.observers p) (held.speaks p)));
+    unobserved = λ p off. ap (λ (os : Owner → TablesOf ℕ). os p) more.observers ∙ held.unobserved p (absent_before p off);
+    due = subst (λ (ts : List Task). AllByRecursion (IsDue (world_from g.names g.trees now)) ts) (sym more.tasks) (due_kept (world_from f.names f.trees was) (world_from g.names g.trees now) there_after was.tasks held.due);
+    ranges = subst (AreRangesOf (contents g.names g.trees now)) (sym more.ranges)
+        (ranges_attached (contents f.names f.trees was) (contents g.names g.trees now) was.ranges c (name_at f.names host) d (component_new (contents f.names f.trees was) hosts_were (are_hosts f.names f.trees was held)) one held.ranges);
+    numbered = subst AreNumbered (sym more.names)
+        (subst (λ n. AreNumbered (f.names ++ node_of c n ∷ [])) (count_none c f.names uncounted) (numbered_more f.names c held.numbered));
+  }
+    where
+      nodes_after : All (λ k. k < length g.names) now.signalled
+      nodes_after = subst (All (λ k. k < length g.names)) (sym more.signalled) (λ k i h. let less = held.signals.nodes k i h in let long = ap length more.names in let pushed = length_push f.names (shadow_root_of c) in omega (arith, less, long, pushed))
+
+  -- and its world is the one after the command
+  pub attached_state : d ≡ (node_in f.trees (name_at f.names host)).document → world_from g.names g.trees now ≡ (attaching (world_from f.names f.trees was) Page (name_at f.names host)).0
+  attached_state document =
+      attached_world (contents f.names f.trees was) hosts_were (are_hosts f.names f.trees was held) held.present (contents g.names g.trees now) (name_at f.names host) d one own document

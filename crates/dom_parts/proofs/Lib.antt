@@ -1,0 +1,49 @@
+-- Lemmas of what a `Doc` holds, and of the elementary steps.
+mod Attachable
+mod Attached
+mod AttachedWorlds
+pub mod BoundedPlans
+mod Connected
+mod Cursors
+mod EveryNode
+mod Held
+mod HostedDocuments
+mod HostedKeys
+mod HostedSteps
+mod HostedWorlds
+mod JoinedEach
+mod Keeping
+mod Limits
+pub mod Made
+mod Numbers
+mod Observed
+mod Observing
+mod Own
+pub mod OwnParts
+pub mod OwnPlans
+mod OwnSteps
+mod Passing
+mod Places
+mod Quiet
+mod RangeRules
+mod RangeSteps
+mod RangedCalls
+mod RangedFits
+mod RangedKeeping
+mod RangedLists
+mod RangedOwners
+mod RangedPassing
+mod RangedRefusals
+mod RangedStates
+mod RangedSteps
+mod RangedWorlds
+mod Records
+mod Roots
+mod Shown
+mod Signalling
+mod Spliced
+mod Steps
+mod Taking
+mod Tasks
+mod There
+mod Worlds

@@ -1,0 +1,65 @@
+-- Plans made one after another in a world, by an owner whose own steps do in its part what they do in a part alone.
+use Rattle.std.proofs.Common.{◌≡◌, List, [], ◌∷◌, ◌++◌, refl, sym, ap, subst, ◌∙◌}
+use Rattle.std.specs.List.{AllByRecursion}
+use Rattle.dom_base.specs.declared.Owner.{Owner}
+use Rattle.dom_model.specs.Steps.{Step, after, part_step}
+use Rattle.dom_model.specs.Part.{Part}
+use Rattle.dom_model.specs.World.{World, part_of}
+use Rattle.dom_model.specs.WorldSteps.{world_after}
+use Rattle.dom_model.specs.Changes.{Plan, ◌and_then◌, in_turn}
+use Rattle.dom_model.proofs.PartLaws.{owner-part_of}
+use Rattle.dom_tree.specs.Owners.{AreOf}
+use Rattle.dom_parts.specs.Doc.{DocState, made, planned}
+use Rattle.dom_parts.specs.Hosting.{SetsOwnDocuments, IsOwnPart, PlansOwn, IsAlone}
+use Rattle.dom_parts.proofs.OwnSteps.{after_more, made_then_alone}
+use Rattle.dom_parts.proofs.OwnPlans.{all_own_both, own_after}
+
+abbrev state_with : DocState → World → DocState
+state_with d w = record d { world = w }
+
+-- steps in a part after others
+pub after_append : (p : Part) (steps more : List Step) → after p (steps ++ more) ≡ after (after p steps) more
+after_append p [] more = refl
+after_append p (s ∷ steps) more = after_append (part_step p s) steps more
+
+module _ (o : Owner) where
+  own_part : (w : World) → IsAlone w o → IsOwnPart o (part_of w o)
+  own_part w alone = record { owner = owner-part_of w o; own = alone.own }
+
+  -- after own steps it is so still
+  pub alone_after : (steps : List Step) (w : World) → IsAlone w o → AllByRecursion (SetsOwnDocuments o) steps → IsAlone (world_after o w steps) o
+  alone_after steps w alone own =
+      let is = alone.steps steps own in
+      record {
+        own = subst (λ (p : Part). AreOf o p.trees) (sym is) (own_after o (part_of w o) steps (own_part w alone)).own;
+        steps = λ more h.
+            ap (λ v. part_of v o) (sym (after_more o w steps more))
+            ∙ (alone.steps (steps ++ more) (all_own_both o steps more own h) ∙ (after_append (part_of w o) steps more ∙ ap (λ p. after p more) (sym is)));
+      }
+
+  -- a plan
+  pub plan_alone : (f : Plan) (w : World) → IsAlone w o → PlansOwn o f → part_of (made o f w) o ≡ after (part_of w o) (f (part_of w o))
+  plan_alone f w alone own = alone.steps (f (part_of w o)) (own (part_of w o) (own_part w alone))
+
+  -- after it
+  pub alone_made : (f : Plan) (w : World) → IsAlone w o → PlansOwn o f → IsAlone (made o f w) o
+  alone_made f w alone own = alone_after (f (part_of w o)) w alone (own (part_of w o) (own_part w alone))
+
+  -- one plan and then another
+  pub made_then : (f g : Plan) (w : World) → IsAlone w o → PlansOwn o f → made o (f and_then g) w ≡ made o g (made o f w)
+  made_then f g w alone own = made_then_alone o f g w (plan_alone f w alone own)
+
+  -- a plan for each item
+  pub made_turn : {A : Type 0} (f : A → Plan) (x : A) (xs : List A) (w : World) → IsAlone w o → PlansOwn o (f x) → made o (in_turn f (x ∷ xs)) w ≡ made o (in_turn f xs) (made o (f x) w)
+  made_turn f x xs w alone own = made_then (f x) (in_turn f xs) w alone own
+
+  -- the same of states
+  pub planned_then : (f g : Plan) (d : DocState) → IsAlone d.world o → PlansOwn o f → planned o g (planned o f d) ≡ planned o (f and_then g) d
+  planned_then f g d alone own = ap (λ w. state_with d w) (sym (made_then f g d.world alone own))
+
+  pub planned_turn : {A : Type 0} (f : A → Plan) (x : A) (xs : List A) (d : DocState) → IsAlone d.world o → PlansOwn o (f x) → planned o (in_turn f xs) (planned o (f x) d) ≡ planned o (in_turn f (x ∷ xs)) d
+  planned_turn f x xs d alone own = ap (λ w. state_with d w) (sym (made_turn f x xs d.world alone own))
+
+  -- the trees after a plan
+  pub trees_after : (f : Plan) (d : DocState) → IsAlone d.world o → PlansOwn o f → (part_of (planned o f d).world o).trees ≡ (after (part_of d.world o) (f (part_of d.world o))).trees
+  trees_after f d alone own = ap (λ (p : Part). p.trees) (plan_alone f d.world alone own)

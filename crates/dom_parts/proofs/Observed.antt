@@ -1,0 +1,110 @@
+-- One owner's observers change: what holds of all owners' then, and the world then.
+use Rattle.std.proofs.Common.{◌≡◌, ◌≢◌, ℕ, inl, inr, true, false, true≢false, List, length, Option, Some, None, option_map, map, refl, sym, ap, subst, ◌∙◌}
+use Rattle.std.specs.Prelude.{is_some, slice_get, if◌then◌else◌}
+use Rattle.std.proofs.lemmas.Bool.{cases_Bool, cond-true, cond-false}
+use Rattle.std.proofs.lemmas.Option.{slice_get-map}
+use Rattle.dom_base.specs.declared.NodeName.{NodeName}
+use Rattle.dom_base.specs.declared.Owner.{Owner}
+use Rattle.dom_model.specs.Names.{owner_eq}
+use Rattle.dom_model.specs.Tree.{Trees}
+use Rattle.dom_model.specs.Command.{Command}
+use Rattle.dom_model.specs.Output.{Value, Said}
+use Rattle.dom_model.specs.Part.{Part}
+use Rattle.dom_model.specs.World.{part_of, with_part, is_there}
+use Rattle.dom_model.specs.Effects.{Effect, effect}
+use Rattle.dom_model.proofs.OwnerLaws.{owner_eq-same, owner_eq-true, ne-owner_eq}
+use Rattle.dom_tree.specs.Forest.{name_at, count_of}
+use Rattle.dom_tree.specs.Owners.{trees_of_owner}
+use Rattle.dom_traversal.specs.Iterators.{iterator_view}
+use Rattle.dom_traversal.specs.Walkers.{walker_view}
+use Rattle.dom_observers.specs.Tables.{TablesOf, no_tables as no_observers}
+use Rattle.dom_observers.specs.Naming.{named_tables, named_change, IsKey, SpeaksOf}
+use Rattle.dom_ranges.specs.Settings.{named_ranges}
+use Rattle.dom_ranges.specs.Tables.{ranges_of}
+use Rattle.dom_parts.specs.Contents.{part_with}
+use Rattle.dom_parts.specs.AllTables.{tables_with, AllTables, with_observers}
+use Rattle.dom_parts.specs.Doc.{own_tables, attached_of, shown_tables, contents, world_from, IsHeld, MakesSaying}
+use Rattle.dom_parts.proofs.Worlds.{IsChangeOf, there_same, part_at, part_off, changed}
+use Rattle.dom_parts.proofs.Places.{single_owners}
+use Rattle.dom_parts.proofs.Held.{held_observers}
+
+module _ (names : List NodeName) (ts : Trees) (tables : AllTables) (held : IsHeld names ts tables) (o : Owner) where
+  -- the owner's part with these
+  abbrev pub with_seen : TablesOf NodeName → Part
+  with_seen r = part_with o (trees_of_owner o ts) (count_of o names) (record (tables_with (map (iterator_view names) (own_tables tables o).iterators) (map (walker_view names) (own_tables tables o).walkers) r) { attached = attached_of names tables.slots.hosts o; ranges = named_ranges names (ranges_of tables.ranges o) })
+
+  -- its observers in names, whether it is there or not
+  pub queues_in : (part_of (world_from names ts tables) o).record_queues ≡ (named_tables (name_at names) (tables.observers o)).record_queues
+  queues_in = elim (cases_Bool (is_there (world_from names ts tables) o)) [
+    | inl there ↦ ap (λ (p : Part). p.record_queues) (part_at (contents names ts tables) o there)
+    | inr off ↦ ap (λ (p : Part). p.record_queues) (part_off (contents names ts tables) o off) ∙ ap (λ r. (named_tables (name_at names) r).record_queues) (sym (held.unobserved o off))
+  ]
+
+  some_of : {X Y : Type 0} (g : X → Y) (m : Option X) → is_some (option_map g m) ≡ is_some m
+  some_of g None = refl
+  some_of g (Some x) = refl
+
+  pub has_observer : (k : ℕ) → is_some (slice_get (part_of (world_from names ts tables) o).record_queues k) ≡ is_some (slice_get (tables.observers o).record_queues k)
+  has_observer k =
+      ap (λ qs. is_some (slice_get qs k)) queues_in
+      ∙ ap is_some (slice_get-map (map (named_change (name_at names))) (tables.observers o).record_queues k)
+      ∙ some_of (map (named_change (name_at names))) (slice_get (tables.observers o).record_queues k)
+
+  -- whoever has an observer is there
+  pub there_observer : (k : ℕ) → is_some (slice_get (tables.observers o).record_queues k) ≡ true → is_there (world_from names ts tables) o ≡ true
+  there_observer k h = elim (cases_Bool (is_there (world_from names ts tables) o)) [
+    | inl there ↦ there
+    | inr off ↦ absurd (true≢false (sym h ∙ ap (λ (r : TablesOf ℕ). is_some (slice_get r.record_queues k)) (held.unobserved o off)))
+  ]
+
+  module _ (there : is_there (world_from names ts tables) o ≡ true) where
+    pub part_seen : part_of (world_from names ts tables) o ≡ with_seen (named_tables (name_at names) (tables.observers o))
+    part_seen = part_at (contents names ts tables) o there
+
+    module _ (r : TablesOf ℕ) (seen : Owner → TablesOf ℕ) (is : (q : Owner) → seen q ≡ (if owner_eq o q then r else tables.observers q)) where
+      pub seen_own : seen o ≡ r
+      seen_own = is o ∙ cond-true (owner_eq o o) r (tables.observers o) (owner_eq-same o)
+
+      pub seen_other : (q : Owner) → q ≢ o → seen q ≡ tables.observers q
+      seen_other q other = is q ∙ cond-false (owner_eq o q) r (tables.observers q) (ne-owner_eq o q (λ e. other (sym e)))
+
+      pub seen_speaks : SpeaksOf (IsKey names) r → (q : Owner) → SpeaksOf (IsKey names) (seen q)
+      seen_speaks h q = elim (cases_Bool (owner_eq o q)) [
+        | inl e ↦ subst (SpeaksOf (IsKey names)) (sym (is q ∙ cond-true (owner_eq o q) r (tables.observers q) e)) h
+        | inr e ↦ subst (SpeaksOf (IsKey names)) (sym (is q ∙ cond-false (owner_eq o q) r (tables.observers q) e)) (held.speaks q)
+      ]
+
+      pub seen_off : (q : Owner) → is_there (world_from names ts tables) q ≡ false → seen q ≡ no_observers
+      seen_off q off = elim (cases_Bool (owner_eq o q)) [
+        | inl e ↦ absurd (true≢false (sym there ∙ ap (is_there (world_from names ts tables)) (owner_eq-true o q e) ∙ off))
+        | inr e ↦ is q ∙ cond-false (owner_eq o q) r (tables.observers q) e ∙ held.unobserved q off
+      ]
+
+      -- what holds then
+      pub held_seen : SpeaksOf (IsKey names) r → IsHeld names ts (with_observers tables seen)
+      held_seen h = held_observers names ts tables held seen (seen_speaks h) seen_off
+
+      -- the change of the owner's part
+      pub change_seen : (p : Part) → with_seen (named_tables (name_at names) r) ≡ p → IsChangeOf (contents names ts tables) (contents names ts (with_observers tables seen)) o p
+      change_seen p same = record {
+        owners = refl;
+        signalled = refl;
+        tasks = refl;
+        own = ap (λ t. with_seen (named_tables (name_at names) t)) seen_own ∙ same;
+        others = λ q other. ap (λ t. part_with q (trees_of_owner q ts) (count_of q names) (shown_tables names tables.slots.hosts q (own_tables tables q) t (ranges_of tables.ranges q))) (seen_other q other);
+      }
+
+      -- the world then
+      pub seen_world : (p : Part) → with_seen (named_tables (name_at names) r) ≡ p → world_from names ts (with_observers tables seen) ≡ with_part (world_from names ts tables) p
+      seen_world p same = changed (contents names ts tables) (contents names ts (with_observers tables seen)) o p (single_owners (length tables.each)) there (change_seen p same)
+
+      part_then : part_of (world_from names ts (with_observers tables seen)) o ≡ with_seen (named_tables (name_at names) r)
+      part_then = part_at (contents names ts (with_observers tables seen)) o (there_same (contents names ts (with_observers tables seen)) (contents names ts tables) refl o ∙ there) ∙ ap (λ t. with_seen (named_tables (name_at names) t)) seen_own
+
+      -- what a command did that changes them alone
+      pub makes_seen : (c : Command) (lines : List Said) (v : Value) → effect (with_seen (named_tables (name_at names) (tables.observers o))) c ≡ Effect.tables (with_seen (named_tables (name_at names) r)) lines v
+          → MakesSaying o c lines v (world_from names ts tables) (world_from names ts (with_observers tables seen))
+      makes_seen c lines v does = (
+        ap (λ p. effect p c) part_seen ∙ does ∙ ap (λ p. Effect.tables p lines v) (sym part_then),
+        seen_world (part_of (world_from names ts (with_observers tables seen)) o) (sym part_then),
+      )

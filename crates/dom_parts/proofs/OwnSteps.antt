@@ -1,0 +1,158 @@
+-- An owner's steps do in its own part what they do in a part alone: the page's always, and a component's where it has no
+-- hosts and sets the node documents of its own nodes.
+use Rattle.std.proofs.Common.{◌≡◌, ◌≢◌, Bool, true, false, List, [], ◌∷◌, ◌++◌, Option, Some, None, fold, filter_map, flat_map, position, option_map, refl, sym, ap, subst, ◌∙◌, inl, inr}
+use Rattle.std.specs.Prelude.{if◌then◌else◌}
+use Rattle.std.specs.List.{AllByRecursion, cons_option}
+use Rattle.std.specs.Option.{option_map_or}
+use Rattle.std.proofs.lemmas.Bool.{cases_Bool}
+use Rattle.dom_base.specs.declared.NodeName.{NodeName}
+use Rattle.dom_base.specs.declared.Owner.{Owner}
+use Rattle.dom_base.specs.declared.Owner.TheVariants.{Page}
+use Rattle.dom_model.specs.Names.{name_eq, owner_eq, max_depth, is_in}
+use Rattle.dom_model.specs.Tree.{Trees, none, tree, Node, nodes, names_of, subtree, parent_of, inclusive_descendants}
+use Rattle.dom_model.specs.TreeChanges.{with_name, with_node, placed, taken_out, map_nodes, with_document, with_attribute, with_data_replaced}
+use Rattle.dom_model.specs.Changes.{Plan, ◌and_then◌}
+use Rattle.dom_model.specs.Part.{Part, next_name}
+use Rattle.dom_model.specs.Steps.{Step, make, make_room, place, take_out, set_document, set_attribute, replace_data, split_at, join_at, set_range, queue_record, part_step, after, leave, is_taken}
+use Rattle.dom_model.specs.World.{World, part_of, component_at, component_made, components_below, trees_with}
+use Rattle.dom_model.specs.WorldSteps.{world_step, world_after, stepped, with_shadow_document}
+use Rattle.dom_model.proofs.OwnerLaws.{owner_eq-true, owner_eq-false}
+use Rattle.dom_model.proofs.PartLaws.{owner-part_of}
+use Rattle.dom_model.proofs.StepLaws.{part_of-stepped, part_of-with_signals, part_of-with_removal_signals, part_of-with_notify_if, part_of-world_after}
+use Rattle.dom_slots.specs.Hosts.{ShadowHost}
+use Rattle.dom_tree.specs.Owners.{AreOf}
+use Rattle.dom_tree.proofs.Owned.{AreOf-own}
+use Rattle.dom_parts.specs.Contents.{Contents, world_of}
+use Rattle.dom_parts.specs.Doc.{made}
+use Rattle.dom_parts.specs.Hosting.{AreHostsOf, SetsOwnDocuments, OwnsNoHosts}
+use Rattle.dom_parts.proofs.EveryNode.{EachNode, each_subtree, each_placed, each_taken, each_put_root, each_mapped}
+use Rattle.dom_parts.proofs.HostedSteps.{attached_step}
+use Rattle.dom_parts.proofs.HostedWorlds.{attached_other, trees_hosted}
+
+-- ---- a step keeps nodes an owner's
+
+module _ (o : Owner) where
+  -- a node of the owner
+  abbrev IsOwn : Node → Type 0
+  IsOwn n = n.name.owner ≡ o
+
+  own_each : (ts : Trees) → AreOf o ts → EachNode IsOwn ts
+  own_each none h = tt
+  own_each (tree n c r) h = (h.0, own_each c h.1, own_each r h.2)
+
+  each_own : (ts : Trees) → EachNode IsOwn ts → AreOf o ts
+  each_own none h = tt
+  each_own (tree n c r) h = (h.0, each_own c h.1, each_own r h.2)
+
+  pub own_subtree : (ts : Trees) (x : NodeName) → AreOf o ts → AreOf o (subtree ts x)
+  own_subtree ts x h = each_own (subtree ts x) (each_subtree IsOwn ts x (own_each ts h))
+
+  own_mapped : (f : Node → Node) → ((n : Node) → (f n).name ≡ n.name) → (ts : Trees) → AreOf o ts → AreOf o (map_nodes f ts)
+  own_mapped f keeps ts h = each_own (map_nodes f ts) (each_mapped IsOwn f (λ n is. ap (λ (x : NodeName). x.owner) (keeps n) ∙ is) ts (own_each ts h))
+
+  -- a change of some nodes keeps their names
+  name_if : (b : Bool) (m n : Node) → m.name ≡ n.name → (if b then m else n).name ≡ n.name
+  name_if true m n e = e
+  name_if false m n e = refl
+
+  pub own_step : (p : Part) (s : Step) → p.owner ≡ o → AreOf o p.trees → AreOf o (part_step p s).trees
+  own_step p (make n) is own =
+      let new = with_name (next_name p) n in
+      each_own (with_node new p.trees) (each_put_root IsOwn (next_name p) (tree new none none) p.trees (is, tt, tt) (own_each p.trees own))
+  own_step p (make_room parent index count) is own = own
+  own_step p (place x parent before) is own = each_own (placed x parent before p.trees) (each_placed IsOwn x parent before p.trees (own_each p.trees own))
+  own_step p (take_out x) is own = by (parent_of p.trees x)
+    where
+      by : (m : Option NodeName) → AreOf o (option_map_or (leave p x) m p).trees
+      by None = own
+      by (Some parent) = each_own (taken_out x p.trees) (each_taken IsOwn x p.trees (own_each p.trees own))
+  own_step p (set_document x d) is own =
+      own_mapped (λ n. if is_in name_eq n.name (inclusive_descendants p.trees x) then with_document d n else n) (λ n. name_if (is_in name_eq n.name (inclusive_descendants p.trees x)) (with_document d n) n refl) p.trees own
+  own_step p (set_attribute x a v) is own = own_mapped (λ n. if name_eq n.name x then with_attribute a v n else n) (λ n. name_if (name_eq n.name x) (with_attribute a v n) n (by v n)) p.trees own
+    where
+      by : (v : Option (List Rattle.std.specs.Prelude.ℕ)) (n : Node) → (with_attribute a v n).name ≡ n.name
+      by None n = refl
+      by (Some value) n = refl
+  own_step p (replace_data x offset count new) is own =
+      own_mapped (λ n. if name_eq n.name x then with_data_replaced offset count new n else n) (λ n. name_if (name_eq n.name x) (with_data_replaced offset count new n) n refl) p.trees own
+  own_step p (split_at x offset new parent index) is own = own
+  own_step p (join_at first size next parent index) is own = own
+  own_step p (set_range k r) is own = own
+  own_step p (queue_record c) is own = own
+
+  -- the names of an owner's trees are the owner's
+  own_names : (ts : Trees) → AreOf o ts → AllByRecursion (λ (x : NodeName). x.owner ≡ o) (names_of (nodes ts))
+  own_names none h = tt
+  own_names (tree n c r) h = (h.0, both (nodes c) (own_names c h.1) (own_names r h.2))
+    where
+      both : (ms : List Node) → AllByRecursion (λ (x : NodeName). x.owner ≡ o) (names_of ms) → AllByRecursion (λ (x : NodeName). x.owner ≡ o) (names_of (nodes r)) → AllByRecursion (λ (x : NodeName). x.owner ≡ o) (names_of (ms ++ nodes r))
+      both [] a b = b
+      both (m ∷ ms) a b = (a.0, both ms a.1 b)
+
+-- ---- the steps
+
+module _ (w : World) (o : Owner) (free : OwnsNoHosts w o) where
+  -- none of its nodes is a host
+  none_at : (ys : List NodeName) → AllByRecursion (λ (x : NodeName). x.owner ≡ o) ys → filter_map (component_at w) ys ≡ []
+  none_at [] own = refl
+  none_at (y ∷ ys) own =
+      let none : component_at w y ≡ None = ap (λ q. option_map (component_made q) (position (name_eq y) (part_of w q).attached)) own.0 ∙ ap (λ xs. option_map (component_made o) (position (name_eq y) xs)) free.attached in
+      ap (λ m. cons_option m (filter_map (component_at w) ys)) none ∙ none_at ys own.1
+
+  pub none_below : (x : NodeName) → x.owner ≡ o → components_below max_depth w x ≡ []
+  none_below x own =
+      ap (flat_map (λ c. c ∷ []))
+      (none_at (inclusive_descendants (trees_with w x) x) (own_names o (subtree (trees_with w x) x) (own_subtree o (trees_with w x) x (subst (λ q. AreOf o (part_of w q).trees) (sym own) free.own))))
+
+  -- a step does in its owner's part what it does in a part alone
+  pub step_alone : (s : Step) → SetsOwnDocuments o s → part_of (world_step o w s) o ≡ part_step (part_of w o) s
+  step_alone (make n) h = part_of-stepped w o (make n)
+  step_alone (make_room parent index count) h = part_of-stepped w o (make_room parent index count)
+  step_alone (place x parent before) h = part_of-with_signals w (stepped o w (place x parent before)) x parent true o ∙ part_of-stepped w o (place x parent before)
+  step_alone (take_out x) h = part_of-with_removal_signals w (stepped o w (take_out x)) x (parent_of (part_of w o).trees x) o ∙ part_of-stepped w o (take_out x)
+  step_alone (set_document x d) h = ap (λ cs. part_of (fold (with_shadow_document d) (stepped o w (set_document x d)) cs) o) (none_below x h) ∙ part_of-stepped w o (set_document x d)
+  step_alone (set_attribute x a v) h = part_of-with_signals w (stepped o w (set_attribute x a v)) x x false o ∙ part_of-stepped w o (set_attribute x a v)
+  step_alone (replace_data x offset count new) h = part_of-stepped w o (replace_data x offset count new)
+  step_alone (split_at x offset new parent index) h = part_of-stepped w o (split_at x offset new parent index)
+  step_alone (join_at first size next parent index) h = part_of-stepped w o (join_at first size next parent index)
+  step_alone (set_range k r) h = part_of-stepped w o (set_range k r)
+  step_alone (queue_record c) h = part_of-with_notify_if (is_taken (part_of w o) c) o o (stepped o w (queue_record c)) ∙ part_of-stepped w o (queue_record c)
+
+  -- and the owner has no hosts after it either
+  pub free_after : (s : Step) → SetsOwnDocuments o s → OwnsNoHosts (world_step o w s) o
+  free_after s h =
+      let is = step_alone s h in
+      record {
+        attached = ap (λ (p : Part). p.attached) is ∙ (attached_step (part_of w o) s ∙ free.attached);
+        own = subst (λ (p : Part). AreOf o p.trees) (sym is) (own_step o (part_of w o) s (owner-part_of w o) free.own);
+      }
+
+-- steps after others
+pub after_more : (o : Owner) (w : World) (steps more : List Step) → world_after o w (steps ++ more) ≡ world_after o (world_after o w steps) more
+after_more o w [] more = refl
+after_more o w (s ∷ steps) more = after_more o (world_step o w s) steps more
+
+-- many steps
+pub steps_alone : (o : Owner) (steps : List Step) (w : World) → OwnsNoHosts w o → AllByRecursion (SetsOwnDocuments o) steps → part_of (world_after o w steps) o ≡ after (part_of w o) steps
+steps_alone o [] w free h = refl
+steps_alone o (s ∷ steps) w free h = steps_alone o steps (world_step o w s) (free_after w o free s h.0) h.1 ∙ ap (λ p. after p steps) (step_alone w o free s h.0)
+
+-- ---- with hosts
+
+module _ (c : Contents) (hosts : List ShadowHost) (held : AreHostsOf c hosts) where
+  -- a component has no hosts
+  pub component_free : (o : Owner) → o ≢ Page → OwnsNoHosts (world_of c) o
+  component_free o other = record { attached = attached_other c hosts held o other; own = subst (AreOf o) (sym (trees_hosted c hosts held o)) (AreOf-own o c.trees held.owned.owners) }
+
+  -- so of each owner's steps
+  pub hosted_alone : (o : Owner) (steps : List Step) → AllByRecursion (SetsOwnDocuments o) steps → part_of (world_after o (world_of c) steps) o ≡ after (part_of (world_of c) o) steps
+  hosted_alone o steps h = elim (cases_Bool (owner_eq o Page)) [
+    | inl e ↦ let is = owner_eq-true o Page e in subst (λ q. part_of (world_after q (world_of c) steps) q ≡ after (part_of (world_of c) q) steps) (sym is) (part_of-world_after (world_of c) steps)
+    | inr e ↦ steps_alone o steps (world_of c) (component_free o (owner_eq-false o Page e)) h
+  ]
+
+-- one plan and then another, where the first one's steps do in the owner's part what they do in a part alone
+pub made_then_alone : (o : Owner) (f g : Plan) (w : World) → part_of (world_after o w (f (part_of w o))) o ≡ after (part_of w o) (f (part_of w o)) → made o (f and_then g) w ≡ made o g (made o f w)
+made_then_alone o f g w alone =
+    let steps = f (part_of w o) in
+    after_more o w steps (g (after (part_of w o) steps)) ∙ ap (λ p. world_after o (world_after o w steps) (g p)) (sym alone)

@@ -1,0 +1,118 @@
+-- Where offsets are within their nodes' lengths, each step that tells the table of ranges leaves offsets that are numbers of the
+-- code's: only the lengths of the nodes that the step names are asked for.
+use Rattle.std.proofs.Common.{◌≡◌, ℕ, zero, suc, ◌+◌, ◌-◌, ◌<◌, ◌≤◌, ◌^◌, Bool, true, false, not, cond, ◌&&◌, ◌||◌, eqb, nat_lt, nat_le, List, [], ◌∷◌, Option, Some, refl, sym, ap, subst, ◌∙◌, inl, inr, arith}
+use Rattle.std.specs.Prelude.{slice_get, nat_eq, option_map}
+use Rattle.std.specs.List.{AllByRecursion}
+use Rattle.std.proofs.lemmas.Bool.{cases_Bool, and_parts, eqb-true}
+use Rattle.std.proofs.lemmas.Option.{same_Some}
+use Rattle.dom_base.specs.declared.NodeName.{NodeName}
+use Rattle.dom_base.specs.declared.Owner.{Owner}
+use Rattle.dom_model.specs.Names.{owner_eq}
+use Rattle.dom_model.specs.Place.{Boundary}
+use Rattle.dom_model.specs.Ranges.{Range, at, boundary_eq, after_insert, after_removal, after_replace_data, after_split, after_join}
+use Rattle.dom_model.specs.Tree.{length_of}
+use Rattle.dom_model.proofs.OwnerLaws.{owner_eq-true, owner_eq-false}
+use Rattle.dom_isolation.specs.Bounds.{EndsWithin, HasBounds}
+use Rattle.dom_ranges.specs.Rules.{Fits}
+use Rattle.dom_ranges.specs.Settings.{named_range, named_ranges}
+use Rattle.dom_ranges.specs.Tables.{RangeList, RangeLists, EachRange, BothEnds, ranges_of}
+use Rattle.dom_ranges.proofs.Standing.{EachRange-weaker, fits-split}
+use Rattle.dom_tree.specs.Forest.{name_at}
+use Rattle.dom_parts.specs.Contents.{Contents, part_in}
+use Rattle.dom_parts.specs.Ranging.{IsOwnPoint, AreRangesOf}
+use Rattle.dom_parts.proofs.RangedLists.{each_both}
+
+-- what holds of all ranges by names holds of those over keys
+each_named : (P : Option (Range NodeName) → Type 0) (names : List NodeName) (rs : RangeList) → AllByRecursion P (named_ranges names rs) → (k : ℕ) (r : Range ℕ) → slice_get rs k ≡ Some (Some r) → P (Some (named_range names r))
+each_named P names [] all k r e = cc
+each_named P names (s ∷ rs) all zero r e = subst (λ o. P (option_map (named_range names) o)) (same_Some s (Some r) e) all.0
+each_named P names (s ∷ rs) all (suc k) r e = each_named P names rs all.1 k r e
+
+-- a choice of points
+fits_if : (t : Bool) (b c : Boundary ℕ) → (t ≡ true → Fits b) → Fits c → Fits (cond t b c)
+fits_if true b c h g = h refl
+fits_if false b c h g = g
+
+module _ (c : Contents) (t : RangeLists) (ranges : AreRangesOf c t) (o : Owner) where
+  -- what is asked of each point of each owner, where the points at a node are not past a length
+  abbrev pub IsUpTo : ℕ → ℕ → Boundary ℕ → Type 0
+  IsUpTo x most b = Fits b × (eqb b.node x ≡ true → b.offset ≤ most)
+
+  up_to : (x most : ℕ) → (name_at c.names x).owner ≡ o → EachRange (BothEnds (λ b. eqb b.node x ≡ true → b.offset ≤ most)) (ranges_of t o) → (q : Owner) → EachRange (BothEnds (IsUpTo x most)) (ranges_of t q)
+  up_to x most own within q = elim (cases_Bool (owner_eq q o)) [
+    | inl e ↦
+        let same = owner_eq-true q o e in
+        EachRange-weaker (λ b. IsOwnPoint c.names q b × (eqb b.node x ≡ true → b.offset ≤ most)) (IsUpTo x most) (λ b h. (h.0.fits, h.1)) (ranges_of t q)
+        (each_both (IsOwnPoint c.names q) (λ b. eqb b.node x ≡ true → b.offset ≤ most) (ranges_of t q) (ranges.own q) (subst (λ p. EachRange (BothEnds (λ b. eqb b.node x ≡ true → b.offset ≤ most)) (ranges_of t p)) (sym same) within))
+    | inr e ↦
+        EachRange-weaker (IsOwnPoint c.names q) (IsUpTo x most)
+        (λ b h. (h.fits, λ at_x. absurd (owner_eq-false q o e (sym h.owner ∙ (ap (λ k. (name_at c.names k).owner) (eqb-true b.node x at_x) ∙ own))))) (ranges_of t q) (ranges.own q)
+  ]
+
+  -- the points at a node of the owner are not past its length
+  bounded : HasBounds (part_in c o) → (x : ℕ) → EachRange (BothEnds (λ b. eqb b.node x ≡ true → b.offset ≤ length_of (part_in c o).trees (name_at c.names x))) (ranges_of t o)
+  bounded bounds x k r e =
+      let all : AllByRecursion (EndsWithin (part_in c o).trees) (named_ranges c.names (ranges_of t o)) = subst (AllByRecursion (EndsWithin (part_in c o).trees)) (ranges.shown o) bounds.ranges in
+      let both = each_named (EndsWithin (part_in c o).trees) c.names (ranges_of t o) all k r e in (
+        λ at_x. subst (λ j. r.start.offset ≤ length_of (part_in c o).trees (name_at c.names j)) (eqb-true r.start.node x at_x) both.0,
+        λ at_x. subst (λ j. r.end.offset ≤ length_of (part_in c o).trees (name_at c.names j)) (eqb-true r.end.node x at_x) both.1,
+      )
+
+  -- all points fit
+  pub all_fit : (q : Owner) → EachRange (BothEnds Fits) (ranges_of t q)
+  all_fit q = EachRange-weaker (IsOwnPoint c.names q) Fits (λ b h. h.fits) (ranges_of t q) (ranges.own q)
+
+  -- room is made for children of a node
+  pub room_fits : HasBounds (part_in c o) → (parent index count : ℕ) → (name_at c.names parent).owner ≡ o → length_of (part_in c o).trees (name_at c.names parent) + count < 2 ^ 64
+      → (q : Owner) → EachRange (BothEnds (λ b. Fits (after_insert nat_eq parent index count b))) (ranges_of t q)
+  room_fits bounds parent index count own less q =
+      let most = length_of (part_in c o).trees (name_at c.names parent) in
+      EachRange-weaker (IsUpTo parent most) (λ b. Fits (after_insert nat_eq parent index count b))
+      (λ b h. fits_if (eqb b.node parent && nat_lt index b.offset) (at parent (b.offset + count)) b
+      (λ e. let p = and_parts (eqb b.node parent) (nat_lt index b.offset) e in let within = h.1 p.0 in omega (arith, within, less)) h.0)
+      (ranges_of t q) (up_to parent most own (bounded bounds parent) q)
+
+  -- data give way to others: the new length is asked for
+  pub data_fits : HasBounds (part_in c o) → (x offset count size : ℕ) → (name_at c.names x).owner ≡ o → offset < 2 ^ 64 → length_of (part_in c o).trees (name_at c.names x) + size - count < 2 ^ 64
+      → (q : Owner) → EachRange (BothEnds (λ b. Fits (after_replace_data nat_eq x offset count size b))) (ranges_of t q)
+  data_fits bounds x offset count size own before less q =
+      let most = length_of (part_in c o).trees (name_at c.names x) in
+      EachRange-weaker (IsUpTo x most) (λ b. Fits (after_replace_data nat_eq x offset count size b)) (λ b h. moved b h) (ranges_of t q) (up_to x most own (bounded bounds x) q)
+    where
+      moved : (b : Boundary ℕ) → IsUpTo x (length_of (part_in c o).trees (name_at c.names x)) b → Fits (after_replace_data nat_eq x offset count size b)
+      moved b h = elim (cases_Bool (eqb b.node x)) [
+        | inl e ↦
+            let within = h.1 e in
+            fits_if (not (eqb b.node x) || nat_le b.offset offset) b (cond (nat_le b.offset (offset + count)) (at x offset) (at x (b.offset + size - count))) (λ f. h.0)
+            (fits_if (nat_le b.offset (offset + count)) (at x offset) (at x (b.offset + size - count)) (λ f. before) (omega (arith, within, less)))
+        | inr e ↦ rw e h.0
+      ]
+
+  -- where no more come than give way, no bounds are asked for
+  pub data_fits_shorter : (x offset count size : ℕ) → offset < 2 ^ 64 → size ≤ count → (q : Owner) → EachRange (BothEnds (λ b. Fits (after_replace_data nat_eq x offset count size b))) (ranges_of t q)
+  data_fits_shorter x offset count size before less q =
+      EachRange-weaker Fits (λ b. Fits (after_replace_data nat_eq x offset count size b))
+      (λ b h. fits_if (not (eqb b.node x) || nat_le b.offset offset) b (cond (nat_le b.offset (offset + count)) (at x offset) (at x (b.offset + size - count))) (λ e. h)
+      (fits_if (nat_le b.offset (offset + count)) (at x offset) (at x (b.offset + size - count)) (λ e. before) (let small : b.offset < 2 ^ 64 = h in omega (arith, small, less))))
+      (ranges_of t q) (all_fit q)
+
+  -- a Text was split
+  pub split_fits : (x offset new parent index : ℕ) → index + 2 < 2 ^ 64 → (q : Owner) → EachRange (BothEnds (λ b. Fits (after_split nat_eq x offset new parent index b))) (ranges_of t q)
+  split_fits x offset new parent index less q = EachRange-weaker Fits (λ b. Fits (after_split nat_eq x offset new parent index b)) (λ b h. fits-split x offset new parent index b less h) (ranges_of t q) (all_fit q)
+
+  -- a Text has the data of the next one
+  pub join_fits : HasBounds (part_in c o) → (first size next parent index : ℕ) → (name_at c.names next).owner ≡ o → length_of (part_in c o).trees (name_at c.names next) + size < 2 ^ 64
+      → (q : Owner) → EachRange (BothEnds (λ b. Fits (after_join nat_eq first size next parent index b))) (ranges_of t q)
+  join_fits bounds first size next parent index own less q =
+      let most = length_of (part_in c o).trees (name_at c.names next) in
+      EachRange-weaker (IsUpTo next most) (λ b. Fits (after_join nat_eq first size next parent index b))
+      (λ b h. fits_if (eqb b.node next) (at first (b.offset + size)) (cond (boundary_eq nat_eq b (at parent index)) (at first size) b) (λ e. let within = h.1 e in omega (arith, within, less))
+      (fits_if (boundary_eq nat_eq b (at parent index)) (at first size) b (λ e. let small : size < 2 ^ 64 = omega (arith, less) in small) h.0))
+      (ranges_of t q) (up_to next most own (bounded bounds next) q)
+
+  -- a node leaves its parent: no bounds are asked for
+  pub removal_fits : (inside : ℕ → Bool) (parent index : ℕ) → index < 2 ^ 64 → (q : Owner) → EachRange (BothEnds (λ b. Fits (after_removal nat_eq inside parent index b))) (ranges_of t q)
+  removal_fits inside parent index less q =
+      EachRange-weaker Fits (λ b. Fits (after_removal nat_eq inside parent index b))
+      (λ b h. fits_if (inside b.node) (at parent index) (cond (eqb b.node parent && nat_lt index b.offset) (at parent (b.offset - 1)) b) (λ e. less)
+      (fits_if (eqb b.node parent && nat_lt index b.offset) (at parent (b.offset - 1)) b (λ e. omega (arith, h)) h)) (ranges_of t q) (all_fit q)

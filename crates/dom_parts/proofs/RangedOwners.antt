@@ -1,0 +1,53 @@
+-- The table of ranges where owners come: of the first one there are no ranges, and a new component has none.
+use Rattle.std.proofs.Common.{◌≡◌, ℕ, true, false, List, [], ◌∷◌, ◌++◌, length, Option, sym, ap, subst, ◌∙◌, ◌⊎◌, inl, inr, true≢false, arith}
+use Rattle.std.proofs.lemmas.Bool.{cases_Bool, false_from_ne_true}
+use Rattle.dom_base.specs.declared.NodeName.{NodeName}
+use Rattle.dom_base.specs.declared.Owner.{Owner}
+use Rattle.dom_base.specs.declared.Owner.TheVariants.{Page}
+use Rattle.dom_model.specs.Names.{owner_eq}
+use Rattle.dom_model.specs.Ranges.{Range}
+use Rattle.dom_model.specs.World.{is_there, shadow_root_of}
+use Rattle.dom_model.proofs.OwnerLaws.{owner_eq-true, owner_eq-false}
+use Rattle.dom_ranges.specs.Settings.{named_ranges}
+use Rattle.dom_ranges.specs.Tables.{RangeLists, EachRange, BothEnds, ranges_of}
+use Rattle.dom_parts.specs.Contents.{Contents, Tables, world_of}
+use Rattle.dom_parts.specs.Hosting.{IsAttached}
+use Rattle.dom_parts.specs.Ranging.{IsOwnPoint, AreOwnRanges, AreRangesOf}
+use Rattle.dom_parts.proofs.RangedKeeping.{named_grown, own_grown}
+use Rattle.dom_parts.proofs.Worlds.{In, there_in, in_there}
+
+-- a table without ranges
+pub ranges_none : (c : Contents) (t : RangeLists) → ((o : Owner) → ranges_of t o ≡ []) → ((o : Owner) → (c.tables o).ranges ≡ []) → AreRangesOf c t
+ranges_none c t empty shown = record {
+  shown = λ o. shown o ∙ ap (named_ranges c.names) (sym (empty o));
+  own = λ o. subst (EachRange (BothEnds (IsOwnPoint c.names o))) (sym (empty o)) (λ k r e. cc);
+  few = λ o. let none = ap (length {A = Option (Range ℕ)}) (empty o) in omega arith;
+  absent = λ o off. empty o;
+}
+
+-- an owner that is one of some is one of more
+in_more : (o c : Owner) (os : List Owner) → In o os → In o (os ++ c ∷ [])
+in_more o c [] h = absurd h
+in_more o c (q ∷ os) (inl e) = inl e
+in_more o c (q ∷ os) (inr h) = inr (in_more o c os h)
+
+-- a component is attached
+pub ranges_attached : (a b : Contents) (t : RangeLists) (c : Owner) (x : NodeName) (d : Option NodeName) → is_there (world_of a) c ≡ false → IsAttached a b c x d → AreRangesOf a t → AreRangesOf b t
+ranges_attached a b t c x d off one held = record {
+  shown = λ o. lists o ∙ (sym (named_grown a.names (shadow_root_of c) t held.own o) ∙ ap (λ ns. named_ranges ns (ranges_of t o)) (sym one.names));
+  own = subst (λ ns. AreOwnRanges ns t) (sym one.names) (own_grown a.names (shadow_root_of c) t held.own);
+  few = held.few;
+  absent = λ o gone. held.absent o (false_from_ne_true (is_there (world_of a) o) (λ there. true≢false (sym (in_there b o (subst (In o) (sym one.owners) (in_more o c a.owners (there_in a o there)))) ∙ gone)));
+}
+  where
+    lists : (o : Owner) → (b.tables o).ranges ≡ named_ranges a.names (ranges_of t o)
+    lists o = elim (cases_Bool (owner_eq o Page)) [
+      | inl e ↦ let same = owner_eq-true o Page e in ap (λ p. (b.tables p).ranges) same ∙ (ap (λ (u : Tables). u.ranges) one.page ∙ (held.shown Page ∙ ap (λ p. named_ranges a.names (ranges_of t p)) (sym same)))
+      | inr e ↦ other e (cases_Bool (owner_eq o c))
+    ]
+      where
+        other : owner_eq o Page ≡ false → (owner_eq o c ≡ true) ⊎ (owner_eq o c ≡ false) → (b.tables o).ranges ≡ named_ranges a.names (ranges_of t o)
+        other e (inl f) =
+            let same = owner_eq-true o c f in
+            ap (λ p. (b.tables p).ranges) same ∙ (ap (λ (u : Tables). u.ranges) one.new ∙ ap (named_ranges a.names) (sym (held.absent c off) ∙ ap (ranges_of t) (sym same)))
+        other e (inr f) = ap (λ (u : Tables). u.ranges) (one.rest o (owner_eq-false o Page e) (owner_eq-false o c f)) ∙ held.shown o

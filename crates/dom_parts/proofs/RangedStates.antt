@@ -1,0 +1,232 @@
+-- Steps of a `Doc` that move boundary points: what they ask for, what holds after them, and the state then.
+use Rattle.std.proofs.Common.{◌≡◌, ℕ, ◌+◌, ◌-◌, ◌<◌, ◌≤◌, ◌^◌, ◌⊎◌, inl, inr, false, List, [], ◌∷◌, map, length, Some, None, refl, sym, ap, subst, ◌∙◌, arith}
+use Rattle.std.specs.Prelude.{nat_eq}
+use Rattle.std.specs.List.{AllByRecursion}
+use Rattle.std.proofs.lemmas.Bool.{cases_Bool, cond-true}
+use Rattle.std.proofs.Math.Nat.{eq-or-lt_of_le}
+use Rattle.dom_base.specs.declared.NodeName.{NodeName}
+use Rattle.dom_base.specs.declared.Owner.{Owner}
+use Rattle.dom_model.specs.Names.{DomString}
+use Rattle.dom_model.specs.Part.{Part}
+use Rattle.dom_model.specs.Ranges.{after_insert, after_replace_data, after_join}
+use Rattle.dom_model.specs.Steps.{Step, replace_data}
+use Rattle.dom_model.specs.Tree.{Trees, node_in, kind_of, has_data, children_of, parent_of, index_of, length_of}
+use Rattle.dom_model.specs.TreeChanges.{change_node, with_data_replaced, replaced}
+use Rattle.dom_model.specs.World.{part_of, is_there}
+use Rattle.dom_model.specs.WorldSteps.{world_step, world_after}
+use Rattle.dom_model.specs.Changes.{steps_of}
+use Rattle.dom_model.specs.TextChanges.{joins}
+use Rattle.dom_isolation.specs.Bounds.{HasBounds}
+use Rattle.dom_isolation.specs.Worlds.{IsPart}
+use Rattle.dom_isolation.proofs.Bounds.{length-replaced}
+use Rattle.dom_isolation.proofs.Kids.{index-below, length-children}
+use Rattle.dom_ranges.specs.Rules.{Fits}
+use Rattle.dom_ranges.specs.Tables.{RangeLists, EachRange, BothEnds, ends_by, ranges_of, range_in}
+use Rattle.dom_ranges.proofs.Vacant.{ends-none}
+use Rattle.dom_traversal.proofs.Counts.{StandOnce, StandAlone}
+use Rattle.dom_tree.specs.Forest.{NamedTrees, name_at, count_of}
+use Rattle.dom_tree.specs.Owners.{IsOwnChange}
+use Rattle.dom_tree.proofs.OwnChanges.{changed_node}
+use Rattle.dom_slots.specs.Kept.{AreSlotsOf}
+use Rattle.dom_parts.specs.Contents.{part_in, part_with}
+use Rattle.dom_parts.specs.Doc.{DocState, named_trees, contents, state_from, world_from, IsHeld, name_in, owner_in, trees_in, stepped, planned, IsChild, IsOwnNode, MayCome}
+use Rattle.dom_parts.specs.AllTables.{AllTables, with_live}
+use Rattle.dom_parts.specs.Ranging.{AreRangesOf}
+use Rattle.dom_parts.proofs.BoundedPlans.{length_few}
+use Rattle.dom_parts.proofs.Held.{are_hosts, held_changed, due_kept, TellApart}
+use Rattle.dom_parts.proofs.OwnParts.{own_part}
+use Rattle.dom_parts.proofs.RangedFits.{room_fits, data_fits, data_fits_shorter, join_fits}
+use Rattle.dom_parts.proofs.RangedSteps.{data_ranged}
+use Rattle.dom_parts.proofs.RangedWorlds.{data_told, join_told}
+use Rattle.dom_tree_laws.proofs.Standing.{keeps_changed}
+use Rattle.dom_parts.proofs.Shown.{state_with, known, owner_there}
+use Rattle.dom_parts.proofs.Worlds.{part_at, part_off, there_same}
+
+-- ---- what holds with other live ranges
+
+pub held_live : (names : List NodeName) (ts : Trees) (tables : AllTables) → IsHeld names ts tables → (live : RangeLists) → AreRangesOf (contents names ts (with_live tables live)) live → IsHeld names ts (with_live tables live)
+held_live names ts tables held live stand = record {
+  owned = held.owned;
+  present = λ k k<. who (name_at names k).owner ∙ held.present k k<;
+  absent = λ o off. held.absent o (sym (who o) ∙ off);
+  limited = held.limited;
+  own = held.own;
+  counted = held.counted;
+  few = held.few;
+  made = held.made;
+  signals = record { free = held.signals.free; slots = held.signals.slots; nodes = held.signals.nodes };
+  speaks = held.speaks;
+  unobserved = λ o off. held.unobserved o (sym (who o) ∙ off);
+  due = due_kept (world_from names ts tables) (world_from names ts (with_live tables live)) (λ o on. who o ∙ on) tables.tasks held.due;
+  ranges = stand;
+  numbered = held.numbered;
+}
+  where
+    who : (o : Owner) → is_there (world_from names ts (with_live tables live)) o ≡ is_there (world_from names ts tables) o
+    who o = there_same (contents names ts (with_live tables live)) (contents names ts tables) refl o
+
+module _ (f : NamedTrees) {tables : AllTables} (held : IsHeld f.names f.trees tables) {d : DocState} (is_d : state_from f.names f.trees tables ≡ d) where
+  -- a step of a node's owner that changes live ranges alone
+  pub live_done : (k : ℕ) (live : RangeLists) (s : List NodeName → Step)
+      → world_from f.names f.trees (with_live tables live) ≡ world_step (name_at f.names k).owner (world_from f.names f.trees tables) (s f.names) → state_from f.names f.trees (with_live tables live) ≡ stepped (owner_in d k) (s d.names) d
+  live_done k live s e = subst (λ (e : DocState). state_from f.names f.trees (with_live tables live) ≡ stepped (owner_in e k) (s e.names) e) is_d (ap (λ w. state_with f.names w) e)
+
+  -- what is known of a node's owner's part
+  pub part_known : (P : Part → List NodeName → Type 0) (k : ℕ) → k < length d.names → P (part_of d.world (owner_in d k)) d.names → P (part_in (contents f.names f.trees tables) (name_at f.names k).owner) f.names
+  part_known P k k< h =
+      subst (λ p. P p f.names) (part_at (contents f.names f.trees tables) (name_at f.names k).owner (owner_there f held is_d k k<)) (known f held is_d (λ e. P (part_of e.world (owner_in e k)) e.names) h)
+
+  -- ---- Texts that are joined
+
+  pub join_asks : (first size next parent : ℕ) → first < length d.names → owner_in d next ≡ owner_in d first → HasBounds (part_of d.world (owner_in d first))
+      → size + length_of (trees_in d first) (name_in d next) ≤ length_of (trees_in d first) (name_in d first) → length_of (trees_in d first) (name_in d first) < 2 ^ 64
+      → (index : ℕ) (q : Owner) → EachRange (BothEnds (λ b. Fits (after_join nat_eq first size next parent index b))) (ranges_of tables.ranges q)
+  join_asks first size next parent first< own bounds fits less index =
+      let o = (name_at f.names first).owner in
+      let small : size + length_of (trees_in d first) (name_in d next) < 2 ^ 64 = omega (arith, fits, less) in
+      let here : size + length_of (part_in (contents f.names f.trees tables) o).trees (name_at f.names next) < 2 ^ 64 = part_known (λ p ns. size + length_of p.trees (name_at ns next) < 2 ^ 64) first first< small in
+      join_fits (contents f.names f.trees tables) tables.ranges held.ranges o (part_known (λ p ns. HasBounds p) first first< bounds) first size next parent index
+      (known f held is_d (λ e. owner_in e next ≡ owner_in e first) own) (omega (arith, here))
+
+  -- without live ranges nothing is carried
+  module _ (apart : TellApart f.names) (none : (o : Owner) (k : ℕ) → range_in (ranges_of tables.ranges o) k ≡ None) (first parent : ℕ) (first< : first < length d.names) (parent< : parent < length d.names)
+      (own_parent : owner_in d parent ≡ owner_in d first) where
+    joined : (ts : Trees) (size : ℕ) (ks : List ℕ) → AllByRecursion (λ k. (k < length f.names) × ((name_at f.names k).owner ≡ (name_at f.names first).owner)) ks
+        → world_from f.names f.trees tables ≡ world_after (name_at f.names first).owner (world_from f.names f.trees tables) (joins ts (name_at f.names first) (name_at f.names parent) size (map (name_at f.names) ks))
+    joined ts size [] nodes = refl
+    joined ts size (k ∷ ks) nodes =
+        let y = name_at f.names k in
+        let o = (name_at f.names first).owner in
+        joined ts (size + length_of ts y) ks nodes.1
+        ∙ ap (λ w. world_after o w (joins ts (name_at f.names first) (name_at f.names parent) (size + length_of ts y) (map (name_at f.names) ks)))
+        (join_told (contents f.names f.trees tables) tables.slots.hosts (are_hosts f.names f.trees tables held) tables.ranges tables.ranges held.ranges apart o (owner_there f held is_d first first<) first size k parent (index_of ts y)
+        (known f held is_d (λ e. first < length e.names) first<) nodes.0.0 (known f held is_d (λ e. parent < length e.names) parent<) refl nodes.0.1 (known f held is_d (λ e. owner_in e parent ≡ owner_in e first) own_parent)
+        (λ q. sym (ends-none (after_join nat_eq first size k parent (index_of ts y)) (ranges_of tables.ranges q) (none q))))
+
+    pub joins_vacant : (size : ℕ) (ks : List ℕ) → AllByRecursion (IsOwnNode d first) ks
+        → d ≡ planned (owner_in d first) (steps_of (joins (trees_in d first) (name_in d first) (name_in d parent) size (map (name_in d) ks))) d
+    joins_vacant size ks nodes =
+        subst (λ (e : DocState). e ≡ planned (owner_in e first) (steps_of (joins (trees_in d first) (name_in e first) (name_in e parent) size (map (name_in e) ks))) e) is_d
+        (ap (λ w. state_with f.names w) (joined (trees_in d first) size ks (known f held is_d (λ e. AllByRecursion (IsOwnNode e first) ks) nodes)))
+
+  module _ (once : StandOnce f) (only : StandAlone f) where
+    -- each owner's part
+    pub part_held : (o : Owner) → IsPart (part_in (contents f.names f.trees tables) o)
+    part_held o = own_part (contents f.names f.trees tables) held.owned once only held.numbered o
+
+    -- ---- room for children of a node
+
+    module _ (parent child count : ℕ) (parent< : parent < length d.names) (is_child : IsChild d parent child) (bounds : HasBounds (part_of d.world (owner_in d parent))) (few : count ≤ 1000000) where
+      abbrev o : Owner
+      o = (name_at f.names parent).owner
+
+      abbrev here : Part
+      here = part_in (contents f.names f.trees tables) o
+
+      bounded : HasBounds here
+      bounded = part_known (λ p ns. HasBounds p) parent parent< bounds
+
+      up : parent_of here.trees (name_at f.names child) ≡ Some (name_at f.names parent)
+      up = part_known (λ p ns. parent_of p.trees (name_at ns child) ≡ Some (name_at ns parent)) parent parent< is_child.child
+
+      -- it has a child, so it has no data
+      plain : has_data (kind_of here.trees (name_at f.names parent)) ≡ false
+      plain = elim (cases_Bool (has_data (kind_of here.trees (name_at f.names parent)))) [
+        | inl e ↦
+            let none = ap (length {A = NodeName}) (bounded.leaves (name_at f.names parent) e) in
+            let below = index-below here.trees (name_at f.names child) (name_at f.names parent) (part_held o).unique up in
+            let all = length-children here.trees (name_at f.names parent) (part_held o).unique in
+            absurd (omega arith)
+        | inr e ↦ e
+      ]
+
+      pub room_asks : (index : ℕ) (q : Owner) → EachRange (BothEnds (λ b. Fits (after_insert nat_eq parent index count b))) (ranges_of tables.ranges q)
+      room_asks index =
+          let all = length_few here (part_held o) (name_at f.names parent) plain in
+          let limited = held.limited o in
+          room_fits (contents f.names f.trees tables) tables.ranges held.ranges o bounded parent index count refl (omega (arith, all, limited, few))
+
+    -- ---- data that come
+
+    module _ (node offset count : ℕ) (new : DomString) (node< : node < length d.names) (may : MayCome (part_of d.world (owner_in d node)) (name_in d node) new)
+        (there : count ≤ length (node_in (trees_in d node) (name_in d node)).text - offset) (before : offset < 2 ^ 64)
+        (after : length (replaced offset count new (node_in f.trees (name_at f.names node)).text) < 2 ^ 64) (same : (node_in f.trees (name_at f.names node)).text ≡ (node_in (trees_in d node) (name_in d node)).text) where
+      abbrev own : Owner
+      own = (name_at f.names node).owner
+
+      abbrev part : Part
+      part = part_in (contents f.names f.trees tables) own
+
+      -- no more code units than there may be
+      sized : length (node_in (trees_in d node) (name_in d node)).text + length new - count < 2 ^ 64
+      sized =
+          let longer = length-replaced offset count new (node_in f.trees (name_at f.names node)).text in
+          let old = ap (length {A = ℕ}) same in
+          omega (arith, longer, old, there, after)
+
+      text_here : length (node_in part.trees (name_at f.names node)).text + length new - count < 2 ^ 64
+      text_here = part_known (λ p ns. length (node_in p.trees (name_at ns node)).text + length new - count < 2 ^ 64) node node< sized
+
+      module _ (size : ℕ) (is_size : size ≡ length new) where
+        pub data_asks : (q : Owner) → EachRange (BothEnds (λ b. Fits (after_replace_data nat_eq node offset count size b))) (ranges_of tables.ranges q)
+        data_asks =
+            subst (λ n. (q : Owner) → EachRange (BothEnds (λ b. Fits (after_replace_data nat_eq node offset count n b))) (ranges_of tables.ranges q)) (sym is_size)
+            (by (let least : 0 ≤ length new = omega arith in eq-or-lt_of_le least))
+          where
+            by : (0 ≡ length new) ⊎ (0 < length new) → (q : Owner) → EachRange (BothEnds (λ b. Fits (after_replace_data nat_eq node offset count (length new) b))) (ranges_of tables.ranges q)
+            by (inl none) = data_fits_shorter (contents f.names f.trees tables) tables.ranges held.ranges own node offset count (length new) before (omega (arith, none))
+            by (inr some) =
+                let asked = part_known (λ p ns. MayCome p (name_at ns node) new) node node< may some in
+                let size : length_of part.trees (name_at f.names node) ≡ length (node_in part.trees (name_at f.names node)).text =
+                cond-true (has_data (kind_of part.trees (name_at f.names node))) (length (node_in part.trees (name_at f.names node)).text) (length (children_of part.trees (name_at f.names node))) asked.1 in
+                data_fits (contents f.names f.trees tables) tables.ranges held.ranges own asked.0 node offset count (length new) refl before (let here = text_here in omega (arith, size, here))
+
+        -- the step
+        module _ (apart : TellApart f.names) (live : RangeLists) (moved : (q : Owner) → ranges_of live q ≡ ends_by (after_replace_data nat_eq node offset count size) (ranges_of tables.ranges q)) (g : NamedTrees) (names : g.names ≡ f.names)
+            (trees : g.trees ≡ change_node (with_data_replaced offset count new) (name_at f.names node) f.trees) where
+          abbrev h : Trees → Trees
+          h = change_node (with_data_replaced offset count new) (name_at f.names node)
+
+          change : IsOwnChange own h f.trees
+          change = changed_node f.trees held.owned own (with_data_replaced offset count new) (name_at f.names node) (λ n. refl) refl
+
+          node_is : node < length f.names
+          node_is = known f held is_d (λ e. node < length e.names) node<
+
+          moved_new : (q : Owner) → ranges_of live q ≡ ends_by (after_replace_data nat_eq node offset count (length new)) (ranges_of tables.ranges q)
+          moved_new q = moved q ∙ ap (λ n. ends_by (after_replace_data nat_eq node offset count n) (ranges_of tables.ranges q)) is_size
+
+          stand : AreRangesOf (contents f.names (h f.trees) (with_live tables live)) live
+          stand =
+              let was = contents f.names f.trees tables in
+              (data_ranged was tables.ranges live held.ranges apart own (contents f.names (h f.trees) tables) refl node offset count new node_is refl moved_new record {
+                owners = refl;
+                signalled = refl;
+                tasks = refl;
+                own = ap (λ us. part_with own us (count_of own f.names) (was.tables own)) change.own;
+                others = λ q other. ap (λ us. part_with q us (count_of q f.names) (was.tables q)) (change.others q other);
+              }).1 (subst (λ n. (q : Owner) → EachRange (BothEnds (λ b. Fits (after_replace_data nat_eq node offset count n b))) (ranges_of tables.ranges q)) is_size data_asks)
+
+          pub data_held : AreSlotsOf (named_trees f.names (change_node (with_data_replaced offset count new) (name_at f.names node) f.trees)) tables.slots → IsHeld g.names g.trees (with_live tables live)
+          data_held slots =
+              subst (λ (ns : List NodeName). IsHeld ns g.trees (with_live tables live)) (sym names)
+              (subst (λ (us : Trees). IsHeld f.names us (with_live tables live)) (sym trees)
+              (held_live f.names (h f.trees) tables
+              (held_changed f.names f.trees tables held own (owner_there f held is_d node node<) h change (keeps_changed (with_data_replaced offset count new) (λ n. refl) (name_at f.names node) f.trees) slots) live stand))
+
+          pub data_state : state_from g.names g.trees (with_live tables live) ≡ stepped (owner_in d node) (replace_data (name_in d node) offset count new) d
+          data_state =
+              subst (λ (e : DocState). state_from g.names g.trees (with_live tables live) ≡ stepped (owner_in e node) (replace_data (name_in e node) offset count new) e) is_d
+              (ap (λ ns. state_from ns g.trees (with_live tables live)) names
+              ∙ (ap (λ us. state_from f.names us (with_live tables live)) trees
+              ∙ ap (λ w. state_with f.names w)
+              (data_told (contents f.names f.trees tables) tables.slots.hosts (are_hosts f.names f.trees tables held) tables.ranges live held.ranges apart own (owner_there f held is_d node node<) node offset count new node_is refl moved_new change)))
+
+-- each owner's part in the world, whoever is there
+pub part_everywhere : (f : NamedTrees) {tables : AllTables} → IsHeld f.names f.trees tables → StandOnce f → StandAlone f → (o : Owner) → IsPart (part_of (world_from f.names f.trees tables) o)
+part_everywhere f {tables} held once only o =
+    let c = contents f.names f.trees tables in
+    elim (cases_Bool (is_there (world_from f.names f.trees tables) o)) [
+      | inl there ↦ subst IsPart (sym (part_at c o there)) (own_part c held.owned once only held.numbered o)
+      | inr off ↦ subst IsPart (sym (part_off c o off)) record { unique = λ x. omega arith; owned = λ x there. absurd (omega arith); numbered = λ x there. absurd (omega arith) }
+    ]

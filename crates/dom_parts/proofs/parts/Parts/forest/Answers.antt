@@ -1,0 +1,11 @@
+use Rattle.std.proofs.Common.{◌≡◌, subst}
+use Rattle.dom_tree.specs.Owners.{trees_of_owner}
+use Rattle.dom_model.specs.World.{part_of}
+use Rattle.dom_parts.specs.Doc.{DocState}
+use Rattle.dom_parts.proofs.Shown.{own_in_part}
+use Rattle.dom_parts.proofs.parts.Parts.forest.Goals as goal
+
+pub returns-clause-trees : goal.returns-clause-trees
+returns-clause-trees c o =
+    let f = c.self.inside.forest in
+    subst (λ (d : DocState). trees_of_owner o f.trees ≡ (part_of d.world o).trees) c.self.view_is (own_in_part f.names f.trees c.self.invariant o)

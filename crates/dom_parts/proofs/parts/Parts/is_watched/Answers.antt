@@ -1,0 +1,17 @@
+use Rattle.std.proofs.Common.{◌≡◌, false, not, List, [], ◌∷◌, refl, sym, ap, ◌∙◌}
+use Rattle.dom_model.specs.Names.{is_empty}
+use Rattle.dom_tree.specs.Forest.{name_at}
+use Rattle.dom_observers.specs.Owners.{tables_of}
+use Rattle.dom_parts.proofs.Shown.{untold}
+use Rattle.dom_parts.proofs.parts.Parts.is_watched.Goals as goal
+
+none_there : {X : Type 0} (xs : List X) → not (is_empty xs) ≡ false → xs ≡ []
+none_there [] e = refl
+none_there (x ∷ xs) e = cc
+
+pub returns : goal.returns
+returns c off change =
+    let f = c.self.inside.forest in
+    let owner = ap (λ n. n.owner) c.name.ensures.at in
+    untold f c.self.invariant c.self.view_is c.args.node c.requires
+    (none_there (tables_of c.self.inside.observers (name_at f.names c.args.node).owner).registrations (ap (λ o. not (is_empty (tables_of c.self.inside.observers o).registrations)) owner ∙ sym c.is_watched.ensures ∙ off)) change

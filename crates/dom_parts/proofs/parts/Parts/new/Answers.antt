@@ -1,0 +1,34 @@
+use Rattle.std.proofs.Common.{ℕ, List, [], ◌∷◌, ◌++◌, None, refl, ap, ◌∙◌}
+use Rattle.dom_base.specs.declared.Kind.TheVariants.{Document}
+use Rattle.dom_base.specs.declared.Owner.TheVariants.{Page}
+use Rattle.dom_model.specs.Names.{node_of}
+use Rattle.dom_model.specs.TreeChanges.{with_node}
+use Rattle.dom_tree.specs.Forest.{NamedTrees, next_name, node_from}
+use Rattle.dom_tree.specs.declared.data.NodeData.{NodeData}
+use Rattle.dom_cursors.specs.OwnTables.{KeyedTables, no_keyed_tables}
+use Rattle.dom_parts.specs.AllTables.{no_slots, tables_of}
+use Rattle.dom_slots.specs.Kept.{SlotsNow}
+use Rattle.dom_parts.proofs.Held.{first_held}
+use Rattle.dom_observers.specs.Tables.{no_tables as no_observers}
+use Rattle.dom_observers.specs.Owners.{tables_of as observers_of}
+use Rattle.dom_model.specs.World.{Task}
+use Rattle.dom_parts.proofs.parts.Parts.new.Goals as goal
+
+pub invariant_of-result : goal.invariant_of-result
+invariant_of-result c =
+    let first : NodeData = record { kind = Document; element = c.new.result; attributes = c.new-2.result; text = c.new-3.result; document = None } in
+    let seen = observers_of c.new-observers.result in
+    let tasks = c.new-queue.result in
+    let slots = c.new-slots.result in
+    let signalled = c.new-signalled.result.items in
+    let ranges = c.new-ranges.result in
+    first_held c.add.new.self (tables_of c.push.new.self.items seen tasks slots signalled ranges) (node_from [] (node_of Page 0) first) refl record {
+      all = ap (λ (ts : List KeyedTables). tables_of ts seen tasks slots signalled ranges) (c.in-Ok.ensures.items ∙ ap (λ (ts : List KeyedTables). ts ++ c.new-4.result ∷ []) c.new-tables.ensures.items ∙ ap (λ (t : KeyedTables). t ∷ []) c.new-4.ensures)
+          ∙ (λ j. tables_of (no_keyed_tables ∷ []) (λ o. c.new-observers.ensures o j) tasks slots signalled ranges)
+          ∙ ap (λ (ts : List Task). tables_of (no_keyed_tables ∷ []) (λ o. no_observers) ts slots signalled ranges) c.new-queue.ensures
+          ∙ ap (λ (s : SlotsNow). tables_of (no_keyed_tables ∷ []) (λ o. no_observers) [] s signalled ranges) c.new-slots.ensures.value
+          ∙ ap (λ (ks : List ℕ). tables_of (no_keyed_tables ∷ []) (λ o. no_observers) [] no_slots ks ranges) c.new-signalled.ensures.items;
+      no_ranges = c.new-ranges.ensures;
+    }
+    (c.in-Ok-add.ensures.names ∙ ap (λ (g : NamedTrees). g.names ++ next_name Page g.names ∷ []) c.new-forest.ensures)
+    (c.in-Ok-add.ensures.trees ∙ ap (λ (g : NamedTrees). with_node (node_from g.names (next_name Page g.names) first) g.trees) c.new-forest.ensures)

@@ -1,0 +1,101 @@
+-- An owner's tables as a `Doc` holds them, with keys in place of names, and where each owner's are.
+use Rattle.std.specs.Prelude.{◌≡◌, ℕ, zero, suc, ◌≤◌, List, [], ◌∷◌, ◌++◌, length, map, Option, Some, None, slice_get, slice_set}
+use Rattle.dom_base.specs.declared.Owner.{Owner}
+use Rattle.dom_base.specs.declared.Owner.TheVariants.{Page, Component}
+use Rattle.dom_base.specs.declared.NodeName.{NodeName}
+use Rattle.dom_model.specs.Traversal.{Iterator, Walker, adjusted_iterator}
+use Rattle.dom_model.specs.World.{Task}
+use Rattle.dom_slots.specs.Kept.{SlotsNow}
+use Rattle.dom_tree.specs.Forest.{NamedTrees, name_at}
+use Rattle.dom_traversal.specs.Iterators.{KeyedIterator, iterator_view, IsIteratorOf, HasLeft}
+use Rattle.dom_traversal.specs.Walkers.{KeyedWalker, walker_view, IsWalkerOf}
+use Rattle.dom_observers.specs.Tables.{TablesOf, no_tables as no_observers}
+use Rattle.dom_observers.specs.Naming.{named_tables}
+use Rattle.dom_ranges.specs.Tables.{RangeLists, ranges_of}
+use Rattle.dom_cursors.specs.OwnTables.{KeyedTables, EachItem, no_keyed_tables, place_of}
+use Rattle.dom_parts.specs.Contents.{Tables, no_tables}
+use Rattle.dom_node_trees.specs.Signalled.{SignalTables, signal_tables}
+
+-- cursors, and what an owner has of observers
+abbrev pub tables_with : List Iterator → List Walker → TablesOf NodeName → Tables
+tables_with is ws r = record no_tables { iterators = is; walkers = ws; registrations = r.registrations; record_queues = r.record_queues; pending = r.pending }
+
+-- the same tables in names, and what the owner has of observers
+abbrev pub tables_view : List NodeName → KeyedTables → TablesOf ℕ → Tables
+tables_view names t r = tables_with (map (iterator_view names) t.iterators) (map (walker_view names) t.walkers) (named_tables (name_at names) r)
+
+-- ---- all tables
+
+-- what a `Doc` holds beside its trees: each owner's tables, at its place, what each owner has of observers, the tasks, the
+-- hosts with what is assigned to slots, the signalled slots of all owners, and each owner's live ranges (own rule)
+pub record AllTables : Type 0 where
+  pub each : List KeyedTables
+  pub observers : Owner → TablesOf ℕ
+  pub tasks : List Task
+  pub slots : SlotsNow
+  pub signalled : List ℕ
+  pub ranges : RangeLists
+
+-- all of them
+abbrev pub tables_of : List KeyedTables → (Owner → TablesOf ℕ) → List Task → SlotsNow → List ℕ → RangeLists → AllTables
+tables_of each observers tasks slots signalled ranges = record { each = each; observers = observers; tasks = tasks; slots = slots; signalled = signalled; ranges = ranges }
+
+-- those with the tables at a place written
+abbrev pub with_table_at : AllTables → ℕ → KeyedTables → AllTables
+with_table_at tables place u = record tables { each = slice_set tables.each place u }
+
+-- those with one owner's written
+abbrev pub with_table : AllTables → Owner → KeyedTables → AllTables
+with_table tables o u = with_table_at tables (place_of o) u
+
+-- those with other observers
+abbrev pub with_observers : AllTables → (Owner → TablesOf ℕ) → AllTables
+with_observers tables observers = record tables { observers = observers }
+
+-- those with other tasks
+abbrev pub with_queue : AllTables → List Task → AllTables
+with_queue tables tasks = record tables { tasks = tasks }
+
+-- those with other live ranges
+abbrev pub with_live : AllTables → RangeLists → AllTables
+with_live tables ranges = record tables { ranges = ranges }
+
+-- what signals change of them, and those with it written
+abbrev pub signals_of : AllTables → SignalTables
+signals_of tables = signal_tables tables.slots tables.signalled tables.tasks
+
+abbrev pub with_signals : AllTables → SignalTables → AllTables
+with_signals tables s = record tables { tasks = s.tasks; slots = s.slots; signalled = s.signalled }
+
+-- no hosts
+abbrev pub no_slots : SlotsNow
+no_slots = record { hosts = []; table = []; begun = None }
+
+-- where the page alone is there, and has none
+abbrev pub first_tables : AllTables
+first_tables = record { each = no_keyed_tables ∷ []; observers = λ o. no_observers; tasks = []; slots = no_slots; signalled = []; ranges = [] }
+
+-- the page alone is there, and has none, in whatever lists its live ranges would stand
+pub record AreFirst (t : AllTables) : Type 0 where
+  pub all : t ≡ with_live first_tables t.ranges
+  pub no_ranges : (o : Owner) → ranges_of t.ranges o ≡ []
+
+-- ---- what holds of an owner's tables
+
+-- an iterator of the forest, over the owner's nodes
+pub record IsOwnIterator (f : NamedTrees) (o : Owner) (i : KeyedIterator) : Type 0 where
+  pub stands : IsIteratorOf f i
+  pub own : (name_at f.names i.root).owner ≡ o
+
+-- a walker of the forest, at the owner's nodes
+pub record IsOwnWalker (f : NamedTrees) (o : Owner) (w : KeyedWalker) : Type 0 where
+  pub stands : IsWalkerOf f w
+  pub own : (name_at f.names w.root).owner ≡ o
+  pub own_current : (name_at f.names w.current).owner ≡ o
+
+-- an owner has at most 1,000,000 of each
+pub record AreTablesOf (f : NamedTrees) (o : Owner) (t : KeyedTables) : Type 0 where
+  pub iterators : EachItem (IsOwnIterator f o) t.iterators
+  pub walkers : EachItem (IsOwnWalker f o) t.walkers
+  pub few_iterators : length t.iterators ≤ 1000000
+  pub few_walkers : length t.walkers ≤ 1000000

@@ -1,0 +1,6 @@
+//! What a `Doc` holds of each owner, and the elementary steps of which all changes consist.
+#![tactic(auto)]
+
+mod parts;
+
+pub use parts::Parts;

@@ -1,0 +1,172 @@
+//! What the documents of a run hold of each owner, and the reads of it.
+ghost use Rattle.std.specs.Prelude.{◌≡◌, ℕ, ◌<◌, ◌↔◌, ◌⊎◌, ◌++◌, ◌∷◌, [], true, false, length, None, IfOk, IfErr, OnOk, OnErr};
+ghost use Rattle.std.specs.Option.{option_map, ForSome};
+ghost use Rattle.dom_base.specs.declared.Owner.{Owner as OwnerOf};
+ghost use Rattle.dom_base.specs.declared.Owner.TheVariants.{Page};
+ghost use Rattle.dom_base.specs.declared.Refusal.TheVariants.{Limit};
+ghost use Rattle.dom_model.specs.Names.{node_of};
+ghost use Rattle.dom_model.specs.Tree.{is_shadow};
+ghost use Rattle.dom_model.specs.Part.{next_name};
+ghost use Rattle.dom_model.specs.Steps.{make};
+ghost use Rattle.dom_model.specs.Changes.{doing};
+ghost use Rattle.dom_model.specs.World.{part_of, is_there};
+ghost use Rattle.dom_model.specs.CommandRefusals.{past_limit};
+ghost use Rattle.dom_model.specs.DocumentMachine.{first_world};
+ghost use Rattle.dom_tree.specs.Forest.{name_at, node_from};
+ghost use Rattle.dom_tree.specs.Owners.{trees_of_owner, AreOwned};
+ghost use Rattle.dom_slots.specs.Kept.{AreSlotsOf};
+ghost use Rattle.dom_slots.specs.Shadows.{shadows, IsShownBy};
+ghost use Rattle.dom_parts.specs.Doc.{made};
+
+mod attaching;
+mod cursors;
+mod documents;
+mod observing;
+mod ranging;
+mod reads;
+mod records;
+mod settling;
+mod steps;
+mod tasks;
+mod validity;
+
+use dom_base::{Fault, Kind, Owner};
+use dom_cursors::{OwnTables, table_of};
+use dom_microtasks::Queue;
+use dom_observers::Observers;
+use dom_ranges::RangeTable;
+use dom_slots::Slots;
+use dom_tree::{Forest, NodeData};
+use indexmap::IndexMap;
+use node_arena::Key;
+use std::alloc::{AllocError, Global};
+use std::marker::Model;
+
+/// The nodes of all owners, how they stand, each owner's tables, the page's first, and then those of the components by
+/// their numbers, the observers, the live ranges, the hosts with the slots of their shadow trees, the signalled slots of all
+/// owners in order, and the microtasks.
+#[derive(Drop)]
+pub struct Parts {
+    forest: Forest,
+    tables: Vec<OwnTables>,
+    observers: Observers,
+    ranges: RangeTable,
+    slots: Slots,
+    signalled: Vec<Key>,
+    queue: Queue,
+    alloc: Global,
+}
+
+impl Model for Parts {
+    ghost use Rattle.std.specs.Coded.{codes};
+    ghost use Rattle.dom_model.specs.Codes.{trees_code};
+    ghost use Rattle.dom_parts.specs.Doc.{DocState, all_tables, state_from, IsHeld};
+
+    ghost Value = { DocState };
+
+    ghost coded = { Prim.hlevel (codes, trees_code) };
+
+    ghost view = { λ d. state_from d.forest.names d.forest.trees (all_tables d) };
+
+    ghost invariant = { λ d. IsHeld d.forest.names d.forest.trees (all_tables d) };
+}
+
+impl Parts {
+    /// The page with its first document, and no component. It is refused where memory is refused, and only then.
+    pub fn new(alloc: Global) -> Result<Self, AllocError>
+        ensures { IfOk result (λ doc. doc ≡ record { names = node_of Page 0 ∷ []; world = first_world }) }
+    {
+        let mut forest = Forest::new(alloc);
+        let document = NodeData {
+            kind: Kind::Document,
+            element: String::new(alloc),
+            attributes: IndexMap::new(alloc),
+            text: Vec::new(alloc),
+            document: None,
+        };
+        let mut tables = Vec::new(alloc);
+        match tables.push(OwnTables::new(alloc)) {
+            Ok(()) => (),
+            Err(_) => return Err(AllocError),
+        }
+        let observers = Observers::new(alloc);
+        let ranges = RangeTable::new(alloc);
+        let slots = Slots::new(alloc);
+        let signalled = Vec::new(alloc);
+        let queue = Queue::new(alloc);
+        match forest.add(Owner::Page, document) {
+            Ok(_) => Ok(Parts {
+                forest,
+                tables,
+                observers,
+                ranges,
+                slots,
+                signalled,
+                queue,
+                alloc,
+            }),
+            Err(_) => Err(AllocError),
+        }
+    }
+
+    /// The forest, for reading.
+    pub fn forest(&self) -> &Forest
+        ensures names { result.now.names ≡ self.now.names }
+        ensures trees { (o : OwnerOf) → trees_of_owner o result.now.trees ≡ (part_of self.now.world o).trees }
+        ensures owned { AreOwned result.now.trees }
+        ensures present { (k : ℕ) → k < length self.now.names → is_there self.now.world (name_at self.now.names k).owner ≡ true }
+    {
+        &self.forest
+    }
+
+    /// The forest and the slots of its shadow trees, for reading: what an event path is built from.
+    pub fn forest_and_slots(&self) -> (&Forest, &Slots)
+        ensures names { result.0.now.names ≡ self.now.names }
+        ensures trees { (o : OwnerOf) → trees_of_owner o result.0.now.trees ≡ (part_of self.now.world o).trees }
+        ensures free { result.1.now.begun ≡ None }
+        ensures slots { AreSlotsOf result.0.now result.1.now }
+        ensures shown { IsShownBy (shadows result.0.now result.1.now.hosts) self.now.world }
+    {
+        (&self.forest, &self.slots)
+    }
+
+    /// Whether an owner has a part.
+    pub fn is_there(&self, owner: Owner) -> bool
+        ensures { result ≡ is_there self.now.world owner }
+    {
+        table_of(&self.tables, owner).is_some()
+    }
+
+    /// How many nodes an owner has (own rule).
+    pub fn node_count(&self, owner: Owner) -> usize
+        requires { is_there self.now.world owner ≡ true }
+        ensures { result ≡ (part_of self.now.world owner).node_count }
+    {
+        self.forest.node_count(owner)
+    }
+
+    /// Makes a node with an owner's next number, in a tree of its own, and gives its key. It is refused with `Limit` where the
+    /// owner has as many nodes as it may, and then, as where memory is refused, nothing is changed.
+    pub fn add(&mut self, owner: Owner, node: NodeData) -> Result<Key, Fault>
+        requires owner_is_there { is_there self.old.world owner ≡ true }
+        requires no_shadow { is_shadow node.kind ≡ false }
+        requires document_is_node { ForSome node.document (λ d. d < length self.old.names) }
+        ensures key { IfOk result (λ key. key ≡ length self.old.names) }
+        ensures names { OnOk result (self.new.names ≡ self.old.names ++ next_name (part_of self.old.world owner) ∷ []) }
+        ensures world { OnOk result (self.new.world ≡ made owner (doing (make (node_from self.old.names (next_name (part_of self.old.world owner)) node))) self.old.world) }
+
+        // An owner's nodes are at most 1,000,000. Nothing else but memory stops one more.
+        ensures limit { (result ≡ Err (Fault.Refused Limit)) ↔ (past_limit (part_of self.old.world owner).node_count 1 ≡ true) }
+        ensures other { IfErr result (λ fault. (fault ≡ Fault.Refused Limit) ⊎ (fault ≡ Fault.Memory)) }
+        ensures err { OnErr result (self.new ≡ self.old) }
+    {
+        let added = self.forest.add(owner, node);
+        self.forest.nodes_stand_once();
+        added
+    }
+
+    /// The allocator of all that is held.
+    pub fn alloc(&self) -> Global {
+        self.alloc
+    }
+}

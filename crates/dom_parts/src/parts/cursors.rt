@@ -1,0 +1,139 @@
+//! Iterators and walkers of each owner, by their numbers (DOM Standard, 6 Traversal).
+ghost use Rattle.std.specs.Prelude.{◌≡◌, ◌<◌, ◌↔◌, ◌⊎◌, length, true, is_some, slice_get, Some, IfOk, IfErr, OnErr};
+ghost use Rattle.std.specs.Option.{option_map, ForSome};
+ghost use Rattle.dom_base.specs.declared.Refusal.TheVariants.{Limit};
+ghost use Rattle.dom_model.specs.Command.{Command, own};
+ghost use Rattle.dom_model.specs.Output.{nothing, a_node, an_iterator, a_walker, reference};
+ghost use Rattle.dom_model.specs.Effects.{node_or_null};
+ghost use Rattle.dom_model.specs.World.{part_of};
+ghost use Rattle.dom_model.specs.CommandRefusals.{past_limit};
+ghost use Rattle.dom_traversal.specs.Filters.{filter_of};
+ghost use Rattle.dom_parts.specs.Doc.{name_in, owner_in, Makes};
+
+use crate::Parts;
+use dom_base::{Fault, Move, Owner};
+use dom_cursors::{place_of, table_of};
+use dom_traversal::Filter;
+use node_arena::Key;
+
+impl Parts {
+    /// Whether an owner has an iterator of a number.
+    pub fn has_iter(&self, owner: Owner, number: u32) -> bool
+        ensures { result ≡ is_some (slice_get (part_of self.now.world owner).iterators number) }
+    {
+        match table_of(&self.tables, owner) {
+            Some(tables) => tables.has_iter(number),
+            None => false,
+        }
+    }
+
+    /// Whether an owner has a walker of a number.
+    pub fn has_walker(&self, owner: Owner, number: u32) -> bool
+        ensures { result ≡ is_some (slice_get (part_of self.now.world owner).walkers number) }
+    {
+        match table_of(&self.tables, owner) {
+            Some(tables) => tables.has_walker(number),
+            None => false,
+        }
+    }
+
+    /// Adds an iterator of an owner just before its root, and gives its number (DOM Standard, createNodeIterator). It is
+    /// refused with `Limit` where the owner has a million iterators, and with `Memory` where memory is refused.
+    pub fn iter_make(&mut self, owner: Owner, root: Key, filter: Filter) -> Result<u32, Fault>
+        requires root_is_node { root < length self.old.names }
+        requires own { owner_in self.old root ≡ owner }
+        ensures names { self.new.names ≡ self.old.names }
+        ensures world { IfOk result (λ number. Makes owner (Command.iterator_new (own (name_in self.old root).number) (filter_of filter)) (an_iterator number) self.old.world self.new.world) }
+        ensures limit { (result ≡ Err (Fault.Refused Limit)) ↔ (past_limit (length (part_of self.old.world owner).iterators) 1 ≡ true) }
+        ensures other { IfErr result (λ fault. (fault ≡ Fault.Refused Limit) ⊎ (fault ≡ Fault.Memory)) }
+        ensures err { OnErr result (self.new ≡ self.old) }
+    {
+        self.forest.nodes_stand_once();
+        let tables = &mut self.tables[place_of(owner)];
+        tables.add_iter(root, filter)
+    }
+
+    /// Adds a walker of an owner at its root, and gives its number (DOM Standard, createTreeWalker). It is refused with
+    /// `Limit` where the owner has a million walkers, and with `Memory` where memory is refused.
+    pub fn walk_make(&mut self, owner: Owner, root: Key, filter: Filter) -> Result<u32, Fault>
+        requires root_is_node { root < length self.old.names }
+        requires own { owner_in self.old root ≡ owner }
+        ensures names { self.new.names ≡ self.old.names }
+        ensures world { IfOk result (λ number. Makes owner (Command.walker_new (own (name_in self.old root).number) (filter_of filter)) (a_walker number) self.old.world self.new.world) }
+        ensures limit { (result ≡ Err (Fault.Refused Limit)) ↔ (past_limit (length (part_of self.old.world owner).walkers) 1 ≡ true) }
+        ensures other { IfErr result (λ fault. (fault ≡ Fault.Refused Limit) ⊎ (fault ≡ Fault.Memory)) }
+        ensures err { OnErr result (self.new ≡ self.old) }
+    {
+        let tables = &mut self.tables[place_of(owner)];
+        tables.add_walker(root, filter)
+    }
+
+    /// Moves an iterator behind the next node that its filter accepts, and answers that node; where there is none, it
+    /// stays (DOM Standard, nextNode).
+    pub fn iter_next(&mut self, owner: Owner, number: u32) -> Option<Key>
+        requires { is_some (slice_get (part_of self.old.world owner).iterators number) ≡ true }
+        ensures names { self.new.names ≡ self.old.names }
+        ensures node { ForSome result (λ k. k < length self.old.names) }
+        ensures world { Makes owner (Command.iterator_next number) (node_or_null (option_map (name_in self.old) result)) self.old.world self.new.world }
+    {
+        let tables = &mut self.tables[place_of(owner)];
+        tables.iter_next(&self.forest, number)
+    }
+
+    /// Moves an iterator before the node before it that its filter accepts, and answers that node; where there is none, it
+    /// stays (DOM Standard, previousNode).
+    pub fn iter_previous(&mut self, owner: Owner, number: u32) -> Option<Key>
+        requires { is_some (slice_get (part_of self.old.world owner).iterators number) ≡ true }
+        ensures names { self.new.names ≡ self.old.names }
+        ensures node { ForSome result (λ k. k < length self.old.names) }
+        ensures world { Makes owner (Command.iterator_previous number) (node_or_null (option_map (name_in self.old) result)) self.old.world self.new.world }
+    {
+        let tables = &mut self.tables[place_of(owner)];
+        tables.iter_previous(&self.forest, number)
+    }
+
+    /// The reference of an iterator, and whether it stands before that one (DOM Standard, referenceNode and
+    /// pointerBeforeReferenceNode).
+    pub fn iter_at(&self, owner: Owner, number: u32) -> (Key, bool)
+        requires { is_some (slice_get (part_of self.now.world owner).iterators number) ≡ true }
+        ensures node { result.0 < length self.now.names }
+        ensures value { Makes owner (Command.iterator_at number) (reference (name_in self.now result.0) result.1) self.now.world self.now.world }
+    {
+        let tables = &self.tables[place_of(owner)];
+        tables.iter_at(number)
+    }
+
+    /// Moves a walker, and answers its new current node; where there is no node to move to, it stays (DOM Standard,
+    /// interface TreeWalker).
+    pub fn walk(&mut self, owner: Owner, number: u32, step: Move) -> Option<Key>
+        requires { is_some (slice_get (part_of self.old.world owner).walkers number) ≡ true }
+        ensures names { self.new.names ≡ self.old.names }
+        ensures node { ForSome result (λ k. k < length self.old.names) }
+        ensures world { Makes owner (Command.walk number step) (node_or_null (option_map (name_in self.old) result)) self.old.world self.new.world }
+    {
+        let tables = &mut self.tables[place_of(owner)];
+        tables.walk(&self.forest, number, step)
+    }
+
+    /// The current node of a walker (DOM Standard, currentNode).
+    pub fn walk_at(&self, owner: Owner, number: u32) -> Key
+        requires { is_some (slice_get (part_of self.now.world owner).walkers number) ≡ true }
+        ensures node { result < length self.now.names }
+        ensures value { Makes owner (Command.walker_at number) (a_node (name_in self.now result)) self.now.world self.now.world }
+    {
+        let tables = &self.tables[place_of(owner)];
+        tables.walker_at(number)
+    }
+
+    /// Makes a node of its owner the current one of a walker (DOM Standard, currentNode).
+    pub fn walk_set(&mut self, owner: Owner, number: u32, current: Key)
+        requires there { is_some (slice_get (part_of self.old.world owner).walkers number) ≡ true }
+        requires current_is_node { current < length self.old.names }
+        requires own { owner_in self.old current ≡ owner }
+        ensures names { self.new.names ≡ self.old.names }
+        ensures world { Makes owner (Command.walker_set number (own (name_in self.old current).number)) nothing self.old.world self.new.world }
+    {
+        let tables = &mut self.tables[place_of(owner)];
+        tables.set_walker(number, current);
+    }
+}

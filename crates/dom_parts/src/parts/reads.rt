@@ -1,0 +1,169 @@
+//! What is read of a node, in its owner's trees.
+ghost use Rattle.std.specs.Prelude.{◌≡◌, ℕ, ◌<◌, ◌≤◌, true, false, length, count_by, is_some, Some};
+ghost use Rattle.std.specs.Option.{option_map, ForSome};
+ghost use Rattle.dom_model.specs.Names.{first_of, last_of, name_eq, items_after};
+ghost use Rattle.dom_model.specs.Tree.{nodes, node_in, attribute_value, kind_of, parent_of, children_of, next_sibling, previous_sibling, length_of, index_of, has_node, is_inclusive_ancestor, is_document, inclusive_descendants};
+ghost use Rattle.dom_base.specs.declared.NodeName.{NodeName as Name};
+ghost use Rattle.dom_base.specs.declared.Owner.{Owner as OwnerOf};
+ghost use Rattle.dom_model.specs.World.{part_of, is_there, is_connected};
+ghost use Rattle.dom_model.specs.CommandRefusals.{past_limit};
+ghost use Rattle.dom_isolation.specs.Worlds.{IsPart};
+ghost use Rattle.dom_parts.specs.Doc.{name_in, owner_in, trees_in, IsOwnNode};
+ghost use Rattle.dom_parts.specs.Hosting.{IsAlone};
+
+use crate::Parts;
+use dom_base::{Kind, Owner};
+use node_arena::Key;
+
+impl Parts {
+    /// Holds of every document: names tell the nodes apart, each node stands once in its owner's trees, an owner's steps
+    /// do in its part what they do in a part alone, no owner has more nodes than it may, each node's owner is there, and each
+    /// owner's part is one as every world has it that is reached.
+    pub fn laws(&self)
+        ensures distinct { (j k : ℕ) → j < length self.now.names → k < length self.now.names → name_in self.now j ≡ name_in self.now k → j ≡ k }
+        ensures once { (o : OwnerOf) (x : Name) → count_by (λ n. name_eq n.name x) (nodes (part_of self.now.world o).trees) ≤ 1 }
+        ensures alone { (k : ℕ) → k < length self.now.names → IsAlone self.now.world (owner_in self.now k) }
+        ensures limited { (o : OwnerOf) → past_limit (part_of self.now.world o).node_count 0 ≡ false }
+        ensures present { (k : ℕ) → k < length self.now.names → is_there self.now.world (owner_in self.now k) ≡ true }
+        ensures parts { (o : OwnerOf) → IsPart (part_of self.now.world o) }
+        ensures stand { (k : ℕ) → k < length self.now.names → has_node (trees_in self.now k) (name_in self.now k) ≡ true }
+    {
+        self.forest.nodes_stand_once();
+    }
+
+    /// The owner of a node.
+    pub fn owner(&self, node: Key) -> Owner
+        requires { node < length self.now.names }
+        ensures { result ≡ owner_in self.now node }
+    {
+        self.forest.name(node).owner
+    }
+
+    /// The kind of a node (DOM Standard, interface Node; own rule for a shadow root).
+    pub fn kind(&self, node: Key) -> Kind
+        requires { node < length self.now.names }
+        ensures { result ≡ kind_of (trees_in self.now node) (name_in self.now node) }
+    {
+        self.forest.kind(node)
+    }
+
+    /// The data of a Text or a Comment, in code units.
+    pub fn text(&self, node: Key) -> &[u16]
+        requires { node < length self.now.names }
+        ensures { result.now ≡ (node_in (trees_in self.now node) (name_in self.now node)).text }
+    {
+        self.forest.text(node)
+    }
+
+    /// The number of code units of a Text or a Comment, and of another node that of its children, which are counted (DOM
+    /// Standard, concept: length).
+    pub fn length(&self, node: Key) -> usize
+        requires { node < length self.now.names }
+        ensures { result ≡ length_of (trees_in self.now node) (name_in self.now node) }
+    {
+        self.forest.length(node)
+    }
+
+    /// The place of a node among its parent's children (DOM Standard, concept: index).
+    pub fn index(&self, node: Key) -> usize
+        requires { node < length self.now.names }
+        ensures { result ≡ index_of (trees_in self.now node) (name_in self.now node) }
+    {
+        self.forest.index(node)
+    }
+
+    /// Whether a node's shadow-including root is a document (DOM Standard, concept: connected). Hosts are the page's, so one
+    /// host at most stands above a node's root.
+    pub fn is_connected(&self, node: Key) -> bool
+        requires { node < length self.now.names }
+        ensures { result ≡ is_connected self.now.world (name_in self.now node) }
+    {
+        self.forest.nodes_stand_once();
+        let root = self.forest.root(node);
+        match self.slots.host_of(root) {
+            Some(host) => {
+                let above = self.forest.root(host);
+                is_document(self.forest.kind(above))
+            }
+            None => is_document(self.forest.kind(root)),
+        }
+    }
+
+    /// Whether a node has an attribute.
+    pub fn has_attr(&self, node: Key, name: &str) -> bool
+        requires { node < length self.now.names }
+        ensures { result ≡ is_some (attribute_value (node_in (trees_in self.now node) (name_in self.now node)) name.now) }
+    {
+        self.forest.attr(node, name).is_some()
+    }
+
+    /// The parent of a node, which a root has not (DOM Standard, concept: parent).
+    pub fn parent(&self, node: Key) -> Option<Key>
+        requires { node < length self.now.names }
+        ensures value { option_map (name_in self.now) result ≡ parent_of (trees_in self.now node) (name_in self.now node) }
+        ensures node { ForSome result (λ k. k < length self.now.names) }
+        ensures owner { ForSome result (λ k. owner_in self.now k ≡ owner_in self.now node) }
+    {
+        self.forest.parent(node)
+    }
+
+    /// The first child of a node.
+    pub fn first(&self, node: Key) -> Option<Key>
+        requires { node < length self.now.names }
+        ensures value { option_map (name_in self.now) result ≡ first_of (children_of (trees_in self.now node) (name_in self.now node)) }
+        ensures node { ForSome result (λ k. k < length self.now.names) }
+        ensures owner { ForSome result (λ k. owner_in self.now k ≡ owner_in self.now node) }
+    {
+        self.forest.first(node)
+    }
+
+    /// The last child of a node.
+    pub fn last(&self, node: Key) -> Option<Key>
+        requires { node < length self.now.names }
+        ensures value { option_map (name_in self.now) result ≡ last_of (children_of (trees_in self.now node) (name_in self.now node)) }
+        ensures node { ForSome result (λ k. k < length self.now.names) }
+        ensures owner { ForSome result (λ k. owner_in self.now k ≡ owner_in self.now node) }
+    {
+        self.forest.last(node)
+    }
+
+    /// The sibling just after a node.
+    pub fn next(&self, node: Key) -> Option<Key>
+        requires { node < length self.now.names }
+        ensures value { option_map (name_in self.now) result ≡ next_sibling (trees_in self.now node) (name_in self.now node) }
+        ensures node { ForSome result (λ k. k < length self.now.names) }
+        ensures owner { ForSome result (λ k. owner_in self.now k ≡ owner_in self.now node) }
+    {
+        self.forest.next(node)
+    }
+
+    /// The sibling just before a node.
+    pub fn prev(&self, node: Key) -> Option<Key>
+        requires { node < length self.now.names }
+        ensures value { option_map (name_in self.now) result ≡ previous_sibling (trees_in self.now node) (name_in self.now node) }
+        ensures node { ForSome result (λ k. k < length self.now.names) }
+        ensures owner { ForSome result (λ k. owner_in self.now k ≡ owner_in self.now node) }
+    {
+        self.forest.prev(node)
+    }
+
+    /// The node just after a node in tree order, within the tree of a node `top` in which it stands.
+    pub fn following(&self, node: Key, top: Key) -> Option<Key>
+        requires node_is_node { node < length self.now.names }
+        requires top_is_node { top < length self.now.names }
+        requires one_owner { owner_in self.now node ≡ owner_in self.now top }
+        requires within { is_inclusive_ancestor (trees_in self.now top) (name_in self.now top) (name_in self.now node) ≡ true }
+        ensures value { option_map (name_in self.now) result ≡ first_of (items_after name_eq (name_in self.now node) (inclusive_descendants (trees_in self.now top) (name_in self.now top))) }
+        ensures node { ForSome result (IsOwnNode self.now top) }
+        ensures within { ForSome result (λ k. is_inclusive_ancestor (trees_in self.now top) (name_in self.now top) (name_in self.now k) ≡ true) }
+    {
+        self.forest.following(node, top)
+    }
+}
+
+/// Whether a kind is that of documents.
+fn is_document(kind: Kind) -> bool
+    ensures { result ≡ is_document kind }
+{
+    matches!(kind, Kind::Document)
+}

@@ -1,0 +1,118 @@
+//! The step by which observers are told of a change. Where an owner has no registrations it costs one look.
+ghost use Rattle.std.specs.Prelude.{◌≡◌, ◌<◌, false, length, map, IfOk, OnOk, Some};
+ghost use Rattle.std.specs.Option.{option_map};
+ghost use Rattle.dom_model.specs.Tree.{attribute_value, node_in};
+ghost use Rattle.dom_model.specs.Observers.{target_of};
+ghost use Rattle.dom_base.specs.declared.NodeName.{NodeName};
+ghost use Rattle.dom_model.specs.Output.{Change as ChangeOf, child_list, attributes, character_data};
+ghost use Rattle.dom_model.specs.Steps.{queue_record};
+ghost use Rattle.dom_observers.specs.Views.{change_of};
+ghost use Rattle.dom_parts.specs.Doc.{name_in, owner_in, trees_in, change_in, NamesNodes, AreNodes, IsNodeIf, stepped};
+
+use crate::Parts;
+use dom_base::DomStr;
+use dom_observers::{Change, Observers};
+use node_arena::Key;
+use std::alloc::AllocError;
+
+impl Parts {
+    /// Observers are told that a node's children change.
+    pub fn tell_children(
+        &mut self,
+        target: Key,
+        added: &[Key],
+        removed: &[Key],
+        prev: Option<Key>,
+        next: Option<Key>,
+    ) -> Result<(), AllocError>
+        requires target_is_node { target < length self.old.names }
+        requires added_are_nodes { AreNodes self.old added.now }
+        requires removed_are_nodes { AreNodes self.old removed.now }
+        requires prev_is_node { IsNodeIf self.old prev }
+        requires next_is_node { IsNodeIf self.old next }
+        ensures { OnOk result (self.new ≡ stepped (owner_in self.old target) (queue_record (child_list (name_in self.old target) (map (name_in self.old) added.now) (map (name_in self.old) removed.now) (option_map (name_in self.old) prev) (option_map (name_in self.old) next))) self.old) }
+    {
+        if !self.is_watched(target) {
+            return Ok(());
+        }
+        let alloc = self.alloc;
+        self.record(Change::ChildList {
+            target,
+            added: Vec::from_slice(alloc, added)?,
+            removed: Vec::from_slice(alloc, removed)?,
+            previous: prev,
+            next,
+        })
+    }
+
+    /// Observers are told that an attribute changes, before it does.
+    pub fn tell_attribute(&mut self, node: Key, name: &str) -> Result<(), AllocError>
+        requires { node < length self.old.names }
+        ensures { OnOk result (self.new ≡ stepped (owner_in self.old node) (queue_record (attributes (name_in self.old node) name.now (attribute_value (node_in (trees_in self.old node) (name_in self.old node)) name.now))) self.old) }
+    {
+        if !self.is_watched(node) {
+            return Ok(());
+        }
+        let alloc = self.alloc;
+        let old = self.old_value(node, name)?;
+        self.record(Change::Attributes {
+            target: node,
+            name: String::from_str(alloc, name)?,
+            old,
+        })
+    }
+
+    /// Observers are told that data change, before they do.
+    pub fn tell_data(&mut self, node: Key) -> Result<(), AllocError>
+        requires { node < length self.old.names }
+        ensures { OnOk result (self.new ≡ stepped (owner_in self.old node) (queue_record (character_data (name_in self.old node) (Some (node_in (trees_in self.old node) (name_in self.old node)).text))) self.old) }
+    {
+        if !self.is_watched(node) {
+            return Ok(());
+        }
+        let alloc = self.alloc;
+        let old = Vec::from_slice(alloc, self.text(node))?;
+        self.record(Change::CharacterData {
+            target: node,
+            old: Some(old),
+        })
+    }
+
+    /// A copy of the value of an attribute, where there is one.
+    fn old_value(&self, node: Key, name: &str) -> Result<Option<DomStr>, AllocError>
+        requires { node < length self.now.names }
+        ensures { IfOk result (λ old. option_map (λ s. s.items) old ≡ attribute_value (node_in (trees_in self.now node) (name_in self.now node)) name.now) }
+    {
+        match self.forest.attr(node, name) {
+            Some(value) => Ok(Some(Vec::from_slice(self.alloc, value)?)),
+            None => Ok(None),
+        }
+    }
+
+    /// Whether a node's owner has registrations. Where it has none the record of a change of the node changes nothing.
+    fn is_watched(&self, node: Key) -> bool
+        requires { node < length self.now.names }
+        ensures { result ≡ false → (c : ChangeOf NodeName) → self.now ≡ stepped (owner_in self.now node) (queue_record c) self.now }
+    {
+        self.observers.is_watched(self.forest.name(node).owner)
+    }
+
+    /// The record of a change goes to the observers that are interested in it, and where there are some their owner's
+    /// notification is queued (DOM Standard, queue a mutation record). Where memory is refused no owner has an observer, or
+    /// the notification is not queued.
+    fn record(&mut self, change: Change) -> Result<(), AllocError>
+        requires { NamesNodes self.old change }
+        ensures { OnOk result (self.new ≡ stepped (owner_in self.old (target_of (change_of change))) (queue_record (change_in self.old change)) self.old) }
+    {
+        self.forest.nodes_stand_once();
+        let owner = self.forest.name(change.target()).owner;
+        match self.observers.queue_record(&self.forest, change) {
+            Ok(true) => self.queue.push_notify(owner),
+            Ok(false) => Ok(()),
+            Err(error) => {
+                self.observers = Observers::new(self.alloc);
+                Err(error)
+            }
+        }
+    }
+}

@@ -1,0 +1,274 @@
+//! The elementary steps of which all changes consist.
+ghost use Rattle.std.specs.Prelude.{◌≡◌, ◌<◌, ◌≤◌, ◌+◌, ◌-◌, length, true, false, is_some, map, IsOk, OnOk, OnErr, Some, None, IfOk};
+ghost use Rattle.std.specs.Option.{option_map, ForSome};
+ghost use Rattle.std.specs.List.{AllByRecursion};
+ghost use Rattle.dom_model.specs.Tree.{parent_of, is_inclusive_ancestor, index_of, node_in, length_of};
+ghost use Rattle.dom_model.specs.Steps.{make_room, place, take_out, set_attribute, replace_data, split_at, join_at};
+ghost use Rattle.dom_model.specs.Changes.{steps_of};
+ghost use Rattle.dom_model.specs.TextChanges.{joins};
+ghost use Rattle.dom_model.specs.World.{part_of};
+ghost use Rattle.dom_isolation.specs.Bounds.{HasBounds};
+ghost use Rattle.dom_parts.specs.Doc.{name_in, owner_in, trees_in, stepped, planned, IsChild, IsOwnNode, MayCome, JoinsFit};
+ghost use Rattle.dom_model.specs.TreeChanges.{replaced};
+
+use super::settling::settle;
+use crate::Parts;
+use dom_base::DomStr;
+use dom_cursors::place_of;
+use dom_node_trees::{link, remove_attr, set_attr, unlink};
+use dom_observers::Observers;
+use dom_traversal::iterators_stay;
+use node_arena::Key;
+use std::alloc::{AllocError, Global};
+
+impl Parts {
+    /// A node leaves its parent, after it got its transient registrations, and its owner's iterators and live ranges left its
+    /// tree; slots are signalled.
+    pub fn take_out(&mut self, node: Key) -> Result<(), AllocError>
+        requires node_is_node { node < length self.old.names }
+        requires has_parent { is_some (parent_of (trees_in self.old node) (name_in self.old node)) ≡ true }
+        ensures { OnOk result (self.new ≡ stepped (owner_in self.old node) (take_out (name_in self.old node)) self.old) }
+    {
+        iterators_stay(&self.forest);
+        self.forest.nodes_stand_once();
+        let Some(parent) = self.forest.parent(node) else {
+            unreachable!()
+        };
+        if let Err(error) = self.observers.transient(&self.forest, parent, node) {
+            self.observers = Observers::new(self.alloc);
+            return Err(error);
+        }
+        let owner = self.forest.name(node).owner;
+        let tables = &mut self.tables[place_of(owner)];
+        tables.leave(&self.forest, node);
+        self.ranges.on_remove(&self.forest, node);
+        let done = unlink(
+            &mut self.forest,
+            &mut self.slots,
+            &mut self.signalled,
+            &mut self.queue,
+            node,
+        );
+        settle(
+            done,
+            &mut self.forest,
+            &mut self.tables,
+            &mut self.observers,
+            &mut self.ranges,
+            &mut self.slots,
+            &mut self.signalled,
+            &mut self.queue,
+            self.alloc,
+        )
+    }
+
+    /// The tree of a node becomes a child of another one, just before the child given or last.
+    pub fn place(&mut self, node: Key, parent: Key, before: Option<Key>) -> Result<(), AllocError>
+        requires node_is_node { node < length self.old.names }
+        requires parent_is_node { parent < length self.old.names }
+        requires one_owner { owner_in self.old node ≡ owner_in self.old parent }
+        requires unlinked { parent_of (trees_in self.old node) (name_in self.old node) ≡ None }
+        requires not_above { is_inclusive_ancestor (trees_in self.old parent) (name_in self.old node) (name_in self.old parent) ≡ false }
+        requires before_is_node { ForSome before (λ b. b < length self.old.names) }
+        requires before_is_child { ForSome before (λ b. parent_of (trees_in self.old b) (name_in self.old b) ≡ Some (name_in self.old parent)) }
+        ensures { OnOk result (self.new ≡ stepped (owner_in self.old parent) (place (name_in self.old node) (name_in self.old parent) (option_map (name_in self.old) before)) self.old) }
+    {
+        self.forest.nodes_stand_once();
+        let done = link(
+            &mut self.forest,
+            &mut self.slots,
+            &mut self.signalled,
+            &mut self.queue,
+            node,
+            parent,
+            before,
+        );
+        settle(
+            done,
+            &mut self.forest,
+            &mut self.tables,
+            &mut self.observers,
+            &mut self.ranges,
+            &mut self.slots,
+            &mut self.signalled,
+            &mut self.queue,
+            self.alloc,
+        )
+    }
+
+    /// An attribute gets a value.
+    pub fn set_attribute(&mut self, node: Key, name: &str, value: DomStr) -> Result<(), AllocError>
+        requires { node < length self.old.names }
+        ensures { OnOk result (self.new ≡ stepped (owner_in self.old node) (set_attribute (name_in self.old node) name.now (Some value.items)) self.old) }
+    {
+        let done = set_attr(
+            &mut self.forest,
+            &mut self.slots,
+            &mut self.signalled,
+            &mut self.queue,
+            node,
+            name,
+            value,
+        );
+        settle(
+            done,
+            &mut self.forest,
+            &mut self.tables,
+            &mut self.observers,
+            &mut self.ranges,
+            &mut self.slots,
+            &mut self.signalled,
+            &mut self.queue,
+            self.alloc,
+        )
+    }
+
+    /// An attribute goes.
+    pub fn unset_attribute(&mut self, node: Key, name: &str) -> Result<(), AllocError>
+        requires { node < length self.old.names }
+        ensures { OnOk result (self.new ≡ stepped (owner_in self.old node) (set_attribute (name_in self.old node) name.now None) self.old) }
+    {
+        let done = remove_attr(
+            &mut self.forest,
+            &mut self.slots,
+            &mut self.signalled,
+            &mut self.queue,
+            node,
+            name,
+        );
+        settle(
+            done,
+            &mut self.forest,
+            &mut self.tables,
+            &mut self.observers,
+            &mut self.ranges,
+            &mut self.slots,
+            &mut self.signalled,
+            &mut self.queue,
+            self.alloc,
+        )
+    }
+
+    /// Code units of a Text or a Comment give way to others, after the ends of live ranges moved with them. All of them give
+    /// way without taking memory.
+    pub fn change_data(
+        &mut self,
+        node: Key,
+        offset: usize,
+        count: usize,
+        data: DomStr,
+    ) -> Result<(), AllocError>
+        requires node_is_node { node < length self.old.names }
+        requires may_come { MayCome (part_of self.old.world (owner_in self.old node)) (name_in self.old node) «data».items }
+        requires there { count ≤ length (node_in (trees_in self.old node) (name_in self.old node)).text - offset }
+        ensures ok { OnOk result (self.new ≡ stepped (owner_in self.old node) (replace_data (name_in self.old node) offset count «data».items) self.old) }
+        ensures whole { offset ≡ 0 → length (node_in (trees_in self.old node) (name_in self.old node)).text ≤ count → IsOk result }
+        ensures err { OnErr result (self.new ≡ self.old) }
+    {
+        self.forest.nodes_stand_once();
+        let size = data.len();
+        let text = spliced(self.alloc, self.forest.text(node), offset, count, data)?;
+        self.ranges.on_replace_data(node, offset, count, size);
+        self.forest.set_data(node, text);
+        Ok(())
+    }
+
+    /// So many nodes are to come into a parent before a child: the ends of live ranges make room.
+    pub fn make_room(&mut self, parent: Key, child: Key, count: usize)
+        requires parent_is_node { parent < length self.old.names }
+        requires is_child { IsChild self.old parent child }
+        requires bounds { HasBounds (part_of self.old.world (owner_in self.old parent)) }
+        requires few { count ≤ 1000000 }
+        ensures { self.new ≡ stepped (owner_in self.old parent) (make_room (name_in self.old parent) (index_of (trees_in self.old child) (name_in self.old child)) count) self.old }
+    {
+        self.forest.nodes_stand_once();
+        // An index is found by going through the siblings, so nobody pays for that without ranges.
+        if self.ranges.is_empty() {
+            return;
+        }
+        let index = self.forest.index(child);
+        self.ranges.on_insert(parent, index, count);
+    }
+
+    /// A Text, the child of a parent at an index, was split at an offset, and its tail is in a new Text: the ends of live
+    /// ranges go with it.
+    pub fn split_at(&mut self, node: Key, offset: usize, new: Key, parent: Key, index: usize)
+        requires node_is_node { node < length self.old.names }
+        requires new_is_node { new < length self.old.names }
+        requires parent_is_node { parent < length self.old.names }
+        requires new_owner { owner_in self.old new ≡ owner_in self.old node }
+        requires parent_owner { owner_in self.old parent ≡ owner_in self.old node }
+        requires few { index < 1000000 }
+        ensures { self.new ≡ stepped (owner_in self.old node) (split_at (name_in self.old node) offset (name_in self.old new) (name_in self.old parent) index) self.old }
+    {
+        self.forest.nodes_stand_once();
+        self.ranges
+            .on_split(node, offset, new, Some((parent, index)));
+    }
+
+    /// A first Text got the data of others, the children of its parent, from a size on: the ends of live ranges go with them.
+    pub fn join_each(&mut self, first: Key, size: usize, nexts: &[Key], parent: Key)
+        requires first_is_node { first < length self.old.names }
+        requires parent_is_node { parent < length self.old.names }
+        requires parent_owner { owner_in self.old parent ≡ owner_in self.old first }
+        requires nexts_are_nodes { AllByRecursion (IsOwnNode self.old first) nexts.now }
+        requires bounds { HasBounds (part_of self.old.world (owner_in self.old first)) }
+        requires fit { JoinsFit (trees_in self.old first) (name_in self.old first) size (map (name_in self.old) nexts.now) }
+        ensures { self.new ≡ planned (owner_in self.old first) (steps_of (joins (trees_in self.old first) (name_in self.old first) (name_in self.old parent) size (map (name_in self.old) nexts.now))) self.old }
+    {
+        self.laws();
+        self.forest.nodes_stand_once();
+        if self.ranges.is_empty() {
+            return;
+        }
+        let mut length = size;
+        for next in nexts {
+            length = self.join_at(first, length, *next, parent);
+        }
+    }
+
+    /// A first Text got the data of the next one, a child of its parent, from a size on: the ends of live ranges go with
+    /// them. The answer is the size up to which they are joined then.
+    fn join_at(&mut self, first: Key, size: usize, next: Key, parent: Key) -> usize
+        requires first_is_node { first < length self.old.names }
+        requires next_is_node { next < length self.old.names }
+        requires parent_is_node { parent < length self.old.names }
+        requires next_owner { owner_in self.old next ≡ owner_in self.old first }
+        requires parent_owner { owner_in self.old parent ≡ owner_in self.old first }
+        requires bounds { HasBounds (part_of self.old.world (owner_in self.old first)) }
+        requires fits { size + length_of (trees_in self.old first) (name_in self.old next) ≤ length_of (trees_in self.old first) (name_in self.old first) }
+        ensures joined { result ≡ size + length_of (trees_in self.old first) (name_in self.old next) }
+        ensures state { self.new ≡ stepped (owner_in self.old first) (join_at (name_in self.old first) size (name_in self.old next) (name_in self.old parent) (index_of (trees_in self.old first) (name_in self.old next))) self.old }
+    {
+        self.forest.nodes_stand_once();
+        // What is joined is within the first Text, whose length is a number of the code's.
+        let _whole = self.forest.length(first);
+        let joined = size + self.forest.length(next);
+        let index = self.forest.index(next);
+        self.ranges.on_join(first, size, next, parent, index);
+        joined
+    }
+}
+
+/// Data where from an offset on so many code units, or as many as there are, give way to others. Where all do, the others
+/// are not copied.
+fn spliced(
+    alloc: Global,
+    old: &[u16],
+    offset: usize,
+    count: usize,
+    data: DomStr,
+) -> Result<DomStr, AllocError>
+    ensures items { IfOk result (λ text. text.items ≡ replaced offset count «data».items old.now) }
+    ensures whole { offset ≡ 0 → length old.now ≤ count → IsOk result }
+{
+    if offset == 0 && old.len() <= count {
+        return Ok(data);
+    }
+    let (front, behind) = old.split_at(offset.min(old.len()));
+    let (_, tail) = behind.split_at(count.min(behind.len()));
+    let mut text = Vec::from_slice(alloc, front)?;
+    text.extend_from_slice(data.as_slice())?;
+    text.extend_from_slice(tail)?;
+    Ok(text)
+}
