@@ -13,7 +13,7 @@ pub enum Stop {
 
 /// Want of memory stays want of memory, and every other error of the words is `Usage`.
 impl From<Error> for Stop {
-    ghost use Rattle.std.specs.Prelude.{◌≡◌, ◌×◌};
+    ghost use Rattle.std.specs.Prelude.{◌≡◌};
     ghost use Rattle.clap.specs.Words.{kind_of};
     ghost use Rattle.clap.specs.declared.error.kind.ErrorKind.TheVariants.{OutOfMemory};
     ghost use Rattle.dom_engine.specs.declared.fault.RunFault.TheVariants.{Memory};

@@ -1,5 +1,5 @@
 //! The program's words: whose lines are written, and which file is read.
-ghost use Rattle.std.specs.Prelude.{◌≡◌, ◌×◌, IfErr, IfOk, option_map};
+ghost use Rattle.std.specs.Prelude.{◌≡◌, IfErr, IfOk, option_map};
 ghost use Rattle.clap.specs.Words.{app_of, found_of, matches_of, rows_of};
 ghost use Rattle.dom_text.specs.Readers.{owner_of as spec_owner_of};
 ghost use Rattle.dom_engine.specs.declared.fault.RunFault.TheVariants.{Memory};

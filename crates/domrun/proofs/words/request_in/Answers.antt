@@ -1,4 +1,4 @@
-use Rattle.std.proofs.Common.{ap, refl, sym, codes, true, ◌≡◌, ◌∙◌, ◌×◌, List, Option, None, Some, is_some, option_map, true≢false}
+use Rattle.std.proofs.Common.{ap, refl, sym, codes, true, ◌≡◌, ◌∙◌, List, Option, None, Some, is_some, option_map, true≢false}
 use Rattle.std.specs.Option.{option_and_then}
 use Rattle.clap.specs.Words.{Row, Text, first_of, found_of, rows_of}
 use Rattle.clap.specs.declared.parser.matches.ArgMatches.{ArgMatches}
