@@ -20,10 +20,10 @@ use crate::commands::command_at;
 use crate::nodes::owner_at;
 use dom_base::{MAX_LINE, Owner, Refusal};
 use dom_words::NotRead;
+pub use laws::law_pieces;
 pub use line::{
     Command, EventWords, Filter, Line, ListenerWords, NameFilter, ObserveWords, Show, Spelled,
 };
-pub use laws::law_pieces;
 pub use nodes::owner_of;
 pub use splitter::Splitter;
 use std::alloc::{AllocError, Global};

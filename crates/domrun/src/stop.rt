@@ -19,11 +19,9 @@ impl From<Error> for Stop {
     ghost use Rattle.dom_engine.specs.declared.fault.RunFault.TheVariants.{Memory};
     ghost use Rattle.domrun.specs.declared.stop.Stop.TheVariants as stop_variant;
 
-    ghost from_gives = {
-        λ error stop.
-            (kind_of error ≡ OutOfMemory → stop ≡ stop_variant.Run Memory) ×
-                ((kind_of error ≡ OutOfMemory → ⊥) → stop ≡ stop_variant.Usage)
-    };
+    ghost from_gives = { λ error stop.
+        (kind_of error ≡ OutOfMemory → stop ≡ stop_variant.Run Memory) ×
+        ((kind_of error ≡ OutOfMemory → ⊥) → stop ≡ stop_variant.Usage) };
 
     fn from(error: Error) -> Stop {
         match error.kind() {

@@ -39,11 +39,12 @@ pub returns-in-None-clause-file : goal.returns-in-None-clause-file
 returns-in-None-clause-file c = c.get_str-file.ensures ∙ first_value-rows (found_of c.args.matches.now) (codes "file")
 
 pub returns-in-None-view_of-clause-refused : goal.returns-in-None-view_of-clause-refused
-returns-in-None-view_of-clause-refused c =
-    (refl ,
-    not-named (rows_of (found_of c.args.matches.now)) c.in-Some.word.now
-    (sym (first_value-rows (found_of c.args.matches.now) (codes "view")) ∙ (sym c.get_str.ensures ∙ ap (option_map (λ s. s.now)) c.in-Some.is))
-    (sym c.view_of.ensures ∙ c.in-None-view_of.is))
+returns-in-None-view_of-clause-refused c = (
+  refl,
+  not-named (rows_of (found_of c.args.matches.now)) c.in-Some.word.now
+      (sym (first_value-rows (found_of c.args.matches.now) (codes "view")) ∙ (sym c.get_str.ensures ∙ ap (option_map (λ s. s.now)) c.in-Some.is))
+      (sym c.view_of.ensures ∙ c.in-None-view_of.is),
+)
 
 pub returns-clause-taken : goal.returns-clause-taken
 returns-clause-taken c =
