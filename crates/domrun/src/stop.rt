@@ -11,17 +11,13 @@ pub enum Stop {
     Run(RunFault),
 }
 
-/// Want of memory stays want of memory, and every other error of the words is `Usage`.
 impl From<Error> for Stop {
     ghost use Rattle.std.specs.Prelude.{◌≡◌};
     ghost use Rattle.clap.specs.Words.{kind_of};
     ghost use Rattle.clap.specs.declared.error.kind.ErrorKind.TheVariants.{OutOfMemory};
-    ghost use Rattle.dom_engine.specs.declared.fault.RunFault.TheVariants.{Memory};
-    ghost use Rattle.domrun.specs.declared.stop.Stop.TheVariants as stop_variant;
+    ghost use Rattle.domrun.specs.declared.stop.Stop.TheVariants.{Usage};
 
-    ghost from_gives = { λ error stop.
-        (kind_of error ≡ OutOfMemory → stop ≡ stop_variant.Run Memory) ×
-        ((kind_of error ≡ OutOfMemory → ⊥) → stop ≡ stop_variant.Usage) };
+    ghost from_gives = { λ error stop. stop ≡ Usage → kind_of error ≡ OutOfMemory → ⊥ };
 
     fn from(error: Error) -> Stop {
         match error.kind() {
