@@ -12,3 +12,4 @@ pub mod Listing
 pub mod Parts
 pub mod Moved
 pub mod OwnOrder
+pub mod Inside

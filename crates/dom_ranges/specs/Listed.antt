@@ -98,6 +98,10 @@ abbrev pub AreAllIn : (Boundary ℕ → Boundary ℕ) → List RangeEnd → Part
 AreAllIn rule es one two =
     (k : ℕ) (d : RangeEnd) (i : ℕ) → k < length es → is_in one k ≡ false → is_in two k ≡ false → rule (at (slice_index_or es k d).node i) ≡ at (slice_index_or es k d).node i
 
+-- each listed end is at the node of a point of which this holds
+abbrev pub AreWhere : (Boundary ℕ → Type 0) → List RangeEnd → Type 0
+AreWhere P es = (k : ℕ) (d : RangeEnd) → k < length es → (i : ℕ) × P (at (slice_index_or es k d).node i)
+
 -- a listed end that stands at another node
 abbrev pub at_node : RangeEnd → ℕ → RangeEnd
 at_node e node = record { node = node; slot = e.slot; is_end = e.is_end }

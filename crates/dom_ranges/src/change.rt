@@ -1,8 +1,8 @@
 //! What each step of a change does to a boundary point (DOM Standard, 5.3 and 5.5).
-ghost use Rattle.std.specs.Prelude.{◌≡◌, ◌⊎◌, ℕ, ◌<◌, ◌≤◌, length, nat_eq};
+ghost use Rattle.std.specs.Prelude.{◌≡◌, ◌⊎◌, ℕ, ◌<◌, ◌≤◌, false, length, slice_index_or, nat_eq};
 ghost use Rattle.dom_model.specs.Place.{Boundary};
 ghost use Rattle.dom_model.specs.Ranges.{at, after_insert, after_removal, after_replace_data, after_split, after_join};
-ghost use Rattle.dom_ranges.specs.Listed.{IsSortedByNode, AreAllIn};
+ghost use Rattle.dom_ranges.specs.Listed.{IsSortedByNode, AreAllIn, AreWhere, is_in};
 ghost use Rattle.dom_ranges.specs.Rules.{Fits, IsAtNode, is_inside};
 
 use crate::ends::{Part, RangeEnd, part_of};
@@ -29,7 +29,8 @@ pub(crate) trait Change {
 
     /// Two parts of the sorted list of ends, outside which the step moves none.
     fn concerned(&self, ends: &[RangeEnd]) -> (Part, Part)
-        requires { IsSortedByNode ends.now }
+        requires sorted { IsSortedByNode ends.now }
+        requires standing { AreWhere (can_move self.now) ends.now }
         ensures first_within { result.0.behind ≤ length ends.now }
         ensures second_within { result.1.behind ≤ length ends.now }
         ensures all { AreAllIn (rule self.now) ends.now result.0 result.1 };
@@ -101,12 +102,40 @@ impl Change for Removal<'_> {
     }
 
     fn concerned(&self, ends: &[RangeEnd]) -> (Part, Part) {
-        let whole = Part {
-            first: 0,
-            behind: ends.len(),
-        };
-        (whole, whole)
+        let inside = part_inside(self.forest, self.node, ends);
+        (inside, part_of(ends, self.parent))
     }
+}
+
+/// The places from the first to the last of the ends that are at nodes in the tree of `top`. Each node of the tree costs
+/// two binary searches in the list, and each end in the part is then tested by going up from its node. Where the tree has
+/// more nodes than the list has ends, the walk stops after as many, and the part is the whole list: to test each end is
+/// less then.
+fn part_inside(forest: &Forest, top: Key, ends: &[RangeEnd]) -> Part
+    requires sorted { IsSortedByNode ends.now }
+    requires nodes { (k : ℕ) (d : RangeEnd) → k < length ends.now → (top < length forest.now.names) × ((slice_index_or ends.now k d).node < length forest.now.names) }
+    ensures within { result.behind ≤ length ends.now }
+    ensures all { (k : ℕ) (d : RangeEnd) → k < length ends.now → is_in result k ≡ false → is_inside forest.now top (slice_index_or ends.now k d).node ≡ false }
+{
+    forest.nodes_stand_once();
+    let mut part = Part {
+        first: ends.len(),
+        behind: 0,
+    };
+    let mut left = ends.len();
+    let mut at = Some(top);
+    while let Some(key) = at {
+        if left == 0 {
+            return Part {
+                first: 0,
+                behind: ends.len(),
+            };
+        }
+        left -= 1;
+        part = part.around(part_of(ends, key));
+        at = forest.following(key, top);
+    }
+    part
 }
 
 /// From `offset` on, `count` code units of `node` give way to `length` others.

@@ -29,6 +29,21 @@ impl Part {
     {
         self.first <= place && place < self.behind
     }
+
+    /// The places from the first to the last of two parts.
+    pub(crate) fn around(self, other: Part) -> Part
+        ensures first { (k : ℕ) → is_in self k ≡ true → is_in result k ≡ true }
+        ensures second { (k : ℕ) → is_in other k ≡ true → is_in result k ≡ true }
+        ensures within { (n : ℕ) → self.behind ≤ n → other.behind ≤ n → result.behind ≤ n }
+    {
+        if other.behind <= other.first {
+            return self;
+        }
+        Part {
+            first: self.first.min(other.first),
+            behind: self.behind.max(other.behind),
+        }
+    }
 }
 
 /// Where the ends at a node are at their end, or would be, in a part of a list that is sorted there.

@@ -1,9 +1,19 @@
-use Rattle.std.proofs.Common.{sym, subst, ◌∙◌}
-use Rattle.dom_ranges.specs.Listed.{IsSortedBeside}
+use Rattle.std.proofs.Common.{get_or, sym, subst, ◌∙◌}
+use Rattle.dom_model.specs.Ranges.{at}
+use Rattle.dom_ranges.specs.Listed.{IsSortedBeside, point_at}
 use Rattle.dom_ranges.proofs.Listing.{IsListed-permuted}
-use Rattle.dom_ranges.proofs.Parts.{chosen-true}
+use Rattle.dom_ranges.proofs.Parts.{chosen-true, the_point}
 use Rattle.dom_ranges.proofs.Moved.{IsListed-moved, holds-point, stays-outside, ranges-both, listed-both, IsSortedBeside-both, IsSortedByNode-both}
 use Rattle.dom_ranges.proofs.moving.move_ends.Goals as goal
+
+pub concerned-requires-clause-standing : goal.concerned-requires-clause-standing
+concerned-requires-clause-standing g c =
+    λ k d l.
+    let e = get_or c.args.ends.now k d in
+    let p = the_point (point_at c.args.live.now e.slot e.is_end) e.node (c.requires.listed.standing k d l) in (
+      p.0.offset,
+      subst (λ n. g.C.Change.can_move c.args.change.now (at n p.0.offset)) p.2 (holds-point (g.C.Change.can_move c.args.change.now) _ e.is_end p.0 (c.requires.can_move e.slot) p.1),
+    )
 
 pub move_part-here-requires-clause-can_move : goal.move_part-here-requires-clause-can_move
 move_part-here-requires-clause-can_move g c = λ k d l e x f. holds-point (g.C.Change.can_move c.args.change.now) _ _ x (c.requires.can_move _) f

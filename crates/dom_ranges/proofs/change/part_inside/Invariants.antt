@@ -1,0 +1,21 @@
+use Rattle.std.proofs.Common.{◌≡◌, ℕ, ◌<◌, ◌≤◌, false, length, get_or}
+use Rattle.std.specs.Option.{option_map, ForSome}
+use Rattle.dom_model.specs.Tree.{inclusive_descendants}
+use Rattle.dom_tree.specs.Forest.{name_at}
+use Rattle.dom_traversal.specs.Within.{from_node, StandsIn}
+use Rattle.dom_traversal.proofs.Lists.{In}
+use Rattle.dom_ranges.specs.declared.ends.RangeEnd.{RangeEnd}
+use Rattle.dom_ranges.specs.Listed.{is_in}
+use Rattle.dom_ranges.proofs.change.part_inside.Given as goal
+
+abbrev pub invariant-loop-at : goal.invariant-loop-at
+invariant-loop-at l = record {
+  stands : 0 < length l.ends → ForSome l.at (StandsIn l.forest l.top);
+  few : l.left ≤ length l.ends;
+  within : l.part.behind ≤ length l.ends;
+  ahead : (k : ℕ) (d : RangeEnd) → k < length l.ends → is_in l.part k ≡ false → In (name_at l.forest.names (get_or l.ends k d).node) (inclusive_descendants l.forest.trees (name_at l.forest.names l.top))
+      → In (name_at l.forest.names (get_or l.ends k d).node) (from_node l.forest.trees (name_at l.forest.names l.top) (option_map (name_at l.forest.names) l.at));
+}
+
+abbrev pub decreases-loop-at : goal.decreases-loop-at
+decreases-loop-at l = l.left
