@@ -27,3 +27,5 @@ pub mod Far
 pub mod Stepping
 pub mod Apart
 pub mod Inside
+pub mod Mapping
+pub mod Assigned

@@ -1,5 +1,5 @@
 -- Tables as their maps hold them.
-use Rattle.std.proofs.Common.{◌≡◌, inl, inr, ℕ, Bool, true, false, cond, List, [], ◌∷◌, Option, Some, refl}
+use Rattle.std.proofs.Common.{◌≡◌, inl, inr, ℕ, Bool, true, false, cond, List, [], ◌∷◌, Option, Some, refl, sym, ap, ◌∙◌}
 use Rattle.std.specs.Prelude.{nat_eq, Vec, unwrap_or, if◌then◌else◌}
 use Rattle.std.specs.Option.{option_map}
 use Rattle.std.specs.Map.{lookup}
@@ -20,3 +20,9 @@ list-found k (e ∷ es) = elim (cases_Bool (nat_eq k e.0)) [ inl h ↦ rw h refl
 pub items-chosen : {A : Type 0} (b : Bool) (v : Vec ℕ A) (o : Option (Vec ℕ A)) → items_or (cond b (Some v) o) ≡ (if b then v.items else items_or o)
 items-chosen true v o = refl
 items-chosen false v o = refl
+
+-- the lists after a slot was given one
+pub list-inserted : {A : Type 0} (slot : ℕ) (v : Vec ℕ A) (es now : List (ℕ × Vec ℕ A)) → ((k : ℕ) → lookup (nat_eq k) now ≡ cond (nat_eq slot k) (Some v) (lookup (nat_eq k) es))
+    → (k : ℕ) → list_of (table_in now) k ≡ (if nat_eq slot k then v.items else list_of (table_in es) k)
+list-inserted slot v es now updated k =
+    sym (list-found k now) ∙ (ap items_or (updated k) ∙ (items-chosen (nat_eq slot k) v (lookup (nat_eq k) es) ∙ ap (λ xs. if nat_eq slot k then v.items else xs) (list-found k es)))

@@ -1,6 +1,8 @@
-//! Which nodes are assigned to each slot.
-ghost use Rattle.std.specs.Prelude.{◌≡◌, ℕ, [], nat_eq, not, if◌then◌else◌, OnOk};
-ghost use Rattle.dom_model.specs.Names.{list_eq};
+//! Which nodes are assigned to each slot, and the slot of each node that is assigned.
+ghost use Rattle.std.specs.Prelude.{◌≡◌, ◌⊎◌, ℕ, [], true, false, nat_eq, not, if◌then◌else◌, Some, OnOk};
+ghost use Rattle.std.specs.Option.{ForSome};
+ghost use Rattle.indexmap.specs.IndexMap.{get};
+ghost use Rattle.dom_model.specs.Names.{is_in, list_eq};
 ghost use Rattle.dom_slots.specs.Tables.{list_of};
 
 use indexmap::IndexMap;
@@ -8,10 +10,12 @@ use node_arena::Key;
 use std::alloc::{AllocError, Global};
 use std::marker::Model;
 
-/// Lists of nodes by slots. A slot without a list has an empty one.
+/// Lists of nodes by slots, and the slots of the nodes in these lists. A slot without a list has an empty one. A node that
+/// stands in two lists, as between two renewals, may be without its slot.
 #[derive(Drop)]
 pub(crate) struct Table {
     lists: IndexMap<Key, Vec<Key>>,
+    slots: IndexMap<Key, Key>,
 }
 
 impl Model for Table {
@@ -19,9 +23,11 @@ impl Model for Table {
 
     ghost Value = { SlotTable };
 
-    ghost use Rattle.dom_slots.specs.Lists.{table_in};
+    ghost use Rattle.dom_slots.specs.Lists.{table_in, SlotsAgree};
 
     ghost view = { λ t. table_in t.lists.entries };
+
+    ghost invariant = { λ t. SlotsAgree t.lists.entries t.slots.entries };
 }
 
 impl Table {
@@ -31,6 +37,7 @@ impl Table {
     {
         Table {
             lists: IndexMap::new(alloc),
+            slots: IndexMap::new(alloc),
         }
     }
 
@@ -44,6 +51,13 @@ impl Table {
         }
     }
 
+    /// The slot in whose list a node stands, found by one look-up. There may be none though the node stands in lists.
+    pub(crate) fn slot(&self, node: Key) -> Option<Key>
+        ensures { ForSome result (λ slot. is_in nat_eq node (list_of self.now slot) ≡ true) }
+    {
+        self.slots.get(&node).copied()
+    }
+
     /// Whether the list of a slot is another one than these nodes.
     pub(crate) fn has_other(&self, slot: Key, nodes: &[Key]) -> bool
         ensures { result ≡ not (list_eq nat_eq (list_of self.now slot) nodes.now) }
@@ -55,7 +69,33 @@ impl Table {
     pub(crate) fn insert(&mut self, slot: Key, list: Vec<Key>) -> Result<(), AllocError>
         ensures { OnOk result ((k : ℕ) → list_of self.new k ≡ (if nat_eq slot k then list.items else list_of self.old k)) }
     {
-        let _ = self.lists.insert(slot, list)?;
-        Ok(())
+        if let Some(old) = self.lists.insert(slot, list)? {
+            forget(&mut self.slots, &old, slot);
+        }
+        match self.lists.get(&slot) {
+            Some(list) => remember(&mut self.slots, list, slot),
+            None => Ok(()),
+        }
     }
+}
+
+/// Takes this slot from those of these nodes that have it.
+fn forget(slots: &mut IndexMap<Key, Key>, nodes: &[Key], slot: Key)
+    ensures { (k s : ℕ) → get nat_eq slots.new k ≡ Some s → (get nat_eq slots.old k ≡ Some s) × (s ≡ slot → is_in nat_eq k nodes.now ≡ false) }
+{
+    for node in nodes {
+        if slots.get(node).copied() == Some(slot) {
+            let _ = slots.swap_remove(node);
+        }
+    }
+}
+
+/// Gives these nodes this slot.
+fn remember(slots: &mut IndexMap<Key, Key>, nodes: &[Key], slot: Key) -> Result<(), AllocError>
+    ensures { (k s : ℕ) → get nat_eq slots.new k ≡ Some s → ((s ≡ slot) × (is_in nat_eq k nodes.now ≡ true)) ⊎ (get nat_eq slots.old k ≡ Some s) }
+{
+    for node in nodes {
+        let _ = slots.insert(*node, slot)?;
+    }
+    Ok(())
 }

@@ -14,7 +14,8 @@ use std::alloc::AllocError;
 
 impl Slots {
     /// The slot to which a node is assigned: the first one of its name in the shadow tree of its parent (DOM Standard,
-    /// concept: find a slot). Takes no memory.
+    /// concept: find a slot). It is found by one look-up; only of a child of a host that has no slot the shadow tree is
+    /// walked. Takes no memory.
     pub fn slot_of(&self, forest: &Forest, node: Key) -> Option<Key>
         requires node_is_node { node < length forest.now.names }
         requires free { self.now.begun ≡ None }
@@ -22,7 +23,10 @@ impl Slots {
         ensures value { option_map (name_at forest.now.names) result ≡ slot_at (shadows forest.now self.now.hosts) (name_at forest.now.names node) }
         ensures node { ForSome result (λ k. k < length forest.now.names) }
     {
-        self.slot_now(forest, node)
+        match self.table.slot(node) {
+            Some(slot) => Some(slot),
+            None => self.slot_now(forest, node),
+        }
     }
 
     /// The nodes assigned to a slot, in the order of their host's children; none to a node outside of shadow trees (DOM

@@ -36,7 +36,7 @@ impl Slots {
             Step::Place(node, _, _) | Step::Removal(node) => forest.parent(node),
             Step::Attribute(_) => None,
         };
-        let slot = self.slot_now(forest, step.node());
+        let slot = self.slot_of(forest, step.node());
         self.begun = Some(Begun {
             step: kept,
             left,
