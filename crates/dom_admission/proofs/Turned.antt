@@ -1,12 +1,12 @@
 -- Steps do in a world with an open turn what they do in the world alone.
-use Rattle.std.proofs.Common.{◌≡◌, Bool, true, false, List, [], ◌∷◌, Option, Some, None, fold, refl, ap, ◌∙◌, sym, subst}
+use Rattle.std.proofs.Common.{◌≡◌, ℕ, zero, suc, Bool, true, false, List, [], ◌∷◌, Option, Some, None, fold, flat_map, filter_map, refl, ap, ◌∙◌, sym, subst}
 use Rattle.dom_base.specs.declared.Owner.{Owner}
 use Rattle.dom_base.specs.declared.NodeName.{NodeName}
 use Rattle.dom_model.specs.Names.{max_depth}
-use Rattle.dom_model.specs.Tree.{parent_of}
+use Rattle.dom_model.specs.Tree.{parent_of, inclusive_descendants}
 use Rattle.dom_model.specs.Steps.{Step, make, make_room, place, take_out, set_document, set_attribute, replace_data, split_at, join_at, set_range, queue_record, is_taken}
 use Rattle.dom_model.specs.Slots.{signals, with_signal}
-use Rattle.dom_model.specs.World.{World, part_of, components_below}
+use Rattle.dom_model.specs.World.{World, part_of, component_at, components_below, shadow_root_of, trees_with}
 use Rattle.dom_model.specs.WorldSteps.{world_step, world_after, stepped, with_removal_signals, with_notify_if, with_shadow_document}
 use Rattle.dom_admission.specs.Turned.{with_turn, turned}
 use Rattle.dom_isolation.specs.Bounds.{IsBounded}
@@ -20,6 +20,11 @@ module _ (t : Option Owner) where
   documents_turned : (d : NodeName) (w : World) (cs : List Owner) → fold (with_shadow_document d) (with_turn t w) cs ≡ with_turn t (fold (with_shadow_document d) w cs)
   documents_turned d w [] = refl
   documents_turned d w (c ∷ cs) = documents_turned d (with_shadow_document d w c) cs
+
+  components_turned : (depth : ℕ) (w : World) (x : NodeName) → components_below depth (with_turn t w) x ≡ components_below depth w x
+  components_turned zero w x = refl
+  components_turned (suc depth) w x =
+      λ j. flat_map (λ c. c ∷ components_turned depth w (shadow_root_of c) j) (filter_map (component_at w) (inclusive_descendants (trees_with w x) x))
 
   removal_turned : (was now : World) (x : NodeName) (parent : Option NodeName) →
       with_removal_signals (with_turn t was) (with_turn t now) x parent ≡ with_turn t (with_removal_signals was now x parent)
@@ -35,7 +40,9 @@ module _ (t : Option Owner) where
   step_turned o w (make_room parent index count) = refl
   step_turned o w (place x parent before) = signals_turned (stepped o w (place x parent before)) (signals w (stepped o w (place x parent before)) x parent true)
   step_turned o w (take_out x) = removal_turned w (stepped o w (take_out x)) x (parent_of (part_of w o).trees x)
-  step_turned o w (set_document x d) = documents_turned d (stepped o w (set_document x d)) (components_below max_depth w x)
+  step_turned o w (set_document x d) =
+      ap (fold (with_shadow_document d) (with_turn t (stepped o w (set_document x d)))) (components_turned max_depth w x)
+      ∙ documents_turned d (stepped o w (set_document x d)) (components_below max_depth w x)
   step_turned o w (set_attribute x a v) = signals_turned (stepped o w (set_attribute x a v)) (signals w (stepped o w (set_attribute x a v)) x x false)
   step_turned o w (replace_data x offset count new) = refl
   step_turned o w (split_at x offset new parent index) = refl

@@ -1,9 +1,8 @@
 -- What a change of listeners, and a dispatch, leave of a world with listeners.
-use Rattle.std.proofs.Common.{◌≡◌, ◌≢◌, true, false, List, [], ◌∷◌, length, Option, refl, sym, ap, subst, ◌∙◌}
+use Rattle.std.proofs.Common.{◌≡◌, ◌≢◌, true, false, List, [], Option, refl, sym, ap, subst, ◌∙◌}
 use Rattle.std.specs.Prelude.{is_some}
 use Rattle.dom_base.specs.declared.NodeName.{NodeName}
 use Rattle.dom_base.specs.declared.Owner.{Owner}
-use Rattle.dom_base.specs.declared.Owner.TheVariants.{Page}
 use Rattle.dom_model.specs.Command.{EventWords}
 use Rattle.dom_model.specs.Dispatch.{dispatch_in, visits_of}
 use Rattle.dom_model.specs.Listeners.{Listener, begun}
@@ -14,26 +13,22 @@ use Rattle.dom_model.specs.World.{World, find_part, part_of, with_part, is_there
 use Rattle.dom_model.proofs.OwnerLaws.{owner_eq-true, owner_eq-false}
 use Rattle.dom_model.proofs.PartLaws.{owner-part_of, part_of-with_part, part_of-with_part-other}
 use Rattle.dom_isolation.specs.Laws.{IsReached}
-use Rattle.dom_isolation.specs.Worlds.{owners_in, attached_components}
-use Rattle.dom_isolation.proofs.OwnerSteps.{IsPeopled, peopled-dispatch}
-use Rattle.dom_isolation.proofs.Owners.{owners-put}
+use Rattle.dom_isolation.specs.Worlds.{owners_in}
+use Rattle.dom_isolation.proofs.OwnerSteps.{people-dispatch}
+use Rattle.dom_isolation.proofs.Owners.{AreOnce, owners-put, once-in}
 use Rattle.dom_isolation.proofs.Tests.{by_cases}
-use Rattle.dom_isolation.proofs.TurnEndings.{alike-dispatch}
 use Rattle.dom_isolation.proofs.Visits.{rest-visits}
 use Rattle.dom_commands.specs.Heard.{heard}
 use Rattle.dom_commands.proofs.Heard.{FitsIn, part-heard, there-heard, owners-heard}
-use Rattle.dom_commands.proofs.SameWorlds.{AreOnce, once-in, worlds-same}
-
--- who is there, in a world that was reached
-people : (w : World) → IsReached false w → IsPeopled w
-people w r = record { owners = r.owners; no_hosts = r.world.no_hosts }
+use Rattle.dom_commands.proofs.SameWorlds.{worlds-same}
 
 module _ (old new : Owner → List (Listener NodeName)) (w : World) (fits : FitsIn old w) (fits_now : FitsIn new w) (reached : IsReached false (heard old w)) where
   -- the same owners, whose parts have other listeners alone
   pub heard-same : (v : World) → owners_in v ≡ owners_in (heard old w) → ((o : Owner) → part_of v o ≡ record (part_of (heard old w) o) { listeners = new o }) → record v { parts = [] } ≡ record w { parts = [] } →
       v ≡ heard new w
   heard-same v owners parts rest =
-      worlds-same v (heard new w) (subst AreOnce (owners-heard old w ∙ sym (owners-heard new w)) (once-in (heard old w) reached.owners)) (owners ∙ owners-heard old w ∙ sym (owners-heard new w))
+      worlds-same v (heard new w) (subst AreOnce (owners-heard old w ∙ sym (owners-heard new w))
+      (once-in (heard old w) reached.world.makers reached.owners)) (owners ∙ owners-heard old w ∙ sym (owners-heard new w))
       (λ o. parts o ∙ ap (λ (p : Part). record p { listeners = new o }) (part-heard old w fits o) ∙ ap (λ (a : Owner). record (part_of w o) { listeners = new a }) (sym (owner-part_of w o)) ∙ sym (part-heard new w fits_now o))
       rest
 
@@ -61,7 +56,6 @@ module _ (old new : Owner → List (Listener NodeName)) (w : World) (fits : Fits
   dispatched-heard x related e parts =
       let all = heard old w in
       let end = (dispatch_in all x related e).run.0 in
-      let now = peopled-dispatch all reached.world x related e (people all reached) in
       heard-same end
-      (now.owners.parts ∙ ap (λ (hs : List NodeName). Page ∷ attached_components (length hs)) (alike-dispatch all x related e Page).attached ∙ sym reached.owners.parts)
+      (people-dispatch all reached.world x related e)
       parts (rest-visits e (visits_of name_eq e.bubbles (views all x related e.composed)) (all, begun []))

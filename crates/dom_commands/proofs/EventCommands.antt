@@ -48,13 +48,20 @@ reached-opening w o there r =
         page = r.world.page;
         parts = r.world.parts;
         hosts = r.world.hosts;
-        no_hosts = r.world.no_hosts;
+        makers = r.world.makers;
         shadow_roots = r.world.shadow_roots;
         signalled = r.world.signalled;
         tasks = λ h. r.world.tasks (closed w.turn e);
       };
       kinds = r.kinds;
-      owners = record { parts = r.owners.parts; turn = (there, tt); tasks = r.owners.tasks; signalled = r.owners.signalled };
+      owners = record {
+        first = r.owners.first;
+        unmade = r.owners.unmade;
+        made = r.owners.made;
+        turn = (there, tt);
+        tasks = r.owners.tasks;
+        signalled = r.owners.signalled;
+      };
       logs = λ e. absurd (true≢false (sym e));
     })
   where

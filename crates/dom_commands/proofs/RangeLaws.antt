@@ -47,7 +47,8 @@ lone-shadow_roots w r o x h = from (parent_of ts x) refl
         by Page is may = absurd may
         by (Component k) is may =
             let same : o ≡ Component k = sym own ∙ is in
-            let hosted = there-hosted w r.owners (Component k) (Component-IsNoPage k) (node-there w (Component k) x (subst (λ (q : Owner). 1 ≤ times_in (part_of w q).trees x) same there)) in
+            let hosted = there-hosted w r.world.makers r.owners (Component k) (Component-IsNoPage k)
+            (node-there w (Component k) x (subst (λ (q : Owner). 1 ≤ times_in (part_of w q).trees x) same there)) in
             ap (λ (q : Owner). parent_of (part_of w q).trees x) same ∙ ap (parent_of (part_of w (Component k)).trees) may ∙ (shadow_roots-are_roots false w r (Component k) hosted).2
 
 -- no shadow root has a parent, also where the listeners are left out

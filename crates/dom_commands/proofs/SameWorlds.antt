@@ -1,50 +1,15 @@
 -- Worlds in which the same owners have the same parts are the same.
-use Rattle.std.proofs.Common.{◌≡◌, ◌≢◌, ℕ, zero, suc, Bool, true, false, ◌||◌, List, [], ◌∷◌, ◌++◌, length, map, Option, Some, None, unwrap_or, refl, sym, ap, subst, ◌∙◌, arith, true≢false}
+use Rattle.std.proofs.Common.{◌≡◌, true, false, List, [], ◌∷◌, map, Option, Some, None, unwrap_or, refl, sym, ap, subst, ◌∙◌, true≢false}
 use Rattle.std.specs.Prelude.{is_some}
 use Rattle.std.proofs.lemmas.Bool.{cond-true, cond-false}
 use Rattle.dom_base.specs.declared.Owner.{Owner}
-use Rattle.dom_base.specs.declared.Owner.TheVariants.{Page}
 use Rattle.dom_model.specs.Names.{owner_eq}
 use Rattle.dom_model.specs.Part.{Part, empty_part}
-use Rattle.dom_model.specs.World.{World, find_part, part_of, component_made}
-use Rattle.dom_model.proofs.OwnerLaws.{owner_eq-same, owner_eq-true, ne-owner_eq}
-use Rattle.dom_isolation.specs.Worlds.{attached_components, owners_in, HasOwners}
-use Rattle.dom_isolation.proofs.Owners.{has_owner, there-listed, later-absent}
-use Rattle.dom_isolation.proofs.Tests.{by_cases, or-neither}
-
--- ---- owners that stand once
-
-abbrev pub AreOnce : List Owner → Type 0
-AreOnce [] = Unit {0}
-AreOnce (o ∷ os) = (has_owner os o ≡ false) × AreOnce os
-
-has-behind : (os : List Owner) (o x : Owner) → has_owner os x ≡ false → o ≢ x → has_owner (os ++ o ∷ []) x ≡ false
-has-behind [] o x off other = or-neither (owner_eq o x) false (ne-owner_eq o x other) refl
-has-behind (p ∷ os) o x off other = by (owner_eq p x) off (has-behind os o x)
-  where
-    by : (b : Bool) → (b || has_owner os x) ≡ false → (has_owner os x ≡ false → o ≢ x → has_owner (os ++ o ∷ []) x ≡ false) → (b || has_owner (os ++ o ∷ []) x) ≡ false
-    by true h more = absurd (true≢false h)
-    by false h more = more h other
-
-once-behind : (os : List Owner) (o : Owner) → AreOnce os → has_owner os o ≡ false → AreOnce (os ++ o ∷ [])
-once-behind [] o once off = (refl, tt)
-once-behind (p ∷ os) o once off = by (owner_eq p o) refl off (once-behind os o once.1)
-  where
-    by : (b : Bool) → owner_eq p o ≡ b → (b || has_owner os o) ≡ false → (has_owner os o ≡ false → AreOnce (os ++ o ∷ [])) → AreOnce (p ∷ os ++ o ∷ [])
-    by true e h more = absurd (true≢false h)
-    by false e h more = (has-behind os o p once.0 (λ same. true≢false (sym (ap (owner_eq p) same ∙ owner_eq-same p) ∙ e)), more h)
-
-attached-once : (n : ℕ) → AreOnce (attached_components n)
-attached-once zero = tt
-attached-once (suc n) = once-behind (attached_components n) (component_made Page n) (attached-once n) (later-absent n n (omega arith))
-
-no_page : (n : ℕ) → has_owner (attached_components n) Page ≡ false
-no_page zero = refl
-no_page (suc n) = has-behind (attached_components n) (component_made Page n) Page (no_page n) (λ e. absurd cc)
-
--- the owners of a world stand once
-owners-once : (n : ℕ) → AreOnce (Page ∷ attached_components n)
-owners-once n = (no_page n, attached-once n)
+use Rattle.dom_model.specs.World.{World, find_part, part_of}
+use Rattle.dom_model.proofs.OwnerLaws.{owner_eq-same, owner_eq-true}
+use Rattle.dom_isolation.specs.Worlds.{owners_in}
+use Rattle.dom_isolation.proofs.Owners.{has_owner, there-listed, AreOnce}
+use Rattle.dom_isolation.proofs.Tests.{by_cases}
 
 -- ---- parts
 
@@ -79,10 +44,6 @@ parts-same (p ∷ ps) (q ∷ qs) e once same =
     absent-found ps o off ∙ sym (absent-found qs o (sym (ap (λ os. has_owner os o) rest) ∙ off)))
     (λ h. sym (other-found p ps o h) ∙ same o ∙ other-found q qs o (sym (ap (λ (x : Owner). owner_eq x o) first) ∙ h)) in
     λ j. here j ∷ parts-same ps qs rest once.1 deeper j
-
--- in a world that was reached each owner stands once
-pub once-in : (w : World) → HasOwners w → AreOnce (owners_in w)
-once-in w people = subst AreOnce (sym people.parts) (owners-once (length (part_of w Page).attached))
 
 -- two worlds with the same owners' parts, and the same beside them
 pub worlds-same : (v u : World) → AreOnce (owners_in u) → owners_in v ≡ owners_in u → ((o : Owner) → part_of v o ≡ part_of u o) → record v { parts = [] } ≡ record u { parts = [] } → v ≡ u

@@ -1,17 +1,19 @@
 -- What is known of an accepted command: each test of a refusal failed.
 use Rattle.std.proofs.lemmas.Bool.{not-false}
-use Rattle.std.proofs.Common.{◌≡◌, Bool, true, false, not, ◌&&◌, List, [], ◌∷◌, Option, Some, None, refl}
+use Rattle.std.proofs.Common.{◌≡◌, Bool, true, false, not, ◌&&◌, List, [], ◌∷◌, Option, Some, None, refl, sym, true≢false}
 use Rattle.std.specs.Option.{option_or}
 use Rattle.dom_base.specs.declared.Owner.{Owner}
+use Rattle.dom_base.specs.declared.Owner.TheVariants.{Page, Component}
 use Rattle.dom_base.specs.declared.Refusal.{Refusal}
 use Rattle.dom_base.specs.declared.Refusal.TheVariants.{Syntax, Busy, Foreign, Unknown, WrongKind}
-use Rattle.dom_model.specs.Command.{Command}
+use Rattle.dom_model.specs.Command.{Command, Spelled}
 use Rattle.dom_model.specs.CommandNames.{names_foreign, nodes_exist, thing_exists, nodes_fit}
 use Rattle.dom_model.specs.CommandRefusals.{is_command_of, part_refusal, own_refusal}
 use Rattle.dom_model.specs.DocumentMachine.{refusal, is_busy}
 use Rattle.dom_model.specs.Part.{Part}
 use Rattle.dom_model.specs.Validity.{first_refusal}
-use Rattle.dom_model.specs.World.{World, part_of, is_there}
+use Rattle.dom_model.specs.World.{World, part_of, is_there, MayAttach}
+use Rattle.dom_model.proofs.OwnerLaws.{page-may_attach}
 
 -- neither of two refusals
 pub or-none : (a b : Option Refusal) → option_or a b ≡ None → (a ≡ None) × (b ≡ None)
@@ -22,6 +24,11 @@ or-none (Some r) b h = cc
 pub next-test : (b : Bool) (r : Refusal) (ts : List (Bool × Refusal)) → first_refusal ((b, r) ∷ ts) ≡ None → (b ≡ false) × (first_refusal ts ≡ None)
 next-test true r ts h = cc
 next-test false r ts h = (refl, h)
+
+-- Whoever attaches may: the grammar lets the page alone attach.
+pub attach-may : (o : Owner) (x : Spelled) → is_command_of o (Command.attach x) ≡ true → MayAttach o
+attach-may Page x h = page-may_attach
+attach-may (Component k) x h = absurd (true≢false (sym h))
 
 -- The refusals that its owner's part alone decides.
 pub record IsPartAccepted (p : Part) (c : Command) : Type 0 where

@@ -13,6 +13,7 @@ use Rattle.dom_model.specs.PageMachine.{is_page_task}
 use Rattle.dom_model.proofs.OwnerLaws.{owner_eq-true, owner_eq-false}
 use Rattle.dom_model.proofs.PartLaws.{part_of-with_part, part_of-with_part-other, owner-part_of, find-put, find-put-other}
 use Rattle.dom_isolation.specs.Worlds.{IsPart, IsRoot, IsWorld, IsOf, IsForeignTo, OnlyLogs, ComponentsOnlyLog, times_in}
+use Rattle.dom_isolation.proofs.Makers.{makers-same}
 use Rattle.dom_isolation.proofs.Tests.{by_cases}
 
 -- parts with the same trees, count and hosts
@@ -57,8 +58,8 @@ world-alike v w a there signals tasks i =
     record {
       page = there i.page;
       parts = λ o. part-alike (part_of v o) (part_of w o) (owner-part_of v o ∙ sym (owner-part_of w o)) (a o) (i.parts o);
-      hosts = subst (AllByRecursion (IsOf Page)) (sym (a Page).attached) i.hosts;
-      no_hosts = λ o f. (a o).attached ∙ i.no_hosts o f;
+      hosts = λ o. subst (AllByRecursion (IsOf o)) (sym (a o).attached) (i.hosts o);
+      makers = makers-same v w (λ o. (a o).attached) i.makers;
       shadow_roots = λ o h. subst (λ t. IsRoot t (shadow_root_of o)) (sym (a o).trees) (i.shadow_roots o (subst (λ x. is_some x ≡ true) (host_of-same v w (λ x. (a x).attached) o) h));
       signalled = signals;
       tasks = tasks;

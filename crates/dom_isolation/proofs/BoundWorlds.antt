@@ -7,7 +7,7 @@ use Rattle.dom_base.specs.declared.NodeName.{NodeName}
 use Rattle.dom_base.specs.declared.Owner.{Owner}
 use Rattle.dom_base.specs.declared.Owner.TheVariants.{Page, Component}
 use Rattle.dom_base.specs.declared.Refusal.{Refusal}
-use Rattle.dom_model.specs.Command.{Command, Line, no_owner, no_command, command, Spelled, EventWords}
+use Rattle.dom_model.specs.Command.{Command, Line, no_owner, no_command, command, EventWords}
 use Rattle.dom_model.specs.CommandNames.{named, has_range}
 use Rattle.dom_model.specs.CommandRefusals.{is_command_of, part_refusal}
 use Rattle.dom_model.specs.Dispatch.{dispatch_in, world_visit, visits_of}
@@ -51,7 +51,7 @@ use Rattle.dom_isolation.proofs.TableCommands.{Holds, holds-effect, exists-first
 use Rattle.dom_isolation.proofs.TableEffects.{KeepsBase, base-effect}
 use Rattle.dom_isolation.proofs.TableLines.{first-is_whole, step-keeps_whole, ending-keeps_whole, any-reached}
 use Rattle.dom_isolation.proofs.TableSteps.{MadeIn}
-use Rattle.dom_isolation.proofs.TableWorlds.{Ground, each-part, ground-stepped, ground-world_step, part-own_step}
+use Rattle.dom_isolation.proofs.TableWorlds.{Ground, ground-of, each-part, ground-stepped, ground-world_step, part-own_step}
 use Rattle.dom_isolation.proofs.Tests.{by_cases, either_way}
 
 -- All parts.
@@ -161,18 +161,14 @@ room-root o k d e = record { bounds = tt; leaves = λ y g. alone y }
     alone y = by_cases (name_eq (Rattle.dom_model.specs.Names.node_of o 0) y) (λ t. rw t refl) (λ t. rw t refl)
 
 -- attaching
-rooms-attaching : (w : World) (x : NodeName) → AllRooms w → AllRooms (attaching w Page x).0
-rooms-attaching w x h =
-    let p = part_of w Page in
-    let c = component_made Page (length p.attached) in
+rooms-attaching : (w : World) (o : Owner) (x : NodeName) → AllRooms w → AllRooms (attaching w o x).0
+rooms-attaching w o x h =
+    let p = part_of w o in
+    let c = component_made o (length p.attached) in
     let more : Part = record p { attached = p.attached ++ x ∷ [] } in
     let d = (node_in p.trees x).document in
-    rooms-with_part (with_part w more) (part_with_root c Shadow d) c refl (room-root c Shadow d refl) (rooms-with_part w more Page (owner-part_of w Page) (room-same p more refl refl (h Page)) h)
-
--- which is the page's alone
-rooms-attach_of : (w : World) (o : Owner) (x : Spelled) → is_command_of o (Command.attach x) ≡ true → AllRooms w → AllRooms (perform w o (Command.attach x)).0
-rooms-attach_of w Page x g h = rooms-attaching w (named (part_of w Page) x) h
-rooms-attach_of w (Component k) x g h = absurd (true≢false (sym g))
+    rooms-with_part (with_part w more) (part_with_root c Shadow d) c refl (room-root c Shadow d refl)
+    (rooms-with_part w more o (owner-part_of w o) (room-same p more refl refl (h o)) h)
 
 -- An accepted command.
 rooms-effect : (w : World) (o : Owner) (e : Effect) → Ground w → KeepsBase (part_of w o) e → Holds (part_of w o) e → Roomy (part_of w o) e → AllRooms w → AllRooms (effect_in w o e).0
@@ -209,7 +205,7 @@ for-ranges p i t c n = tt
 
 -- any command
 rooms-perform : (w : World) (o : Owner) (c : Command) → Facts w o → is_command_of o c ≡ true → part_refusal (part_of w o) c ≡ None → AllRooms w → AllRooms (perform w o c).0
-rooms-perform w o (Command.attach x) k g r h = rooms-attach_of w o x g h
+rooms-perform w o (Command.attach x) k g r h = rooms-attaching w o (named (part_of w o) x) h
 rooms-perform w o (Command.connected x) k g r h = h
 rooms-perform w o (Command.assigned x) k g r h = h
 rooms-perform w o (Command.dispatch x e related) k g r h = rooms-dispatch w (named (part_of w o) x) (option_map (named (part_of w o)) related) e h
@@ -221,7 +217,9 @@ rooms-perform w o c k g r h =
 
 -- with the turn that it opens
 facts-opening : (w : World) (o : Owner) → Facts w o → Facts (opening_turn w o) o
-facts-opening w o k = either_way (λ v. Facts v o) (is_some w.turn) w (record w { turn = Some o }) k (record { ground = record { parts = k.ground.parts; no_hosts = k.ground.no_hosts }; tables = k.tables; first = k.first })
+facts-opening w o k =
+    either_way (λ v. Facts v o) (is_some w.turn) w (record w { turn = Some o }) k
+    (record { ground = record { parts = k.ground.parts; makers = k.ground.makers }; tables = k.tables; first = k.first })
 
 -- `.` apart
 rooms-accepted : (w : World) (o : Owner) (c : Command) → Facts w o → is_command_of o c ≡ true → part_refusal (part_of w o) c ≡ None → AllRooms w → AllRooms (accepted w o c).0
@@ -238,7 +236,7 @@ rooms-command w o c r i h = from (refusal w o c) refl
     from None e =
         let a = accepted-facts w o c e in
         subst (λ a. AllRooms (unless_refused o a w (accepted w o c)).0) (sym e)
-        (rooms-accepted w o c (record { ground = record { parts = r.world.parts; no_hosts = r.world.no_hosts }; tables = i.tables o; first = i.first o a.there }) a.grammar a.part h)
+        (rooms-accepted w o c (record { ground = ground-of w r.world; tables = i.tables o; first = i.first o a.there }) a.grammar a.part h)
 
 -- a line
 rooms-line : {only_log : Bool} (w : World) (l : Line) → IsReached only_log w → IsWhole w → AllRooms w → AllRooms (step w l).0

@@ -1,15 +1,16 @@
 -- A command of a component, as the page sees it: nothing, or an outward event.
-use Rattle.std.proofs.Common.{◌≡◌, ℕ, Bool, true, false, not, ◌&&◌, ◌||◌, List, [], ◌∷◌, ◌++◌, zero, suc, unwrap_or, flat_map, filter, map, Option, Some, None, option_map, refl, sym, ap, ◌∙◌, true≢false, subst, append-nil}
+use Rattle.std.proofs.Common.{◌≡◌, ℕ, Bool, true, false, not, ◌&&◌, ◌||◌, List, [], ◌∷◌, ◌++◌, zero, suc, length, unwrap_or, flat_map, filter, map, Option, Some, None, option_map, refl, sym, ap, ◌∙◌, true≢false, subst, append-nil}
 use Rattle.std.specs.Prelude.{is_some, is_none, if◌then◌else◌, option_to_list}
 use Rattle.std.proofs.lemmas.List.Elements.{filter-append}
 use Rattle.std.proofs.lemmas.Bool.{cond-true, cond-false}
 use Rattle.dom_base.specs.declared.Owner.{Owner}
 use Rattle.dom_base.specs.declared.Owner.TheVariants.{Page, Component}
 use Rattle.dom_base.specs.declared.NodeName.{NodeName}
+use Rattle.dom_base.specs.declared.Kind.TheVariants.{Shadow}
 use Rattle.dom_base.specs.declared.Refusal.{Refusal}
 use Rattle.dom_base.specs.declared.Refusal.TheVariants.{TypeFault}
-use Rattle.dom_model.specs.Names.{name_eq, owner_depth, last_of}
-use Rattle.dom_model.specs.Tree.{root_of}
+use Rattle.dom_model.specs.Names.{ComponentName, name_eq, owner_depth, last_of}
+use Rattle.dom_model.specs.Tree.{node_in, root_of}
 use Rattle.dom_model.specs.Command.{Command, Spelled, EventWords}
 use Rattle.dom_model.specs.Output.{says, nothing, a_truth}
 use Rattle.dom_model.specs.Part.{Part}
@@ -17,15 +18,16 @@ use Rattle.dom_model.specs.Runs.{quiet, run_then, answering, unless_refused}
 use Rattle.dom_model.specs.CommandRefusals.{is_command_of, part_refusal, related_refusal, has_other_root}
 use Rattle.dom_model.specs.CommandNames.{named}
 use Rattle.dom_model.specs.Effects.{Effect, tables, changes, effect}
-use Rattle.dom_model.specs.World.{World, hosts_from, host_above, is_in_shadow_tree, micro_task, part_of, with_part}
+use Rattle.dom_model.specs.World.{World, hosts_from, host_above, is_in_shadow_tree, micro_task, part_of, with_part, component_made}
 use Rattle.dom_model.specs.Dispatch.{dispatch_in}
 use Rattle.dom_model.specs.Turns.{ending_turn, opening_turn, is_page_turn}
-use Rattle.dom_model.specs.DocumentMachine.{refusal, effect_in, perform, accepted, run_command}
+use Rattle.dom_model.specs.DocumentMachine.{refusal, effect_in, attaching, part_with_root, perform, accepted, run_command}
 use Rattle.dom_model.specs.Trace.{outputs_for, is_page, outward_of, outward_dispatch, outward_command}
 use Rattle.dom_model.specs.PageMachine.{PageState, page_of, is_page_task}
+use Rattle.dom_model.proofs.OwnerLaws.{component_made-no_page}
 use Rattle.dom_model.proofs.PartLaws.{part_of-with_part-other, owner-part_of}
 use Rattle.dom_model.proofs.StepLaws.{Component-IsNoPage}
-use Rattle.dom_isolation.specs.Laws.{page_run, IsQuiet}
+use Rattle.dom_isolation.specs.Laws.{ComponentDispatchAgrees, page_run, IsQuiet}
 use Rattle.dom_isolation.proofs.Tests.{by_cases}
 use Rattle.dom_isolation.proofs.Squares.{run_then-square, same_page_of, outputs_for_page-other}
 use Rattle.dom_isolation.proofs.PageSteps.{page_of-world_after-other}
@@ -38,7 +40,7 @@ use Rattle.dom_isolation.proofs.TableEffects.{KeepsBase, base-effect}
 use Rattle.dom_isolation.proofs.PageCommands.{owner-named}
 
 -- Effects in a component's part show nothing.
-effect-other : (w : World) (k : ℕ) (e : Effect) → KeepsBase (part_of w (Component k)) e → page_run (effect_in w (Component k) e) ≡ quiet (page_of w)
+effect-other : (w : World) (k : ComponentName) (e : Effect) → KeepsBase (part_of w (Component k)) e → page_run (effect_in w (Component k) e) ≡ quiet (page_of w)
 effect-other w k (tables p lines v) h =
     let f = Component-IsNoPage k in
     let mine = h.0 ∙ owner-part_of w (Component k) in
@@ -48,7 +50,8 @@ effect-other w k (tables p lines v) h =
 effect-other w k (changes steps v) h = ap (λ s. quiet s) (page_of-world_after-other (Component k) (Component-IsNoPage k) w steps)
 
 -- What an accepted dispatch of a component is known to have.
-related-near : (p : Part) (k : ℕ) (x : Spelled) (e : EventWords) (y : Spelled) → p.owner ≡ Component k → part_refusal p (Command.dispatch x e (Some y)) ≡ None → root_of p.trees (named p y) ≡ root_of p.trees (named p x)
+related-near : (p : Part) (k : ComponentName) (x : Spelled) (e : EventWords) (y : Spelled) → p.owner ≡ Component k →
+    part_refusal p (Command.dispatch x e (Some y)) ≡ None → root_of p.trees (named p y) ≡ root_of p.trees (named p x)
 related-near p k x e y o h =
     let c = Command.dispatch x e (Some y) in
     let own : related_refusal (Component k) p (named p x) (Some y) ≡ None = subst (λ o. related_refusal o p (named p x) (Some y) ≡ None) o (part-accepted p c h).own in
@@ -60,7 +63,8 @@ related-near p k x e y o h =
     from false g = absurd (true≢false g)
 
 -- A dispatch.
-pub dispatched-component : (w : World) (k : ℕ) → IsQuiet w → (x : Spelled) (e : EventWords) (related : Option Spelled) → part_refusal (part_of w (Component k)) (Command.dispatch x e related) ≡ None →
+dispatched-component : (w : World) (k : ComponentName) → IsQuiet w → (x : Spelled) (e : EventWords) (related : Option Spelled) →
+    part_refusal (part_of w (Component k)) (Command.dispatch x e related) ≡ None →
     page_run (perform w (Component k) (Command.dispatch x e related)) ≡ outward_run (page_of w) (outward_dispatch w (Component k) (Command.dispatch x e related))
 dispatched-component w k q x e related h =
     let p = part_of w (Component k) in
@@ -86,10 +90,30 @@ dispatched-component w k q x e related h =
     same_event None = refl
     same_event (Some y) = refl
 
+-- any component's
+pub component_dispatch-agrees : ComponentDispatchAgrees
+component_dispatch-agrees w Page off q x e related h = absurd (off refl)
+component_dispatch-agrees w (Component k) off q x e related h = dispatched-component w k q x e related h
+
+-- An attach writes two parts, neither of which is the page's.
+attaching-component : (w : World) (k : ComponentName) (x : NodeName) → page_run (attaching w (Component k) x) ≡ quiet (page_of w)
+attaching-component w k x =
+    let o = Component k in
+    let p = part_of w o in
+    let n = length p.attached in
+    let marked = with_part w (record p { attached = p.attached ++ x ∷ [] }) in
+    let root = part_with_root (component_made o n) Shadow (node_in p.trees x).document in
+    ap quiet
+    (same_page_of (with_part marked root) w
+    (part_of-with_part-other marked root Page (component_made-no_page o n)
+    ∙ part_of-with_part-other w (record p { attached = p.attached ++ x ∷ [] }) Page (λ e. Component-IsNoPage k (sym (owner-part_of w o) ∙ e)))
+    refl refl)
+
 -- Any accepted command.
-pub perform-component : (w : World) (k : ℕ) → IsQuiet w → is_page_turn w.turn ≡ false → (c : Command) → is_command_of (Component k) c ≡ true → part_refusal (part_of w (Component k)) c ≡ None →
+pub perform-component : (w : World) (k : ComponentName) → IsQuiet w → is_page_turn w.turn ≡ false → (c : Command) → is_command_of (Component k) c ≡ true →
+    part_refusal (part_of w (Component k)) c ≡ None →
     page_run (perform w (Component k) c) ≡ outward_run (page_of w) (outward_dispatch w (Component k) c)
-perform-component w k q t (Command.attach a) h r = absurd (true≢false (sym h))
+perform-component w k q t (Command.attach a) h r = attaching-component w k (named (part_of w (Component k)) a)
 perform-component w k q t (Command.connected a) h r = refl
 perform-component w k q t (Command.assigned a) h r = refl
 perform-component w k q t (Command.dispatch a b c) h r = dispatched-component w k q a b c r
@@ -109,7 +133,8 @@ hosts-in_turn w t (suc depth) x =
     ap (λ ys. x ∷ ys) (each-same (hosts_from depth (record w { turn = t })) (hosts_from depth w) (hosts-in_turn w t depth) (option_to_list (host_above w x)))
 
 -- nor an outward event
-opened-event : (w : World) (k : ℕ) (c : Command) → outward_dispatch (opening_turn w (Component k)) (Component k) c ≡ outward_dispatch w (Component k) c
+opened-event : (w : World) (k : ComponentName) (c : Command) →
+    outward_dispatch (opening_turn w (Component k)) (Component k) c ≡ outward_dispatch w (Component k) c
 opened-event w k c =
     by_cases (is_some w.turn) (λ e. ap (λ v. outward_dispatch v (Component k) c) (cond-true (is_some w.turn) w (record w { turn = Some (Component k) }) e))
     (λ e. ap (λ v. outward_dispatch v (Component k) c) (cond-false (is_some w.turn) w (record w { turn = Some (Component k) }) e) ∙ in_turn c)
@@ -122,7 +147,8 @@ opened-event w k c =
     in_turn c = refl
 
 -- with the turn that it opens
-opened : (w : World) (k : ℕ) → IsQuiet w → is_page_turn w.turn ≡ false → (c : Command) → is_command_of (Component k) c ≡ true → part_refusal (part_of w (Component k)) c ≡ None →
+opened : (w : World) (k : ComponentName) → IsQuiet w → is_page_turn w.turn ≡ false → (c : Command) → is_command_of (Component k) c ≡ true →
+    part_refusal (part_of w (Component k)) c ≡ None →
     page_run (perform (opening_turn w (Component k)) (Component k) c) ≡ outward_run (page_of w) (outward_dispatch w (Component k) c)
 opened w k q t c h r =
     perform-component (opening_turn w (Component k)) k (quiet-opening w q (Component k) (λ e. absurd (Component-IsNoPage k e))) (ap (λ (s : PageState). s.is_open) (opening-component w k t) ∙ t) c h (ap (λ p. part_refusal p c) (part_of-opening w (Component k) (Component k)) ∙ r)
@@ -130,13 +156,15 @@ opened w k q t c h r =
     ∙ ap (outward_run (page_of w)) (opened-event w k c)
 
 -- `.` apart, which opens none
-accepted-component : (w : World) (k : ℕ) → IsQuiet w → is_page_turn w.turn ≡ false → (c : Command) → is_command_of (Component k) c ≡ true → part_refusal (part_of w (Component k)) c ≡ None →
+accepted-component : (w : World) (k : ComponentName) → IsQuiet w → is_page_turn w.turn ≡ false → (c : Command) → is_command_of (Component k) c ≡ true →
+    part_refusal (part_of w (Component k)) c ≡ None →
     page_run (accepted w (Component k) c) ≡ outward_run (page_of w) (outward_dispatch w (Component k) c)
 accepted-component w k q t Command.end_turn h r = perform-component w k q t Command.end_turn h r
 accepted-component w k q t c h r = opened w k q t c h r
 
 -- refused or accepted
-pub command-component : (w : World) (k : ℕ) → IsQuiet w → (c : Command) → page_run (run_command (Component k) c w) ≡ outward_run (page_of w) (outward_command w (Component k) c)
+pub command-component : (w : World) (k : ComponentName) → IsQuiet w → (c : Command) →
+    page_run (run_command (Component k) c w) ≡ outward_run (page_of w) (outward_command w (Component k) c)
 command-component w k q c = from (refusal w (Component k) c) refl
   where
     not_open : (b : Bool) → (b && true) ≡ false → b ≡ false

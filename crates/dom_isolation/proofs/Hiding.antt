@@ -1,24 +1,22 @@
 -- What is hidden from a page node: in a world as the machine reaches it, just the nodes of shadow trees.
-use Rattle.std.proofs.Common.{◌≡◌, ◌≢◌, ℕ, suc, ◌≤◌, Bool, true, false, not, ◌&&◌, List, [], ◌∷◌, find, flat_map, position, option_map, Option, Some, None, unwrap_or, refl, sym, ap, ◌∙◌, arith, true≢false, subst, append-nil}
-use Rattle.std.specs.Prelude.{if◌then◌else◌, IsTrue, is_some, slice_get, option_to_list}
+use Rattle.std.proofs.Common.{◌≡◌, ◌≢◌, ◌≤◌, Bool, true, false, not, ◌&&◌, List, [], ◌∷◌, find, flat_map, option_map, Option, Some, None, unwrap_or, refl, sym, ap, ◌∙◌, arith, true≢false, subst, append-nil}
+use Rattle.std.specs.Prelude.{if◌then◌else◌, IsTrue, is_some, option_to_list}
 use Rattle.std.specs.List.{AllByRecursion}
 use Rattle.std.specs.Option.{option_and_then}
 use Rattle.std.proofs.lemmas.Bool.{cond-true, cond-false}
-use Rattle.std.proofs.lemmas.List.Quantifiers.{position-Some}
-use Rattle.std.proofs.lemmas.Option.{slice_get-get_or}
 use Rattle.dom_base.specs.declared.Owner.{Owner}
-use Rattle.dom_base.specs.declared.Owner.TheVariants.{Page, Component}
+use Rattle.dom_base.specs.declared.Owner.TheVariants.{Page}
 use Rattle.dom_base.specs.declared.NodeName.{NodeName}
 use Rattle.dom_model.specs.Names.{DomString, name_eq, owner_depth, is_in}
 use Rattle.dom_model.specs.Tree.{Trees, Node, nodes, root_of}
-use Rattle.dom_model.specs.World.{World, part_of, node_at, trees_with, root_at, parent_at, ancestors_at, component_at, component_made, host_of, host_chain, hosts_from, some_if, shadow_root_of, shadow_tree, shadow_including_ancestors, is_in_shadow_tree}
+use Rattle.dom_model.specs.World.{World, part_of, node_at, trees_with, root_at, parent_at, ancestors_at, component_at, host_of, host_chain, hosts_from, some_if, shadow_root_of, shadow_tree, shadow_including_ancestors, is_in_shadow_tree}
 use Rattle.dom_model.specs.Slots.{slot_of, slot_in, has_slot_name, slottable_name}
 use Rattle.dom_model.specs.Paths.{is_hidden_from, retarget, retarget_related}
 use Rattle.dom_model.proofs.OwnerLaws.{ne-owner_eq, name_eq-same}
 use Rattle.dom_model.proofs.PartLaws.{owner-part_of}
-use Rattle.dom_model.proofs.StepLaws.{Component-IsNoPage}
-use Rattle.dom_isolation.specs.Worlds.{IsWorld, IsOf, times_in}
+use Rattle.dom_isolation.specs.Worlds.{IsWorld, IsOf, HasMakers, times_in}
 use Rattle.dom_isolation.proofs.Lists.{all-then}
+use Rattle.dom_isolation.proofs.Makers.{component-host, hosted-is, hosted-no_page}
 use Rattle.dom_isolation.proofs.Tests.{by_cases}
 use Rattle.dom_isolation.proofs.Trees.{ancestors-there, ancestors-root, root-of-root, times-subtree, nodes-there}
 use Rattle.dom_isolation.proofs.PageSteps.{page_in_no_tree}
@@ -33,22 +31,8 @@ ancestors-owned w i x =
     all-then (λ y. 1 ≤ times_in (trees_with w x) y) (IsOf x.owner) (λ y h. owned-in w i x.owner y h) (ancestors_at w x) (ancestors-there (trees_with w x) x)
 
 -- A component that is attached is no page, and has its host.
-pub component-facts : (w : World) → ((o : Owner) → o ≢ Page → (part_of w o).attached ≡ []) → (x : NodeName) (c : Owner) → component_at w x ≡ Some c → (c ≢ Page) × IsTrue (is_some (host_of w c))
-component-facts w no_hosts x c h = by_owner x.owner refl
-  where
-    found : (hosts : List NodeName) → (k : Option ℕ) → position (name_eq x) hosts ≡ k → option_map (component_made Page) k ≡ Some c → hosts ≡ (part_of w Page).attached → (c ≢ Page) × IsTrue (is_some (host_of w c))
-    found hosts None e g same = cc
-    found hosts (Some k) e g same =
-        let at = position-Some (name_eq x) hosts k x e in
-        let is : c ≡ Component (suc k) = cc in
-        let read : is_some (slice_get hosts k) ≡ true = ap is_some (slice_get-get_or hosts k x at.0) in
-        subst (λ c. (c ≢ Page) × IsTrue (is_some (host_of w c))) (sym is) (Component-IsNoPage (suc k), subst (λ hs. is_some (slice_get hs k) ≡ true) same read)
-
-    by_owner : (o : Owner) → x.owner ≡ o → (c ≢ Page) × IsTrue (is_some (host_of w c))
-    by_owner Page e = found (part_of w Page).attached (position (name_eq x) (part_of w Page).attached) refl (subst (λ o. option_map (component_made o) (position (name_eq x) (part_of w o).attached) ≡ Some c) e h) refl
-    by_owner (Component k) e =
-        let none : component_at w x ≡ None = ap (λ hs. option_map (component_made x.owner) (position (name_eq x) hs)) (no_hosts x.owner (λ p. Component-IsNoPage k (sym e ∙ p))) in
-        cc
+component-facts : (w : World) → HasMakers w → (x : NodeName) (c : Owner) → component_at w x ≡ Some c → (c ≢ Page) × IsTrue (is_some (host_of w c))
+component-facts w makers x c h = let k = component-host w makers x c h in (hosted-no_page w c x k, ap is_some (hosted-is w c x k))
 
 -- The slot of a node is in the shadow tree of a component that is attached.
 find-all : {X : Type 0} (P : X → Type 0) (t : X → Bool) (xs : List X) (y : X) → AllByRecursion P xs → find t xs ≡ Some y → P y
@@ -86,7 +70,7 @@ slot-in_tree w i x s h = by_component (option_and_then (component_at w) (parent_
   where
     from_parent : (o : Option NodeName) (c : Owner) → option_and_then (component_at w) o ≡ Some c → (c ≢ Page) × IsTrue (is_some (host_of w c))
     from_parent None c e = cc
-    from_parent (Some p) c e = component-facts w i.no_hosts p c e
+    from_parent (Some p) c e = component-facts w i.makers p c e
 
     by_component : (o : Option Owner) → option_and_then (component_at w) (parent_at w x) ≡ o → (c : Owner) × IsInTree w c s
     by_component None e = let none : slot_of w x ≡ None = ap (λ o. option_and_then (λ c. slot_in (shadow_tree w c) (node_at w x)) o) e in cc

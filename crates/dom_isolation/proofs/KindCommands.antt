@@ -1,5 +1,5 @@
 -- Every line keeps the kinds of nodes: no command makes a shadow root, and `attach` makes hosts of elements alone.
-use Rattle.std.proofs.Common.{◌≡◌, ◌≢◌, ℕ, suc, ◌+◌, ◌≤◌, Bool, true, false, not, ◌||◌, List, [], ◌∷◌, ◌++◌, length, find, unwrap_or, Option, Some, None, option_map, refl, sym, ap, ◌∙◌, arith, true≢false, subst}
+use Rattle.std.proofs.Common.{◌≡◌, ◌≢◌, ◌+◌, ◌≤◌, Bool, true, false, not, ◌||◌, List, [], ◌∷◌, ◌++◌, length, find, unwrap_or, Option, Some, None, option_map, refl, sym, ap, ◌∙◌, arith, true≢false, subst}
 use Rattle.std.specs.Prelude.{⊤, nat_lt, is_some}
 use Rattle.std.specs.List.{AllByRecursion}
 use Rattle.std.specs.Option.{option_or}
@@ -13,7 +13,7 @@ use Rattle.dom_base.specs.declared.Kind.TheVariants.{Document, Fragment, Shadow,
 use Rattle.dom_base.specs.declared.Refusal.{Refusal}
 use Rattle.dom_base.specs.declared.Refusal.TheVariants.{NotSupported, Limit}
 use Rattle.dom_base.specs.declared.TheConstants.{MAX_COMPONENTS}
-use Rattle.dom_model.specs.Names.{name_eq, is_in}
+use Rattle.dom_model.specs.Names.{ComponentName, name_eq, is_in}
 use Rattle.dom_model.specs.Tree.{Trees, none, tree, Node, nodes, names_of, node_in, kind_of, children_of, has_node, no_node, is_element, is_text, is_document}
 use Rattle.dom_model.specs.Command.{Command, Line, no_owner, no_command, command, Spelled}
 use Rattle.dom_model.specs.CommandNames.{named, nodes_exist}
@@ -26,7 +26,7 @@ use Rattle.dom_model.specs.Runs.{Run, quiet, unless_refused}
 use Rattle.dom_model.specs.Steps.{Step}
 use Rattle.dom_model.specs.Turns.{ending_turn, has_other_turn, ending_other_turn, opening_turn}
 use Rattle.dom_model.specs.World.{World, part_of, with_part, component_made, shadow_root_of}
-use Rattle.dom_model.proofs.OwnerLaws.{name_eq-same}
+use Rattle.dom_model.proofs.OwnerLaws.{name_eq-same, component_made-no_page}
 use Rattle.dom_model.proofs.PartLaws.{owner-part_of}
 use Rattle.dom_model.proofs.StepLaws.{owner-part_step, Component-IsNoPage}
 use Rattle.dom_isolation.specs.Laws.{IsSound}
@@ -105,7 +105,7 @@ page-rules =
     }
 
 -- The rules of plans, for a component with its shadow root.
-record ComponentKinds (k : ℕ) (p : Part) : Type 0 where
+record ComponentKinds (k : ComponentName) (p : Part) : Type 0 where
   owner : p.owner ≡ Component k
   own : IsOwn (shadow_root_of (Component k)) p
   kinds : HasKinds p
@@ -115,13 +115,14 @@ abbrev MayMake : NodeName → Step → Type 0
 MayMake r s = Allowed r s × MakesNoShadow s
 
 -- a node that is not the shadow root is none
-component-read : (k : ℕ) (p : Part) → ComponentKinds k p → (x : NodeName) → IsOther (shadow_root_of (Component k)) x → (node_in p.trees x).kind ≢ Shadow
+component-read : (k : ComponentName) (p : Part) → ComponentKinds k p → (x : NodeName) → IsOther (shadow_root_of (Component k)) x →
+    (node_in p.trees x).kind ≢ Shadow
 component-read k p i x m =
     let r = shadow_root_of (Component k) in
     read-no_shadow p x i.kinds (λ b. let same : x ≡ r = subst (λ o. MayBeShadow o x) i.owner b in true≢false (sym (name_eq-same r) ∙ ap (λ y. name_eq y r) (sym same) ∙ m))
 
 -- the rules hold
-component-rules : (k : ℕ) → IsKept (ComponentKinds k) (MayMake (shadow_root_of (Component k))) (IsOther (shadow_root_of (Component k)))
+component-rules : (k : ComponentName) → IsKept (ComponentKinds k) (MayMake (shadow_root_of (Component k))) (IsOther (shadow_root_of (Component k)))
 component-rules k =
     let r = shadow_root_of (Component k) in
     let root = shadow-rules r in
@@ -200,7 +201,7 @@ no_shadow-steps w Page c q i h t r = made-effect page-rules (part_of w Page) (ow
 no_shadow-steps w (Component k) c q i h t r =
     let root = shadow_root_of (Component k) in
     let p = part_of w (Component k) in
-    let own = own-part w q.world (Component k) (there-hosted w i.owners (Component k) (Component-IsNoPage k) t) in
+    let own = own-part w q.world (Component k) (there-hosted w i.makers i.owners (Component k) (Component-IsNoPage k) t) in
     no_shadow-made root (effect p c) (made-effect (component-rules k) p (record { owner = owner-part_of w (Component k); own = own; kinds = h.parts (Component k) }) c (component-may_do root p c (may-do root p own c r)))
 
 -- an effect keeps the kinds
@@ -301,34 +302,37 @@ attach-free p x h =
       free = (or_parts (is_in name_eq (named p x) p.attached) (not (may_be_host (node_in p.trees (named p x)).element)) own.0).0;
     }
 
+-- a component's first node may be a shadow root
+may-shadow : (c : Owner) → c ≢ Page → MayBeShadow c (shadow_root_of c)
+may-shadow Page f = absurd (f refl)
+may-shadow (Component k) f = refl
+
 -- a new component's part
-kinds-root : (k : ℕ) (d : Option NodeName) → HasKinds (part_with_root (Component k) Shadow d)
-kinds-root k d = record { shadows = ((λ e. refl), tt, tt); hosts = tt; once = λ x. omega arith }
+kinds-root : (c : Owner) (d : Option NodeName) → c ≢ Page → HasKinds (part_with_root c Shadow d)
+kinds-root c d f = record { shadows = ((λ e. may-shadow c f), tt, tt); hosts = tt; once = λ x. omega arith }
 
 -- attaching keeps the kinds
-kinds-attaching : (w : World) (x : NodeName) → IsFree (part_of w Page) x → IsSound false w → AllKinds w → AllKinds (attaching w Page x).0
-kinds-attaching w x f q h =
-    let p = part_of w Page in
-    let k = h.parts Page in
+kinds-attaching : (w : World) (o : Owner) (x : NodeName) → IsFree (part_of w o) x → IsSound false w → AllKinds w → AllKinds (attaching w o x).0
+kinds-attaching w o x f q h =
+    let p = part_of w o in
+    let k = h.parts o in
+    let n = length p.attached in
     let more = record p { attached = p.attached ++ x ∷ [] } in
-    let root = part_with_root (component_made Page (length p.attached)) Shadow (node_in p.trees x).document in
-    let host : IsHost more x = record { made = (q.world.parts Page).numbered x f.there; element = elements-at p.trees x (q.world.parts Page).unique f.there f.element } in
+    let root = part_with_root (component_made o n) Shadow (node_in p.trees x).document in
+    let part = q.world.parts o in
+    let host : IsHost more x = record { made = part.numbered x f.there; element = elements-at p.trees x part.unique f.there f.element } in
     let marked : HasKinds more =
     record {
       shadows = k.shadows;
       hosts = all-append (IsHost more) p.attached (x ∷ []) (all-then (IsHost p) (IsHost more) (λ y i. record { made = i.made; element = i.element }) p.attached k.hosts) (host, tt);
       once = λ y. once-push p.attached x y f.free (k.once y);
     } in
-    holds-with_part kind-steps (with_part w more) root (holds-with_part kind-steps w more h marked) (kinds-root (suc (length p.attached)) (node_in p.trees x).document)
-
--- which is the page's alone
-kinds-attach_of : (w : World) (o : Owner) (x : Spelled) → is_command_of o (Command.attach x) ≡ true → part_refusal (part_of w o) (Command.attach x) ≡ None → IsSound false w → AllKinds w → AllKinds (perform w o (Command.attach x)).0
-kinds-attach_of w Page x g r q h = kinds-attaching w (named (part_of w Page) x) (attach-free (part_of w Page) x r) q h
-kinds-attach_of w (Component k) x g r q h = absurd (true≢false (sym g))
+    holds-with_part kind-steps (with_part w more) root (holds-with_part kind-steps w more h marked)
+    (kinds-root (component_made o n) (node_in p.trees x).document (component_made-no_page o n))
 
 -- An accepted command, and lines.
 kinds-perform : (w : World) (o : Owner) (c : Command) → IsThere w o → is_command_of o c ≡ true → part_refusal (part_of w o) c ≡ None → IsSound false w → IsPeopled w → AllKinds w → AllKinds (perform w o c).0
-kinds-perform w o (Command.attach x) t g r q i h = kinds-attach_of w o x g r q h
+kinds-perform w o (Command.attach x) t g r q i h = kinds-attaching w o (named (part_of w o) x) (attach-free (part_of w o) x r) q h
 kinds-perform w o (Command.connected x) t g r q i h = h
 kinds-perform w o (Command.assigned x) t g r q i h = h
 kinds-perform w o (Command.dispatch x e related) t g r q i h = kinds-same _ w (alike-dispatch w (named (part_of w o) x) (option_map (named (part_of w o)) related) e) h

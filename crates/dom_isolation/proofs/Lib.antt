@@ -5,8 +5,10 @@ pub mod PageSteps
 pub mod Visits
 pub mod Dispatches
 pub mod Trees
+pub mod Makers
 pub mod Hiding
 pub mod PagePaths
+pub mod Chains
 pub mod ComponentPaths
 pub mod Alike
 pub mod Owners
@@ -21,7 +23,6 @@ pub mod FirstWorld
 pub mod StepKeeps
 pub mod PageRuns
 pub mod PageTexts
-pub mod ForeignNames
 pub mod TreeChangeLaws
 pub mod PartSteps
 pub mod Plans

@@ -1,11 +1,12 @@
 -- What comes before a line: another component's turn is ended, and the page sees nothing of it; then the line may open a turn.
-use Rattle.std.proofs.Common.{◌≡◌, ℕ, true, false, List, [], ◌∷◌, filter, Option, Some, None, refl, sym, ap, ◌∙◌, true≢false, subst, Bool}
+use Rattle.std.proofs.Common.{◌≡◌, true, false, List, [], ◌∷◌, filter, Option, Some, None, refl, sym, ap, ◌∙◌, true≢false, subst, Bool}
 use Rattle.std.specs.Prelude.{is_some, if◌then◌else◌}
 use Rattle.std.specs.Option.{option_map_or}
 use Rattle.std.proofs.lemmas.Bool.{cond-true, cond-false}
 use Rattle.dom_base.specs.declared.Owner.{Owner}
 use Rattle.dom_base.specs.declared.Owner.TheVariants.{Page, Component}
 use Rattle.dom_base.specs.declared.NodeName.{NodeName}
+use Rattle.dom_model.specs.Names.{ComponentName}
 use Rattle.dom_model.specs.Runs.{Run, quiet, run_each}
 use Rattle.dom_model.specs.World.{World, Task, micro_task, notify_task, part_of, with_part}
 use Rattle.dom_model.specs.Turns.{slotchange, firing_slotchange, is_owned_by, without_signals, notified, running_task, ending_turn, is_other_component, has_other_turn, ending_other_turn, ending_any_turn, opening_turn, is_page_turn}
@@ -95,7 +96,7 @@ opening-page w h = from w.turn refl h
     from (Some (Component k)) e g = absurd (true≢false g)
 
 -- a component's turn, as the page sees it
-pub opening-component : (w : World) (k : ℕ) → is_page_turn w.turn ≡ false → page_of (opening_turn w (Component k)) ≡ page_of w
+pub opening-component : (w : World) (k : ComponentName) → is_page_turn w.turn ≡ false → page_of (opening_turn w (Component k)) ≡ page_of w
 opening-component w k h =
     by_cases (is_some w.turn) (λ e. ap page_of (cond-true (is_some w.turn) w (record w { turn = Some (Component k) }) e))
     (λ e. ap page_of (cond-false (is_some w.turn) w (record w { turn = Some (Component k) }) e) ∙ ap (λ b. record (page_of w) { is_open = b }) (sym h))

@@ -1,7 +1,8 @@
 -- Facts on lists.
-use Rattle.std.proofs.Common.{◌≡◌, Bool, true, false, not, List, [], ◌∷◌, ◌++◌, filter, map, flat_map, take_while, reverse, refl, sym, ap, ◌∙◌, arith, append-nil, take, drop, subst, suc, ◌+◌}
+use Rattle.std.proofs.Common.{◌≡◌, ℕ, zero, ◌<◌, Some, length, true≢false, Bool, true, false, not, List, [], ◌∷◌, ◌++◌, filter, map, flat_map, take_while, reverse, refl, sym, ap, ◌∙◌, arith, append-nil, take, drop, subst, suc, ◌+◌}
 use Rattle.std.proofs.lemmas.Bool.{cond-true, cond-false}
 use Rattle.std.proofs.lemmas.List.{reverse-append}
+use Rattle.std.specs.Prelude.{is_some, slice_get}
 use Rattle.std.specs.List.{AllByRecursion, prefix_len}
 use Rattle.std.proofs.lemmas.List.Elements.{filter-append}
 use Rattle.dom_model.specs.Names.{distinct}
@@ -125,3 +126,22 @@ all-map P f (x ∷ xs) h = (h.0, all-map P f xs h.1)
 pub all-reverse : {X : Type 0} (P : X → Type 0) (xs : List X) → AllByRecursion P xs → AllByRecursion P (reverse xs)
 all-reverse P [] h = tt
 all-reverse P (x ∷ xs) h = subst (AllByRecursion P) (sym (reverse-append (x ∷ []) xs)) (all-append P (reverse xs) (x ∷ []) (all-reverse P xs h.1) (h.0, tt))
+
+module _ {X : Type 0} where
+  -- an item that is there has a place below the length
+  pub get-below : (xs : List X) (k : ℕ) → is_some (slice_get xs k) ≡ true → k < length xs
+  get-below [] k h = absurd (true≢false (sym h))
+  get-below (x ∷ xs) zero h = omega arith
+  get-below (x ∷ xs) (suc k) h = let g = get-below xs k h in omega arith
+
+  -- and at a place below the length is an item
+  pub get-there : (xs : List X) (k : ℕ) → k < length xs → is_some (slice_get xs k) ≡ true
+  get-there [] k h = absurd (omega arith)
+  get-there (x ∷ xs) zero h = refl
+  get-there (x ∷ xs) (suc k) h = get-there xs k (omega arith)
+
+  -- of which holds what holds of all
+  pub get-all : (P : X → Type 0) (xs : List X) (k : ℕ) (x : X) → AllByRecursion P xs → slice_get xs k ≡ Some x → P x
+  get-all P [] k x h e = cc
+  get-all P (y ∷ xs) zero x h e = let same : y ≡ x = cc in subst P same h.0
+  get-all P (y ∷ xs) (suc k) x h e = get-all P xs k x h.1 e

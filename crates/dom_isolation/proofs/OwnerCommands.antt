@@ -1,11 +1,15 @@
 -- Every line keeps whose parts are there; attaching adds one.
-use Rattle.std.proofs.Common.{◌≡◌, suc, true, false, [], ◌∷◌, ◌++◌, length, Option, Some, None, option_map, refl, sym, ap, ◌∙◌, arith, true≢false, subst, length-append}
-use Rattle.std.specs.Prelude.{is_some, option_to_list}
+use Rattle.std.proofs.Common.{◌≡◌, ◌≢◌, ℕ, suc, Bool, true, false, List, [], ◌∷◌, ◌++◌, length, filter, Option, Some, None, option_map, refl, sym, ap, ◌∙◌, arith, subst, append-nil, length-append}
+use Rattle.std.specs.Prelude.{is_some, is_none, option_to_list}
+use Rattle.std.specs.Option.{option_map_or}
+use Rattle.std.proofs.lemmas.Bool.{cond-true, cond-false, false_from_ne_true}
+use Rattle.std.proofs.lemmas.List.Elements.{filter-append}
 use Rattle.dom_base.specs.declared.Owner.{Owner}
 use Rattle.dom_base.specs.declared.Owner.TheVariants.{Page, Component}
 use Rattle.dom_base.specs.declared.NodeName.{NodeName}
 use Rattle.dom_base.specs.declared.Kind.TheVariants.{Shadow}
 use Rattle.dom_base.specs.declared.Refusal.{Refusal}
+use Rattle.dom_model.specs.Names.{owner_eq, first_of}
 use Rattle.dom_model.specs.Tree.{node_in}
 use Rattle.dom_model.specs.Command.{Command, Line, no_owner, no_command, command, Spelled}
 use Rattle.dom_model.specs.CommandNames.{named}
@@ -15,57 +19,92 @@ use Rattle.dom_model.specs.Effects.{Effect, tables, changes, effect}
 use Rattle.dom_model.specs.Part.{Part}
 use Rattle.dom_model.specs.Runs.{unless_refused}
 use Rattle.dom_model.specs.Turns.{ending_other_turn, opening_turn}
-use Rattle.dom_model.specs.World.{World, micro_task, part_of, with_part, component_made}
-use Rattle.dom_model.proofs.PartLaws.{part_of-with_part, part_of-with_part-other, owner-part_of}
-use Rattle.dom_model.proofs.StepLaws.{Component-IsNoPage}
+use Rattle.dom_model.specs.World.{World, micro_task, part_of, with_part, is_there, component_made, made_by, MayAttach}
+use Rattle.dom_model.proofs.OwnerLaws.{ne-owner_eq, made_by-made, component_made-other}
+use Rattle.dom_model.proofs.PartLaws.{owner-part_of}
 use Rattle.dom_isolation.specs.Laws.{IsSound}
-use Rattle.dom_isolation.specs.Worlds.{owners_in, IsThere, task_owner, attached_components}
-use Rattle.dom_isolation.proofs.Alike.{there-with_part}
+use Rattle.dom_isolation.specs.Worlds.{owners_in, IsThere, task_owner, components_of, is_made_by, is_unmade, HasOwners}
 use Rattle.dom_isolation.proofs.TableEffects.{KeepsBase, base-effect}
-use Rattle.dom_isolation.proofs.FirstWorld.{quiet-first, quiet-attaching}
+use Rattle.dom_isolation.proofs.FirstWorld.{quiet-first, quiet-attaching, by_owner, attached-maker, attached-new, attached-other, attached-there}
 use Rattle.dom_isolation.proofs.LineBegins.{IsPageTime, page_time, quiet-opening, quiet-ending_other}
 use Rattle.dom_isolation.proofs.Lists.{all-append, all-then}
 use Rattle.dom_isolation.proofs.Tests.{either_way}
 use Rattle.dom_isolation.proofs.OwnerSteps.{IsPeopled, same-people, peopled-with_part, peopled-world_after, peopled-dispatch, peopled-ending_turn, peopled-ending_other}
-use Rattle.dom_isolation.proofs.Owners.{has_owner, owners-put, owners-put_new, later-absent, page-there}
+use Rattle.dom_isolation.proofs.Owners.{has_owner, there-listed, owners-put, owners-put_new, absent-part, made_by-told, next-absent}
 use Rattle.dom_isolation.proofs.PageCommands.{owner-named}
-use Rattle.dom_isolation.proofs.Acceptance.{accepted-facts}
+use Rattle.dom_isolation.proofs.Acceptance.{accepted-facts, attach-may}
 
 -- The first world, and attaching.
 pub peopled-first : IsPeopled first_world
-peopled-first = record { owners = record { parts = refl; turn = tt; tasks = tt; signalled = tt }; no_hosts = (quiet-first {only_log = false}).world.no_hosts }
+peopled-first =
+    record {
+      owners = record { first = refl; unmade = refl; made = none_made; turn = tt; tasks = tt; signalled = tt };
+      makers = (quiet-first {only_log = false}).world.makers;
+    }
+  where
+    none_made : (o : Owner) → filter (is_made_by o) (owners_in first_world) ≡ components_of o (length (part_of first_world o).attached)
+    none_made Page = refl
+    none_made (Component k) = refl
+
+-- where one is added that another owner made, an owner's components stay
+none-more : (v w : World) (o c : Owner) (n : ℕ) → made_by c ≡ Some (o, n) → owners_in v ≡ owners_in w ++ c ∷ [] → HasOwners w → (a : Owner) → a ≢ o →
+    (part_of v a).attached ≡ (part_of w a).attached →
+    filter (is_made_by a) (owners_in v) ≡ components_of a (length (part_of v a).attached)
+none-more v w o c n named owners i a f same =
+    let other : is_made_by a c ≡ false = ap (λ x. option_map_or (λ (m : Owner × ℕ). owner_eq m.0 a) x false) named ∙ ne-owner_eq o a (λ e. f (sym e)) in
+    ap (filter (is_made_by a)) owners ∙ filter-append (is_made_by a) (owners_in w) (c ∷ [])
+    ∙ ap (λ os. filter (is_made_by a) (owners_in w) ++ os) (cond-false (is_made_by a c) (c ∷ []) [] other)
+    ∙ append-nil (filter (is_made_by a) (owners_in w)) ∙ i.made a ∙ sym (ap (λ (hs : List NodeName). components_of a (length hs)) same)
 
 -- attaching adds the new component
-peopled-attaching : (w : World) (x : NodeName) → x.owner ≡ Page → IsSound false w → IsPeopled w → IsPeopled (attaching w Page x).0
-peopled-attaching w x h q i =
-    let p = part_of w Page in
+peopled-attaching : (w : World) (o : Owner) (x : NodeName) → MayAttach o → x.owner ≡ o → IsThere w o → IsSound false w → IsPeopled w →
+    IsPeopled (attaching w o x).0
+peopled-attaching w o x may h t q i =
+    let p = part_of w o in
     let n = length p.attached in
-    let c = component_made Page n in
+    let c = component_made o n in
     let more = record p { attached = p.attached ++ x ∷ [] } in
     let marked = with_part w more in
-    let root = part_with_root c Shadow (node_in p.trees x).document in
-    let v = with_part marked root in
-    let mine : more.owner ≡ Page = owner-part_of w Page in
-    let at_page : part_of v Page ≡ more = part_of-with_part-other marked root Page (Component-IsNoPage (suc n)) ∙ part_of-with_part w more Page mine in
-    let count : length (p.attached ++ x ∷ []) ≡ suc n = omega (arith, length-append p.attached (x ∷ [])) in
-    let marked_owners : owners_in marked ≡ Page ∷ attached_components n = owners-put w.parts more (subst (IsThere w) (sym mine) (page-there w i.owners)) ∙ i.owners.parts in
-    let absent : has_owner (owners_in marked) c ≡ false = ap (λ os. has_owner os c) marked_owners ∙ later-absent n n (omega arith) in
-    let stays : (a : Owner) → IsThere w a → IsThere v a = λ a t. there-with_part marked root a (there-with_part w more a t) in
+    let v = (attaching w o x).0 in
+    let absent : IsThere w c → ⊥ = next-absent w i.makers i.owners o may in
+    let marked_owners : owners_in marked ≡ owners_in w = owners-put w.parts more (subst (IsThere w) (sym (owner-part_of w o)) t) in
+    let off : has_owner (owners_in marked) c ≡ false =
+    ap (λ os. has_owner os c) marked_owners ∙ sym (there-listed w.parts c) ∙ false_from_ne_true (is_there w c) absent in
+    let owners : owners_in v ≡ owners_in w ++ c ∷ [] =
+    owners-put_new marked.parts (part_with_root c Shadow (node_in p.trees x).document) off ∙ ap (λ os. os ++ c ∷ []) marked_owners in
+    let named : made_by c ≡ Some (o, n) = made_by-made o n may in
+    let filtered : (f : Owner → Bool) → filter f (owners_in v) ≡ filter f (owners_in w) ++ filter f (c ∷ []) =
+    λ f. ap (filter f) owners ∙ filter-append f (owners_in w) (c ∷ []) in
+    let stays : (a : Owner) → IsThere w a → IsThere v a = attached-there w o x may in
     record {
       owners = record {
-        parts = owners-put_new marked.parts root absent ∙ ap (λ os. os ++ c ∷ []) marked_owners
-            ∙ sym (ap (λ (q : Part). Page ∷ attached_components (length q.attached)) at_page ∙ ap (λ k. Page ∷ attached_components k) count);
+        first = ap first_of owners ∙ first-more (owners_in w) (c ∷ []) i.owners.first;
+        unmade = filtered is_unmade ∙ ap (λ os. os ++ filter is_unmade (c ∷ [])) i.owners.unmade
+            ∙ ap (λ os. Page ∷ os) (cond-false (is_unmade c) (c ∷ []) [] (ap is_none named));
+        made = by_owner (λ a. filter (is_made_by a) (owners_in v) ≡ components_of a (length (part_of v a).attached)) o c
+            (let longer = length-append p.attached (x ∷ []) in
+            let count : length (part_of v o).attached ≡ suc n = ap (λ (q : Part). length q.attached) (attached-maker w o x may) ∙ omega (arith, longer) in
+            filtered (is_made_by o) ∙ ap (λ os. os ++ filter (is_made_by o) (c ∷ [])) (i.owners.made o)
+            ∙ ap (λ os. components_of o n ++ os) (cond-true (is_made_by o c) (c ∷ []) [] (made_by-told c o n named))
+            ∙ sym (ap (components_of o) count))
+            (none-more v w o c n named owners i.owners c (component_made-other o n may)
+            (ap (λ (q : Part). q.attached) (attached-new w o x may) ∙ sym (ap (λ (q : Part). q.attached) (absent-part w c absent))))
+            (λ a f g. none-more v w o c n named owners i.owners a f (ap (λ (q : Part). q.attached) (attached-other w o x may a f g)));
         turn = all-then (IsThere w) (IsThere v) stays (option_to_list w.turn) i.owners.turn;
         tasks = all-then (λ t. IsThere w (task_owner t)) (λ t. IsThere v (task_owner t)) (λ t. stays (task_owner t)) w.tasks i.owners.tasks;
         signalled = all-then (λ (s : NodeName). IsThere w s.owner) (λ s. IsThere v s.owner) (λ s. stays s.owner) w.signalled i.owners.signalled;
       };
-      no_hosts = (quiet-attaching w x h q).world.no_hosts;
+      makers = (quiet-attaching w o x may h q).world.makers;
     }
+  where
+    first-more : (os more : List Owner) → first_of os ≡ Some Page → first_of (os ++ more) ≡ Some Page
+    first-more [] more e = cc
+    first-more (a ∷ os) more e = e
 
--- which is the page's alone
-peopled-attach_of : (w : World) (o : Owner) (x : Spelled) → is_command_of o (Command.attach x) ≡ true → IsSound false w → IsPeopled w → IsPeopled (perform w o (Command.attach x)).0
-peopled-attach_of w Page x h q i = peopled-attaching w (named (part_of w Page) x) (owner-named (part_of w Page) x ∙ owner-part_of w Page) q i
-peopled-attach_of w (Component k) x h q i = absurd (true≢false (sym h))
+-- who attaches is known from acceptance
+peopled-attach_of : (w : World) (o : Owner) (x : Spelled) → is_command_of o (Command.attach x) ≡ true → IsThere w o → IsSound false w → IsPeopled w →
+    IsPeopled (perform w o (Command.attach x)).0
+peopled-attach_of w o x g h q i = peopled-attaching w o (named (part_of w o) x) (attach-may o x g) (owner-named (part_of w o) x ∙ owner-part_of w o) h q i
 
 -- Other commands.
 peopled-effect : (w : World) (o : Owner) (e : Effect) → IsThere w o → KeepsBase (part_of w o) e → IsPeopled w → IsPeopled (effect_in w o e).0
@@ -74,7 +113,7 @@ peopled-effect w o (changes steps v) h base i = peopled-world_after o steps w h 
 
 -- every accepted command
 peopled-perform : (w : World) (o : Owner) (c : Command) → IsThere w o → is_command_of o c ≡ true → IsSound false w → IsPeopled w → IsPeopled (perform w o c).0
-peopled-perform w o (Command.attach x) h g q i = peopled-attach_of w o x g q i
+peopled-perform w o (Command.attach x) h g q i = peopled-attach_of w o x g h q i
 peopled-perform w o (Command.connected x) h g q i = i
 peopled-perform w o (Command.assigned x) h g q i = i
 peopled-perform w o (Command.dispatch x e related) h g q i = peopled-dispatch w q.world (named (part_of w o) x) (option_map (named (part_of w o)) related) e i

@@ -1,14 +1,13 @@
 -- Steps, dispatches, notifications and the endings of turns: no owner's part comes or goes, and what they leave open,
 -- queued and signalled is of owners that are there.
-use Rattle.std.proofs.Common.{◌≡◌, ◌≢◌, ℕ, zero, suc, ◌≤◌, Bool, true, false, not, ◌&&◌, ◌||◌, List, [], ◌∷◌, ◌++◌, length, map, filter, fold, flat_map, filter_map, take_while, reverse, Option, Some, None, refl, sym, ap, ◌∙◌, true≢false, subst}
+use Rattle.std.proofs.Common.{◌≡◌, ℕ, zero, suc, ◌≤◌, Bool, true, false, not, ◌&&◌, ◌||◌, List, [], ◌∷◌, ◌++◌, length, map, filter, fold, flat_map, filter_map, take_while, reverse, Option, Some, None, refl, sym, ap, ◌∙◌, true≢false, subst}
 use Rattle.std.specs.Prelude.{if◌then◌else◌, is_some, option_to_list}
 use Rattle.std.specs.List.{AllByRecursion, list_any, cons_option}
 use Rattle.std.specs.Option.{option_and_then, option_map_or}
 use Rattle.dom_base.specs.declared.Owner.{Owner}
-use Rattle.dom_base.specs.declared.Owner.TheVariants.{Page}
 use Rattle.dom_base.specs.declared.NodeName.{NodeName}
 use Rattle.std.proofs.lemmas.Bool.{and_parts}
-use Rattle.dom_model.specs.Names.{name_eq, is_in, list_eq, max_depth, is_empty}
+use Rattle.dom_model.specs.Names.{name_eq, first_of, is_in, list_eq, max_depth, is_empty}
 use Rattle.dom_model.specs.Tree.{parent_of, inclusive_descendants}
 use Rattle.dom_model.specs.Command.{EventWords}
 use Rattle.dom_model.specs.Dispatch.{world_visit, visits_of, visit_of, is_at_target, dispatch_in}
@@ -23,11 +22,11 @@ use Rattle.dom_model.specs.World.{World, Task, micro_task, notify_task, part_of,
 use Rattle.dom_model.specs.WorldSteps.{world_step, world_after, stepped, with_removal_signals, with_notify_if, with_shadow_document}
 use Rattle.dom_model.proofs.PartLaws.{owner-part_of}
 use Rattle.dom_model.proofs.StepLaws.{owner-part_step}
-use Rattle.dom_isolation.specs.Laws.{IsSound}
-use Rattle.dom_isolation.specs.Worlds.{IsWorld, times_in, owners_in, IsThere, task_owner, attached_components, HasOwners}
+use Rattle.dom_isolation.specs.Laws.{IsSound, IsReached}
+use Rattle.dom_isolation.specs.Worlds.{IsWorld, times_in, owners_in, IsThere, task_owner, components_of, is_made_by, is_unmade, HasMakers, HasOwners}
 use Rattle.dom_isolation.proofs.Alike.{host_of-same, there-with_part}
-use Rattle.dom_isolation.proofs.Hiding.{component-facts}
 use Rattle.dom_isolation.proofs.Lists.{all-append, all-filter, all-passed, all-distinct, all-then, all-flat_map, all-map, all-take_while, all-reverse, all-from}
+use Rattle.dom_isolation.proofs.Makers.{makers-same, component-host, hosted-is}
 use Rattle.dom_isolation.proofs.Tests.{by_cases, either_way}
 use Rattle.dom_isolation.proofs.Owners.{there-same, owners-put, hosted-there, node-there}
 use Rattle.dom_isolation.proofs.PartSteps.{rest-step}
@@ -35,14 +34,14 @@ use Rattle.dom_isolation.proofs.Trees.{ancestors-there}
 use Rattle.dom_isolation.proofs.TurnEndings.{there-visits, quiet-dispatch, quiet-running, quiet-told, quiet-at_end}
 use Rattle.dom_isolation.proofs.WorldSteps.{attached-with_part}
 
--- What steps keep: the owners, and that components attach nothing.
-abbrev HostsNothing : World → Type 0
-HostsNothing w = (o : Owner) → o ≢ Page → (part_of w o).attached ≡ []
-
--- what steps keep
+-- What steps keep: the owners, and that whoever has hosts may attach.
 pub record IsPeopled (w : World) : Type 0 where
   pub owners : HasOwners w
-  pub no_hosts : HostsNothing w
+  pub makers : HasMakers w
+
+-- so it is of a world that is reached
+pub people : {only_log : Bool} (w : World) → IsReached only_log w → IsPeopled w
+people w r = record { owners = r.owners; makers = r.world.makers }
 
 -- the same owners, and the same hosts
 abbrev SamePeople : World → World → Type 0
@@ -57,12 +56,14 @@ pub same-people : (v w : World) → SamePeople v w → AllByRecursion (IsThere w
 same-people v w same turn tasks signalled i =
     record {
       owners = record {
-        parts = same.0 ∙ i.owners.parts ∙ ap (λ hs. Page ∷ attached_components (length hs)) (sym (same.1 Page));
+        first = ap first_of same.0 ∙ i.owners.first;
+        unmade = ap (filter is_unmade) same.0 ∙ i.owners.unmade;
+        made = λ o. ap (filter (is_made_by o)) same.0 ∙ i.owners.made o ∙ ap (λ (hs : List NodeName). components_of o (length hs)) (sym (same.1 o));
         turn = all-there v w (λ o. o) same.0 (option_to_list v.turn) turn;
         tasks = all-there v w task_owner same.0 v.tasks tasks;
         signalled = all-there v w (λ (s : NodeName). s.owner) same.0 v.signalled signalled;
       };
-      no_hosts = λ o f. same.1 o ∙ i.no_hosts o f;
+      makers = makers-same v w same.1 i.makers;
     }
 
 -- A part that is there is written, with its hosts.
@@ -151,7 +152,7 @@ all-components w i (x ∷ xs) = from (component_at w x) refl (all-components w i
   where
     from : (c : Option Owner) → component_at w x ≡ c → AllByRecursion (IsThere w) (filter_map (component_at w) xs) → AllByRecursion (IsThere w) (cons_option c (filter_map (component_at w) xs))
     from None e h = h
-    from (Some c) e h = (hosted-there w i.owners c (component-facts w i.no_hosts x c e).1, h)
+    from (Some c) e h = (hosted-there w i.owners c (ap is_some (hosted-is w c x (component-host w i.makers x c e))), h)
 
 -- at any depth
 below-there : (depth : ℕ) (w : World) → IsPeopled w → (x : NodeName) → AllByRecursion (IsThere w) (components_below depth w x)
@@ -281,12 +282,37 @@ peopled-visits e (v ∷ vs) w d h i =
     (all-then (λ (v : Visit NodeName). IsThere w v.current.owner) (λ v. IsThere (with_part w q) v.current.owner) (λ u t. there-with_part w q u.current.owner t) vs h.1)
     (peopled-with_part w q o (owner-part_of w o) h.0 refl i)
 
+-- which leave whose parts are there
+people-visits : (e : EventWords) (vs : List (Visit NodeName)) (w : World) (d : Dispatching NodeName) →
+    AllByRecursion (λ (v : Visit NodeName). IsThere w v.current.owner) vs → owners_in (fold (world_visit e) (w, d) vs).0 ≡ owners_in w
+people-visits e [] w d h = refl
+people-visits e (v ∷ vs) w d h =
+    let o = v.current.owner in
+    let p = part_of w o in
+    let heard = visited name_eq e (record d { listeners = p.listeners }) v in
+    let q = record p { listeners = heard.listeners } in
+    people-visits e vs (with_part w q) heard (all-then (λ (v : Visit NodeName). IsThere w v.current.owner) (λ v. IsThere (with_part w q) v.current.owner)
+    (λ u t. there-with_part w q u.current.owner t) vs h.1)
+    ∙ owners-put w.parts q (subst (IsThere w) (sym (owner-part_of w o)) h.0)
+
 -- a dispatch
-pub peopled-dispatch : (w : World) → IsWorld w → (x : NodeName) (related : Option NodeName) (e : EventWords) → IsPeopled w → IsPeopled (dispatch_in w x related e).run.0
-peopled-dispatch w i x related e h =
+visits-of_dispatch : (w : World) → IsWorld w → (x : NodeName) (related : Option NodeName) (e : EventWords) →
+    AllByRecursion (λ (v : Visit NodeName). IsThere w v.current.owner) (visits_of name_eq e.bubbles (views w x related e.composed))
+visits-of_dispatch w i x related e =
     let path = event_path w x related e.composed in
-    peopled-visits e (visits_of name_eq e.bubbles (views w x related e.composed)) w (begun [])
-    (visits-of_there w e.bubbles (views w x related e.composed) (all-map (λ (v : View NodeName). IsThere w v.node.owner) (view_at w x related path) path (path-of_there w i x related e.composed))) h
+    visits-of_there w e.bubbles (views w x related e.composed) (all-map (λ (v : View NodeName). IsThere w v.node.owner) (view_at w x related path) path
+    (path-of_there w i x related e.composed))
+
+-- keeps who is there
+pub peopled-dispatch : (w : World) → IsWorld w → (x : NodeName) (related : Option NodeName) (e : EventWords) → IsPeopled w →
+    IsPeopled (dispatch_in w x related e).run.0
+peopled-dispatch w i x related e h =
+    peopled-visits e (visits_of name_eq e.bubbles (views w x related e.composed)) w (begun []) (visits-of_dispatch w i x related e) h
+
+-- and whose parts are there
+pub people-dispatch : (w : World) → IsWorld w → (x : NodeName) (related : Option NodeName) (e : EventWords) →
+    owners_in (dispatch_in w x related e).run.0 ≡ owners_in w
+people-dispatch w i x related e = people-visits e (visits_of name_eq e.bubbles (views w x related e.composed)) w (begun []) (visits-of_dispatch w i x related e)
 
 -- Notifications and the endings of turns.
 module _ {only_log : Bool} where

@@ -1,5 +1,5 @@
 -- The path of an event of a page node: its inclusive ancestors, and between them nodes of shadow trees, which are hidden.
-use Rattle.std.proofs.Common.{◌≡◌, zero, Bool, true, false, not, ◌&&◌, List, [], ◌∷◌, ◌++◌, filter, flat_map, take_while, Option, Some, None, map, refl, sym, ap, ◌∙◌, subst, append-nil}
+use Rattle.std.proofs.Common.{◌≡◌, ℕ, zero, suc, Bool, true, false, not, ◌&&◌, List, [], ◌∷◌, ◌++◌, filter, flat_map, take_while, Option, Some, None, map, refl, sym, ap, ◌∙◌, subst, append-nil}
 use Rattle.std.specs.Prelude.{if◌then◌else◌, option_to_list}
 use Rattle.std.specs.List.{AllByRecursion}
 use Rattle.std.proofs.lemmas.List.Elements.{filter-append}
@@ -42,40 +42,68 @@ in_some-foreign w y t e = t.1.foreign (sym t.1.owner ∙ e)
 pub seen-in_some : (w : World) → IsWorld w → (y : NodeName) → IsInSome w y → IsSeen w y
 seen-in_some w i y t x e = ap not (in_tree-hidden w i t.0 x y e t.1) ∙ sym (ne-owner_eq y.owner Page (in_some-foreign w y t))
 
--- the way through the shadow tree in which a node is slotted
-abbrev pub slot_way : World → NodeName → List NodeName
-slot_way w x = flat_map (with_slots zero w) (flat_map (ancestors_at w) (option_to_list (slot_of w x)))
+-- The way through the shadow trees in which a node is slotted, through so many at most, one in another.
+abbrev pub slot_way : ℕ → World → NodeName → List NodeName
+slot_way zero w x = []
+slot_way (suc depth) w x = flat_map (with_slots depth w) (flat_map (ancestors_at w) (option_to_list (slot_of w x)))
+
+-- it comes behind the node
+pub slots-behind : (depth : ℕ) (w : World) (x : NodeName) → with_slots depth w x ≡ x ∷ slot_way depth w x
+slots-behind zero w x = refl
+slots-behind (suc depth) w x = refl
+
+-- so with each of some nodes
+pub slots-first : (depth : ℕ) (w : World) (x : NodeName) (xs : List NodeName) →
+    flat_map (with_slots depth w) (x ∷ xs) ≡ x ∷ (slot_way depth w x ++ flat_map (with_slots depth w) xs)
+slots-first depth w x xs = ap (λ ys. ys ++ flat_map (with_slots depth w) xs) (slots-behind depth w x)
 
 -- the way through slots is in shadow trees
-pub slot_way-in_some : (w : World) → IsWorld w → (x : NodeName) → AllByRecursion (IsInSome w) (slot_way w x)
-slot_way-in_some w i x = by_slot (slot_of w x) refl
+pub slot_way-in_some : (depth : ℕ) (w : World) → IsWorld w → (x : NodeName) → AllByRecursion (IsInSome w) (slot_way depth w x)
+slot_way-in_some zero w i x = tt
+slot_way-in_some (suc depth) w i x = by_slot (slot_of w x) refl (slot_way-in_some depth w i)
   where
-    by_slot : (o : Option NodeName) → slot_of w x ≡ o → AllByRecursion (IsInSome w) (slot_way w x)
-    by_slot None e = subst (λ o. AllByRecursion (IsInSome w) (flat_map (with_slots zero w) (flat_map (ancestors_at w) (option_to_list o)))) (sym e) tt
-    by_slot (Some s) e =
+    by_slot : (o : Option NodeName) → slot_of w x ≡ o → ((y : NodeName) → AllByRecursion (IsInSome w) (slot_way depth w y)) →
+        AllByRecursion (IsInSome w) (slot_way (suc depth) w x)
+    by_slot None e deeper = subst (λ o. AllByRecursion (IsInSome w) (flat_map (with_slots depth w) (flat_map (ancestors_at w) (option_to_list o)))) (sym e) tt
+    by_slot (Some s) e deeper =
         let at = slot-in_tree w i x s e in
         let up = all-then (IsInTree w at.0) (IsInSome w) (λ y t. (at.0, t)) (ancestors_at w s) (ancestors-in_tree w i at.0 s at.1) in
         let all = all-append (IsInSome w) (ancestors_at w s) [] up tt in
-        subst (λ o. AllByRecursion (IsInSome w) (flat_map (with_slots zero w) (flat_map (ancestors_at w) (option_to_list o)))) (sym e)
-        (all-flat_map (IsInSome w) (with_slots zero w) (ancestors_at w s ++ []) (all-then (IsInSome w) (λ y. AllByRecursion (IsInSome w) (with_slots zero w y)) (λ y t. (t, tt)) (ancestors_at w s ++ []) all))
+        subst (λ o. AllByRecursion (IsInSome w) (flat_map (with_slots depth w) (flat_map (ancestors_at w) (option_to_list o)))) (sym e)
+        (all-flat_map (IsInSome w) (with_slots depth w) (ancestors_at w s ++ [])
+        (all-then (IsInSome w) (λ y. AllByRecursion (IsInSome w) (with_slots depth w y))
+        (λ y t. subst (AllByRecursion (IsInSome w)) (sym (slots-behind depth w y)) (t, deeper y)) (ancestors_at w s ++ []) all))
 
 -- The nodes of a way up from a page node, of which those of the page are the ancestors.
-pub way-seen : (w : World) → IsWorld w → (xs : List NodeName) → AllByRecursion (IsOf Page) xs → AllByRecursion (IsSeen w) (flat_map (with_slots max_depth w) xs)
-way-seen w i [] h = tt
-way-seen w i (x ∷ xs) h =
-    (seen-page w x h.0, all-append (IsSeen w) (slot_way w x) (flat_map (with_slots max_depth w) xs) (all-then (IsInSome w) (IsSeen w) (seen-in_some w i) (slot_way w x) (slot_way-in_some w i x)) (way-seen w i xs h.1))
+pub way-seen : (w : World) → IsWorld w → (depth : ℕ) (xs : List NodeName) → AllByRecursion (IsOf Page) xs →
+    AllByRecursion (IsSeen w) (flat_map (with_slots depth w) xs)
+way-seen w i depth [] h = tt
+way-seen w i depth (x ∷ xs) h =
+    subst (AllByRecursion (IsSeen w)) (sym (slots-first depth w x xs)) (
+      seen-page w x h.0,
+      all-append (IsSeen w) (slot_way depth w x) (flat_map (with_slots depth w) xs)
+          (all-then (IsInSome w) (IsSeen w) (seen-in_some w i) (slot_way depth w x) (slot_way-in_some depth w i x)) (way-seen w i depth xs h.1),
+    )
 
 -- so it has no page node
-slot_way-no_page : (w : World) → IsWorld w → (x : NodeName) → filter is_page_node (slot_way w x) ≡ []
-slot_way-no_page w i x =
-    filter_none is_page_node (slot_way w x) (all-then (IsInSome w) (λ y. is_page_node y ≡ false) (λ y t. ne-owner_eq y.owner Page (in_some-foreign w y t)) (slot_way w x) (slot_way-in_some w i x))
+slot_way-no_page : (w : World) → IsWorld w → (depth : ℕ) (x : NodeName) → filter is_page_node (slot_way depth w x) ≡ []
+slot_way-no_page w i depth x =
+    filter_none is_page_node (slot_way depth w x)
+    (all-then (IsInSome w) (λ y. is_page_node y ≡ false) (λ y t. ne-owner_eq y.owner Page (in_some-foreign w y t)) (slot_way depth w x)
+    (slot_way-in_some depth w i x))
 
 -- the page nodes of a way up are the ancestors
-pub way-pages : (w : World) → IsWorld w → (xs : List NodeName) → AllByRecursion (IsOf Page) xs → filter is_page_node (flat_map (with_slots max_depth w) xs) ≡ xs
-way-pages w i [] h = refl
-way-pages w i (x ∷ xs) h =
-    cond-true (is_page_node x) (x ∷ filter is_page_node (slot_way w x ++ flat_map (with_slots max_depth w) xs)) (filter is_page_node (slot_way w x ++ flat_map (with_slots max_depth w) xs)) (ap is_page h.0)
-    ∙ ap (λ ys. x ∷ ys) (filter-append is_page_node (slot_way w x) (flat_map (with_slots max_depth w) xs) ∙ ap (λ ys. ys ++ filter is_page_node (flat_map (with_slots max_depth w) xs)) (slot_way-no_page w i x) ∙ way-pages w i xs h.1)
+pub way-pages : (w : World) → IsWorld w → (depth : ℕ) (xs : List NodeName) → AllByRecursion (IsOf Page) xs →
+    filter is_page_node (flat_map (with_slots depth w) xs) ≡ xs
+way-pages w i depth [] h = refl
+way-pages w i depth (x ∷ xs) h =
+    let others = slot_way depth w x ++ flat_map (with_slots depth w) xs in
+    ap (filter is_page_node) (slots-first depth w x xs)
+    ∙ cond-true (is_page_node x) (x ∷ filter is_page_node others) (filter is_page_node others) (ap is_page h.0)
+    ∙ ap (λ ys. x ∷ ys)
+    (filter-append is_page_node (slot_way depth w x) (flat_map (with_slots depth w) xs)
+    ∙ ap (λ ys. ys ++ filter is_page_node (flat_map (with_slots depth w) xs)) (slot_way-no_page w i depth x)
+    ∙ way-pages w i depth xs h.1)
 
 -- a path that is not cut
 pub uncut : (w : World) (target : NodeName) (related : Option NodeName) (xs : List NodeName) → AllByRecursion (λ y. ends_at w target related y ≡ false) xs → take_while (λ y. not (ends_at w target related y)) xs ≡ xs
@@ -125,11 +153,12 @@ views-page w i target related composed h g =
     let way = way_up w target in
     let up = ancestors_at w target in
     let owned = subst (λ o. AllByRecursion (IsOf o) up) h (ancestors-owned w i target) in
-    let pages = way-pages w i up owned in
+    let pages = way-pages w i max_depth up owned in
     let path_is = event_path-page w i target related composed h g in
     let at : (x : NodeName) → x.owner ≡ Page → view_at w target related way x ≡ plain_view target related up x =
     λ x e. view_at-page w target target related way up x (retarget-page w target x h) (retarget_related-page w related x g)
-    (filter_same (λ y. not (is_hidden_from w x y)) is_page_node way (all-then (IsSeen w) (λ y. not (is_hidden_from w x y) ≡ is_page_node y) (λ y s. s x e) way (way-seen w i up owned)) ∙ pages) in
+    (filter_same (λ y. not (is_hidden_from w x y)) is_page_node way (all-then (IsSeen w) (λ y. not (is_hidden_from w x y) ≡ is_page_node y)
+    (λ y s. s x e) way (way-seen w i max_depth up owned)) ∙ pages) in
     ap (λ path. filter is_page_view (map (view_at w target related path) path)) path_is
     ∙ filter-map is_page_view (view_at w target related way) way ∙ ap (map (view_at w target related way)) pages
     ∙ map_same (view_at w target related way) (plain_view target related up) up (all-then (IsOf Page) (λ x. view_at w target related way x ≡ plain_view target related up x) at up owned)

@@ -1,7 +1,8 @@
 -- Texts: the page's lines of input and of output are those that begin with `p `.
-use Rattle.std.proofs.Common.{◌≡◌, ℕ, true, List, [], ◌∷◌, ◌++◌, map, Option, Some, None, refl, sym, ap, ◌∙◌, true≢false, subst}
+use Rattle.std.proofs.Common.{◌≡◌, ◌≢◌, ℕ, true, List, [], ◌∷◌, ◌++◌, map, Option, Some, None, refl, sym, ap, ◌∙◌, true≢false, subst}
 use Rattle.std.specs.Prelude.{option_to_list}
 use Rattle.std.proofs.lemmas.Bool.{cond-true, cond-false, false_from_ne_true}
+use Rattle.dom_base.specs.declared.Owner.{Owner}
 use Rattle.dom_base.specs.declared.Owner.TheVariants.{Page, Component}
 use Rattle.dom_model.specs.Command.{Command, Line, no_owner, no_command, command, attach}
 use Rattle.dom_model.specs.CommandRefusals.{is_command_of}
@@ -20,7 +21,7 @@ use Rattle.dom_text.proofs.TextLaws.{IsSaidBy, begins-says, says-begins}
 use Rattle.dom_isolation.specs.Texts.{ReadsPrefix, lines_in, OutputHasPageLines, PageViewIsItsOutput, TraceHasPageLines, PageLinesAgree, PageLinesAgreeSoFar, PageTextAgrees, SamePageText, ForeignLineIsRefused}
 use Rattle.dom_isolation.proofs.Tests.{by_cases}
 use Rattle.dom_isolation.proofs.PageRuns.{page_run-agrees, page-sees_its_trace}
-use Rattle.dom_isolation.proofs.ForeignNames.{foreign-is_refused}
+use Rattle.dom_model.proofs.TurnLaws.{foreign_is_refused}
 
 -- a line is the page's just where it says something of the page
 page-said : (l : Line) → is_of is_page (owner_of_line l) ≡ true → IsSaidBy Page l
@@ -109,12 +110,13 @@ module _ (read : List ℕ → Line) where
       page_text-agrees first h ∙ ap (λ items. text_of_lines (map output_line (page_outputs_of read items))) e ∙ sym (page_text-agrees second g)
 
 -- Foreign names.
-component-may_use : (k : ℕ) (c : Command) → MayUse c (Component k) → is_command_of (Component k) c ≡ true
-component-may_use k (attach x) h = absurd h
-component-may_use k c h = refl
+component-may_use : (o : Owner) (c : Command) → o ≢ Page → MayUse c o → is_command_of o c ≡ true
+component-may_use Page c off h = absurd (off refl)
+component-may_use (Component k) (attach x) off h = absurd h
+component-may_use (Component k) c off h = refl
 
 -- a line of bytes with such a command
 pub foreign_line-is_refused : ForeignLineIsRefused
-foreign_line-is_refused w bytes k c e h =
-    let says : Says bytes (command (Component k) c) = subst (Says bytes) e (decode_says bytes) in
-    ap (step w) e ∙ foreign-is_refused w k c (component-may_use k c says.may_use) h
+foreign_line-is_refused w bytes o c off e h =
+    let says : Says bytes (command o c) = subst (Says bytes) e (decode_says bytes) in
+    ap (step w) e ∙ foreign_is_refused w o c off (component-may_use o c off says.may_use) h

@@ -23,7 +23,7 @@ use Rattle.dom_text.specs.Grammar.{Says, Spells, parts}
 use Rattle.dom_text.specs.Lines.{line_feed, lines_of}
 use Rattle.dom_text.specs.Text.{hex_digits, unit_text, string_text, string_or_null, node_text_of, node_text, node_or_null, next_node_text, nodes_text, list_text, numbered_text, attribute_text, own_parts, opening_text, trees_text, boundary_text, truth_text, side_text, value_text, event_text, change_text, said_text, output_line, output_text}
 use Rattle.dom_text.specs.Tokens.{IsWord, IsWordByte, IsLabel, is_label_byte}
-use Rattle.dom_text.specs.Words.{owner_word, kind_word}
+use Rattle.dom_text.specs.Words.{component_word, owner_word, kind_word}
 use Rattle.dom_text.proofs.DecodeLaws.{decode_says}
 use Rattle.dom_text.proofs.LineLaws.{lines_of-text_of_lines}
 use Rattle.dom_isolation.specs.Words.{HasNoFeed, HasPlainWords, IsPlainLine, ReadsPlainWords}
@@ -104,17 +104,22 @@ plain-string_or_null (Some units) = plain-string units
 plain-numbered : (letter : List ℕ) (n : ℕ) → list_all (λ b. not (eqb b line_feed)) letter ≡ true → HasNoFeed (letter ++ decimal n)
 plain-numbered letter n h = behind_key letter (decimal n) h (plain-decimal n)
 
+-- a component's word
+plain-component : (k : ℕ) → HasNoFeed (component_word k)
+plain-component k = plain-numbered (codes "c") k refl
+
 -- an owner's word
 plain-owner : (o : Owner) → HasNoFeed (owner_word o)
 plain-owner Page = plain-key (codes "p") refl
-plain-owner (Component k) = plain-numbered (codes "c") k refl
+plain-owner (Component k) = plain-component k
 
 -- a node, by its owner and number
 plain-node_of : (viewer o : Owner) (j : ℕ) → HasNoFeed (node_text_of viewer o j)
 plain-node_of viewer Page j = plain-numbered (codes "n") j refl
 plain-node_of viewer (Component k) j =
-    either_way HasNoFeed (owner_eq viewer (Component k)) (codes "m" ++ decimal j) (codes "c" ++ decimal k ++ codes ":m" ++ decimal j) (plain-numbered (codes "m") j refl)
-    (and_then (codes "c" ++ decimal k ++ codes ":m") (decimal j) (and_then (codes "c" ++ decimal k) (codes ":m") (plain-numbered (codes "c") k refl) (plain-key (codes ":m") refl)) (plain-decimal j))
+    let front = and_then (component_word k) (codes ":m") (plain-component k) (plain-key (codes ":m") refl) in
+    either_way HasNoFeed (owner_eq viewer (Component k)) (codes "m" ++ decimal j) (component_word k ++ codes ":m" ++ decimal j)
+    (plain-numbered (codes "m") j refl) (and_then (component_word k ++ codes ":m") (decimal j) front (plain-decimal j))
 
 -- a node
 plain-node : (viewer : Owner) (x : NodeName) → HasNoFeed (node_text viewer x)

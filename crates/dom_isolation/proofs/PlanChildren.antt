@@ -19,9 +19,8 @@ use Rattle.dom_isolation.proofs.Kids.{root-below}
 use Rattle.dom_isolation.proofs.Lists.{all-then}
 use Rattle.dom_isolation.proofs.PartSteps.{some-keeps}
 use Rattle.dom_isolation.proofs.PlanPlaces.{MayGo, may-still, taken-step, telling-trees, after-append, emptied_of, leads-then, leads-eased, leads-removing, leads-adopting, leads-placing, leads-emptied, leads-making_room, placed-may}
-use Rattle.dom_isolation.proofs.Roots.{all-in}
 use Rattle.dom_isolation.proofs.Tests.{by_cases, either_way}
-use Rattle.dom_isolation.proofs.Trees.{name_eq-true}
+use Rattle.dom_isolation.proofs.Trees.{name_eq-true, all-in}
 
 -- The trees with another node document
 pub documented : (d x : NodeName) (q : Part) (P : Trees → Type 0) → P q.trees → P (part_step q (set_document x d)).trees → P (after q (changing_document d x q)).trees

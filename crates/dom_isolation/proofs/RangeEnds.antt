@@ -22,13 +22,13 @@ use Rattle.dom_isolation.proofs.NodesRead.{length-kids}
 use Rattle.dom_isolation.proofs.PlanBounds.{IsOpen}
 use Rattle.dom_isolation.proofs.PlanChildren.{IsChild}
 use Rattle.dom_isolation.proofs.RangeBounds.{AreChildren}
-use Rattle.dom_isolation.proofs.Roots.{all-in, self-above, root-above}
+use Rattle.dom_isolation.proofs.Roots.{self-above, root-above}
 use Rattle.dom_isolation.proofs.TableSteps.{There}
 use Rattle.dom_isolation.proofs.TableRecords.{IfSome, last-all, before-all, inside-alone}
 use Rattle.dom_isolation.proofs.Lists.{all-append, all-then}
 use Rattle.dom_isolation.proofs.Tests.{by_cases, or-later}
 use Rattle.dom_isolation.proofs.TextBounds.{children-among, kids-open}
-use Rattle.dom_isolation.proofs.Trees.{IsUnique, name_eq-true, name_eq-sym, ancestors-root, ancestors-there, times-here}
+use Rattle.dom_isolation.proofs.Trees.{IsUnique, name_eq-true, name_eq-sym, ancestors-root, ancestors-there, times-here, all-in}
 
 -- Some children of a node before which a boundary does not come: so many that it is within the node, and they are spared.
 pub record IsRoomAt (p : Part) (r : Range NodeName) (b : Boundary NodeName) : Type 0 where

@@ -22,7 +22,7 @@ use Rattle.dom_isolation.proofs.Hiding.{owned-in}
 use Rattle.dom_isolation.proofs.KindCommands.{all-kinds, kinds-same, kinds-line, kinds-first}
 use Rattle.dom_isolation.proofs.Lists.{all-filter, all-then}
 use Rattle.dom_isolation.proofs.OwnerCommands.{peopled-first, peopled-step}
-use Rattle.dom_isolation.proofs.OwnerSteps.{IsPeopled, peopled-ending_turn}
+use Rattle.dom_isolation.proofs.OwnerSteps.{people, peopled-ending_turn}
 use Rattle.dom_isolation.proofs.Tests.{either_way}
 use Rattle.dom_isolation.proofs.TurnEndings.{quiet-ending_turn, alike-ending_turn}
 use Rattle.std.proofs.lemmas.Bool.{and_parts, not-true}
@@ -38,10 +38,6 @@ sound w r = record { world = r.world; logs = r.logs }
 -- whatever the listeners do
 any-sound : {only_log : Bool} (w : World) → IsReached only_log w → IsSound false w
 any-sound w r = record { world = r.world; logs = λ e. absurd (true≢false (sym e)) }
-
--- who is there
-people : {only_log : Bool} (w : World) → IsReached only_log w → IsPeopled w
-people w r = record { owners = r.owners; no_hosts = r.world.no_hosts }
 
 -- the first world
 pub first-is_reached : FirstIsReached

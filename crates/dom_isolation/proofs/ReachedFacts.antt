@@ -3,16 +3,15 @@ use Rattle.std.proofs.Common.{◌≡◌, ℕ, zero, suc, ◌+◌, ◌≤◌, ◌
 use Rattle.std.specs.Prelude.{is_some, slice_get, nat_lt, cond, drop}
 use Rattle.std.specs.List.{position_or_len}
 use Rattle.std.proofs.lemmas.Bool.{cond-true, cond-false, false_from_ne_true, lt-ltb}
-use Rattle.dom_base.specs.declared.Owner.TheVariants.{Page, Component}
 use Rattle.dom_base.specs.declared.NodeName.{NodeName}
 use Rattle.dom_model.specs.Names.{name_eq, is_in, first_of}
 use Rattle.dom_model.specs.Tree.{Trees, none, tree, nodes, names_of, roots, has_node, inclusive_ancestors, on_top}
 use Rattle.dom_model.specs.World.{part_of, is_there, host_of, component_made, shadow_root_of}
-use Rattle.dom_model.proofs.OwnerLaws.{name_eq-same}
+use Rattle.dom_model.proofs.OwnerLaws.{name_eq-same, made_by-is}
 use Rattle.dom_model.proofs.PartLaws.{owner-part_of}
 use Rattle.dom_isolation.specs.Laws.{ShadowRootsAreRoots, NoOtherShadowRoots, AttachedAreThere, HostsAreTheirs}
 use Rattle.dom_isolation.specs.Worlds.{IsShadowOf, MayBeShadow, times_among}
-use Rattle.dom_isolation.proofs.ComponentEvents.{host-page}
+use Rattle.dom_isolation.proofs.Makers.{hosted, hosted-owned}
 use Rattle.dom_isolation.proofs.Insides.{in-later}
 use Rattle.dom_isolation.proofs.NodeKinds.{node-read, name-node_in, fragment-no_shadow}
 use Rattle.dom_isolation.proofs.Owners.{hosted-there, there-hosted}
@@ -63,7 +62,7 @@ no_other_shadow_roots b w r x h =
 pub attached-are_there : AttachedAreThere
 attached-are_there b w r o f =
     by_cases (is_some (host_of w o)) (λ h. hosted-there w r.owners o h ∙ sym h)
-    (λ h. false_from_ne_true (is_there w o) (λ t. true≢false (sym (there-hosted w r.owners o f t) ∙ h)) ∙ sym h)
+    (λ h. false_from_ne_true (is_there w o) (λ t. true≢false (sym (there-hosted w r.world.makers r.owners o f t) ∙ h)) ∙ sym h)
 
 -- The place of a host among those that are there once.
 got-among : (xs : List NodeName) (k : ℕ) (x : NodeName) → slice_get xs k ≡ Some x → 1 ≤ times_among xs x
@@ -97,9 +96,8 @@ position-of xs k x e u =
 
 -- the component of that place is at the host
 pub hosts-are_theirs : HostsAreTheirs
-hosts-are_theirs b w r Page x e = cc
-hosts-are_theirs b w r (Component zero) x e = cc
-hosts-are_theirs b w r (Component (suc k)) x e =
-    let page = (host-page w r.world (Component (suc k)) x e).1 in
-    ap (λ o. option_map (component_made o) (position (name_eq x) (part_of w o).attached)) page
-    ∙ ap (option_map (component_made Page)) (position-of (part_of w Page).attached k x e ((r.kinds Page).once x))
+hosts-are_theirs b w r o x e =
+    let k = hosted w o x e in
+    ap (λ m. option_map (component_made m) (position (name_eq x) (part_of w m).attached)) (hosted-owned w r.world o x k)
+    ∙ ap (option_map (component_made k.maker)) (position-of (part_of w k.maker).attached k.number x k.found ((r.kinds k.maker).once x))
+    ∙ ap Some (made_by-is o k.maker k.number k.named)

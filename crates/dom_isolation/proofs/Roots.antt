@@ -1,6 +1,6 @@
 -- The roots of trees: which nodes have one root, and how that stays.
-use Rattle.std.proofs.Common.{◌≡◌, ◌≤◌, Bool, true, false, ◌||◌, List, [], ◌∷◌, ◌++◌, drop, Some, None, unwrap_or, refl, sym, ap, ◌∙◌, arith, true≢false, subst}
-use Rattle.std.specs.List.{AllByRecursion, last_or}
+use Rattle.std.proofs.Common.{◌≡◌, ◌≤◌, true, false, List, [], ◌∷◌, ◌++◌, drop, Some, None, unwrap_or, sym, ap, ◌∙◌, arith, subst}
+use Rattle.std.specs.List.{last_or}
 use Rattle.std.proofs.lemmas.Bool.{cond-true, cond-false}
 use Rattle.dom_base.specs.declared.NodeName.{NodeName}
 use Rattle.dom_model.specs.Names.{name_eq, is_in, first_of}
@@ -12,32 +12,7 @@ use Rattle.dom_isolation.specs.Worlds.{times_in}
 use Rattle.dom_isolation.proofs.Descents.{ancestor-inside, inside-ancestor, inside-left}
 use Rattle.dom_isolation.proofs.Insides.{inside, inside-absent, inside-elsewhere, inside-times, inside-put_root, parent-there}
 use Rattle.dom_isolation.proofs.Tests.{by_cases, or-first, or-second, or-later}
-use Rattle.dom_isolation.proofs.Trees.{IsUnique, by_times, times-here, times-elsewhere, times-more, name_eq-true, ancestors-absent, ancestors-present, ancestors-root}
-
--- What holds of all nodes of a list holds of one of them.
-pub all-in : (P : NodeName → Type 0) (x : NodeName) (ys : List NodeName) → AllByRecursion P ys → is_in name_eq x ys ≡ true → P x
-all-in P x [] h e = absurd (true≢false (sym e))
-all-in P x (y ∷ ys) h e =
-    by_cases (name_eq x y) (λ t. subst P (sym (name_eq-true x y t)) h.0) (λ t. all-in P x ys h.1 (or-later (name_eq x y) (is_in name_eq x ys) t e))
-
--- the last node of a list that begins with y
-abbrev pub last_from : NodeName → List NodeName → NodeName
-last_from y [] = y
-last_from y (z ∷ zs) = last_from z zs
-
--- the same, as the model says it
-pub last-is : (y : NodeName) (ys : List NodeName) → last_or (Some y) ys ≡ Some (last_from y ys)
-last-is y [] = refl
-last-is y (z ∷ zs) = last-is z zs
-
--- the last of a list is in it
-pub last-in : (y : NodeName) (ys : List NodeName) → is_in name_eq (last_from y ys) (y ∷ ys) ≡ true
-last-in y [] = or-first (name_eq y y) false (name_eq-same y)
-last-in y (z ∷ zs) = by (name_eq (last_from z zs) y) (last-in z zs)
-  where
-    by : (t : Bool) → is_in name_eq (last_from z zs) (z ∷ zs) ≡ true → (t || is_in name_eq (last_from z zs) (z ∷ zs)) ≡ true
-    by true h = refl
-    by false h = h
+use Rattle.dom_isolation.proofs.Trees.{IsUnique, all-in, last_from, last-is, last-in, by_times, times-here, times-elsewhere, times-more, name_eq-true, ancestors-absent, ancestors-present, ancestors-root}
 
 -- Ancestors: a node's are it and its parent's.
 pub ancestors-step : (ts : Trees) (x y : NodeName) → IsUnique ts → parent_of ts x ≡ Some y → inclusive_ancestors ts x ≡ x ∷ inclusive_ancestors ts y

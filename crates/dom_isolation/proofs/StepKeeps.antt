@@ -29,7 +29,7 @@ use Rattle.dom_isolation.proofs.Tests.{by_cases}
 use Rattle.dom_isolation.proofs.Alike.{part-alike, world-alike}
 use Rattle.dom_isolation.proofs.TableEffects.{KeepsBase, base-effect, AddsLogs, KeepsLogs, logs-effect}
 use Rattle.dom_isolation.proofs.ShadowRoots.{SafeEffect, safe-effect}
-use Rattle.dom_isolation.proofs.Acceptance.{part-accepted, accepted-facts}
+use Rattle.dom_isolation.proofs.Acceptance.{part-accepted, accepted-facts, attach-may}
 use Rattle.dom_isolation.proofs.WorldSteps.{world-with_part, own-part, InTurn, quiet-world_after}
 use Rattle.dom_isolation.proofs.TurnEndings.{quiet-dispatch, quiet-ending_turn}
 use Rattle.dom_isolation.proofs.LineBegins.{IsPageTime, page_time, part_of-opening, opening-page, quiet-opening, quiet-ending_other}
@@ -75,10 +75,9 @@ module _ {only_log : Bool} where
       quiet-effect w o (effect p c) q t (base-effect p c) (λ y f. logs-effect p c (l y f)) (λ h. safe-effect (shadow_root_of o) p (own-part w q.world o h) c own)
 
 module _ {only_log : Bool} where
-  -- attaching, which is the page's alone
+  -- attaching, by whoever may
   quiet-attach_of : (w : World) (o : Owner) (x : Spelled) → is_command_of o (Command.attach x) ≡ true → IsSound only_log w → IsSound only_log (perform w o (Command.attach x)).0
-  quiet-attach_of w Page x h q = quiet-attaching w (named (part_of w Page) x) (owner-named (part_of w Page) x ∙ owner-part_of w Page) q
-  quiet-attach_of w (Component k) x h q = absurd (true≢false (sym h))
+  quiet-attach_of w o x h q = quiet-attaching w o (named (part_of w o) x) (attach-may o x h) (owner-named (part_of w o) x ∙ owner-part_of w o) q
 
 module _ {only_log : Bool} where
   -- every accepted command

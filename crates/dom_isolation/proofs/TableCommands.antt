@@ -1,5 +1,5 @@
 -- What an accepted command does to the tables of its owner's part: they keep to what is there, and steps fit.
-use Rattle.std.proofs.Common.{zero, suc, ◌≡◌, ◌≤◌, ◌<◌, ℕ, Bool, true, false, not, ◌&&◌, List, [], ◌∷◌, ◌++◌, map, filter, find, drop, length, Option, Some, None, option_map, refl, sym, ap, ◌∙◌, arith, true≢false, subst, length-append}
+use Rattle.std.proofs.Common.{◌≡◌, ◌≤◌, ◌<◌, ℕ, Bool, true, false, not, ◌&&◌, List, [], ◌∷◌, ◌++◌, map, filter, find, drop, length, Option, Some, None, option_map, refl, sym, ap, ◌∙◌, arith, subst, length-append}
 use Rattle.std.specs.Prelude.{if◌then◌else◌, ⊤, slice_get, slice_set, is_some, nat_lt, ◌==◌, option_to_list}
 use Rattle.std.specs.List.{AllByRecursion, list_any, list_all}
 use Rattle.std.specs.Option.{option_map_or, option_flatten, option_or}
@@ -34,7 +34,7 @@ use Rattle.dom_isolation.proofs.Acceptance.{or-none, next-test, part-accepted}
 use Rattle.dom_isolation.proofs.Descents.{inside-ancestor}
 use Rattle.dom_isolation.proofs.Insides.{inside-itself, inside-no_ancestor, times-has_node, parent-there}
 use Rattle.dom_isolation.proofs.KindCommands.{has_node-times}
-use Rattle.dom_isolation.proofs.Lists.{all-dropped, all-append, all-then, all-filter, all-map}
+use Rattle.dom_isolation.proofs.Lists.{all-dropped, all-append, all-then, all-filter, all-map, get-below}
 use Rattle.dom_isolation.proofs.PageCommands.{owner-named}
 use Rattle.dom_isolation.proofs.PlanPlaces.{MayGo, leads-removing, leads-adopting, leads-inserting}
 use Rattle.dom_isolation.proofs.PlanTexts.{leads-replacing, leads-setting_attribute, leads-unsetting_attribute, leads-replacing_data, leads-splitting, leads-normalizing, leads-setting_text}
@@ -218,12 +218,6 @@ more-registered ts j k e rs h = all-then (IsRegistrationIn ts j) (IsRegistration
 pub more-pending : (j k : ℕ) → j ≤ k → (ks : List ℕ) → AllByRecursion (λ i. i < j) ks → AllByRecursion (λ i. i < k) ks
 more-pending j k e ks h = all-then (λ i. i < j) (λ i. i < k) (λ i o. omega arith) ks h
 
--- a number of a queue
-pub queue-below : {X : Type 0} (xs : List X) (k : ℕ) → is_some (slice_get xs k) ≡ true → k < length xs
-queue-below [] k h = absurd (true≢false (sym h))
-queue-below (x ∷ xs) zero h = omega arith
-queue-below (x ∷ xs) (suc k) h = let g = queue-below xs k h in omega arith
-
 -- Ranges that plans are for.
 range-made : (p : Part) (k : ℕ) (f : Range NodeName → List Step) → ((range : Range NodeName) → range_at p k ≡ Some range → MadeIn p (f range)) → MadeIn p (of_range p k [] f)
 range-made p k f h = from (range_at p k) refl
@@ -346,7 +340,7 @@ holds-effect p i h f Command.observer r =
 holds-effect p i h f (Command.observe k x w) r =
     let a = part-accepted p (Command.observe k x w) r in
     let t = times-has_node p.trees (named p x) (exists-first p x true (is_some (slice_get p.record_queues k)) a.exist) in
-    let below = queue-below p.record_queues k (and_parts (has_node p.trees (named p x) && true) (is_some (slice_get p.record_queues k)) a.exist).1 in
+    let below = get-below p.record_queues k (and_parts (has_node p.trees (named p x) && true) (is_some (slice_get p.record_queues k)) a.exist).1 in
     let P = IsRegistrationIn p.trees (length p.record_queues) in
     tables-observers p p.record_queues (with_registration name_eq k (named p x) (options_of w) p.registrations) p.pending h
     (all-registered_with P k (named p x) (options_of w) p.registrations (λ r m. record { node = m.node; observer = m.observer; source = m.source }) (record { node = t; observer = below; source = tt }) h.registrations) h.pending

@@ -1,6 +1,6 @@
 -- Every line keeps the tables of all parts.
-use Rattle.std.proofs.Common.{suc, ◌≡◌, Bool, true, false, not, List, [], ◌∷◌, ◌++◌, map, filter, fold, length, Option, Some, None, option_map, refl, sym, ap, ◌∙◌, arith, true≢false, subst}
-use Rattle.std.specs.Prelude.{is_some, unwrap_or}
+use Rattle.std.proofs.Common.{◌≡◌, Bool, true, false, not, List, [], ◌∷◌, ◌++◌, map, filter, fold, length, Option, Some, None, option_map, refl, sym, ap, ◌∙◌, arith, true≢false, subst}
+use Rattle.std.specs.Prelude.{is_some}
 use Rattle.std.specs.List.{AllByRecursion}
 use Rattle.dom_base.specs.declared.Action.{Action}
 use Rattle.dom_base.specs.declared.Action.TheVariants.{Log, Stop, StopNow, Cancel}
@@ -18,36 +18,37 @@ use Rattle.dom_model.specs.Effects.{Effect, tables, changes, effect}
 use Rattle.dom_model.specs.Listeners.{Listener, Visit, Dispatching, begun, after_action, may_cancel, line_of, is_listener, kept_after, called, hears, visited}
 use Rattle.dom_model.specs.Names.{name_eq, node_of, is_in}
 use Rattle.dom_model.specs.Observers.{Registration, is_transient}
-use Rattle.dom_model.specs.Part.{Part, empty_part, first_node}
+use Rattle.dom_model.specs.Part.{Part, first_node}
 use Rattle.dom_model.specs.Paths.{views}
 use Rattle.dom_model.specs.Runs.{Run, quiet, run_each, unless_refused}
 use Rattle.dom_model.specs.Tree.{node_in}
 use Rattle.std.specs.Prelude.{◌&&◌, nat_eq}
 use Rattle.dom_model.specs.Turns.{slotchange, firing_slotchange, is_owned_by, without_signals, notified, running_task, ending_turn, has_other_turn, ending_other_turn, opening_turn}
-use Rattle.dom_model.specs.World.{World, Task, micro_task, notify_task, find_part, part_of, with_part, component_made}
+use Rattle.dom_model.specs.World.{World, Task, micro_task, notify_task, part_of, with_part, component_made, MayAttach}
+use Rattle.dom_model.proofs.OwnerLaws.{component_made-other}
 use Rattle.dom_model.proofs.PartLaws.{part_of-with_part-other, owner-part_of}
 use Rattle.dom_model.proofs.StepLaws.{Component-IsNoPage}
 use Rattle.dom_isolation.specs.Laws.{IsReached}
 use Rattle.dom_isolation.specs.Tables.{IsNodeIn, IsRegistrationIn, IsListenerIn, IsRecordIn, HasTables, HasRecords, IsNodeAt, IsWhole}
 use Rattle.dom_isolation.specs.Wholes.{FirstIsWhole, StepKeepsWhole, EndingKeepsWhole, FinishKeepsWhole, ScriptsStayWhole}
 use Rattle.dom_isolation.specs.Worlds.{HasOwners, IsThere}
-use Rattle.dom_isolation.proofs.Acceptance.{accepted-facts}
+use Rattle.dom_isolation.proofs.Acceptance.{accepted-facts, attach-may}
 use Rattle.dom_isolation.proofs.Insides.{times-has_node}
 use Rattle.dom_isolation.proofs.KindCommands.{attach-free}
 use Rattle.dom_isolation.proofs.LineBegins.{part_of-opening}
 use Rattle.dom_isolation.proofs.Lists.{all-append, all-filter}
 use Rattle.dom_isolation.proofs.OwnerCommands.{peopled-opening}
-use Rattle.dom_isolation.proofs.OwnerSteps.{IsPeopled}
-use Rattle.dom_isolation.proofs.Owners.{there-hosted}
+use Rattle.dom_isolation.proofs.OwnerSteps.{IsPeopled, people}
+use Rattle.dom_isolation.proofs.Owners.{absent-part, next-absent, there-hosted}
 use Rattle.dom_isolation.proofs.Reached.{first-is_reached, step-keeps_reached, ending-keeps_reached, finish-keeps_reached}
 use Rattle.dom_isolation.proofs.ReachedFacts.{shadow_roots-are_roots}
 use Rattle.dom_isolation.proofs.Recorded.{records-emptied}
 use Rattle.dom_isolation.proofs.RecordedCommands.{Records, records-effect}
-use Rattle.dom_isolation.proofs.TableCommands.{Holds, holds-effect, queue-below, more-registered}
+use Rattle.dom_isolation.proofs.TableCommands.{Holds, holds-effect, more-registered}
 use Rattle.dom_isolation.proofs.TableEffects.{KeepsBase, base-effect}
 use Rattle.dom_isolation.proofs.TableSteps.{Grows}
 use Rattle.dom_isolation.proofs.TableRecords.{queues-set}
-use Rattle.dom_isolation.proofs.TableWorlds.{Ground, Frame, frame-with_part, frame-world_after}
+use Rattle.dom_isolation.proofs.TableWorlds.{Ground, ground-of, Frame, frame-with_part, frame-world_after}
 use Rattle.dom_isolation.proofs.Tests.{either_way}
 
 -- Listeners are called, and some go: those that are left are as they were.
@@ -140,44 +141,39 @@ frame-ending_turn w f = frame-running_all w.tasks (record w { tasks = []; turn =
 frame-ending_other : (w : World) (o : Owner) → Frame w → Frame (ending_other_turn w o).0
 frame-ending_other w o f = either_way (λ (r : Run World). Frame r.0) (has_other_turn w o) (ending_turn w) (quiet w) (frame-ending_turn w f) f
 
--- Attaching: the new component was not there.
-new-absent : (w : World) → HasOwners w → IsThere w (component_made Page (length (part_of w Page).attached)) → ⊥
-new-absent w i t =
-    let n = length (part_of w Page).attached in
-    let below = queue-below (part_of w Page).attached n (there-hosted w i (Component (suc n)) (Component-IsNoPage (suc n)) t) in omega arith
-
--- an owner that is not there has no nodes
+-- Attaching: an owner that is not there has no nodes.
 absent-grows : (w : World) (o : Owner) (p : Part) → (IsThere w o → ⊥) → Grows (part_of w o).trees p.trees
-absent-grows w o p h = from (find_part w.parts o) refl
-  where
-    from : (q : Option Part) → find_part w.parts o ≡ q → Grows (unwrap_or q (empty_part o)).trees p.trees
-    from None e y g = absurd (true≢false (sym g))
-    from (Some q) e y g = absurd (h (ap is_some e))
+absent-grows w o p h = subst (λ (q : Part). Grows q.trees p.trees) (sym (absent-part w o h)) (λ y g. absurd (true≢false (sym g)))
 
 -- an empty part but for its first node
 tables-root : (o : Owner) (d : Option NodeName) → HasTables (part_with_root o Shadow d)
 tables-root o d = record { hosts = tt; ranges = tt; iterators = tt; walkers = tt; registrations = tt; pending = tt; listeners = tt }
 
 -- attaching keeps the tables
-frame-attaching : (w : World) (x : NodeName) → HasOwners w → IsNodeIn (part_of w Page).trees x → Frame w → Frame (attaching w Page x).0
-frame-attaching w x i t f =
-    let p = part_of w Page in
-    let h = f.tables Page in
-    let c = component_made Page (length p.attached) in
+frame-attaching : (w : World) (o : Owner) (x : NodeName) → MayAttach o → Ground w → HasOwners w → IsNodeIn (part_of w o).trees x → Frame w →
+    Frame (attaching w o x).0
+frame-attaching w o x may g i t f =
+    let p = part_of w o in
+    let h = f.tables o in
+    let n = length p.attached in
+    let c = component_made o n in
     let more = record p { attached = p.attached ++ x ∷ [] } in
     let hosted : HasTables more = record { hosts = all-append (IsNodeIn p.trees) p.attached (x ∷ []) h.hosts (t, tt); ranges = h.ranges; iterators = h.iterators; walkers = h.walkers; registrations = h.registrations; pending = h.pending; listeners = h.listeners } in
     let marked = with_part w more in
-    let mine : more.owner ≡ Page = owner-part_of w Page in
-    let g = frame-with_part w more Page mine hosted (f.records Page) (λ y k. k) f in
+    let mine : more.owner ≡ o = owner-part_of w o in
+    let k = frame-with_part w more o mine hosted (f.records o) (λ y k. k) f in
     let d = (node_in p.trees x).document in
     let root = part_with_root c Shadow d in
-    let other : part_of marked c ≡ part_of w c = part_of-with_part-other w more c (λ e. Component-IsNoPage (suc (length p.attached)) (sym e ∙ mine)) in
-    frame-with_part marked root c refl (tables-root c d) tt (subst (λ (q : Part). Grows q.trees root.trees) (sym other) (absent-grows w c root (new-absent w i))) g
+    let other : part_of marked c ≡ part_of w c = part_of-with_part-other w more c (λ e. component_made-other o n may (sym e ∙ mine)) in
+    frame-with_part marked root c refl (tables-root c d) tt (subst (λ (q : Part). Grows q.trees root.trees) (sym other)
+    (absent-grows w c root (next-absent w g.makers i o may))) k
 
--- which is the page's alone
-frame-attach_of : (w : World) (o : Owner) (x : Spelled) → is_command_of o (Command.attach x) ≡ true → part_refusal (part_of w o) (Command.attach x) ≡ None → HasOwners w → Frame w → Frame (perform w o (Command.attach x)).0
-frame-attach_of w Page x g r i f = frame-attaching w (named (part_of w Page) x) i (times-has_node (part_of w Page).trees (named (part_of w Page) x) (attach-free (part_of w Page) x r).there) f
-frame-attach_of w (Component k) x g r i f = absurd (true≢false (sym g))
+-- who attaches is known from acceptance
+frame-attach_of : (w : World) (o : Owner) (x : Spelled) → is_command_of o (Command.attach x) ≡ true → part_refusal (part_of w o) (Command.attach x) ≡ None →
+    Ground w → HasOwners w → Frame w → Frame (perform w o (Command.attach x)).0
+frame-attach_of w o x g r k i f =
+    frame-attaching w o (named (part_of w o) x) (attach-may o x g) k i
+    (times-has_node (part_of w o).trees (named (part_of w o) x) (attach-free (part_of w o) x r).there) f
 
 -- An accepted command.
 frame-effect : (w : World) (o : Owner) (e : Effect) → Ground w → KeepsBase (part_of w o) e → Holds (part_of w o) e → Records (part_of w o) e → Frame w → Frame (effect_in w o e).0
@@ -193,7 +189,7 @@ record Facts (w : World) (o : Owner) : Type 0 where
 
 -- any command
 frame-perform : (w : World) (o : Owner) (c : Command) → Facts w o → is_command_of o c ≡ true → part_refusal (part_of w o) c ≡ None → Frame w → Frame (perform w o c).0
-frame-perform w o (Command.attach x) k g r f = frame-attach_of w o x g r k.owners f
+frame-perform w o (Command.attach x) k g r f = frame-attach_of w o x g r k.ground k.owners f
 frame-perform w o (Command.connected x) k g r f = f
 frame-perform w o (Command.assigned x) k g r f = f
 frame-perform w o (Command.dispatch x e related) k g r f = frame-dispatch w (named (part_of w o) x) (option_map (named (part_of w o)) related) e f
@@ -205,7 +201,7 @@ frame-perform w o c k g r f = frame-effect w o (effect (part_of w o) c) k.ground
 facts-opening : (w : World) (o : Owner) → Facts w o → HasOwners (opening_turn w o) → Facts (opening_turn w o) o
 facts-opening w o k i =
     record {
-      ground = either_way Ground (is_some w.turn) w (record w { turn = Some o }) k.ground (record { parts = k.ground.parts; no_hosts = k.ground.no_hosts });
+      ground = either_way Ground (is_some w.turn) w (record w { turn = Some o }) k.ground (record { parts = k.ground.parts; makers = k.ground.makers });
       owners = i;
       first = either_way (λ v. IsNodeIn (part_of v o).trees (first_node (part_of v o))) (is_some w.turn) w (record w { turn = Some o }) k.first k.first;
     }
@@ -222,7 +218,7 @@ first-there : {only_log : Bool} (w : World) → IsReached only_log w → IsNodeI
 first-there w r f Page t = subst (λ a. IsNodeIn (part_of w Page).trees (node_of a 0)) (sym (owner-part_of w Page)) f
 first-there {only_log = b} w r f (Component k) t =
     let o = Component k in
-    let hosted = there-hosted w r.owners o (Component-IsNoPage k) t in
+    let hosted = there-hosted w r.world.makers r.owners o (Component-IsNoPage k) t in
     subst (λ a. IsNodeIn (part_of w o).trees (node_of a 0)) (sym (owner-part_of w o)) (shadow_roots-are_roots b w r o hosted).0
 
 -- refused or accepted
@@ -233,8 +229,8 @@ frame-command w o c r f = from (refusal w o c) refl
     from (Some a) e = subst (λ a. Frame (unless_refused o a w (accepted w o c)).0) (sym e) f
     from None e =
         let a = accepted-facts w o c e in
-        let k : Facts w o = record { ground = record { parts = r.world.parts; no_hosts = r.world.no_hosts }; owners = r.owners; first = first-there w r f.first o a.there } in
-        subst (λ a. Frame (unless_refused o a w (accepted w o c)).0) (sym e) (frame-accepted w o c a.there (record { owners = r.owners; no_hosts = r.world.no_hosts }) k a.grammar a.part f)
+        let k : Facts w o = record { ground = ground-of w r.world; owners = r.owners; first = first-there w r f.first o a.there } in
+        subst (λ a. Frame (unless_refused o a w (accepted w o c)).0) (sym e) (frame-accepted w o c a.there (people w r) k a.grammar a.part f)
 
 -- a line
 frame-line : {only_log : Bool} (w : World) (l : Line) → IsReached only_log w → Frame w → Frame (step w l).0

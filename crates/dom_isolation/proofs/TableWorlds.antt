@@ -1,26 +1,27 @@
 -- Steps in the world keep the tables of all parts, and each signalled slot a node.
-use Rattle.std.proofs.Common.{◌≡◌, ◌≢◌, ◌≤◌, ℕ, Bool, true, false, ◌&&◌, List, [], ◌∷◌, ◌++◌, filter, filter_map, flat_map, find, fold, position, Option, Some, None, option_map, refl, sym, ap, ◌∙◌, arith, true≢false, subst}
+use Rattle.std.proofs.Common.{◌≡◌, ℕ, zero, suc, ◌≤◌, ◌<◌, Bool, true, false, ◌&&◌, List, [], ◌∷◌, ◌++◌, filter, filter_map, find, fold, Option, Some, None, option_map, refl, sym, ap, ◌∙◌, arith, true≢false, subst}
 use Rattle.std.specs.Prelude.{if◌then◌else◌, option_to_list, unwrap_or}
 use Rattle.std.specs.List.{AllByRecursion, cons_option}
 use Rattle.std.specs.Option.{option_and_then}
 use Rattle.std.proofs.lemmas.Bool.{and_parts}
 use Rattle.dom_base.specs.declared.NodeName.{NodeName}
 use Rattle.dom_base.specs.declared.Owner.{Owner}
-use Rattle.dom_base.specs.declared.Owner.TheVariants.{Page, Component}
-use Rattle.dom_model.specs.Names.{DomString, name_eq, owner_eq, node_of, max_depth, is_empty, is_in}
+use Rattle.dom_base.specs.declared.Owner.TheVariants.{Page}
+use Rattle.dom_model.specs.Names.{DomString, name_eq, owner_eq, owner_depth, node_of, max_depth, is_empty, is_in}
 use Rattle.dom_model.specs.Tree.{Trees, Node, nodes, node_in, no_node, subtree, inclusive_descendants, parent_of, is_element}
 use Rattle.dom_model.specs.Part.{Part}
 use Rattle.dom_model.specs.Slots.{is_slot_element, slottable_name, slot_in, slot_of, has_slot_name, assigned, is_changed, is_bare_slot, own_slots, slots_among, other_slots, signals, with_signal}
 use Rattle.dom_model.specs.Steps.{Step, place, take_out, set_document, set_attribute, queue_record, part_step, is_taken}
-use Rattle.dom_model.specs.World.{World, part_of, with_part, trees_with, node_at, root_at, parent_at, component_at, component_made, components_below, shadow_root_of, shadow_tree, is_in_shadow_tree}
+use Rattle.dom_model.specs.World.{World, part_of, with_part, trees_with, node_at, root_at, parent_at, component_at, components_below, shadow_root_of, shadow_tree, is_in_shadow_tree}
 use Rattle.dom_model.specs.WorldSteps.{world_step, world_after, stepped, with_signals, with_removal_signals, with_notify_if, with_shadow_document}
 use Rattle.dom_model.proofs.OwnerLaws.{owner_eq-true, owner_eq-false}
 use Rattle.dom_model.proofs.PartLaws.{part_of-with_part, part_of-with_part-other, owner-part_of}
-use Rattle.dom_model.proofs.StepLaws.{owner-part_step, part_of-stepped, part_of-with_signals, part_of-with_removal_signals, part_of-with_notify_if, Component-IsNoPage, part_of-world_step}
-use Rattle.dom_isolation.specs.Worlds.{times_in, IsPart}
+use Rattle.dom_model.proofs.StepLaws.{owner-part_step, IsOther, IsApart, part_of-own_step}
+use Rattle.dom_isolation.specs.Worlds.{times_in, IsPart, IsWorld, HasMakers}
 use Rattle.dom_isolation.specs.Tables.{IsNodeIn, HasTables, HasRecords, IsNodeAt}
 use Rattle.dom_isolation.proofs.Insides.{times-has_node}
-use Rattle.dom_isolation.proofs.Lists.{all-append, all-filter, all-then, all-map, all-distinct}
+use Rattle.dom_isolation.proofs.Lists.{all-append, all-filter, all-then, all-map, all-flat_map, all-distinct}
+use Rattle.dom_isolation.proofs.Makers.{makers-same, component-deeper}
 use Rattle.dom_isolation.proofs.PartSteps.{part-step, rest-step}
 use Rattle.dom_isolation.proofs.Recorded.{Tells, TellsIn, records-step}
 use Rattle.dom_isolation.proofs.ShadowRoots.{found-absent}
@@ -28,15 +29,20 @@ use Rattle.dom_isolation.proofs.TableSteps.{Fits, MadeIn, Grows, grows-step}
 use Rattle.dom_isolation.proofs.TableRecords.{tables-step, IfSome}
 use Rattle.dom_isolation.proofs.Tests.{by_cases, either_way}
 use Rattle.dom_isolation.proofs.Trees.{by_times, times-subtree, nodes-there}
+use Rattle.dom_isolation.proofs.WorldSteps.{attached-with_part}
 
 -- All parts keep the nodes that they have.
 abbrev pub AllGrow : World → World → Type 0
 AllGrow w v = (o : Owner) → Grows (part_of w o).trees (part_of v o).trees
 
--- What is carried through steps: names are as they should be, and components host nothing.
+-- What is carried through steps: names are as they should be, and whoever has hosts may attach.
 pub record Ground (w : World) : Type 0 where
   pub parts : (o : Owner) → IsPart (part_of w o)
-  pub no_hosts : (o : Owner) → o ≢ Page → (part_of w o).attached ≡ []
+  pub makers : HasMakers w
+
+-- so it is of a world as it should be
+pub ground-of : (w : World) → IsWorld w → Ground w
+ground-of w i = record { parts = i.parts; makers = i.makers }
 
 -- The tables, the records, the page's first document, and the signalled slots.
 pub record Frame (w : World) : Type 0 where
@@ -68,7 +74,7 @@ frame-with_part w p o e h r g f =
 -- with its hosts
 ground-with_part : (w : World) (p : Part) (o : Owner) → p.owner ≡ o → IsPart p → p.attached ≡ (part_of w o).attached → Ground w → Ground (with_part w p)
 ground-with_part w p o e i a g =
-    record { parts = each-part (λ x q. IsPart q) w p o e i g.parts; no_hosts = each-part (λ x q. x ≢ Page → q.attached ≡ []) w p o e (λ n. a ∙ g.no_hosts o n) g.no_hosts }
+    record { parts = each-part (λ x q. IsPart q) w p o e i g.parts; makers = makers-same (with_part w p) w (attached-with_part w p o e a) g.makers }
 
 -- What is asked of a step: it fits where it is made, and what it records is there.
 abbrev pub Suits : Part → Step → Type 0
@@ -184,7 +190,7 @@ frame-each_signal (s ∷ ss) w h f = frame-each_signal ss (with_signal w s) h.1 
 -- names and hosts stay
 ground-each_signal : (ss : List NodeName) (w : World) → Ground w → Ground (fold with_signal w ss)
 ground-each_signal [] w g = g
-ground-each_signal (s ∷ ss) w g = ground-each_signal ss (with_signal w s) (record { parts = g.parts; no_hosts = g.no_hosts })
+ground-each_signal (s ∷ ss) w g = ground-each_signal ss (with_signal w s) (record { parts = g.parts; makers = g.makers })
 
 -- the signals of a step
 frame-signals : (o : Owner) (w : World) (s : Step) → Suits (part_of w o) s → Ground w → Frame w → (x around : NodeName) (is_move : Bool) → Frame (with_signals w (stepped o w s) x around is_move)
@@ -225,7 +231,7 @@ frame-notify false o w f = f
 
 -- names and hosts stay
 ground-notify : (b : Bool) (o : Owner) (w : World) → Ground w → Ground (with_notify_if b o w)
-ground-notify true o w g = record { parts = g.parts; no_hosts = g.no_hosts }
+ground-notify true o w g = record { parts = g.parts; makers = g.makers }
 ground-notify false o w g = g
 
 -- Steps.
@@ -249,37 +255,52 @@ ground-world_step o w (set_document x d) g = ground-documents (components_below 
 ground-world_step o w (queue_record c) g = ground-notify (is_taken (part_of w o) c) o (stepped o w (queue_record c)) (ground-stepped o w (queue_record c) g)
 ground-world_step o w s g = ground-stepped o w s g
 
--- What a step does in its owner's part is not done again elsewhere: a component's trees have no hosts.
-no-components : (w : World) → Ground w → (o : Owner) → o ≢ Page → (xs : List NodeName) → AllByRecursion (λ (y : NodeName). y.owner ≡ o) xs → filter_map (component_at w) xs ≡ []
-no-components w g o n [] h = refl
-no-components w g o n (x ∷ xs) h =
-    let none_at : component_at w x ≡ None = ap (λ (hs : List NodeName). option_map (component_made x.owner) (position (name_eq x) hs)) (ap (λ a. (part_of w a).attached) h.0 ∙ g.no_hosts o n) in
-    ap (λ c. cons_option c (filter_map (component_at w) xs)) none_at ∙ no-components w g o n xs h.1
+-- What a step does in its owner's part is not done again elsewhere: the components below a node are deeper than its owner.
+abbrev IsDeeper : Owner → Owner → Type 0
+IsDeeper o c = owner_depth o < owner_depth c
 
--- so the parts of others alone
-part-documents : (w : World) → Ground w → (k : ℕ) (x d : NodeName) → x.owner ≡ Component k → (v : World) → part_of (fold (with_shadow_document d) v (components_below max_depth w x)) (Component k) ≡ part_of v (Component k)
-part-documents w g k x d e v =
-    let o = Component k in
+-- those at nodes
+found-deeper : (w : World) → Ground w → (o : Owner) (xs : List NodeName) → AllByRecursion (λ (y : NodeName). y.owner ≡ o) xs →
+    AllByRecursion (IsDeeper o) (filter_map (component_at w) xs)
+found-deeper w g o [] h = tt
+found-deeper w g o (x ∷ xs) h = from (component_at w x) refl (found-deeper w g o xs h.1)
+  where
+    from : (c : Option Owner) → component_at w x ≡ c → AllByRecursion (IsDeeper o) (filter_map (component_at w) xs) →
+        AllByRecursion (IsDeeper o) (cons_option c (filter_map (component_at w) xs))
+    from None e more = more
+    from (Some c) e more = (subst (λ a. IsDeeper a c) h.0 (component-deeper w g.makers x c e), more)
+
+-- the nodes of a tree are of one owner
+descendants-owned : (w : World) → Ground w → (x : NodeName) → AllByRecursion (λ (y : NodeName). y.owner ≡ x.owner) (inclusive_descendants (trees_with w x) x)
+descendants-owned w g x =
     let ts = trees_with w x in
-    let descend = all-map (λ (y : NodeName). y.owner ≡ o) (λ (n : Node). n.name) (nodes (subtree ts x))
-    (all-then (λ (n : Node). 1 ≤ times_in (subtree ts x) n.name) (λ n. n.name.owner ≡ o) (λ n h. (g.parts x.owner).owned n.name (let s = times-subtree ts x n.name in omega arith) ∙ owner-part_of w x.owner ∙ e) (nodes (subtree ts x)) (nodes-there (subtree ts x))) in
-    let nothing_below : components_below max_depth w x ≡ [] = ap (flat_map (λ c. c ∷ components_below 0 w (shadow_root_of c))) (no-components w g o (Component-IsNoPage k) (inclusive_descendants ts x) descend) in
-    ap (λ cs. part_of (fold (with_shadow_document d) v cs) o) nothing_below
+    all-map (λ (y : NodeName). y.owner ≡ x.owner) (λ (n : Node). n.name) (nodes (subtree ts x))
+    (all-then (λ (n : Node). 1 ≤ times_in (subtree ts x) n.name) (λ n. n.name.owner ≡ x.owner)
+    (λ n h. (g.parts x.owner).owned n.name (let s = times-subtree ts x n.name in omega arith) ∙ owner-part_of w x.owner) (nodes (subtree ts x))
+    (nodes-there (subtree ts x)))
 
--- a component's step in its part
-part-component_step : (k : ℕ) (w : World) (s : Step) → Ground w → Fits (part_of w (Component k)) s → part_of (world_step (Component k) w s) (Component k) ≡ part_step (part_of w (Component k)) s
-part-component_step k w (place x parent before) g h = let o = Component k in part_of-with_signals w (stepped o w (place x parent before)) x parent true o ∙ part_of-stepped w o (place x parent before)
-part-component_step k w (take_out x) g h = let o = Component k in part_of-with_removal_signals w (stepped o w (take_out x)) x (parent_of (part_of w o).trees x) o ∙ part_of-stepped w o (take_out x)
-part-component_step k w (set_attribute x a v) g h = let o = Component k in part_of-with_signals w (stepped o w (set_attribute x a v)) x x false o ∙ part_of-stepped w o (set_attribute x a v)
-part-component_step k w (set_document x d) g h =
-    let o = Component k in part-documents w g k x d (h ∙ owner-part_of w o) (stepped o w (set_document x d)) ∙ part_of-stepped w o (set_document x d)
-part-component_step k w (queue_record c) g h = let o = Component k in part_of-with_notify_if (is_taken (part_of w o) c) o o (stepped o w (queue_record c)) ∙ part_of-stepped w o (queue_record c)
-part-component_step k w s g h = part_of-stepped w (Component k) s
+-- those at any depth
+below-deeper : (depth : ℕ) (w : World) → Ground w → (x : NodeName) → AllByRecursion (IsDeeper x.owner) (components_below depth w x)
+below-deeper zero w g x = tt
+below-deeper (suc depth) w g x =
+    let below : Owner → List Owner = λ c. components_below depth w (shadow_root_of c) in
+    let found = filter_map (component_at w) (inclusive_descendants (trees_with w x) x) in
+    all-flat_map (IsDeeper x.owner) (λ c. c ∷ below c) found
+    (all-then (IsDeeper x.owner) (λ c. AllByRecursion (IsDeeper x.owner) (c ∷ below c))
+    (λ c h. (h, all-then (IsDeeper c) (IsDeeper x.owner) (λ e k. omega (arith, h, k)) (below c) (below-deeper depth w g (shadow_root_of c)))) found
+    (found-deeper w g x.owner (inclusive_descendants (trees_with w x) x) (descendants-owned w g x)))
+
+-- so they are others
+step-apart : (o : Owner) (w : World) (s : Step) → Ground w → Fits (part_of w o) s → IsApart o w s
+step-apart o w (set_document x d) g h =
+    subst (λ a. AllByRecursion (IsOther a) (components_below max_depth w x)) (h ∙ owner-part_of w o)
+    (all-then (IsDeeper x.owner) (IsOther x.owner) (λ c k e. let same = ap owner_depth e in absurd (omega (arith, k, same)))
+    (components_below max_depth w x) (below-deeper max_depth w g x))
+step-apart o w s g h = tt
 
 -- a step in its part
 pub part-own_step : (o : Owner) (w : World) (s : Step) → Ground w → Fits (part_of w o) s → part_of (world_step o w s) o ≡ part_step (part_of w o) s
-part-own_step Page w s g h = part_of-world_step w s
-part-own_step (Component k) w s g h = part-component_step k w s g h
+part-own_step o w s g h = part_of-own_step o w s (step-apart o w s g h)
 
 -- many steps, each of which fits where it is made
 pub frame-world_after : (o : Owner) (steps : List Step) (w : World) → Ground w → MadeIn (part_of w o) steps → TellsIn (part_of w o) steps → Frame w → Frame (world_after o w steps)

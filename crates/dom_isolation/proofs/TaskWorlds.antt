@@ -13,7 +13,7 @@ use Rattle.dom_isolation.specs.Worlds.{IsThere}
 use Rattle.dom_isolation.proofs.Alike.{AreAlike, alike-with_part}
 use Rattle.dom_isolation.proofs.KindCommands.{all-kinds, kinds-same}
 use Rattle.dom_isolation.proofs.Lists.{all-filter}
-use Rattle.dom_isolation.proofs.OwnerSteps.{IsPeopled, same-people, peopled-with_part, peopled-dispatch}
+use Rattle.dom_isolation.proofs.OwnerSteps.{IsPeopled, people, same-people, peopled-with_part, peopled-dispatch}
 use Rattle.dom_isolation.proofs.Reached.{sound}
 use Rattle.dom_isolation.proofs.TableLines.{frame-told, frame-dispatch, frame-of, whole-of}
 use Rattle.dom_isolation.proofs.TurnEndings.{quiet-dispatch, quiet-told, quiet-at_end, alike-dispatch}
@@ -22,10 +22,6 @@ use Rattle.dom_isolation.proofs.TurnEndings.{quiet-dispatch, quiet-told, quiet-a
 pub record Stands (w : World) : Type 0 where
   pub reached : IsReached false w
   pub whole : IsWhole w
-
--- who is there
-people : (w : World) → IsReached false w → IsPeopled w
-people w r = record { owners = r.owners; no_hosts = r.world.no_hosts }
 
 -- a world whose trees are those of one that is reached
 reached-alike : (v w : World) → AreAlike v w → IsSound false v → IsPeopled v → IsReached false w → IsReached false v

@@ -1,5 +1,5 @@
 -- Where the nodes of a list of trees stand, by how often their names are there.
-use Rattle.std.proofs.Common.{eqb, ◌≡◌, ℕ, zero, suc, ◌+◌, ◌≤◌, true, false, List, [], ◌∷◌, ◌++◌, Option, Some, unwrap_or, refl, sym, ap, ◌∙◌, arith, true≢false, subst}
+use Rattle.std.proofs.Common.{eqb, ◌≡◌, ℕ, zero, suc, ◌+◌, ◌≤◌, ◌||◌, Bool, true, false, List, [], ◌∷◌, ◌++◌, Option, Some, unwrap_or, refl, sym, ap, ◌∙◌, arith, true≢false, subst}
 use Rattle.std.specs.List.{AllByRecursion, last_or}
 use Rattle.std.proofs.lemmas.Bool.{cond-true, cond-false, and_parts, eqb-true}
 use Rattle.dom_base.specs.declared.NodeName.{NodeName}
@@ -8,13 +8,38 @@ use Rattle.dom_model.specs.Tree.{Trees, none, tree, Node, nodes, names_of, roots
 use Rattle.dom_model.proofs.OwnerLaws.{name_eq-same, owner_eq-true}
 use Rattle.dom_isolation.specs.Worlds.{times_in}
 use Rattle.dom_isolation.proofs.Lists.{all-append, all-then}
-use Rattle.dom_isolation.proofs.Tests.{by_cases, or-later}
+use Rattle.dom_isolation.proofs.Tests.{by_cases, or-first, or-later}
 
 -- names
 pub name_eq-true : (x y : NodeName) → name_eq x y ≡ true → x ≡ y
 name_eq-true x y h =
     let both = and_parts (owner_eq x.owner y.owner) (eqb x.number y.number) h in
     ap (λ o. record { owner = o; number = x.number }) (owner_eq-true x.owner y.owner both.0) ∙ ap (λ k. record { owner = y.owner; number = k }) (eqb-true x.number y.number both.1)
+
+-- What holds of all nodes of a list holds of one of them.
+pub all-in : (P : NodeName → Type 0) (x : NodeName) (ys : List NodeName) → AllByRecursion P ys → is_in name_eq x ys ≡ true → P x
+all-in P x [] h e = absurd (true≢false (sym e))
+all-in P x (y ∷ ys) h e =
+    by_cases (name_eq x y) (λ t. subst P (sym (name_eq-true x y t)) h.0) (λ t. all-in P x ys h.1 (or-later (name_eq x y) (is_in name_eq x ys) t e))
+
+-- the last node of a list that begins with y
+abbrev pub last_from : NodeName → List NodeName → NodeName
+last_from y [] = y
+last_from y (z ∷ zs) = last_from z zs
+
+-- the same, as the model says it
+pub last-is : (y : NodeName) (ys : List NodeName) → last_or (Some y) ys ≡ Some (last_from y ys)
+last-is y [] = refl
+last-is y (z ∷ zs) = last-is z zs
+
+-- the last of a list is in it
+pub last-in : (y : NodeName) (ys : List NodeName) → is_in name_eq (last_from y ys) (y ∷ ys) ≡ true
+last-in y [] = or-first (name_eq y y) false (name_eq-same y)
+last-in y (z ∷ zs) = by (name_eq (last_from z zs) y) (last-in z zs)
+  where
+    by : (t : Bool) → is_in name_eq (last_from z zs) (z ∷ zs) ≡ true → (t || is_in name_eq (last_from z zs) (z ∷ zs)) ≡ true
+    by true h = refl
+    by false h = h
 
 -- at the first root, and elsewhere
 pub times-here : (n : Node) (c r : Trees) (x : NodeName) → name_eq n.name x ≡ true → times_in (tree n c r) x ≡ 1 + times_in c x + times_in r x

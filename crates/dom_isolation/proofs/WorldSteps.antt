@@ -21,6 +21,7 @@ use Rattle.dom_model.proofs.StepLaws.{owner-part_step, Component-IsNoPage}
 use Rattle.dom_isolation.specs.Laws.{IsSound}
 use Rattle.dom_isolation.specs.Worlds.{IsPart, IsRoot, IsWorld, IsOf, IsForeignTo}
 use Rattle.dom_isolation.proofs.Lists.{all-append}
+use Rattle.dom_isolation.proofs.Makers.{makers-same}
 use Rattle.dom_isolation.proofs.Tests.{by_cases}
 use Rattle.dom_isolation.proofs.Alike.{host_of-same, world-alike, there-with_part, logs-same, listeners-with_part}
 use Rattle.dom_isolation.proofs.PageSteps.{signals-foreign, page_tasks-queued_other}
@@ -43,8 +44,8 @@ world-with_part w p o e part a root i =
       page = there-with_part w p Page i.page;
       parts = λ x. by_cases (owner_eq o x) (λ h. subst IsPart (sym (part_of-with_part w p x (e ∙ owner_eq-true o x h))) part)
           (λ h. subst IsPart (sym (part_of-with_part-other w p x (λ g. owner_eq-false o x h (sym e ∙ g)))) (i.parts x));
-      hosts = subst (AllByRecursion (IsOf Page)) (sym (same Page)) i.hosts;
-      no_hosts = λ x f. same x ∙ i.no_hosts x f;
+      hosts = λ x. subst (AllByRecursion (IsOf x)) (sym (same x)) (i.hosts x);
+      makers = makers-same v w same i.makers;
       shadow_roots = λ x h. let g = subst (λ y. is_some y ≡ true) (hosts x) h in
           by_cases (owner_eq o x)
           (λ k. let is = owner_eq-true o x k in

@@ -1,9 +1,9 @@
 -- The isolation laws, each about one step of the two machines: what the page sees of the document machine is what the page
 -- machine does.
-use Rattle.std.specs.Prelude.{◌≡◌, ◌≢◌, ℕ, Bool, false, List, ◌++◌, filter, fold, map, Option, None, Some, is_some, option_to_list, IsTrue, true}
+use Rattle.std.specs.Prelude.{◌≡◌, ◌≢◌, Bool, false, List, ◌++◌, filter, fold, map, Option, None, Some, is_some, option_to_list, IsTrue, true}
 use Rattle.std.specs.List.{AllByRecursion}
 use Rattle.dom_base.specs.declared.Owner.{Owner}
-use Rattle.dom_base.specs.declared.Owner.TheVariants.{Page, Component}
+use Rattle.dom_base.specs.declared.Owner.TheVariants.{Page}
 use Rattle.dom_base.specs.declared.NodeName.{NodeName}
 use Rattle.dom_base.specs.declared.Kind.TheVariants.{Shadow}
 use Rattle.dom_model.specs.Tree.{has_node}
@@ -14,12 +14,12 @@ use Rattle.dom_model.specs.Names.{name_eq}
 use Rattle.dom_model.specs.Paths.{views, plain_views}
 use Rattle.dom_model.specs.Runs.{Run, quiet, run_then, run_each}
 use Rattle.dom_model.specs.CommandRefusals.{part_refusal}
-use Rattle.dom_model.specs.World.{World, part_of, is_there, host_of, host_above, component_at, kind_at, parent_at, shadow_root_of}
+use Rattle.dom_model.specs.World.{World, part_of, is_there, host_of, component_at, kind_at, parent_at, shadow_root_of}
 use Rattle.dom_model.specs.Dispatch.{Dispatched, dispatch_in, world_visit, visits_of}
 use Rattle.dom_model.specs.Slots.{assigned}
 use Rattle.dom_model.specs.Turns.{notifying, ending_turn, ending_other_turn}
 use Rattle.dom_model.specs.DocumentMachine.{first_world, step, run_lines, perform, finish}
-use Rattle.dom_model.specs.Trace.{is_page, is_of, owner_of_line, outputs_for, outward_dispatch, outward_event, line_may_stop, trace_from, trace_of, no_component_stops}
+use Rattle.dom_model.specs.Trace.{is_page, is_of, owner_of_line, outputs_for, outermost_host, outward_dispatch, outward_event, line_may_stop, trace_from, trace_of, no_component_stops}
 use Rattle.dom_model.specs.PageMachine.{PageState, page_of, page_dispatch, page_outward, page_turn_end, page_finish, page_line, first_page, run_page, page_outputs_of}
 use Rattle.dom_isolation.specs.Worlds.{IsOf, IsWorld, MayBeShadow, HasKinds, HasOwners, ComponentsOnlyLog}
 
@@ -74,7 +74,7 @@ FoldSkipsComponents =
     page_going (fold (world_visit e) s vs) ≡ fold (visited name_eq e) (page_going s) (filter is_page_visit vs)
 
 -- The visits at page nodes, with what is seen there, are the page machine's: of an event of the page, and of one that goes
--- out of a shadow tree, which is the page machine's at the host.
+-- out of a shadow tree, which is the page machine's at the outermost host.
 abbrev pub PageVisitsAgree : Type 0
 PageVisitsAgree =
     (w : World) → IsQuiet w → (x : NodeName) (related : Option NodeName) (bubbles composed : Bool) → x.owner ≡ Page → AllByRecursion (IsOf Page) (option_to_list related) →
@@ -83,7 +83,7 @@ PageVisitsAgree =
 -- of one that goes out
 abbrev pub OutwardVisitsAgree : Type 0
 OutwardVisitsAgree =
-    (w : World) → IsQuiet w → (x host : NodeName) (bubbles : Bool) → x.owner ≢ Page → host_above w x ≡ Some host →
+    (w : World) → IsQuiet w → (x host : NodeName) (bubbles : Bool) → x.owner ≢ Page → outermost_host w x ≡ Some host →
     filter is_page_visit (visits_of name_eq bubbles (views w x None true)) ≡ visits_of name_eq bubbles (plain_views (part_of w Page).trees host None)
 
 -- One dispatch: one of the page is the page machine's; one of a component is nothing, or its outward event.
@@ -95,10 +95,10 @@ PageDispatchAgrees =
 -- one of a component
 abbrev pub ComponentDispatchAgrees : Type 0
 ComponentDispatchAgrees =
-    (w : World) (k : ℕ) → IsQuiet w → (x : Spelled) (e : EventWords) (related : Option Spelled) →
+    (w : World) (o : Owner) → o ≢ Page → IsQuiet w → (x : Spelled) (e : EventWords) (related : Option Spelled) →
     let c = Command.dispatch x e related in
-    part_refusal (part_of w (Component k)) c ≡ None →
-    page_run (perform w (Component k) c) ≡ run_each page_outward (page_of w) (option_to_list (outward_dispatch w (Component k) c))
+    part_refusal (part_of w o) c ≡ None →
+    page_run (perform w o c) ≡ run_each page_outward (page_of w) (option_to_list (outward_dispatch w o c))
 
 -- One notification of a component shows nothing; and the ending of a turn does to the page what its own tasks do.
 abbrev pub NotificationIsUnseen : Type 0

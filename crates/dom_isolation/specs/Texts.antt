@@ -1,6 +1,7 @@
 -- The isolation laws for texts: bytes cut into lines, of which the page's are those that begin with `p `.
-use Rattle.std.specs.Prelude.{◌≡◌, ℕ, IsTrue, List, [], ◌∷◌, ◌++◌, map, Some, if◌then◌else◌}
-use Rattle.dom_base.specs.declared.Owner.TheVariants.{Page, Component}
+use Rattle.std.specs.Prelude.{◌≡◌, ◌≢◌, ℕ, IsTrue, List, [], ◌∷◌, ◌++◌, map, Some, if◌then◌else◌}
+use Rattle.dom_base.specs.declared.Owner.{Owner}
+use Rattle.dom_base.specs.declared.Owner.TheVariants.{Page}
 use Rattle.dom_base.specs.declared.Refusal.TheVariants.{Busy, Foreign}
 use Rattle.dom_model.specs.Command.{Command, Line, command}
 use Rattle.dom_model.specs.CommandNames.{names_foreign}
@@ -74,7 +75,7 @@ module _ (read : List ℕ → Line) where
 -- the ending of another component's turn.
 abbrev pub ForeignLineIsRefused : Type 0
 ForeignLineIsRefused =
-    (w : World) (bytes : List ℕ) (k : ℕ) (c : Command) → decode bytes ≡ command (Component k) c → IsTrue (names_foreign c) →
-    let ended = ending_other_turn w (Component k) in
+    (w : World) (bytes : List ℕ) (o : Owner) (c : Command) → o ≢ Page → decode bytes ≡ command o c → IsTrue (names_foreign c) →
+    let ended = ending_other_turn w o in
     let why = if is_page_turn w.turn then Busy else Foreign in
-    step w (decode bytes) ≡ (ended.0, ended.1 ++ says (Component k) (refused why) ∷ [])
+    step w (decode bytes) ≡ (ended.0, ended.1 ++ says o (refused why) ∷ [])

@@ -1,16 +1,17 @@
 -- What holds of every world that the document machine reaches.
-use Rattle.std.specs.Prelude.{◌≡◌, ◌≢◌, ◌≤◌, ◌<◌, ℕ, true, false, [], IsTrue, is_some, filter, if◌then◌else◌, ◌+◌, ⊤, zero, suc, List, ◌∷◌, ◌++◌, map, length, option_to_list}
+use Rattle.std.specs.Prelude.{◌≡◌, ◌≢◌, ◌≤◌, ◌<◌, ℕ, Bool, true, false, [], IsTrue, Some, is_some, is_none, filter, if◌then◌else◌, ◌+◌, ⊤, zero, suc, List, ◌∷◌, ◌++◌, map, length, option_to_list}
 use Rattle.std.specs.List.{AllByRecursion}
+use Rattle.std.specs.Option.{option_map_or}
 use Rattle.dom_base.specs.declared.Owner.{Owner}
 use Rattle.dom_base.specs.declared.Owner.TheVariants.{Page, Component}
 use Rattle.dom_base.specs.declared.NodeName.{NodeName}
 use Rattle.dom_base.specs.declared.Kind.TheVariants.{Shadow, Element}
 use Rattle.dom_base.specs.declared.Action.TheVariants.{Log}
-use Rattle.dom_model.specs.Names.{name_eq, is_in}
+use Rattle.dom_model.specs.Names.{name_eq, owner_eq, first_of, is_in}
 use Rattle.dom_model.specs.Tree.{Trees, none, tree, Node, names_of, roots}
 use Rattle.dom_model.specs.Listeners.{Listener}
 use Rattle.dom_model.specs.Part.{Part}
-use Rattle.dom_model.specs.World.{World, Task, micro_task, notify_task, part_of, is_there, component_made, host_of, shadow_root_of}
+use Rattle.dom_model.specs.World.{World, Task, micro_task, notify_task, part_of, is_there, component_made, made_by, MayAttach, host_of, shadow_root_of}
 use Rattle.dom_model.specs.Turns.{is_page_turn}
 use Rattle.dom_model.specs.PageMachine.{is_page_task}
 
@@ -47,13 +48,17 @@ pub record IsRoot (ts : Trees) (x : NodeName) : Type 0 where
   pub alone : IsTrue (is_in name_eq x (names_of (roots ts)))
   pub shadow : AllNodes (IsShadowAt x) ts
 
--- The page is there; each part is as it should be; hosts are the page's elements; a component's first node is its shadow
--- root; no slot of the page is signalled; and the page has tasks only in its own turn.
+-- whoever has hosts may attach
+abbrev pub HasMakers : World → Type 0
+HasMakers w = (o : Owner) → 0 < length (part_of w o).attached → MayAttach o
+
+-- The page is there; each part is as it should be; a host is a node of the owner that attached its root, and whoever has hosts may
+-- attach; a component's first node is its shadow root; no slot of the page is signalled; and the page has tasks only in its own turn.
 pub record IsWorld (w : World) : Type 0 where
   pub page : IsTrue (is_there w Page)
   pub parts : (o : Owner) → IsPart (part_of w o)
-  pub hosts : AllByRecursion (IsOf Page) (part_of w Page).attached
-  pub no_hosts : (o : Owner) → o ≢ Page → (part_of w o).attached ≡ []
+  pub hosts : (o : Owner) → AllByRecursion (IsOf o) (part_of w o).attached
+  pub makers : HasMakers w
   pub shadow_roots : (o : Owner) → IsTrue (is_some (host_of w o)) → IsRoot (part_of w o).trees (shadow_root_of o)
   pub signalled : AllByRecursion (IsForeignTo Page) w.signalled
   pub tasks : is_page_turn w.turn ≡ false → filter is_page_task w.tasks ≡ []
@@ -87,10 +92,18 @@ pub record HasKinds (p : Part) : Type 0 where
   pub hosts : AllByRecursion (IsHost p) p.attached
   pub once : (x : NodeName) → times_among p.attached x ≤ 1
 
--- the components of the page's first n attaches, in order
-abbrev pub attached_components : ℕ → List Owner
-attached_components zero = []
-attached_components (suc n) = attached_components n ++ component_made Page n ∷ []
+-- the components of an owner's first n attaches, in order
+abbrev pub components_of : Owner → ℕ → List Owner
+components_of o zero = []
+components_of o (suc n) = components_of o n ++ component_made o n ∷ []
+
+-- whether an owner was made by another one
+abbrev pub is_made_by : Owner → Owner → Bool
+is_made_by maker o = option_map_or (λ (m : Owner × ℕ). owner_eq m.0 maker) (made_by o) false
+
+-- whether nobody made an owner
+abbrev pub is_unmade : Owner → Bool
+is_unmade o = is_none (made_by o)
 
 -- the owners of all parts, in their order
 abbrev pub owners_in : World → List Owner
@@ -105,10 +118,13 @@ abbrev pub task_owner : Task → Owner
 task_owner (micro_task o label) = o
 task_owner (notify_task o) = o
 
--- The page and the attached components have their parts, in the order of attaching, and no other owner has one; the open
--- turn, the tasks and the signalled slots are of owners that are there.
+-- The page's part is the first one, and no other part is of an owner that nobody made; of the components that an owner made
+-- just those that it attached have their parts, in the order of attaching; the open turn, the tasks and the signalled slots are
+-- of owners that are there.
 pub record HasOwners (w : World) : Type 0 where
-  pub parts : owners_in w ≡ Page ∷ attached_components (length (part_of w Page).attached)
+  pub first : first_of (owners_in w) ≡ Some Page
+  pub unmade : filter is_unmade (owners_in w) ≡ Page ∷ []
+  pub made : (o : Owner) → filter (is_made_by o) (owners_in w) ≡ components_of o (length (part_of w o).attached)
   pub turn : AllByRecursion (IsThere w) (option_to_list w.turn)
   pub tasks : AllByRecursion (λ t. IsThere w (task_owner t)) w.tasks
   pub signalled : AllByRecursion (λ s. IsThere w s.owner) w.signalled

@@ -1,4 +1,5 @@
 -- Laws of the definitions.
+pub mod ListOrder
 pub mod OwnerLaws
 pub mod PartLaws
 pub mod StepLaws

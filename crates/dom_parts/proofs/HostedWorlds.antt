@@ -216,6 +216,7 @@ module _ (c : Contents) (hosts : List ShadowHost) (held : AreHostsOf c hosts) wh
 
   -- the components in the tree of a node: hosts are the page's, so there are none below those
   pub below_looked : (x : NodeName) → components_below max_depth (world_of c) x ≡ filter_map (component_named c.names hosts) (inclusive_descendants c.trees x)
+  unfolding max_depth
   below_looked x =
       alone (filter_map (component_at (world_of c)) (inclusive_descendants (trees_with (world_of c) x) x))
       ∙ ((λ j. filter_map (λ y. component_looked y j) (inclusive_descendants (trees_hosted x.owner j) x)) ∙ ap (filter_map (component_named c.names hosts)) (sym (read_own c.trees held.owned x.owner x refl).inside))

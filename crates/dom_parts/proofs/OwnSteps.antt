@@ -1,6 +1,6 @@
 -- An owner's steps do in its own part what they do in a part alone: the page's always, and a component's where it has no
 -- hosts and sets the node documents of its own nodes.
-use Rattle.std.proofs.Common.{◌≡◌, ◌≢◌, Bool, true, false, List, [], ◌∷◌, ◌++◌, Option, Some, None, fold, filter_map, flat_map, position, option_map, refl, sym, ap, subst, ◌∙◌, inl, inr}
+use Rattle.std.proofs.Common.{◌≡◌, ◌≢◌, ℕ, zero, suc, Bool, true, false, List, [], ◌∷◌, ◌++◌, Option, Some, None, filter_map, flat_map, position, option_map, refl, sym, ap, subst, ◌∙◌, inl, inr}
 use Rattle.std.specs.Prelude.{if◌then◌else◌}
 use Rattle.std.specs.List.{AllByRecursion, cons_option}
 use Rattle.std.specs.Option.{option_map_or}
@@ -13,12 +13,12 @@ use Rattle.dom_model.specs.Tree.{Trees, none, tree, Node, nodes, names_of, subtr
 use Rattle.dom_model.specs.TreeChanges.{with_name, with_node, placed, taken_out, map_nodes, with_document, with_attribute, with_data_replaced}
 use Rattle.dom_model.specs.Changes.{Plan, ◌and_then◌}
 use Rattle.dom_model.specs.Part.{Part, next_name}
-use Rattle.dom_model.specs.Steps.{Step, make, make_room, place, take_out, set_document, set_attribute, replace_data, split_at, join_at, set_range, queue_record, part_step, after, leave, is_taken}
-use Rattle.dom_model.specs.World.{World, part_of, component_at, component_made, components_below, trees_with}
-use Rattle.dom_model.specs.WorldSteps.{world_step, world_after, stepped, with_shadow_document}
+use Rattle.dom_model.specs.Steps.{Step, make, make_room, place, take_out, set_document, set_attribute, replace_data, split_at, join_at, set_range, queue_record, part_step, after, leave}
+use Rattle.dom_model.specs.World.{World, part_of, component_at, component_made, components_below, shadow_root_of, trees_with}
+use Rattle.dom_model.specs.WorldSteps.{world_step, world_after}
 use Rattle.dom_model.proofs.OwnerLaws.{owner_eq-true, owner_eq-false}
 use Rattle.dom_model.proofs.PartLaws.{owner-part_of}
-use Rattle.dom_model.proofs.StepLaws.{part_of-stepped, part_of-with_signals, part_of-with_removal_signals, part_of-with_notify_if, part_of-world_after}
+use Rattle.dom_model.proofs.StepLaws.{IsOther, IsApart, part_of-own_step, part_of-world_after}
 use Rattle.dom_slots.specs.Hosts.{ShadowHost}
 use Rattle.dom_tree.specs.Owners.{AreOf}
 use Rattle.dom_tree.proofs.Owned.{AreOf-own}
@@ -99,24 +99,20 @@ module _ (w : World) (o : Owner) (free : OwnsNoHosts w o) where
       let none : component_at w y ≡ None = ap (λ q. option_map (component_made q) (position (name_eq y) (part_of w q).attached)) own.0 ∙ ap (λ xs. option_map (component_made o) (position (name_eq y) xs)) free.attached in
       ap (λ m. cons_option m (filter_map (component_at w) ys)) none ∙ none_at ys own.1
 
-  pub none_below : (x : NodeName) → x.owner ≡ o → components_below max_depth w x ≡ []
-  none_below x own =
-      ap (flat_map (λ c. c ∷ []))
+  pub none_below : (depth : ℕ) (x : NodeName) → x.owner ≡ o → components_below depth w x ≡ []
+  none_below zero x own = refl
+  none_below (suc depth) x own =
+      ap (flat_map (λ c. c ∷ components_below depth w (shadow_root_of c)))
       (none_at (inclusive_descendants (trees_with w x) x) (own_names o (subtree (trees_with w x) x) (own_subtree o (trees_with w x) x (subst (λ q. AreOf o (part_of w q).trees) (sym own) free.own))))
+
+  -- so its steps are made in its own trees alone
+  step_apart : (s : Step) → SetsOwnDocuments o s → IsApart o w s
+  step_apart (set_document x d) h = subst (AllByRecursion (IsOther o)) (sym (none_below max_depth x h)) tt
+  step_apart s h = tt
 
   -- a step does in its owner's part what it does in a part alone
   pub step_alone : (s : Step) → SetsOwnDocuments o s → part_of (world_step o w s) o ≡ part_step (part_of w o) s
-  step_alone (make n) h = part_of-stepped w o (make n)
-  step_alone (make_room parent index count) h = part_of-stepped w o (make_room parent index count)
-  step_alone (place x parent before) h = part_of-with_signals w (stepped o w (place x parent before)) x parent true o ∙ part_of-stepped w o (place x parent before)
-  step_alone (take_out x) h = part_of-with_removal_signals w (stepped o w (take_out x)) x (parent_of (part_of w o).trees x) o ∙ part_of-stepped w o (take_out x)
-  step_alone (set_document x d) h = ap (λ cs. part_of (fold (with_shadow_document d) (stepped o w (set_document x d)) cs) o) (none_below x h) ∙ part_of-stepped w o (set_document x d)
-  step_alone (set_attribute x a v) h = part_of-with_signals w (stepped o w (set_attribute x a v)) x x false o ∙ part_of-stepped w o (set_attribute x a v)
-  step_alone (replace_data x offset count new) h = part_of-stepped w o (replace_data x offset count new)
-  step_alone (split_at x offset new parent index) h = part_of-stepped w o (split_at x offset new parent index)
-  step_alone (join_at first size next parent index) h = part_of-stepped w o (join_at first size next parent index)
-  step_alone (set_range k r) h = part_of-stepped w o (set_range k r)
-  step_alone (queue_record c) h = part_of-with_notify_if (is_taken (part_of w o) c) o o (stepped o w (queue_record c)) ∙ part_of-stepped w o (queue_record c)
+  step_alone s h = part_of-own_step o w s (step_apart s h)
 
   -- and the owner has no hosts after it either
   pub free_after : (s : Step) → SetsOwnDocuments o s → OwnsNoHosts (world_step o w s) o

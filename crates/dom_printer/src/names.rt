@@ -3,7 +3,7 @@ ghost use Rattle.std.specs.Prelude.{◌≡◌, ◌++◌, OnOk, OnErr};
 ghost use Rattle.std.specs.Fmt.{decimal};
 ghost use Rattle.std.specs.List.{flat_map};
 ghost use Rattle.dom_text.specs.Text.{node_text, node_or_null, next_node_text, list_text};
-ghost use Rattle.dom_text.specs.Words.{owner_word};
+ghost use Rattle.dom_text.specs.Words.{component_word, owner_word};
 ghost use Rattle.dom_printer.specs.Keeping.{Keeps};
 
 use dom_base::{NodeName, Owner};
@@ -19,6 +19,15 @@ pub(crate) fn put_number(out: &mut Vec<u8>, number: usize) -> Result<(), AllocEr
     out.extend_from_slice(buffer.format(number).as_bytes())
 }
 
+/// Puts the word of a component.
+fn put_component(out: &mut Vec<u8>, component: u32) -> Result<(), AllocError>
+    ensures ok { OnOk result (out.new.items ≡ out.old.items ++ component_word component) }
+    ensures err { OnErr result (Keeps out.old.items out.new.items) }
+{
+    out.extend_from_slice(b"c")?;
+    put_number(out, component as usize)
+}
+
 /// Puts the word of an owner.
 pub(crate) fn put_owner(out: &mut Vec<u8>, owner: Owner) -> Result<(), AllocError>
     ensures ok { OnOk result (out.new.items ≡ out.old.items ++ owner_word owner) }
@@ -26,14 +35,11 @@ pub(crate) fn put_owner(out: &mut Vec<u8>, owner: Owner) -> Result<(), AllocErro
 {
     match owner {
         Owner::Page => out.extend_from_slice(b"p"),
-        Owner::Component(k) => {
-            out.extend_from_slice(b"c")?;
-            put_number(out, k as usize)
-        }
+        Owner::Component(component) => put_component(out, component),
     }
 }
 
-/// Puts a node as the viewer sees it: `nJ` of the page, `mJ` of the viewer's own, `cK:mJ` of another component.
+/// Puts a node as the viewer sees it: `nJ` of the page, `mJ` of the viewer's own, and with the word before `:mJ` of another component.
 #[tactic(auto, using(crate::proofs::KeepLaws::keeps_at))]
 pub(crate) fn put_node(out: &mut Vec<u8>, viewer: Owner, node: NodeName) -> Result<(), AllocError>
     ensures ok { OnOk result (out.new.items ≡ out.old.items ++ node_text viewer node) }
@@ -41,10 +47,9 @@ pub(crate) fn put_node(out: &mut Vec<u8>, viewer: Owner, node: NodeName) -> Resu
 {
     match node.owner {
         Owner::Page => out.extend_from_slice(b"n")?,
-        Owner::Component(k) => {
+        Owner::Component(component) => {
             if viewer != node.owner {
-                out.extend_from_slice(b"c")?;
-                put_number(out, k as usize)?;
+                put_component(out, component)?;
                 out.extend_from_slice(b":")?;
             }
             out.extend_from_slice(b"m")?;

@@ -18,11 +18,12 @@ use Rattle.dom_traversal.proofs.Lists.{In, In-left, In-right, In-parts, filter-n
 use Rattle.dom_traversal.proofs.Order.{IsWithin, joined, here, splits}
 use Rattle.dom_traversal.proofs.Shapes.{Has, Has-above, below-from_above}
 use Rattle.dom_traversal.specs.Within.{ahead_of, beyond}
+use Rattle.dom_model.proofs.ListOrder.{before-less, before-turned}
 use Rattle.dom_range_ops.specs.Points.{nodes_after}
 use Rattle.dom_range_ops.specs.Texts.{contained_text, nodes_around}
 use Rattle.dom_range_ops.proofs.OneTree.{HasOneTree, root-above}
 use Rattle.dom_range_ops.proofs.Parting.{behind-apart, ahead-apart}
-use Rattle.dom_range_ops.proofs.Sides.{before-less, before-turned, nodes_before, point-splits, before-no, after-yes}
+use Rattle.dom_range_ops.proofs.Sides.{nodes_before, point-splits, before-no, after-yes}
 
 -- two splits of one list: the first part of one begins that of the other
 abbrev pub Splits : (xs ys us vs : List NodeName) → Type 0

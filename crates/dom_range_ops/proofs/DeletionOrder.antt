@@ -15,12 +15,12 @@ use Rattle.dom_traversal.proofs.Steps.{within-itself}
 use Rattle.dom_traversal.proofs.Order.{IsWithin, stands_in, all_single, below, here, splits, inside-test}
 use Rattle.dom_traversal.proofs.Shapes.{Has-above, Has-subtree, above-parent, above-root, above-from_below, below-from_above}
 use Rattle.dom_traversal.specs.Within.{ahead_of, beyond}
+use Rattle.dom_model.proofs.ListOrder.{before-less, before-turned}
 use Rattle.dom_range_ops.specs.Texts.{nodes_around}
 use Rattle.dom_range_ops.proofs.OneTree.{root-above, root-path}
 use Rattle.dom_range_ops.proofs.OwnTexts.{around-root}
 use Rattle.dom_range_ops.proofs.Parting.{joined-in, under-kid, behind-apart, ahead-apart}
 use Rattle.dom_range_ops.proofs.Between.{IsBounded, IsBetween, member-within, end-within, start-within, start-out, end-node-out}
-use Rattle.dom_range_ops.proofs.Sides.{before-less, before-turned}
 
 -- no Text and no Comment of a range's tree has children
 abbrev pub HasLeaves : Trees → Range NodeName → Type 0

@@ -19,11 +19,12 @@ use Rattle.dom_traversal.proofs.Order.{IsWithin, stands_in, joined, below, here,
 use Rattle.dom_traversal.proofs.Shapes.{above-parent, above-present, below-from_above, Has-above}
 use Rattle.dom_traversal.proofs.Steps.{within-parent, within-root, top_places, next_places, no_next}
 use Rattle.dom_traversal.specs.Within.{behind, beyond}
+use Rattle.dom_model.proofs.ListOrder.{before-less, before-turned}
 use Rattle.dom_range_ops.specs.Points.{nodes_after}
 use Rattle.dom_range_ops.specs.Texts.{nodes_around}
 use Rattle.dom_range_ops.proofs.OneTree.{filter-tree, contained-root, root-above, root-root}
 use Rattle.dom_range_ops.proofs.Between.{IsBounded, IsBetween, Leads, Splits, two-splits, member-within, start-within, end-within, start-out, end-out}
-use Rattle.dom_range_ops.proofs.Sides.{before-less, before-turned, nodes_before, point-splits, before-no, after-yes}
+use Rattle.dom_range_ops.proofs.Sides.{nodes_before, point-splits, before-no, after-yes}
 use Rattle.dom_range_ops.proofs.DeletionOrder.{HasLeaves, IsClear, is_outermost, above-in, start-in, start-above-out, between-in, end-above-out, contained-below, outermost-not, outermost-yes, none-below}
 
 -- what holds of all holds of the last ones

@@ -14,10 +14,10 @@ use Rattle.dom_traversal.proofs.Chains.{above-along}
 use Rattle.dom_traversal.proofs.Children.{In-names, Has-names, parent-of_child}
 use Rattle.dom_traversal.proofs.Lists.{In, In-left, In-right, In-parts, filter-none, filter-all}
 use Rattle.dom_traversal.proofs.Shapes.{Has, Once, Has-subtree, above-parent, above-present, above-from_below, below-from_above}
+use Rattle.dom_model.proofs.ListOrder.{before-less, before-turned}
 use Rattle.dom_range_ops.specs.Texts.{nodes_around}
 use Rattle.dom_range_ops.proofs.OneTree.{root-above, root-path}
 use Rattle.dom_range_ops.proofs.Between.{Splits, two-splits}
-use Rattle.dom_range_ops.proofs.Sides.{before-less, before-turned}
 use Rattle.dom_range_ops.proofs.PieceLevels.{Level, above-start, above-end, in-front, in-back, self-in}
 use Rattle.dom_range_ops.proofs.PieceParts.{Course, course, level, middle-last, kid-stands, middle-kid, is-ahead, is-behind}
 

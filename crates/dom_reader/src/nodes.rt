@@ -2,8 +2,9 @@
 
 ghost use Rattle.std.specs.Prelude.{◌≡◌, option_map, length, ◌≤◌};
 ghost use Rattle.std.specs.List.{prefix_len};
-ghost use Rattle.std.specs.Char.{is_ascii_digit};
-ghost use Rattle.dom_text.specs.Readers.{owner_of as spec_owner_of, page_node as spec_page_node, inner_node as spec_inner_node, behind as spec_behind, full_name_of as spec_full_name_of, spelled_of as spec_spelled_of};
+ghost use Rattle.dom_text.specs.Readers.{component_of as spec_component_of, owner_of as spec_owner_of, behind as spec_behind, is_no_colon};
+ghost use Rattle.dom_text.specs.Readers.{page_node as spec_page_node, inner_node as spec_inner_node, full_name_of as spec_full_name_of};
+ghost use Rattle.dom_text.specs.Readers.{spelled_of as spec_spelled_of};
 ghost use Rattle.dom_text.specs.Decode.{before_space, node_at, owner_at as spec_owner_at};
 ghost use Rattle.dom_words.specs.Gives.{Takes};
 ghost use Rattle.dom_reader.specs.Views.{spelled_view};
@@ -12,14 +13,23 @@ use crate::line::Spelled;
 use dom_base::Owner;
 use dom_words::{NotRead, Words, number_of, positive_of, word_at};
 
-/// The owner whose word this is (own rule): `p`, or `c` and a number from 1 without leading zeros.
+/// The component whose word this is (own rule): `c` and a number from 1 without leading zeros.
+fn component_of(word: &[u8]) -> Option<u32>
+    ensures { result ≡ spec_component_of word.now }
+{
+    match word {
+        [b'c', number @ ..] => positive_of(number),
+        _ => None,
+    }
+}
+
+/// The owner whose word this is (own rule): `p`, or that of the component.
 pub fn owner_of(word: &[u8]) -> Option<Owner>
     ensures { result ≡ spec_owner_of word.now }
 {
     match word {
         [b'p'] => Some(Owner::Page),
-        [b'c', number @ ..] => Some(Owner::Component(positive_of(number)?)),
-        _ => None,
+        _ => Some(Owner::Component(component_of(word)?)),
     }
 }
 
@@ -55,12 +65,12 @@ fn inner_node(owner: Owner, number: u32) -> Spelled
     }
 }
 
-/// How many digits stand in front.
-fn digits_len(text: &[u8]) -> usize
-    ensures count { result ≡ prefix_len is_ascii_digit text.now }
-    ensures within { result ≤ length text.now }
+/// How many bytes stand before the first colon.
+fn front_len(word: &[u8]) -> usize
+    ensures count { result ≡ prefix_len is_no_colon word.now }
+    ensures within { result ≤ length word.now }
 {
-    text.iter().take_while(|b| b.is_ascii_digit()).count()
+    word.iter().take_while(|b| **b != b':').count()
 }
 
 /// The text behind this front.
@@ -73,12 +83,12 @@ pub fn behind<'a>(front: &[u8], text: &'a [u8]) -> Option<&'a [u8]>
     }
 }
 
-/// The text behind the `c` of `cK:mJ`.
-fn full_name_of(text: &[u8]) -> Option<Spelled>
-    ensures { option_map spelled_view result ≡ spec_full_name_of text.now }
+/// A node by its full name: the component's word, and then `:mJ`.
+fn full_name_of(word: &[u8]) -> Option<Spelled>
+    ensures { option_map spelled_view result ≡ spec_full_name_of word.now }
 {
-    let (component, node) = text.split_at(digits_len(text));
-    positive_of(component)?;
+    let (component, node) = word.split_at(front_len(word));
+    component_of(component)?;
     number_of(behind(b":m", node)?)?;
     Some(Spelled::Foreign)
 }
@@ -92,8 +102,7 @@ fn spelled_of(owner: Owner, word: &[u8]) -> Option<Spelled>
         [first, text @ ..] => match *first {
             b'n' => Some(page_node(owner, number_of(text)?)),
             b'm' => Some(inner_node(owner, number_of(text)?)),
-            b'c' => full_name_of(text),
-            _ => None,
+            _ => full_name_of(word),
         },
     }
 }

@@ -1,5 +1,6 @@
 use Rattle.std.specs.Prelude.{refl}
 use Rattle.std.specs.Fmt.{digits}
+use Rattle.dom_model.specs.Names.{max_depth}
 use Rattle.dom_text.specs.Decode.{keyword_of}
 use Rattle.dom_examples.proofs.trees.Goals as goal
 
@@ -24,5 +25,5 @@ unfolding keyword_of digits
 returns-clause-split_surrogates c = record { document = refl; page = refl }
 
 pub returns-clause-documents_and_attaching : goal.returns-clause-documents_and_attaching
-unfolding keyword_of digits
+unfolding keyword_of digits max_depth
 returns-clause-documents_and_attaching c = record { document = refl; page = refl }

@@ -1,7 +1,7 @@
 use Rattle.std.proofs.Common.{refl}
 use Rattle.dom_isolation.proofs.PagePaths.{views-page}
 use Rattle.dom_isolation.proofs.Dispatches.{dispatch-page}
-use Rattle.dom_isolation.proofs.ComponentCommands.{dispatched-component}
+use Rattle.dom_isolation.proofs.ComponentCommands.{component_dispatch-agrees}
 use Rattle.dom_isolation.proofs.Visits.{fold-skips_components}
 use Rattle.dom_isolation.proofs.ComponentEvents.{page_visits-agree, outward_visits-agree}
 use Rattle.dom_isolation.proofs.one_dispatch.Goals as goal
@@ -19,4 +19,4 @@ pub returns-clause-page : goal.returns-clause-page
 returns-clause-page c = λ w q x related e h g. dispatch-page w x x related related e (q.logs refl) (views-page w q.world x related e.composed h g)
 
 pub returns-clause-component : goal.returns-clause-component
-returns-clause-component c = λ w k q x e related h. dispatched-component w k q x e related h
+returns-clause-component c = component_dispatch-agrees
