@@ -4,7 +4,7 @@ use Rattle.dom_base.specs.declared.Owner.{Owner}
 use Rattle.dom_model.specs.World.{World}
 use Rattle.dom_model.specs.Output.{Output}
 use Rattle.dom_text.specs.Text.{output_text}
-use Rattle.dom_engine.specs.Run.{viewed}
+use Rattle.dom_streams.specs.Views.{viewed}
 use Rattle.dom_c.specs.State.{HeldState}
 
 -- a handle that was just opened holds the world and no text

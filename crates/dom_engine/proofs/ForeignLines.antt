@@ -14,6 +14,7 @@ use Rattle.dom_model.specs.Runs.{run_then, unless_refused}
 use Rattle.dom_model.specs.Turns.{ending_other_turn, is_page_turn}
 use Rattle.dom_model.specs.Validity.{first_refusal}
 use Rattle.dom_model.specs.World.{World, is_there, part_of}
+use Rattle.dom_model.proofs.StepLaws.{Component-IsNoPage}
 use Rattle.dom_text.specs.Decode.{decode}
 use Rattle.dom_text.specs.Grammar.{MayUse, Says}
 use Rattle.dom_text.proofs.DecodeLaws.{decode_says}
@@ -49,7 +50,7 @@ page-refused w false = refl
 pub foreign-step : ForeignLinesAreRefused
 foreign-step w line (Component k) c e h =
     let ended = ending_other_turn w (Component k) in
-    foreign_line-is_refused w line k c e h
+    foreign_line-is_refused w line (Component k) c (Component-IsNoPage k) e h
     ∙ ap (λ why. (ended.0, ended.1 ++ says (Component k) (refused why) ∷ [])) (sym (busy-component (is_page_turn w.turn)))
 foreign-step w line Page c e h =
     let ended = ending_other_turn w Page in

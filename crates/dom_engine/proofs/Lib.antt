@@ -1,5 +1,3 @@
-pub mod WriteLaws
-pub mod ViewLaws
 pub mod RunLaws
 pub mod LineRuns
 pub mod PieceLaws

@@ -6,9 +6,10 @@ use Rattle.std.specs.Io.KnownBytes.{Appends}
 use Rattle.std.proofs.KnownBytes.{Appends-nil, Appends-trans}
 use Rattle.dom_base.specs.declared.Owner.{Owner}
 use Rattle.dom_model.specs.World.{World}
-use Rattle.dom_engine.specs.declared.fault.RunFault.{RunFault}
-use Rattle.dom_engine.specs.Run.{world_after, shown, WritesSome, StopsWriting, EndsLines}
-use Rattle.dom_engine.proofs.WriteLaws.{ends_behind, stops_between}
+use Rattle.dom_streams.specs.declared.fault.RunFault.{RunFault}
+use Rattle.dom_engine.specs.Run.{world_after, shown, WritesSome, EndsLines}
+use Rattle.dom_streams.specs.Writing.{StopsWriting}
+use Rattle.dom_streams.proofs.WriteLaws.{ends_behind, stops_between}
 use Rattle.dom_engine.proofs.RunLaws.{world_after-none, world_after-append, shown-none, shown-append}
 
 -- an owner whose lines are written, and a world, are what they were behind lines that were run

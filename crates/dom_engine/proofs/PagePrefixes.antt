@@ -17,8 +17,9 @@ use Rattle.dom_text.proofs.OutputLaws.{text_of_lines-append, output_text-append}
 use Rattle.dom_isolation.proofs.PageRuns.{page_output-goes_on, first_lines-stop_nothing}
 use Rattle.dom_isolation.proofs.PlainLines.{decode-reads_plain_words}
 use Rattle.dom_isolation.proofs.PlainTexts.{picked_lines-agree_so_far}
-use Rattle.dom_engine.specs.declared.fault.RunFault.TheVariants.{Read, Write, Memory, InputLimit}
-use Rattle.dom_engine.specs.Run.{answers, answers_to_end, viewed, finished_text, run_text, RunsToEnd, StopsAtWrite}
+use Rattle.dom_streams.specs.declared.fault.RunFault.TheVariants.{Read, Write, Memory, InputLimit}
+use Rattle.dom_engine.specs.Run.{answers, answers_to_end, finished_text, run_text, RunsToEnd, StopsAtWrite}
+use Rattle.dom_streams.specs.Views.{viewed}
 use Rattle.dom_engine.specs.PageLaws.{page_text_so_far, page_text_to_end, page_text, HasPage, page_seen, PageSees, PageSeesFront, PageSeesLinesNamed, PageSeesPrefix}
 use Rattle.dom_engine.proofs.PageRuns.{lines_of-ended, page_text-agrees}
 

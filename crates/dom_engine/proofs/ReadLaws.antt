@@ -9,9 +9,11 @@ use Rattle.dom_model.specs.DocumentMachine.{first_world}
 use Rattle.dom_text.specs.Lines.{cut_of, lines_of, last_line, kept_line}
 use Rattle.dom_reader.specs.Streams.{fed, IsKept}
 use Rattle.dom_reader.proofs.StreamLaws.{fed-none, fed-is_kept, lines_of-fed_all}
-use Rattle.dom_engine.specs.declared.fault.RunFault.{RunFault}
-use Rattle.dom_engine.specs.declared.fault.RunFault.TheVariants.{Read, Write, Memory, InputLimit}
-use Rattle.dom_engine.specs.Run.{world_after, answers, ending, shown, viewed, finished_text, WritesSome, AppendsFront, StopsWriting, RunsToEnd, StopsRun, StopsAtRead, StopsAtWrite, StopsAtMemory, StopsAtLimit, run_text, read_size, input_limit}
+use Rattle.dom_streams.specs.declared.fault.RunFault.{RunFault}
+use Rattle.dom_streams.specs.declared.fault.RunFault.TheVariants.{Read, Write, Memory, InputLimit}
+use Rattle.dom_engine.specs.Run.{world_after, answers, ending, shown, finished_text, WritesSome, RunsToEnd, StopsRun, StopsAtRead, StopsAtWrite, StopsAtMemory, StopsAtLimit, run_text, read_size, input_limit}
+use Rattle.dom_streams.specs.Writing.{AppendsFront, StopsWriting}
+use Rattle.dom_streams.specs.Views.{viewed}
 use Rattle.dom_engine.specs.Reading.{HasRead, StopsOneRead, MoreAt}
 use Rattle.dom_engine.proofs.RunLaws.{world_after-append, world_after-kept, answers-kept, answers-ended, answers_to_end-split, viewed-append, shown-append}
 use Rattle.dom_engine.proofs.LineRuns.{Behind, no_lines-behind, behind-none, shows-none, shown-behind, world-behind, lines_done, some_behind}

@@ -17,7 +17,8 @@ use Rattle.dom_text.proofs.DecodeLaws.{decode-kept}
 use Rattle.dom_reader.proofs.StreamLaws.{cut_of-front, rest-one_line}
 use Rattle.dom_text.proofs.OutputLaws.{text_of_lines-append, output_text-append}
 use Rattle.dom_text.specs.Decode.{decode}
-use Rattle.dom_engine.specs.Run.{world_after, answers, answers_to_end, ending, viewed, shown, WritesSome}
+use Rattle.dom_engine.specs.Run.{world_after, answers, answers_to_end, ending, shown, WritesSome}
+use Rattle.dom_streams.specs.Views.{viewed}
 
 -- ---- runs
 

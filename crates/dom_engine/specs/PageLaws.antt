@@ -8,9 +8,10 @@ use Rattle.dom_model.specs.Trace.{trace_of, no_component_stops}
 use Rattle.dom_text.specs.Lines.{cut_of, lines_of}
 use Rattle.dom_text.specs.Text.{output_text}
 use Rattle.dom_text.specs.Decode.{decode}
-use Rattle.dom_engine.specs.declared.fault.RunFault.{RunFault}
-use Rattle.dom_engine.specs.declared.fault.RunFault.TheVariants.{Read, Write, Memory, InputLimit}
-use Rattle.dom_engine.specs.Run.{run_text, viewed, StopsRun}
+use Rattle.dom_streams.specs.declared.fault.RunFault.{RunFault}
+use Rattle.dom_streams.specs.declared.fault.RunFault.TheVariants.{Read, Write, Memory, InputLimit}
+use Rattle.dom_engine.specs.Run.{run_text, StopsRun}
+use Rattle.dom_streams.specs.Views.{viewed}
 
 -- the output of the page machine, which has no shadow trees, on the trace of lines, without the ending
 abbrev pub page_text_so_far : List (List ℕ) → List ℕ

@@ -5,9 +5,10 @@ use Rattle.dom_base.specs.declared.Owner.{Owner}
 use Rattle.dom_model.specs.World.{World}
 use Rattle.dom_model.specs.DocumentMachine.{first_world}
 use Rattle.dom_reader.specs.Streams.{fed}
-use Rattle.dom_engine.specs.declared.fault.RunFault.{RunFault}
-use Rattle.dom_engine.specs.declared.fault.RunFault.TheVariants.{Read, Write, Memory, InputLimit}
-use Rattle.dom_engine.specs.Run.{world_after, shown, StopsWriting, WritesSome, read_size, input_limit}
+use Rattle.dom_streams.specs.declared.fault.RunFault.{RunFault}
+use Rattle.dom_streams.specs.declared.fault.RunFault.TheVariants.{Read, Write, Memory, InputLimit}
+use Rattle.dom_engine.specs.Run.{world_after, shown, WritesSome, read_size, input_limit}
+use Rattle.dom_streams.specs.Writing.{StopsWriting}
 
 -- from the start these bytes were read: what is kept of the unfinished line, the world, and what is written
 pub record HasRead (given : List ℕ) (view : Option Owner) (from to old new : Option (List ℕ)) (kept : List ℕ) (w : World) : Type 0 where

@@ -4,11 +4,13 @@ use Rattle.std.specs.Io.KnownBytes.{Appends, Consumes, IsAtEnd}
 use Rattle.dom_base.specs.declared.Owner.{Owner}
 use Rattle.dom_model.specs.World.{World}
 use Rattle.dom_model.specs.DocumentMachine.{first_world, run_lines, finish, run_to_end}
-use Rattle.dom_text.specs.Lines.{cut_of, lines_of, owner_prefix, written}
+use Rattle.dom_text.specs.Lines.{cut_of, lines_of}
 use Rattle.dom_text.specs.Text.{output_text}
 use Rattle.dom_text.specs.Decode.{decode}
-use Rattle.dom_engine.specs.declared.fault.RunFault.{RunFault}
-use Rattle.dom_engine.specs.declared.fault.RunFault.TheVariants.{Read, Write, Memory, InputLimit}
+use Rattle.dom_streams.specs.declared.fault.RunFault.{RunFault}
+use Rattle.dom_streams.specs.declared.fault.RunFault.TheVariants.{Read, Write, Memory, InputLimit}
+use Rattle.dom_streams.specs.Views.{viewed}
+use Rattle.dom_streams.specs.Writing.{EndsWriting}
 
 -- the world after the lines
 unfoldable pub world_after : World → List (List ℕ) → World
@@ -26,11 +28,6 @@ answers_to_end lines = output_text (run_to_end first_world (map decode lines)).1
 unfoldable pub ending : World → List ℕ
 ending w = output_text (finish w).1
 
--- what a view keeps of a text: without a view all of it, with one the lines that begin with the owner's word and a space
-abbrev pub viewed : Option Owner → List ℕ → List ℕ
-viewed None text = text
-viewed (Some owner) text = written (Some owner) (cut_of text).finished
-
 -- what a run writes for the bytes that it read, to their end
 abbrev pub run_text : Option Owner → List ℕ → List ℕ
 run_text view bytes = viewed view (answers_to_end (lines_of bytes))
@@ -43,41 +40,16 @@ finished_text view bytes = viewed view (answers first_world (cut_of bytes).finis
 abbrev pub shown : Option Owner → World → List (List ℕ) → List ℕ
 shown view w lines = viewed view (answers w lines)
 
--- some first bytes of the text were written
-pub record AppendsFront (old new : Option (List ℕ)) (text : List ℕ) : Type 0 where
-  pub front : List ℕ
-  pub back : List ℕ
-  pub split : text ≡ front ++ back
-  pub appends : Appends old new front
-
 -- what is written of some first lines was written
 pub record WritesSome (old new : Option (List ℕ)) (text : List (List ℕ) → List ℕ) (lines : List (List ℕ)) : Type 0 where
   pub count : ℕ
   pub within : count ≤ length lines
   pub appends : Appends old new (text (take count lines))
 
--- How a fault ends the writing of a text, with the sink's count of failed calls and what it holds, before and after: a write
--- failed, and some first bytes are written; or memory was refused, and what is written is some of it.
-abbrev pub StopsWriting : RunFault → ℕ → ℕ → Option (List ℕ) → Option (List ℕ) → List ℕ → Type 0 → Type 0
-StopsWriting Write failed fails old new text some = (fails ≡ failed + 1) × AppendsFront old new text
-StopsWriting Memory failed fails old new text some = (fails ≡ failed) × some
-StopsWriting Read failed fails old new text some = ⊥
-StopsWriting InputLimit failed fails old new text some = ⊥
-
--- how the writing of a text ends: all of it is written, or a fault stops it
-abbrev pub EndsWriting : {A : Type 0} → Result A RunFault → ℕ → ℕ → Option (List ℕ) → Option (List ℕ) → List ℕ → Type 0 → Type 0
-EndsWriting (Ok x) failed fails old new text some = (fails ≡ failed) × Appends old new text
-EndsWriting (Err e) failed fails old new text some = StopsWriting e failed fails old new text some
-
 -- How the running of lines ends, of which this text is written: all of it is, or a fault stops it, at Memory behind some of
 -- the lines.
 abbrev pub EndsLines : {A : Type 0} → Result A RunFault → ℕ → ℕ → Option (List ℕ) → Option (List ℕ) → (List (List ℕ) → List ℕ) → List (List ℕ) → Type 0
 EndsLines r failed fails old new text lines = EndsWriting r failed fails old new (text lines) (WritesSome old new text lines)
-
--- the bytes with which a view's lines begin, and none without a view
-abbrev pub view_prefix : Option Owner → List ℕ
-view_prefix None = []
-view_prefix (Some owner) = owner_prefix owner
 
 -- the count of a sink's failed calls: one more where a write or the flush failed, and else the same
 abbrev pub CountsWrites : {A : Type 0} → Result A RunFault → ℕ → ℕ → Type 0

@@ -2,17 +2,10 @@
 //! source.
 #![tactic(auto)]
 
-mod fault;
 pub mod laws;
-mod piece;
 mod runner;
 mod session;
-mod streams;
-mod view;
-mod writing;
 
-pub use fault::RunFault;
+pub use dom_streams::{FromReader, IntoWriter, RunFault, Sink, Source, lines_seen_by};
 pub use runner::run;
 pub use session::Session;
-pub use streams::{FromReader, IntoWriter, Sink, Source};
-pub use view::lines_seen_by;

@@ -8,18 +8,16 @@ ghost use Rattle.dom_model.specs.Trace.{no_component_stops};
 ghost use Rattle.dom_text.specs.Decode.{decode};
 ghost use Rattle.dom_text.specs.Lines.{last_line, lines_of};
 ghost use Rattle.dom_reader.specs.Streams.{fed, IsKept};
-ghost use Rattle.dom_engine.specs.Run.{world_after, ending, viewed, shown, EndsWriting, EndsLines, WritesSome, CountsReads, CountsWrites, RunsToEnd, StopsRun, read_size};
+ghost use Rattle.dom_engine.specs.Run.{world_after, ending, shown, EndsLines, WritesSome, CountsReads, CountsWrites, RunsToEnd, StopsRun, read_size};
+ghost use Rattle.dom_streams.specs.Writing.{EndsWriting};
+ghost use Rattle.dom_streams.specs.Views.{viewed};
 ghost use Rattle.dom_engine.specs.Reading.{HasReadAll, LeavesMore, StopsOneRead};
 ghost use Rattle.dom_engine.specs.PageLaws.{HasPage, PageSees, page_text};
 
-use crate::fault::RunFault;
-use crate::piece::line_end;
 use crate::session::Session;
-use crate::streams::{Sink, Source};
-use crate::view::View;
-use crate::writing::flush;
 use dom_base::Owner;
 use dom_reader::Splitter;
+use dom_streams::{RunFault, Sink, Source, View, flush, line_end};
 use std::alloc::{AllocError, Global};
 
 /// How many bytes one read is asked for at most.

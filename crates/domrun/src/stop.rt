@@ -11,13 +11,17 @@ pub enum Stop {
     Run(RunFault),
 }
 
+/// Want of memory stays want of memory, and every other error of the words is `Usage`.
 impl From<Error> for Stop {
     ghost use Rattle.std.specs.Prelude.{◌≡◌};
     ghost use Rattle.clap.specs.Words.{kind_of};
     ghost use Rattle.clap.specs.declared.error.kind.ErrorKind.TheVariants.{OutOfMemory};
-    ghost use Rattle.domrun.specs.declared.stop.Stop.TheVariants.{Usage};
+    ghost use Rattle.dom_streams.specs.declared.fault.RunFault.TheVariants.{Memory};
+    ghost use Rattle.domrun.specs.declared.stop.Stop.TheVariants as stop_variant;
 
-    ghost from_gives = { λ error stop. stop ≡ Usage → kind_of error ≡ OutOfMemory → ⊥ };
+    ghost from_gives = { λ error stop.
+        (kind_of error ≡ OutOfMemory → stop ≡ stop_variant.Run Memory) ×
+        ((kind_of error ≡ OutOfMemory → ⊥) → stop ≡ stop_variant.Usage) };
 
     fn from(error: Error) -> Stop {
         match error.kind() {
@@ -29,7 +33,7 @@ impl From<Error> for Stop {
 
 impl From<AllocError> for Stop {
     ghost use Rattle.std.specs.Prelude.{◌≡◌};
-    ghost use Rattle.dom_engine.specs.declared.fault.RunFault.TheVariants.{Memory};
+    ghost use Rattle.dom_streams.specs.declared.fault.RunFault.TheVariants.{Memory};
     ghost use Rattle.domrun.specs.declared.stop.Stop.TheVariants as stop_variant;
 
     ghost from_gives = { λ _ stop. stop ≡ stop_variant.Run Memory };

@@ -1,8 +1,8 @@
 -- The text of the ending is written, and the flush keeps it.
 use Rattle.std.proofs.Common.{sym, ap, ◌∙◌, [], append-nil}
 use Rattle.std.proofs.lemmas.Result.{err_from_is_err_and}
-use Rattle.dom_engine.specs.Run.{viewed}
-use Rattle.dom_engine.proofs.WriteLaws.{ends_behind, stops_as}
+use Rattle.dom_streams.specs.Views.{viewed}
+use Rattle.dom_streams.proofs.WriteLaws.{ends_behind, stops_as}
 use Rattle.dom_engine.proofs.RunLaws.{ending-is}
 use Rattle.dom_engine.proofs.runner.Runner.run_ending.Goals as goal
 

@@ -1,8 +1,8 @@
 -- A line's answers are those of a run over this one line.
 use Rattle.std.proofs.Common.{sym, ap, refl, ◌∙◌, ◌∷◌, []}
 use Rattle.std.proofs.lemmas.Result.{err_from_is_err_and}
-use Rattle.dom_engine.specs.Run.{viewed}
-use Rattle.dom_engine.proofs.WriteLaws.{ends_as, on_ok}
+use Rattle.dom_streams.specs.Views.{viewed}
+use Rattle.dom_streams.proofs.WriteLaws.{ends_as, on_ok}
 use Rattle.dom_engine.proofs.RunLaws.{none_written, answers-one, world_after-one}
 use Rattle.dom_engine.proofs.runner.Runner.run_line.Goals as goal
 

@@ -2,7 +2,8 @@
 
 ghost use Rattle.std.specs.Prelude.{◌≡◌, ◌<◌, IfOk, Some, filter};
 ghost use Rattle.dom_text.specs.Lines.{cut_of, text_of_lines, begins_with, owner_prefix};
-ghost use Rattle.dom_engine.specs.Run.{viewed, EndsWriting};
+ghost use Rattle.dom_streams.specs.Writing.{EndsWriting};
+ghost use Rattle.dom_streams.specs.Views.{viewed};
 
 use crate::fault::RunFault;
 use crate::piece::line_end;
@@ -22,7 +23,7 @@ pub struct View {
 impl Model for View {
     ghost use Rattle.std.specs.Prelude.{◌≡◌, Option};
     ghost use Rattle.dom_base.specs.declared.Owner.{Owner};
-    ghost use Rattle.dom_engine.specs.Run.{view_prefix};
+    ghost use Rattle.dom_streams.specs.Views.{view_prefix};
 
     ghost Value = { Option Owner };
 

@@ -22,7 +22,7 @@ pub enum RunFault {
 
 impl From<AllocError> for RunFault {
     ghost use Rattle.std.specs.Prelude.{◌≡◌};
-    ghost use Rattle.dom_engine.specs.declared.fault.RunFault.TheVariants.{Memory};
+    ghost use Rattle.dom_streams.specs.declared.fault.RunFault.TheVariants.{Memory};
 
     ghost from_gives = { λ _ f. f ≡ Memory };
 

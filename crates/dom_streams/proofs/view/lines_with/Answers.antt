@@ -1,7 +1,7 @@
 -- A line is kept where it begins with the prefix, and left where it does not.
 use Rattle.std.proofs.Common.{◌++◌, ◌∙◌, sym, ap, append-nil, append_assoc}
-use Rattle.dom_engine.proofs.ViewLaws.{kept_by, kept_by-first, kept_by-later, kept_by-none}
-use Rattle.dom_engine.proofs.view.lines_with.Goals as goal
+use Rattle.dom_streams.proofs.ViewLaws.{kept_by, kept_by-first, kept_by-later, kept_by-none}
+use Rattle.dom_streams.proofs.view.lines_with.Goals as goal
 
 pub loop-at-preserved-in_ok-extend_from_slice : goal.loop-at-preserved-in_ok-extend_from_slice
 loop-at-preserved-in_ok-extend_from_slice c =

@@ -4,9 +4,9 @@ use Rattle.std.proofs.lemmas.List.{take_all, take-append-drop}
 use Rattle.std.specs.Io.KnownBytes.{Appends}
 use Rattle.std.specs.Result.{MatchResult, OnOk}
 use Rattle.std.proofs.KnownBytes.{Appends-nil, Appends-trans}
-use Rattle.dom_engine.specs.declared.fault.RunFault.{RunFault}
-use Rattle.dom_engine.specs.declared.fault.RunFault.TheVariants.{Read, Write, Memory, InputLimit}
-use Rattle.dom_engine.specs.Run.{AppendsFront, StopsWriting, EndsWriting}
+use Rattle.dom_streams.specs.declared.fault.RunFault.{RunFault}
+use Rattle.dom_streams.specs.declared.fault.RunFault.TheVariants.{Read, Write, Memory, InputLimit}
+use Rattle.dom_streams.specs.Writing.{AppendsFront, StopsWriting, EndsWriting}
 
 -- what is left of bytes of which n were taken
 pub rest_behind : (bytes front rest : List ℕ) (n : ℕ) → bytes ≡ front ++ rest → bytes ≡ (front ++ take n rest) ++ take (length rest - n) (drop n rest)

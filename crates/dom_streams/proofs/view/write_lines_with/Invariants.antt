@@ -1,8 +1,8 @@
 -- What the view keeps of the lines so far is written.
 use Rattle.std.proofs.Common.{◌≡◌, ◌++◌, List, ℕ, length}
 use Rattle.std.specs.Io.KnownBytes.{Appends}
-use Rattle.dom_engine.proofs.ViewLaws.{kept_by}
-use Rattle.dom_engine.proofs.view.write_lines_with.Given as goal
+use Rattle.dom_streams.proofs.ViewLaws.{kept_by}
+use Rattle.dom_streams.proofs.view.write_lines_with.Given as goal
 
 abbrev pub invariant-loop-at : goal.invariant-loop-at
 invariant-loop-at g l = (front : List ℕ) × (kept_by l.prefix l.fn.text ≡ front ++ kept_by l.prefix l.rest) × Appends (g.W.Sink.contents l.fn.sink) (g.W.Sink.contents l.sink) front

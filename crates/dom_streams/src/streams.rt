@@ -3,7 +3,7 @@
 ghost use Rattle.std.specs.Prelude.{◌≡◌, ◌<◌, ℕ, List, Option};
 ghost use Rattle.std.specs.Io.{ReadsAtMost, WritesAtMost};
 ghost use Rattle.std.specs.Io.KnownBytes.{Keeps, ReadConsumes, WriteAppends};
-ghost use Rattle.dom_engine.specs.Streams.{CountsFailure, CountsWrite};
+ghost use Rattle.dom_streams.specs.Streams.{CountsFailure, CountsWrite};
 
 use std::io;
 use std::io::{Read, Write};

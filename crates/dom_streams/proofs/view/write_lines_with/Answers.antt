@@ -3,9 +3,9 @@ use Rattle.std.proofs.Common.{◌++◌, ◌∙◌, sym, ap, append-nil, append_a
 use Rattle.std.proofs.lemmas.Result.{err_from_is_err_and}
 use Rattle.std.specs.Io.KnownBytes.{Appends}
 use Rattle.std.proofs.KnownBytes.{Appends-trans}
-use Rattle.dom_engine.proofs.WriteLaws.{stops_between}
-use Rattle.dom_engine.proofs.ViewLaws.{kept_by, kept_by-first, kept_by-later, kept_by-none}
-use Rattle.dom_engine.proofs.view.write_lines_with.Goals as goal
+use Rattle.dom_streams.proofs.WriteLaws.{stops_between}
+use Rattle.dom_streams.proofs.ViewLaws.{kept_by, kept_by-first, kept_by-later, kept_by-none}
+use Rattle.dom_streams.proofs.view.write_lines_with.Goals as goal
 
 pub loop-at-preserved : goal.loop-at-preserved
 loop-at-preserved g c =

@@ -1,7 +1,7 @@
 //! Writing whole texts.
 
 ghost use Rattle.std.specs.Prelude.{◌<◌, []};
-ghost use Rattle.dom_engine.specs.Run.{EndsWriting};
+ghost use Rattle.dom_streams.specs.Writing.{EndsWriting};
 
 use crate::fault::RunFault;
 use crate::streams::Sink;

@@ -1,8 +1,8 @@
 -- What the sink took goes behind what it took before.
 use Rattle.std.proofs.Common.{take, ◌++◌, ◌∙◌}
 use Rattle.std.proofs.KnownBytes.{Appends-trans}
-use Rattle.dom_engine.proofs.WriteLaws.{rest_behind}
-use Rattle.dom_engine.proofs.writing.write_all_to.Goals as goal
+use Rattle.dom_streams.proofs.WriteLaws.{rest_behind}
+use Rattle.dom_streams.proofs.writing.write_all_to.Goals as goal
 
 pub loop-rest-preserved : goal.loop-rest-preserved
 loop-rest-preserved g c =

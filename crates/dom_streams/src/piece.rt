@@ -2,7 +2,7 @@
 
 ghost use Rattle.std.specs.Prelude.{◌<◌, IfSome, IfNone};
 ghost use Rattle.dom_text.specs.Lines.{IsOneLine};
-ghost use Rattle.dom_engine.specs.Piece.{EndsAt};
+ghost use Rattle.dom_streams.specs.Piece.{EndsAt};
 
 use memchr::memchr;
 

@@ -1,7 +1,7 @@
 -- The lines kept so far, and what the prefix keeps of the rest.
 use Rattle.std.proofs.Common.{◌≡◌, ◌++◌, ℕ, length}
-use Rattle.dom_engine.proofs.ViewLaws.{kept_by}
-use Rattle.dom_engine.proofs.view.lines_with.Given as goal
+use Rattle.dom_streams.proofs.ViewLaws.{kept_by}
+use Rattle.dom_streams.proofs.view.lines_with.Given as goal
 
 abbrev pub invariant-loop-at : goal.invariant-loop-at
 invariant-loop-at l = kept_by l.prefix l.fn.text ≡ l.lines.items ++ kept_by l.prefix l.rest

@@ -4,7 +4,7 @@ use Rattle.std.proofs.lemmas.List.{length-take}
 use Rattle.std.proofs.Math.Seq.{take-append-add}
 use Rattle.dom_text.specs.Lines.{line_feed, IsOneLine, cut_of, text_of_lines, begins_with}
 use Rattle.dom_reader.proofs.StreamLaws.{cut_of-front, cut_of-one_line}
-use Rattle.dom_engine.specs.Piece.{EndsAt}
+use Rattle.dom_streams.specs.Piece.{EndsAt}
 
 -- the lines of the text that begin with the prefix
 abbrev pub kept_by : List ℕ → List ℕ → List ℕ
