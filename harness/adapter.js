@@ -249,21 +249,28 @@
     }
   }
 
+  // Runs the script up to where the DOM cannot be brought to where the protocol is. Gives the name of that difference; null: to its end.
+  async function upToEnd(run, text) {
+    try {
+      await run.script(text);
+      return null;
+    } catch (error) {
+      if (!(error instanceof Unrepresentable)) throw error;
+      return error.message;
+    }
+  }
+
   // What the DOM of the window answers the script, as domrun would write it, and the names of the fixes that were met.
   async function run(window, text, fixes = []) {
     let signals = [];
     if (/^p attach /m.test(text)) {
       const first = new Run(window, null, []);
-      await first.script(text);
+      await upToEnd(first, text);
       signals = first.found;
     }
     const last = new Run(window, signals, fixes);
-    try {
-      await last.script(text);
-    } catch (error) {
-      if (!(error instanceof Unrepresentable)) throw error;
-      last.put("harness: ends at " + error.message);
-    }
+    const end = await upToEnd(last, text);
+    if (end) last.put("harness: ends at " + end);
     return { output: last.output.join(""), met: [...last.met] };
   }
 

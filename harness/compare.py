@@ -7,7 +7,7 @@ Usage: harness/compare.py [--engine chromium|firefox|jsdom] [--program DOMRUN] S
        harness/compare.py [--engine ..] [--program ..] --examples
 
 A script whose output differs is tried again with each named difference made good (known.py, fixes.js). Where it then agrees, it is
-counted under their names; else it is unexplained: it is made small, its first difference is printed, and the status is 1.
+counted under their names (judging.py); else it is unexplained: it is made small, its first difference is printed, and the status is 1.
 """
 import argparse
 import collections
@@ -17,6 +17,7 @@ import re
 import sys
 
 import engines
+import judging
 import known
 import scripts
 
@@ -34,11 +35,18 @@ class Comparison:
         wanted = engines.run_programs(self.program, given)
         plain = [output for output, _ in engines.answers(self.engine, given)]
         found = [set() if a == b else None for a, b in zip(wanted, plain)]
-        open_ones = [i for i, names in enumerate(found) if names is None]
-        again = engines.answers(self.engine, [given[i] for i in open_ones], known.FIXES)
-        for i, (output, met) in zip(open_ones, again):
-            found[i] = known.judge(self.engine.name, given[i], wanted[i], output, met)
+        self.explain(found, given, wanted, lambda script, _: script)
+        if self.engine.name in judging.PROBED:
+            self.explain(found, given, wanted, judging.probed)
         return found
+
+    def explain(self, found, given, wanted, change):
+        """Puts the names of its differences in the place of each None, where the script, changed so, agrees after them."""
+        open_ones = [i for i, names in enumerate(found) if names is None]
+        tried = [change(given[i], wanted[i]) for i in open_ones]
+        again = engines.answers(self.engine, tried, known.FIXES)
+        for i, script, want, (output, met) in zip(open_ones, tried, engines.run_programs(self.program, tried), again):
+            found[i] = judging.judge(self.engine.name, script, want, output, met)
 
     def show(self, given):
         """For each script a text with it and its first difference, with the lines before that."""
@@ -49,10 +57,7 @@ class Comparison:
     def stays(self, tried, wanted_lines):
         """The scripts of these that stay unexplained."""
         given = ["".join(line + "\n" for line in lines) for lines in tried]
-        wanted = engines.run_programs(self.program, given)
-        found = engines.answers(self.engine, given, known.FIXES)
-        judged = [known.judge(self.engine.name, script, want, output, met) for script, want, (output, met) in zip(given, wanted, found)]
-        return [lines for lines, names in zip(tried, judged) if names is None and lines != wanted_lines]
+        return [lines for lines, names in zip(tried, self.judged(given)) if names is None and lines != wanted_lines]
 
     def small(self, script):
         """The script without lines that it does without, while it stays unexplained: runs of lines go, long ones first."""
@@ -74,11 +79,11 @@ def shown(script, wanted, plain, fixed):
     wanted, text = wanted.splitlines(), script
     for title, output in (("as it is", plain), ("with each named difference made good", fixed)):
         got = output.splitlines()
-        at = known.first_difference(wanted, got)
+        at = judging.first_difference(wanted, got)
         if at is None:
             text += f"-- {title}: no difference\n"
             continue
-        text += f"-- {title}: at `{known.line_of(script, wanted, at)}`\n"
+        text += f"-- {title}: at `{judging.line_of(script, wanted, at)}`\n"
         text += "".join(f"     both: {line}\n" for line in wanted[max(0, at - 3):at])
         text += f"   domrun: {wanted[at] if at < len(wanted) else '(no line)'}\n"
         text += f"   engine: {got[at] if at < len(got) else '(no line)'}\n"
@@ -88,7 +93,7 @@ def shown(script, wanted, plain, fixed):
 def names_made(program, lines):
     """For each line how many names each owner has made when it has run, by owner and letter."""
     output = engines.run_program(program, "".join(line + "\n" for line in lines)).splitlines()
-    replies = [line for line in output if known.REPLY.match(line)]
+    replies = [line for line in output if judging.REPLY.match(line)]
     counts, made = collections.Counter(), []
     for line, reply in zip(lines, replies):
         found = re.fullmatch(r"(\S+) ok ([nmriwo])(\d+)", reply)

@@ -63,6 +63,7 @@ class Chromium:
 
     name = "chromium"
     batch = 250
+    at_once = 1
 
     def __init__(self):
         self.path = find("chromium", "chromium-browser", "google-chrome")
@@ -90,6 +91,7 @@ class Firefox:
 
     name = "firefox"
     batch = 250
+    at_once = 1
 
     def __init__(self):
         self.path = find("firefox-esr", "firefox")
@@ -155,10 +157,12 @@ class Firefox:
 
 
 class Jsdom:
-    """jsdom in node."""
+    """jsdom in node: each batch of scripts is a process of its own, with a bound on its heap, and at most two run at once."""
 
     name = "jsdom"
-    batch = 50
+    batch = 20
+    at_once = 2
+    heap = 512
 
     def __init__(self):
         self.path = find("node", "nodejs")
@@ -170,11 +174,14 @@ class Jsdom:
         self.version = done.stdout.strip()
 
     def run(self, scripts, fixes):
+        """Where node itself ends on a script, that one has this for its answer, and the others have theirs."""
         given = json.dumps({"scripts": scripts, "fixes": fixes})
-        words = [self.path, "--stack-size=4000", os.path.join(HERE, "run_in_jsdom.js")]
+        words = [self.path, "--stack-size=4000", f"--max-old-space-size={self.heap}", os.path.join(HERE, "run_in_jsdom.js")]
         done = subprocess.run(words, input=given, capture_output=True, text=True, check=False, env=self.environment)
+        if done.returncode and len(scripts) > 1:
+            return [answer for script in scripts for answer in self.run([script], fixes)]
         if done.returncode:
-            raise SystemExit(f"jsdom: {done.stderr[-500:]}")
+            return [(f"harness: node ended with status {done.returncode}: {done.stderr[-500:]}\n", set())]
         return [(answer["output"], set(answer["met"])) for answer in json.loads(done.stdout)]
 
     def close(self):
@@ -186,7 +193,6 @@ ENGINES = {"chromium": Chromium, "firefox": Firefox, "jsdom": Jsdom}
 
 def answers(engine, scripts, fixes=()):
     """What the engine writes for each script, and which of the fixes were met in it, batch by batch."""
-    found = []
-    for start in range(0, len(scripts), engine.batch):
-        found += engine.run(scripts[start:start + engine.batch], list(fixes))
-    return found
+    batches = [scripts[start:start + engine.batch] for start in range(0, len(scripts), engine.batch)]
+    with ThreadPoolExecutor(engine.at_once) as pool:
+        return [answer for found in pool.map(lambda batch: engine.run(batch, list(fixes)), batches) for answer in found]

@@ -1,7 +1,7 @@
 // The differences between a DOM and the protocol that can be made good by smaller steps: with a fix the adapter carries a command out
 // as the DOM Standard has it, and a script that then agrees differs by just this. What a fix does is met only where it changes something.
 "use strict";
-(function (exports, { planIterators, planRoots, planTransients, Unrepresentable }) {
+(function (exports, { planIterators, planRoots, planUntold, planTransients, Unrepresentable }) {
   const indexOf = (node) => {
     let index = 0;
     for (let before = node.previousSibling; before; before = before.previousSibling) index += 1;
@@ -301,6 +301,8 @@
   }
 
   const after = (plan) => plan && { after: plan };
+  // What moves iterators, by other commands than their own.
+  const ofIterators = (plan) => (run, owner, name, values) => (name.startsWith("iter-") ? null : plan(run, owner, name, values));
   const FIXES = {
     "insert-node-offset": (run, owner, name, values) => (name === "insert-node" ? planInsertNode(values) : null),
     "normalize-steps": (run, owner, name, values) => (name === "normalize" ? planNormalize(run, owner, values[0]) : null),
@@ -317,8 +319,9 @@
     "split-alone": (run, owner, name, values) => (name === "split" ? after(planSplitAlone(owner, values)) : null),
     "host-matched": (run, owner, name, values) => (name === "query" ? planQuery(run, owner, values) : null),
     "empty-records": () => ({ after: withoutEmpty }),
-    "iterator-kept": planIterators,
-    "root-left": planRoots,
+    "iterator-kept": ofIterators(planIterators),
+    "root-left": ofIterators(planRoots),
+    "iterator-untold": ofIterators(planUntold),
     transients: planTransients,
   };
 

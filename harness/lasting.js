@@ -23,7 +23,9 @@
     return (places[name] || []).map((place) => values[place]);
   }
 
-  // An iterator of the same root and filter that stands behind a node.
+  const documentOf = (node) => node.ownerDocument || node;
+
+  // An iterator of the same root and filter that stands behind a node; null: this DOM takes no filter.
   function iteratorBehind(iterator, node) {
     const { root, filter } = iterator;
     const shown = filter && filter.shown ? filter.shown : iterator.whatToShow;
@@ -34,8 +36,12 @@
       if (!((1 << (one.nodeType - 1)) & shown)) return 3;
       return inner ? inner.acceptNode(one) : 1;
     };
-    const found = (root.ownerDocument || root).createNodeIterator(root, 0xffffffff, all);
-    for (let next = found.nextNode(); next && next !== node; next = found.nextNode());
+    const found = documentOf(root).createNodeIterator(root, 0xffffffff, all);
+    try {
+      for (let next = found.nextNode(); next && next !== node; next = found.nextNode());
+    } catch {
+      return null;
+    }
     all.open = false;
     return found;
   }
@@ -51,29 +57,47 @@
     const stays = gone && iterator.pointerBeforeReferenceNode && !isFollowed(root, gone.node);
     const target = stays && (gone.before ? lastInside(gone.before) : gone.parent);
     return () => {
+      const neverLeft = !gone && root.contains(referenceNode);
+      if (neverLeft) return false;
       const cut = chain.find(({ parent }) => root.contains(parent) && parent !== referenceNode);
       const left = !root.contains(iterator.referenceNode) && cut;
       const place = left ? (cut.before && cut.before.parentNode === cut.parent ? lastInside(cut.before) : cut.parent) : target;
       if (!place || (iterator.referenceNode === place && !iterator.pointerBeforeReferenceNode)) return false;
-      owner.iterators[number] = iteratorBehind(iterator, place);
-      return true;
+      const moved = iteratorBehind(iterator, place);
+      owner.iterators[number] = moved || iterator;
+      return moved !== null;
     };
   }
 
   function planIterators(run, owner, name, values) {
-    if (name.startsWith("iter-")) return null;
     const plans = owner.iterators.map((_, number) => planIterator(owner, number, name, values));
     return { after: () => plans.map((plan) => plan()).includes(true) };
   }
 
   // Own rule: an iterator stays where it is when an ancestor of its root leaves.
-  function planRoots(run, owner, name) {
-    if (name.startsWith("iter-")) return null;
+  function planRoots(run, owner) {
     const places = owner.iterators.map(({ root, referenceNode }) => ({ root, referenceNode }));
     return { after: () => {
       const isOutside = ({ root, referenceNode }, number) =>
         root.contains(referenceNode) && !root.contains(owner.iterators[number].referenceNode);
       if (places.some(isOutside)) throw new Unrepresentable("root-left");
+    } };
+  }
+
+  // An iterator of a root in another document than the one that made it stays where it was, though what it refers to left its place.
+  function planUntold(run, owner, name, values) {
+    const gone = leaving(name, values);
+    const places = owner.iterators.map((iterator) => {
+      const { root, referenceNode: node, pointerBeforeReferenceNode: isBefore } = iterator;
+      const isOther = documentOf(root) !== run.first && root.contains(node);
+      return { root, node, isBefore, isOther, leaves: gone.some((one) => one !== root && root.contains(one) && one.contains(node)) };
+    });
+    return { after: () => {
+      const isUntold = ({ root, node, isBefore, isOther, leaves }, number) => {
+        const { referenceNode, pointerBeforeReferenceNode } = owner.iterators[number];
+        return isOther && (leaves || !root.contains(node)) && referenceNode === node && pointerBeforeReferenceNode === isBefore;
+      };
+      if (places.some(isUntold)) throw new Unrepresentable("iterator-untold");
     } };
   }
 
@@ -213,5 +237,5 @@
     return met;
   }
 
-  exports.lasting = { planIterators, planRoots, planTransients, endTurn, Unrepresentable };
+  exports.lasting = { planIterators, planRoots, planUntold, planTransients, endTurn, Unrepresentable };
 })(typeof module === "object" ? module.exports : globalThis);
