@@ -1,57 +1,103 @@
-"""The picture of what lines cost against the length of their script: a row for each kind, in it a dot for each length.
+"""The picture of what a line costs, beside browsers where they were measured: a row for each kind of work, in it a mark for each engine at each of two sizes.
 
-The figures are the first table of docs/PERFORMANCE.md (kind, lines, microseconds per line), or what bench/bench.py prints."""
+The figures are the first table of docs/PERFORMANCE.md that has a column `domrun`, or what bench/peers.py prints: a row has the kind, the lines, and
+then the microseconds per line of each engine, the smaller size before a stroke, and `*` behind a figure where an engine was stopped."""
 import math
-import re
 
 import svg
 
-OF_PAGE = re.compile(r"\|\s*([^|]+?)\s*\|\s*([\d,]+)\s*\|\s*([\d.]+)\s*\|")
-OF_BENCH = re.compile(r"(\w+)\s+(\d+)\s+[\d.]+\s+([\d.]+)\s+[\d.]+")
-LEFT, ACROSS, DOWN, HEAD = 330, 440, 26, 84
+# Of each engine its shape and its colour. A shape that is not there is a circle.
+LOOKS = {"domrun": (None, "page"), "Chromium": ("square", "inside"), "Firefox": ("diamond", "third"), "jsdom": ("triangle", "off")}
+SHAPES = {
+    "square": ((-0.85, -0.85), (0.85, -0.85), (0.85, 0.85), (-0.85, 0.85)), "diamond": ((0, -1.2), (1.2, 0), (0, 1.2), (-1.2, 0)),
+    "triangle": ((0, -1.15), (1.1, 0.85), (-1.1, 0.85)),
+}
+LEFT, ACROSS, DOWN, HEAD = 400, 400, 26, 112
 
 
-def figures_of(path):
-    """The kinds in their order, each with its pairs of lines and microseconds per line, the shortest script first."""
-    found = {}
+def cells_of(row):
+    return [cell.strip() for cell in row.strip().strip("|").split("|")]
+
+
+def figures_in(cell):
+    """The figures of a cell, the smaller size first; None stands for a figure that is not there."""
+    return [float(word) if word[:1].isdigit() else None for word in cell.replace(",", "").replace("*", "").split(" / ")]
+
+
+def table_of(path):
+    """The engines' names, and of each kind its name, the engines' figures, and how many times the first engine's those of the second are."""
     with open(path, encoding="utf-8") as page:
-        for row in page:
-            fits = OF_PAGE.match(row) or OF_BENCH.match(row)
-            if fits:
-                kind, lines, micros = fits.groups()
-                found.setdefault(kind, []).append((int(lines.replace(",", "")), float(micros)))
-    if not found:
-        raise ValueError(f"{path} has no table of kinds, lines and microseconds")
-    return {kind: sorted(pairs) for kind, pairs in found.items()}
+        rows = [cells_of(row) for row in page if row.startswith("|")]
+    heads = next((row for row in rows if "domrun" in row), None)
+    if not heads:
+        raise ValueError(f"{path} has no table with a column domrun")
+    engines = [head for head in heads if head in LOOKS]
+    times = next((at for at, head in enumerate(heads) if head.endswith(" : domrun")), None)
+    kinds = []
+    for row in rows[rows.index(heads) + 2:]:
+        if len(row) != len(heads):
+            break
+        figures = [figures_in(row[heads.index(engine)]) for engine in engines]
+        kinds.append((row[0], [(each * 2)[:2] for each in figures], row[times] if times else ""))
+    return engines, kinds
 
 
-def row_parts(y, kind, pairs, x_of):
-    """The row of one kind. The dot of its longest script is full, the others are rings."""
-    places = [x_of(micros) for _, micros in pairs]
-    lines, micros = pairs[-1]
-    parts = [svg.text(LEFT - 24, y + 4, kind, "end small"), svg.line([(min(places), y), (max(places), y)], "page-edge")]
-    parts += [svg.dot(place, y, 4.5, "chip page-edge") for place in places[:-1]]
-    return parts + [svg.dot(places[-1], y, 5, "page"), svg.text(max(places) + 12, y + 4, f"{micros:g}", "mono small"),
-                    svg.text(LEFT + ACROSS + 80, y + 4, f"{lines:,} lines", "soft small end")]
+def mark(x, y, engine, is_full):
+    """The mark of an engine at a place: full for the larger size, an outline for the smaller one."""
+    shape, colour = LOOKS[engine]
+    look = colour if is_full else f"chip {colour}-mark"
+    return svg.shape([(x + 5 * dx, y + 5 * dy) for dx, dy in SHAPES[shape]], look) if shape else svg.dot(x, y, 5, look)
+
+
+def row_parts(y, kind, engines, x_of):
+    """The row of one kind: its name, its marks, the first engine's last over the others', and its figure and how many times that the second's is."""
+    says, figures, times = kind
+    parts = [svg.text(LEFT - 18, y + 4, says, "end small")]
+    for engine, pair in reversed(list(zip(engines, figures))):
+        places = [x_of(micros) if micros else None for micros in pair]
+        if None not in places:
+            parts.append(svg.line([(places[0], y), (places[1], y)], f"{LOOKS[engine][1]}-mark"))
+        parts += [mark(place, y, engine, is_full) for place, is_full in zip(places, (False, True)) if place]
+    shown = svg.text(LEFT + ACROSS + 92, y + 4, f"{figures[0][1]:g}", "mono small end")
+    return [*parts, shown, svg.text(LEFT + ACROSS + 210, y + 4, times.split(" / ")[-1], "mono small end")]
+
+
+def head_parts(name, engines):
+    """The heading, and what the marks stand for."""
+    parts = [svg.text(24, 28, title_of(engines), "strong"),
+             svg.text(24, 48, f"From {name}. A full mark is the longer script or the larger page, an outline the other one.", "soft small")]
+    x = LEFT
+    for engine in engines:
+        parts += [mark(x, 69, engine, False), mark(x + 13, 69, engine, True), svg.text(x + 24, 73, engine, "small")]
+        x += 50 + 8 * len(engine)
+    for at, words in ((92, "domrun"), (210, f"{engines[1]} : domrun" if len(engines) > 1 else "")):
+        parts.append(svg.text(LEFT + ACROSS + at, HEAD - 16, words, "soft small end"))
+    return parts
 
 
 def cost_picture(path, name):
     """The picture, from the path of the figures and what they are called."""
-    found = figures_of(path)
-    every = [micros for pairs in found.values() for _, micros in pairs]
+    engines, kinds = table_of(path)
+    every = [micros for _, figures, _ in kinds for pair in figures for micros in pair if micros]
     low, high = 10 ** math.floor(math.log10(min(every))), 10 ** math.ceil(math.log10(max(every)))
 
     def x_of(micros):
-        return LEFT + (ACROSS - 50) * math.log10(micros / low) / math.log10(high / low)
+        return LEFT + ACROSS * math.log10(micros / low) / math.log10(high / low)
 
-    bottom = HEAD + len(found) * DOWN
-    parts = [svg.text(24, 28, "What a line costs, in microseconds", "strong"),
-             svg.text(24, 48, f"From {name}. A full dot is the longest script of its kind; a ring is a shorter one.", "soft small")]
-    mark = low
-    while mark <= high * 1.001:
-        parts += [svg.line([(x_of(mark), HEAD - 12), (x_of(mark), bottom - 8)]), svg.text(x_of(mark), HEAD - 16, f"{mark:g}", "soft small middle")]
-        mark *= 10
-    for number, (kind, pairs) in enumerate(found.items()):
-        parts += row_parts(HEAD + 6 + number * DOWN, kind, pairs, x_of)
-    said = "; ".join(f"{kind}: {', '.join(f'{micros:g} at {lines:,} lines' for lines, micros in pairs)}" for kind, pairs in found.items())
-    return svg.picture(LEFT + ACROSS + 104, bottom + 16, "What a line costs, in microseconds", said, parts)
+    bottom = HEAD + len(kinds) * DOWN
+    parts = head_parts(name, engines)
+    for power in range(round(math.log10(low)), round(math.log10(high)) + 1):
+        x = x_of(10.0 ** power)
+        parts += [svg.line([(x, HEAD - 10), (x, bottom - 8)]), svg.text(x, HEAD - 16, f"{10.0 ** power:,g}", "soft small middle")]
+    for number, kind in enumerate(kinds):
+        parts += row_parts(HEAD + 8 + number * DOWN, kind, engines, x_of)
+    said = "; ".join(f"{says}: {', '.join(f'{engine} {at_larger(pair)}' for engine, pair in zip(engines, figures))}" for says, figures, _ in kinds)
+    return svg.picture(LEFT + ACROSS + 230, bottom + 10, title_of(engines), said, parts)
+
+
+def title_of(engines):
+    return "What a line costs, in microseconds" if len(engines) == 1 else f"What a line costs in {' and '.join(engines)}, in microseconds"
+
+
+def at_larger(pair):
+    return "none" if pair[1] is None else f"{pair[1]:g}"

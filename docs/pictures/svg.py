@@ -13,6 +13,8 @@ STYLE = """
   .page { fill: var(--page); } .inside { fill: var(--inside); } .third { fill: var(--third); } .off { fill: var(--off); }
   .page-edge { fill: none; stroke: var(--page); stroke-width: 1.8; } .inside-edge { fill: none; stroke: var(--inside); stroke-width: 1.8; }
   .third-edge { fill: none; stroke: var(--third); stroke-width: 1.8; } .off-edge { fill: none; stroke: var(--off); stroke-dasharray: 4 3; } .dashed { stroke-dasharray: 5 4; }
+  .page-mark { fill: none; stroke: var(--page); } .inside-mark { fill: none; stroke: var(--inside); } .third-mark { fill: none; stroke: var(--third); }
+  .off-mark { fill: none; stroke: var(--off); } .page-mark, .inside-mark, .third-mark, .off-mark { stroke-width: 1.6; }
   svg .chip { fill: var(--back); } .thick { stroke-width: 3.4; }
 """
 
@@ -30,6 +32,11 @@ def box(x, y, width, height, look="box", round_by=6):
 def dot(x, y, radius, look):
     """A circle around a place."""
     return f'<circle cx="{x:.1f}" cy="{y:.1f}" r="{radius}" class="{look}"/>'
+
+
+def shape(points, look):
+    """A closed shape with these corners."""
+    return f'<polygon points="{" ".join(f"{x:.1f},{y:.1f}" for x, y in points)}" class="{look}"/>'
 
 
 def line(points, look="edge", arrow=""):
