@@ -66,10 +66,22 @@ def named_in(text, uses, here):
     return found
 
 
+def with_whole_clauses(lines):
+    """The lines, where a clause of several lines is one."""
+    whole, is_open = [], False
+    for line in lines:
+        if is_open:
+            whole[-1] += " " + line.strip()
+        else:
+            whole.append(line)
+        is_open = bool(CLAUSE.match(whole[-1])) and whole[-1].count("{") > whole[-1].count("}")
+    return whole
+
+
 def calls_in(crate, path):
     """The public calls of a file."""
     found, owner, indent = [], None, None
-    lines = lines_of(path)
+    lines = with_whole_clauses(lines_of(path))
     uses = uses_of(lines)
     for line in lines:
         owner = OWNER.match(line)[1] if OWNER.match(line) else None if line == "}" else owner
