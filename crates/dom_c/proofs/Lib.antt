@@ -1,2 +1,2 @@
-pub mod Values
-pub mod Options
+mod Values
+mod Options

@@ -1,7 +1,7 @@
-pub mod RunLaws
-pub mod LineRuns
-pub mod PieceLaws
-pub mod ReadLaws
-pub mod PageRuns
-pub mod PagePrefixes
+mod RunLaws
+mod LineRuns
+mod PieceLaws
+mod ReadLaws
+mod PageRuns
+mod PagePrefixes
 mod ForeignLines

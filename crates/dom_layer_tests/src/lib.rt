@@ -7,8 +7,6 @@ mod arena;
 #[cfg(test)]
 mod callers;
 #[cfg(test)]
-mod forest;
-#[cfg(test)]
 mod paths;
 #[cfg(test)]
 mod refusals;

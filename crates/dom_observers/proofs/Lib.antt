@@ -1,8 +1,8 @@
-pub mod Folds
-pub mod Gathering
-pub mod Tables
-pub mod Lookups
+mod Folds
+mod Gathering
+mod Tables
+mod Lookups
 pub mod Ascending
 pub mod Naming
 pub mod Speaking
-pub mod Watching
+mod Watching

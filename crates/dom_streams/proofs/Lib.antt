@@ -1,2 +1,2 @@
 pub mod WriteLaws
-pub mod ViewLaws
+mod ViewLaws

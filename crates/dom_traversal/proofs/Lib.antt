@@ -8,17 +8,17 @@ pub mod Searching
 pub mod Climbing
 pub mod Chains
 pub mod Opening
-pub mod Forward
-pub mod Passing
-pub mod Stops
-pub mod Aside
-pub mod Reaching
-pub mod Candidates
-pub mod Nested
-pub mod Beginning
-pub mod Backward
-pub mod Parents
-pub mod Aback
-pub mod ReachingBack
-pub mod BeginningBack
+mod Forward
+mod Passing
+mod Stops
+mod Aside
+mod Reaching
+mod Candidates
+mod Nested
+mod Beginning
+mod Backward
+mod Parents
+mod Aback
+mod ReachingBack
+mod BeginningBack
 pub mod Removal
