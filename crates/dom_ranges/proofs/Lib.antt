@@ -13,3 +13,5 @@ pub mod Parts
 pub mod Moved
 pub mod OwnOrder
 pub mod Inside
+pub mod Siblings
+pub mod Leaving

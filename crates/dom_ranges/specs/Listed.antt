@@ -98,9 +98,9 @@ abbrev pub AreAllIn : (Boundary ℕ → Boundary ℕ) → List RangeEnd → Part
 AreAllIn rule es one two =
     (k : ℕ) (d : RangeEnd) (i : ℕ) → k < length es → is_in one k ≡ false → is_in two k ≡ false → rule (at (slice_index_or es k d).node i) ≡ at (slice_index_or es k d).node i
 
--- each listed end is at the node of a point of which this holds
-abbrev pub AreWhere : (Boundary ℕ → Type 0) → List RangeEnd → Type 0
-AreWhere P es = (k : ℕ) (d : RangeEnd) → k < length es → (i : ℕ) × P (at (slice_index_or es k d).node i)
+-- boundary points at other nodes than these two are not moved by a rule
+abbrev pub IsAtTwo : (Boundary ℕ → Boundary ℕ) → ℕ → ℕ → Type 0
+IsAtTwo rule one two = (node i : ℕ) → node ≢ one → node ≢ two → rule (at node i) ≡ at node i
 
 -- a listed end that stands at another node
 abbrev pub at_node : RangeEnd → ℕ → RangeEnd

@@ -30,6 +30,13 @@ impl Part {
         self.first <= place && place < self.behind
     }
 
+    /// Whether no place is in the part.
+    pub(crate) fn is_empty(self) -> bool
+        ensures { result ≡ true → (k : ℕ) → is_in self k ≡ false }
+    {
+        self.behind <= self.first
+    }
+
     /// The places from the first to the last of two parts.
     pub(crate) fn around(self, other: Part) -> Part
         ensures first { (k : ℕ) → is_in self k ≡ true → is_in result k ≡ true }

@@ -3,10 +3,12 @@
 
 mod change;
 mod ends;
+mod indexes;
 mod laws;
 mod moving;
 mod numbers;
 mod order;
+mod removing;
 mod setting;
 mod table;
 

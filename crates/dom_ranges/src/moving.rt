@@ -4,7 +4,7 @@ ghost use Rattle.std.specs.Option.{option_map, ForSome};
 ghost use Rattle.dom_model.specs.Ranges.{map_ends};
 ghost use Rattle.slab.specs.Slab.{get, Updates};
 ghost use Rattle.dom_ranges.specs.Tables.{BothEnds, range_from};
-ghost use Rattle.dom_ranges.specs.Listed.{IsListed, IsSortedByNode, IsMovedPart, is_chosen, point_at, with_end_at};
+ghost use Rattle.dom_ranges.specs.Listed.{IsListed, IsSortedByNode, IsMovedPart, AreAllIn, is_chosen, point_at, with_end_at};
 
 use crate::change::Change;
 use crate::ends::{Part, RangeEnd, bring, drop_end, settle};
@@ -69,16 +69,25 @@ fn move_part<C: Change>(
     changed
 }
 
-/// Moves the ends of all ranges. Those that a step of a change does not concern are not looked at.
-pub(crate) fn move_ends<C: Change>(live: &mut Slab<Points>, ends: &mut [RangeEnd], change: &C)
+/// Moves the ends of all ranges, by two parts of their list outside which a step of a change moves none: those are not
+/// looked at.
+pub(crate) fn move_ends<C: Change>(
+    live: &mut Slab<Points>,
+    ends: &mut [RangeEnd],
+    change: &C,
+    one: Part,
+    two: Part,
+)
     requires listed { IsListed live.old ends.old }
     requires sorted { IsSortedByNode ends.old }
+    requires one_within { one.behind ≤ length ends.old }
+    requires two_within { two.behind ≤ length ends.old }
+    requires all { AreAllIn (C.rule change.now) ends.old one two }
     requires can_move { (slot : ℕ) → ForSome (get live.old slot) (λ p. BothEnds (C.can_move change.now) (range_from p)) }
     ensures moved { (slot : ℕ) → option_map range_from (get live.new slot) ≡ option_map (λ p. map_ends (C.rule change.now) (range_from p)) (get live.old slot) }
     ensures listed { IsListed live.new ends.new }
     ensures sorted { IsSortedByNode ends.new }
 {
-    let (one, two) = change.concerned(ends);
     let nothing = Part {
         first: 0,
         behind: 0,

@@ -8,14 +8,17 @@ ghost use Rattle.dom_model.specs.Ranges.{at, from_to, map_ends, after_insert, af
 ghost use Rattle.dom_model.specs.Tree.{parent_of, index_of, length_of};
 ghost use Rattle.dom_tree.specs.Forest.{name_at};
 ghost use Rattle.slab.specs.Slab.{get, Updates};
-ghost use Rattle.dom_ranges.specs.Rules.{Fits, IsAtNode, is_inside};
+ghost use Rattle.dom_ranges.specs.Listed.{IsAtTwo};
+ghost use Rattle.dom_ranges.specs.Rules.{Fits, IsAtNode, IsNear, IsUpTo, is_inside};
 ghost use Rattle.dom_ranges.specs.Settings.{start_set, end_set, named_ranges, with_named, without_named};
 ghost use Rattle.dom_ranges.specs.Tables.{ranges_of, range_in, with_ranges, range_from, ends_by, EachRange, BothEnds, collapsed_range};
 
-use crate::change::{Change, Insertion, Join, Removal, Replacement, Split};
-use crate::ends::{RangeEnd, list_range};
+use crate::change::{Change, Insertion, Join, Replacement, Split};
+use crate::ends::{RangeEnd, list_range, part_of};
+use crate::indexes::{index_among_ends, index_before_ends};
 use crate::moving::{drop_range, move_ends, put_end};
 use crate::numbers::Numbers;
+use crate::removing::move_out;
 use crate::setting::{with_end, with_start};
 use dom_base::{Fault, MAX_NODES, Owner, Refusal};
 use dom_tree::Forest;
@@ -245,11 +248,33 @@ impl RangeTable {
         requires { (o : Owners) → EachRange (BothEnds (λ b. Fits (after_insert nat_eq parent index count b))) (ranges_of self.old o) }
         ensures { (o : Owners) → ranges_of self.new o ≡ ends_by (after_insert nat_eq parent index count) (ranges_of self.old o) }
     {
-        self.apply(&Insertion {
+        let change = Insertion {
             parent,
             index,
             count,
-        });
+        };
+        self.apply(&change, parent, parent);
+    }
+
+    /// Tells the table that `count` nodes are to come into `parent` before `child`, as `on_insert` does of the child's
+    /// index. That is looked for only as far as boundary points stand in the parent: without one there, not at all.
+    pub fn on_insert_before(&mut self, forest: &Forest, parent: Key, child: Key, count: usize)
+        requires child_is_node { child < length forest.now.names }
+        requires fits { (o : Owners) → EachRange (BothEnds (λ b. Fits (after_insert nat_eq parent (index_of forest.now.trees (name_at forest.now.names child)) count b))) (ranges_of self.old o) }
+        ensures { (o : Owners) → ranges_of self.new o ≡ ends_by (after_insert nat_eq parent (index_of forest.now.trees (name_at forest.now.names child)) count) (ranges_of self.old o) }
+    {
+        if let Some(index) = self.index_before(forest, parent, child) {
+            self.on_insert(parent, index, count);
+        }
+    }
+
+    /// The index of a child, where boundary points stand behind the child in its parent.
+    fn index_before(&self, forest: &Forest, parent: Key, child: Key) -> Option<usize>
+        requires { child < length forest.now.names }
+        ensures index { ForSome result (λ i. i ≡ index_of forest.now.trees (name_at forest.now.names child)) }
+        ensures none { result ≡ None → (o : Owners) → EachRange (BothEnds (IsUpTo parent (index_of forest.now.trees (name_at forest.now.names child)))) (ranges_of self.now o) }
+    {
+        index_before_ends(&self.live, self.ends.as_slice(), forest, parent, child)
     }
 
     /// Tells the table that a node is to leave its parent, in whose tree it is still linked (DOM Standard, concept:
@@ -263,19 +288,19 @@ impl RangeTable {
         ensures named { (o : Owners) → named_ranges forest.now.names (ranges_of self.new o) ≡ without_named forest.now (name_at forest.now.names node) (named_ranges forest.now.names (ranges_of self.old o)) }
     {
         forest.nodes_stand_once();
-        // An index is found by going through the siblings, so nobody pays for that without ranges.
-        if self.is_empty() {
-            return;
-        }
         if let Some(parent) = forest.parent(node) {
-            let index = forest.index(node);
-            self.apply(&Removal {
-                forest,
-                node,
-                parent,
-                index,
-            });
+            self.remove_child(forest, node, parent);
         }
+    }
+
+    /// Moves the ends of all ranges for a child that is to leave its parent.
+    fn remove_child(&mut self, forest: &Forest, node: Key, parent: Key)
+        requires node_is_node { node < length forest.now.names }
+        requires ends { (o : Owners) → EachRange (BothEnds (IsAtNode forest.now.names)) (ranges_of self.old o) }
+        ensures { (o : Owners) → ranges_of self.new o ≡ ends_by (after_removal nat_eq (is_inside forest.now node) parent (index_of forest.now.trees (name_at forest.now.names node))) (ranges_of self.old o) }
+    {
+        let ends = self.ends.as_mut_slice();
+        move_out(&mut self.live, ends, forest, node, parent);
     }
 
     /// Tells the table that from `offset` on, `count` code units of a node give way to `length` others (DOM Standard,
@@ -284,12 +309,13 @@ impl RangeTable {
         requires { (o : Owners) → EachRange (BothEnds (λ b. Fits (after_replace_data nat_eq node offset count length b))) (ranges_of self.old o) }
         ensures { (o : Owners) → ranges_of self.new o ≡ ends_by (after_replace_data nat_eq node offset count length) (ranges_of self.old o) }
     {
-        self.apply(&Replacement {
+        let change = Replacement {
             node,
             offset,
             count,
             length,
-        });
+        };
+        self.apply(&change, node, node);
     }
 
     /// Tells the table that a Text was split at `offset`, and what was past it is in the Text `new` (DOM Standard,
@@ -302,13 +328,14 @@ impl RangeTable {
     {
         if let Some(at) = place {
             let (parent, index) = at;
-            self.apply(&Split {
+            let change = Split {
                 node,
                 offset,
                 new,
                 parent,
                 index,
-            });
+            };
+            self.apply(&change, node, parent);
         }
     }
 
@@ -319,20 +346,52 @@ impl RangeTable {
         requires { (o : Owners) → EachRange (BothEnds (λ b. Fits (after_join nat_eq first length next parent index b))) (ranges_of self.old o) }
         ensures { (o : Owners) → ranges_of self.new o ≡ ends_by (after_join nat_eq first length next parent index) (ranges_of self.old o) }
     {
-        self.apply(&Join {
+        let change = Join {
             first,
             length,
             next,
             parent,
             index,
-        });
+        };
+        self.apply(&change, next, parent);
     }
 
-    /// Rewrites the ends of all ranges for a step of a change.
-    fn apply<C: Change>(&mut self, change: &C)
-        requires { (o : Owners) → EachRange (BothEnds (C.can_move change.now)) (ranges_of self.old o) }
+    /// Tells the table that the data of the Text `next`, a child of `parent`, were put behind those of the Text `first`, which
+    /// had `size` code units, as `on_join` does of the child's index. That is looked for only as far as boundary points
+    /// stand in the parent.
+    pub fn on_join_child(
+        &mut self,
+        forest: &Forest,
+        first: Key,
+        size: usize,
+        next: Key,
+        parent: Key,
+    )
+        requires next_is_node { next < length forest.now.names }
+        requires fits { (o : Owners) → EachRange (BothEnds (λ b. Fits (after_join nat_eq first size next parent (index_of forest.now.trees (name_at forest.now.names next)) b))) (ranges_of self.old o) }
+        ensures { (o : Owners) → ranges_of self.new o ≡ ends_by (after_join nat_eq first size next parent (index_of forest.now.trees (name_at forest.now.names next))) (ranges_of self.old o) }
+    {
+        let index = self.index_among(forest, parent, next);
+        self.on_join(first, size, next, parent, index);
+    }
+
+    /// The index of a child, as far as boundary points stand in its parent.
+    fn index_among(&self, forest: &Forest, parent: Key, child: Key) -> usize
+        requires { child < length forest.now.names }
+        ensures { (o : Owners) → EachRange (BothEnds (IsNear parent (index_of forest.now.trees (name_at forest.now.names child)) result)) (ranges_of self.now o) }
+    {
+        index_among_ends(&self.live, self.ends.as_slice(), forest, parent, child)
+    }
+
+    /// Rewrites the ends of all ranges for a step of a change, which moves none but those at two nodes.
+    fn apply<C: Change>(&mut self, change: &C, one: Key, two: Key)
+        requires can_move { (o : Owners) → EachRange (BothEnds (C.can_move change.now)) (ranges_of self.old o) }
+        requires nodes { IsAtTwo (C.rule change.now) one two }
         ensures { (o : Owners) → ranges_of self.new o ≡ ends_by (C.rule change.now) (ranges_of self.old o) }
     {
-        move_ends(&mut self.live, self.ends.as_mut_slice(), change);
+        let ends = self.ends.as_mut_slice();
+        let here = part_of(ends, one);
+        let there = part_of(ends, two);
+        move_ends(&mut self.live, ends, change, here, there);
     }
 }

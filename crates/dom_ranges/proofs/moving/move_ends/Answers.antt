@@ -1,19 +1,9 @@
-use Rattle.std.proofs.Common.{get_or, sym, subst, ◌∙◌}
-use Rattle.dom_model.specs.Ranges.{at}
-use Rattle.dom_ranges.specs.Listed.{IsSortedBeside, point_at}
+use Rattle.std.proofs.Common.{sym, subst, ◌∙◌}
+use Rattle.dom_ranges.specs.Listed.{IsSortedBeside}
 use Rattle.dom_ranges.proofs.Listing.{IsListed-permuted}
-use Rattle.dom_ranges.proofs.Parts.{chosen-true, the_point}
+use Rattle.dom_ranges.proofs.Parts.{chosen-true}
 use Rattle.dom_ranges.proofs.Moved.{IsListed-moved, holds-point, stays-outside, ranges-both, listed-both, IsSortedBeside-both, IsSortedByNode-both}
 use Rattle.dom_ranges.proofs.moving.move_ends.Goals as goal
-
-pub concerned-requires-clause-standing : goal.concerned-requires-clause-standing
-concerned-requires-clause-standing g c =
-    λ k d l.
-    let e = get_or c.args.ends.now k d in
-    let p = the_point (point_at c.args.live.now e.slot e.is_end) e.node (c.requires.listed.standing k d l) in (
-      p.0.offset,
-      subst (λ n. g.C.Change.can_move c.args.change.now (at n p.0.offset)) p.2 (holds-point (g.C.Change.can_move c.args.change.now) _ e.is_end p.0 (c.requires.can_move e.slot) p.1),
-    )
 
 pub move_part-here-requires-clause-can_move : goal.move_part-here-requires-clause-can_move
 move_part-here-requires-clause-can_move g c = λ k d l e x f. holds-point (g.C.Change.can_move c.args.change.now) _ _ x (c.requires.can_move _) f
@@ -24,28 +14,28 @@ move_part-there-requires-clause-listed g c = IsListed-moved _ _ _ _ _ _ _ c.requ
 pub move_part-there-requires-clause-can_move : goal.move_part-there-requires-clause-can_move
 move_part-there-requires-clause-can_move g c =
     λ k d l e x f. holds-point (g.C.Change.can_move c.args.change.now) _ _ x (c.requires.can_move _)
-    (sym (stays-outside _ _ c.args.live.now c.move_part-here.new.live c.args.ends.now c.move_part-here.new.ends c.concerned.result.0 c.requires.listed c.move_part-here.ensures.moved k d l (chosen-true c.concerned.result.1 c.concerned.result.0 k e).2) ∙ f)
+    (sym (stays-outside _ _ c.args.live.now c.move_part-here.new.live c.args.ends.now c.move_part-here.new.ends c.args.one c.requires.listed c.move_part-here.ensures.moved k d l (chosen-true c.args.two c.args.one k e).2) ∙ f)
 
 pub settle-requires-clause-sorted : goal.settle-requires-clause-sorted
 settle-requires-clause-sorted g c =
     subst (IsSortedBeside c.move_part-there.new.ends c.min-low.result c.max-high.result) (sym c.target.ensures)
-    (IsSortedBeside-both _ _ _ _ _ _ _ _ _ _ c.requires.listed c.move_part-here.ensures.moved c.move_part-there.ensures.moved c.concerned.ensures.all c.requires.sorted c.move_part-here.result c.move_part-there.result
+    (IsSortedBeside-both _ _ _ _ _ _ _ _ _ _ c.requires.listed c.move_part-here.ensures.moved c.move_part-there.ensures.moved c.requires.all c.requires.sorted c.move_part-here.result c.move_part-there.result
     c.move_part-here.ensures.nodes c.move_part-there.ensures.nodes c.min-low.result c.max-high.result c.min-low.ensures c.max-high.ensures)
 
 pub returns-then-low-high-clause-moved : goal.returns-then-low-high-clause-moved
-returns-then-low-high-clause-moved g c = ranges-both _ _ _ _ _ _ _ _ _ _ c.requires.listed c.move_part-here.ensures.moved c.move_part-there.ensures.moved c.concerned.ensures.all
+returns-then-low-high-clause-moved g c = ranges-both _ _ _ _ _ _ _ _ _ _ c.requires.listed c.move_part-here.ensures.moved c.move_part-there.ensures.moved c.requires.all
 
 pub returns-then-low-high-clause-listed : goal.returns-then-low-high-clause-listed
 returns-then-low-high-clause-listed g c =
-    IsListed-permuted _ _ _ (listed-both _ _ _ _ _ _ _ _ _ _ c.requires.listed c.move_part-here.ensures.moved c.move_part-there.ensures.moved c.concerned.ensures.all) c.settle.ensures.permutation
+    IsListed-permuted _ _ _ (listed-both _ _ _ _ _ _ _ _ _ _ c.requires.listed c.move_part-here.ensures.moved c.move_part-there.ensures.moved c.requires.all) c.settle.ensures.permutation
 
 pub returns-else-low-high-clause-moved : goal.returns-else-low-high-clause-moved
-returns-else-low-high-clause-moved g c = ranges-both _ _ _ _ _ _ _ _ _ _ c.requires.listed c.move_part-here.ensures.moved c.move_part-there.ensures.moved c.concerned.ensures.all
+returns-else-low-high-clause-moved g c = ranges-both _ _ _ _ _ _ _ _ _ _ c.requires.listed c.move_part-here.ensures.moved c.move_part-there.ensures.moved c.requires.all
 
 pub returns-else-low-high-clause-listed : goal.returns-else-low-high-clause-listed
-returns-else-low-high-clause-listed g c = listed-both _ _ _ _ _ _ _ _ _ _ c.requires.listed c.move_part-here.ensures.moved c.move_part-there.ensures.moved c.concerned.ensures.all
+returns-else-low-high-clause-listed g c = listed-both _ _ _ _ _ _ _ _ _ _ c.requires.listed c.move_part-here.ensures.moved c.move_part-there.ensures.moved c.requires.all
 
 pub returns-else-low-high-clause-sorted : goal.returns-else-low-high-clause-sorted
 returns-else-low-high-clause-sorted g c =
-    IsSortedByNode-both _ _ _ _ _ _ _ _ _ _ c.requires.listed c.move_part-here.ensures.moved c.move_part-there.ensures.moved c.concerned.ensures.all c.requires.sorted c.move_part-here.result c.move_part-there.result
+    IsSortedByNode-both _ _ _ _ _ _ _ _ _ _ c.requires.listed c.move_part-here.ensures.moved c.move_part-there.ensures.moved c.requires.all c.requires.sorted c.move_part-here.result c.move_part-there.result
     c.move_part-here.ensures.nodes c.move_part-there.ensures.nodes c.min-low.result c.max-high.result c.min-low.ensures c.max-high.ensures c.if-low-high.false

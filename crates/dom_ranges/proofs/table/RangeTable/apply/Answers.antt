@@ -1,17 +1,19 @@
-use Rattle.std.proofs.Common.{is_some, length, refl, sym, subst, ◌∙◌, ap, arith}
+use Rattle.std.proofs.Common.{length, sym, ◌∙◌, ap, arith, true≢false}
 use Rattle.dom_model.specs.Ranges.{map_ends}
-use Rattle.dom_ranges.specs.Tables.{range_from}
 use Rattle.dom_ranges.specs.declared.ends.RangeEnd.{RangeEnd}
-use Rattle.dom_ranges.specs.Listed.{IsListed, IsSortedByNode}
 use Rattle.dom_ranges.proofs.Gathering.{written-back}
-use Rattle.dom_ranges.proofs.Writing.{Shows-view, range-standing, ranges-moved, IsHeld-same, HoldSame-moved}
+use Rattle.dom_ranges.proofs.Leaving.{each-held, kept-moved}
+use Rattle.dom_ranges.proofs.Writing.{Shows-view, ranges-moved}
 use Rattle.dom_ranges.proofs.table.RangeTable.apply.Goals as goal
+
+pub move_ends-requires-clause-all : goal.move_ends-requires-clause-all
+move_ends-requires-clause-all g c =
+    λ k d i l one two.
+    c.requires.nodes _ i (λ e. true≢false (sym (c.part_of-here.ensures.all k d l e) ∙ one)) (λ e. true≢false (sym (c.part_of-there.ensures.all k d l e) ∙ two))
 
 pub move_ends-requires-clause-can_move : goal.move_ends-requires-clause-can_move
 move_ends-requires-clause-can_move g c =
-    λ slot p e.
-    let w = c.self.invariant.0.used slot (ap is_some e) in
-    c.requires w.0 w.1 (range_from p) (range-standing c.self.inside.live c.self.inside.numbers _ (Shows-view c.self.inside.live c.self.inside.numbers _ c.self.view_is) slot w.1 w.0 p w.2 e)
+    each-held (g.C.Change.can_move c.args.change.now) c.self.inside.live c.self.inside.numbers _ (Shows-view c.self.inside.live c.self.inside.numbers _ c.self.view_is) c.self.invariant.0 c.requires.can_move
 
 pub returns : goal.returns
 returns g c =
@@ -19,8 +21,5 @@ returns g c =
 
 pub invariant_of-self : goal.invariant_of-self
 invariant_of-self g c =
-    let back = sym (written-back c.self.inside.ends.items c.move_ends.new.ends c.self.inside.ends.len (c.move_ends.auto.ends ∙ ap (length {A = RangeEnd}) c.as_mut_slice.ensures.value) (omega (arith, c.self.inside.ends.ok.0))) in (
-      IsHeld-same c.self.inside.live c.move_ends.new.live c.self.inside.numbers c.self.inside.numbers (HoldSame-moved (map_ends (g.C.Change.rule c.args.change.now)) c.self.inside.live c.move_ends.new.live c.move_ends.ensures.moved) (λ o. refl) c.self.invariant.0,
-      subst (IsListed c.move_ends.new.live) back c.move_ends.ensures.listed,
-      subst IsSortedByNode back c.move_ends.ensures.sorted,
-    )
+    kept-moved (g.C.Change.rule c.args.change.now) c.self.inside.live c.move_ends.new.live c.self.inside.numbers _ c.move_ends.new.ends c.move_ends.ensures.moved c.self.invariant.0 c.move_ends.ensures.listed c.move_ends.ensures.sorted
+    (written-back c.self.inside.ends.items c.move_ends.new.ends c.self.inside.ends.len (c.move_ends.auto.ends ∙ ap (length {A = RangeEnd}) c.as_mut_slice-ends.ensures.value) (omega (arith, c.self.inside.ends.ok.0)))

@@ -6,7 +6,7 @@ use Rattle.dom_traversal.specs.Within.{from_node, StandsIn}
 use Rattle.dom_traversal.proofs.Lists.{In}
 use Rattle.dom_ranges.specs.declared.ends.RangeEnd.{RangeEnd}
 use Rattle.dom_ranges.specs.Listed.{is_in}
-use Rattle.dom_ranges.proofs.change.part_inside.Given as goal
+use Rattle.dom_ranges.proofs.removing.part_inside.Given as goal
 
 abbrev pub invariant-loop-at : goal.invariant-loop-at
 invariant-loop-at l = record {

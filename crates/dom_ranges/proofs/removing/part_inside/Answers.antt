@@ -6,7 +6,7 @@ use Rattle.dom_traversal.proofs.Order.{outside-test}
 use Rattle.dom_traversal.proofs.Searching.{following_step}
 use Rattle.dom_ranges.specs.Listed.{end_in}
 use Rattle.dom_ranges.proofs.Inside.{from_key, all-from_top, top-stands, next-from}
-use Rattle.dom_ranges.proofs.change.part_inside.Goals as goal
+use Rattle.dom_ranges.proofs.removing.part_inside.Goals as goal
 
 pub loop-at-init : goal.loop-at-init
 loop-at-init c =

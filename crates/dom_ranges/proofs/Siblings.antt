@@ -1,0 +1,74 @@
+-- The index of a node by the sibling before it.
+use Rattle.std.proofs.Common.{◌≡◌, inl, inr, ℕ, ◌+◌, ◌<◌, true, [], ◌∷◌, ◌++◌, length, Option, Some, None, refl, sym, ap, subst, ◌∙◌, arith, append_assoc, length-append}
+use Rattle.std.specs.Option.{option_map, option_map_or}
+use Rattle.std.proofs.lemmas.Option.{none-some}
+use Rattle.dom_base.specs.declared.NodeName.{NodeName}
+use Rattle.dom_model.specs.Names.{name_eq, last_of, items_before, items_after}
+use Rattle.dom_model.proofs.OwnerLaws.{name_eq-same}
+use Rattle.dom_model.specs.Tree.{Trees, none, tree, roots, names_of, trees_below, children_of, parent_of, siblings, previous_sibling, index_of}
+use Rattle.dom_tree.specs.Forest.{NamedTrees, name_at}
+use Rattle.dom_traversal.proofs.Lists.{In, In-right, Single, Single-apart, no_last, last_split, split_at, before-split}
+use Rattle.dom_traversal.proofs.Shapes.{Has, Once, subtree-present, Once-subtree}
+use Rattle.dom_traversal.proofs.Children.{parent-of_child, child-of_parent}
+use Rattle.dom_traversal.proofs.Counts.{StandOnce, StandAlone, Once-forest, Has-forest}
+
+-- roots stand in their trees
+root_stands : (ts : Trees) (x : NodeName) → In x (names_of (roots ts)) → Has ts x
+root_stands none x i = i
+root_stands (tree n c r) x (inl e) = inl (sym e)
+root_stands (tree n c r) x (inr i) = inr (inr (root_stands r x i))
+
+-- each once
+roots_single : (ts : Trees) → Once ts → Single (names_of (roots ts))
+roots_single none once = tt
+roots_single (tree n c r) once = (λ i. once.1 (root_stands r n.name i), roots_single r once.4)
+
+-- so do children
+children_single : (ts : Trees) (p : NodeName) → Once ts → Has ts p → Single (children_of ts p)
+children_single ts p once h =
+    let w = subtree-present ts p h in
+    let below : Once (tree w.0 w.1 none) = subst Once w.2 (Once-subtree ts p once h) in
+    subst (λ (us : Trees). Single (names_of (roots (trees_below us)))) (sym w.2) (roots_single w.1 below.3)
+
+module _ (ts : Trees) (once : Once ts) where
+  -- without a sibling before it its index is 0
+  pub index-first : (x : NodeName) → previous_sibling ts x ≡ None → index_of ts x ≡ 0
+  index-first x e = ap (length {A = NodeName}) (no_last (items_before name_eq x (siblings ts x)) e)
+
+  -- the siblings of a child
+  siblings_are : (x p : NodeName) → parent_of ts x ≡ Some p → siblings ts x ≡ children_of ts p
+  siblings_are x p e = ap (λ (o : Option NodeName). option_map_or (children_of ts) o (x ∷ [])) e
+
+  -- with one it is one more than that one's
+  pub index-behind : (x s : NodeName) → Has ts x → previous_sibling ts x ≡ Some s → index_of ts x ≡ index_of ts s + 1
+  index-behind x s h e = by (parent_of ts x) refl
+    where
+      by : (o : Option NodeName) → parent_of ts x ≡ o → index_of ts x ≡ index_of ts s + 1
+      by None up =
+          let alone : siblings ts x ≡ x ∷ [] = ap (λ (o : Option NodeName). option_map_or (children_of ts) o (x ∷ [])) up in
+          absurd (none-some s (sym (ap (λ ys. last_of (items_before name_eq x ys)) alone ∙ nothing (name_eq-same x)) ∙ e))
+        where
+          nothing : name_eq x x ≡ true → last_of (items_before name_eq x (x ∷ [])) ≡ None
+          nothing same = rw same refl
+      by (Some p) up =
+          let at = child-of_parent ts x p once h up in
+          let kids = children_of ts p in
+          let front = last_split (items_before name_eq x kids) s (ap (λ ys. last_of (items_before name_eq x ys)) (sym (siblings_are x p up)) ∙ e) in
+          let split : kids ≡ front.0 ++ s ∷ (x ∷ items_after name_eq x kids) =
+          split_at x kids at.1 ∙ (ap (λ ys. ys ++ x ∷ items_after name_eq x kids) front.1 ∙ append_assoc front.0 (s ∷ []) (x ∷ items_after name_eq x kids)) in
+          let among : In s kids = subst (In s) (sym split) (In-right s front.0 (s ∷ (x ∷ items_after name_eq x kids)) (inl refl)) in
+          let single : Single (front.0 ++ s ∷ (x ∷ items_after name_eq x kids)) = subst Single split (children_single ts p once at.0) in
+          let its : index_of ts s ≡ length front.0 =
+          ap (λ ys. length (items_before name_eq s ys)) (siblings_are s p (parent-of_child ts p s once at.0 among).0 ∙ split)
+          ∙ ap (length {A = NodeName}) (before-split s front.0 (x ∷ items_after name_eq x kids) (λ i. Single-apart s front.0 (s ∷ (x ∷ items_after name_eq x kids)) single i (inl refl))) in
+          let own : index_of ts x ≡ length (front.0 ++ s ∷ []) = ap (λ ys. length (items_before name_eq x ys)) (siblings_are x p up) ∙ ap (length {A = NodeName}) front.1 in
+          omega (arith, its, own, length-append front.0 (s ∷ []))
+
+-- a walk from sibling to sibling, by keys
+module _ (f : NamedTrees) (once : StandOnce f) (only : StandAlone f) (k : ℕ) (node : k < length f.names) (before : Option ℕ) (is : option_map (name_at f.names) before ≡ previous_sibling f.trees (name_at f.names k)) where
+  pub index-none : before ≡ None → index_of f.trees (name_at f.names k) ≡ 0
+  index-none e = index-first f.trees (Once-forest f once only) (name_at f.names k) (sym is ∙ ap (option_map (name_at f.names)) e)
+
+  pub index-some : (j : ℕ) → before ≡ Some j → index_of f.trees (name_at f.names k) ≡ index_of f.trees (name_at f.names j) + 1
+  index-some j e =
+      index-behind f.trees (Once-forest f once only) (name_at f.names k) (name_at f.names j) (Has-forest f once k node) (sym is ∙ ap (option_map (name_at f.names)) e)

@@ -1,0 +1,34 @@
+use Rattle.std.proofs.Common.{◌≡◌, ℕ, false, sym, subst, ◌∙◌}
+use Rattle.std.specs.Prelude.{nat_eq}
+use Rattle.dom_model.specs.Ranges.{after_removal}
+use Rattle.dom_model.specs.Tree.{index_of}
+use Rattle.dom_tree.specs.Forest.{name_at}
+use Rattle.dom_ranges.specs.Rules.{is_inside, after_closing}
+use Rattle.dom_ranges.proofs.Leaving.{Moves, OfEach, moves-alike, moves-none, each-listed, removal-outside, closing-none}
+use Rattle.dom_ranges.proofs.removing.move_out.Goals as goal
+
+pub returns-in-Some-clause-moved : goal.returns-in-Some-clause-moved
+returns-in-Some-clause-moved c =
+    let f = c.args.forest.now in
+    let inside = is_inside f c.args.node in
+    let index = index_of f.trees (name_at f.names c.args.node) in
+    moves-alike (after_closing c.args.parent index) (after_removal nat_eq inside c.args.parent index) c.args.live.now c.close.new.live
+    (subst (λ (i : ℕ). Moves (after_closing c.args.parent i) c.args.live.now c.close.new.live) (c.index_before_ends.ensures.index c.in-Some.index c.in-Some.is) c.close.ensures.moved)
+    (each-listed (λ b. after_removal nat_eq inside c.args.parent index b ≡ after_closing c.args.parent index b) c.args.live.now c.args.ends.now c.requires.listed
+    (λ k d b l e same.
+    removal-outside inside c.args.parent index b (subst (λ (n : ℕ). inside n ≡ false) (sym same) (c.part_inside-inside.ensures.all k d l (c.is_empty.ensures c.if-is_empty.true k)))))
+
+pub returns-in_default-clause-moved : goal.returns-in_default-clause-moved
+returns-in_default-clause-moved c =
+    let f = c.args.forest.now in
+    let inside = is_inside f c.args.node in
+    let index = index_of f.trees (name_at f.names c.args.node) in
+    let outside : OfEach (λ b. after_removal nat_eq inside c.args.parent index b ≡ after_closing c.args.parent index b) c.args.live.now =
+    each-listed (λ b. after_removal nat_eq inside c.args.parent index b ≡ after_closing c.args.parent index b) c.args.live.now c.args.ends.now c.requires.listed
+    (λ k d b l e same.
+    removal-outside inside c.args.parent index b (subst (λ (n : ℕ). inside n ≡ false) (sym same) (c.part_inside-inside.ensures.all k d l (c.is_empty.ensures c.if-is_empty.true k)))) in
+    moves-none (after_removal nat_eq inside c.args.parent index) c.args.live.now
+    (λ slot p e.
+    let a = outside slot p e in
+    let b = c.index_before_ends.ensures.none c.in_default.is slot p e in
+    (a.0 ∙ closing-none c.args.parent index _ b.0, a.1 ∙ closing-none c.args.parent index _ b.1))

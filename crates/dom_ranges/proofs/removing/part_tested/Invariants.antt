@@ -1,0 +1,11 @@
+use Rattle.std.proofs.Common.{◌≡◌, ℕ, ◌<◌, ◌≤◌, false, length, get_or}
+use Rattle.dom_ranges.specs.declared.ends.RangeEnd.{RangeEnd}
+use Rattle.dom_ranges.specs.Listed.{is_in}
+use Rattle.dom_ranges.specs.Rules.{is_inside}
+use Rattle.dom_ranges.proofs.removing.part_tested.Given as goal
+
+abbrev pub invariant-loop-i : goal.invariant-loop-i
+invariant-loop-i l = record {
+  within : l.part.behind ≤ length l.ends;
+  all : (k : ℕ) (d : RangeEnd) → k < l.i → is_in l.part k ≡ false → is_inside l.forest l.top (get_or l.ends k d).node ≡ false;
+}

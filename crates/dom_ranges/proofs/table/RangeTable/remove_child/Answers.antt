@@ -1,0 +1,28 @@
+use Rattle.std.proofs.Common.{length, ◌∙◌, ap, arith}
+use Rattle.std.specs.Prelude.{nat_eq}
+use Rattle.dom_model.specs.Ranges.{map_ends, after_removal}
+use Rattle.dom_model.specs.Tree.{index_of}
+use Rattle.dom_tree.specs.Forest.{name_at}
+use Rattle.dom_ranges.specs.declared.ends.RangeEnd.{RangeEnd}
+use Rattle.dom_ranges.specs.Rules.{IsAtNode, is_inside}
+use Rattle.dom_ranges.proofs.Gathering.{written-back}
+use Rattle.dom_ranges.proofs.Leaving.{each-held, kept-moved}
+use Rattle.dom_ranges.proofs.Writing.{Shows-view, ranges-moved}
+use Rattle.dom_ranges.proofs.table.RangeTable.remove_child.Goals as goal
+
+pub move_out-requires-clause-ends : goal.move_out-requires-clause-ends
+move_out-requires-clause-ends c =
+    each-held (IsAtNode c.args.forest.now.names) c.self.inside.live c.self.inside.numbers _ (Shows-view c.self.inside.live c.self.inside.numbers _ c.self.view_is) c.self.invariant.0 c.requires.ends
+
+pub returns : goal.returns
+returns c =
+    let f = c.args.forest.now in
+    ranges-moved (map_ends (after_removal nat_eq (is_inside f c.args.node) c.args.parent (index_of f.trees (name_at f.names c.args.node)))) c.self.inside.live c.move_out.new.live c.self.inside.numbers _
+    (Shows-view c.self.inside.live c.self.inside.numbers _ c.self.view_is) c.move_out.ensures.moved
+
+pub invariant_of-self : goal.invariant_of-self
+invariant_of-self c =
+    let f = c.args.forest.now in
+    kept-moved (after_removal nat_eq (is_inside f c.args.node) c.args.parent (index_of f.trees (name_at f.names c.args.node))) c.self.inside.live c.move_out.new.live c.self.inside.numbers _ c.move_out.new.ends
+    c.move_out.ensures.moved c.self.invariant.0 c.move_out.ensures.listed c.move_out.ensures.sorted
+    (written-back c.self.inside.ends.items c.move_out.new.ends c.self.inside.ends.len (c.move_out.auto.ends ∙ ap (length {A = RangeEnd}) c.as_mut_slice-ends.ensures.value) (omega (arith, c.self.inside.ends.ok.0)))

@@ -1,0 +1,123 @@
+//! What the removal of a node does to the ends of live ranges (DOM Standard, concept: remove).
+ghost use Rattle.std.specs.Prelude.{◌≡◌, ℕ, ◌<◌, ◌≤◌, false, length, slice_index_or, nat_eq};
+ghost use Rattle.std.specs.Option.{option_map, ForSome};
+ghost use Rattle.slab.specs.Slab.{get};
+ghost use Rattle.dom_model.specs.Ranges.{map_ends, after_removal};
+ghost use Rattle.dom_model.specs.Tree.{index_of};
+ghost use Rattle.dom_tree.specs.Forest.{name_at};
+ghost use Rattle.dom_ranges.specs.Tables.{BothEnds, range_from};
+ghost use Rattle.dom_ranges.specs.Listed.{IsListed, IsSortedByNode, is_in};
+ghost use Rattle.dom_ranges.specs.Rules.{IsAtNode, is_inside, after_closing};
+
+use crate::change::{Closing, Leaving};
+use crate::ends::{Part, RangeEnd, part_of};
+use crate::indexes::index_before_ends;
+use crate::moving::move_ends;
+use crate::table::Points;
+use dom_tree::Forest;
+use node_arena::Key;
+use slab::Slab;
+
+/// Moves the ends of all ranges for a child that is to leave its parent, and is still linked. Where no end is at a node in
+/// its tree, its index is looked for only as far as ends stand behind it. Where one is, it goes to that index, which is
+/// found by going through all siblings before the child.
+pub(crate) fn move_out(
+    live: &mut Slab<Points>,
+    ends: &mut [RangeEnd],
+    forest: &Forest,
+    node: Key,
+    parent: Key,
+)
+    requires listed { IsListed live.old ends.old }
+    requires sorted { IsSortedByNode ends.old }
+    requires node_is_node { node < length forest.now.names }
+    requires ends { (slot : ℕ) → ForSome (get live.old slot) (λ p. BothEnds (IsAtNode forest.now.names) (range_from p)) }
+    ensures moved { (slot : ℕ) → option_map range_from (get live.new slot) ≡ option_map (λ p. map_ends (after_removal nat_eq (is_inside forest.now node) parent (index_of forest.now.trees (name_at forest.now.names node))) (range_from p)) (get live.old slot) }
+    ensures listed { IsListed live.new ends.new }
+    ensures sorted { IsSortedByNode ends.new }
+{
+    let inside = part_inside(forest, node, ends);
+    if inside.is_empty() {
+        if let Some(index) = index_before_ends(live, ends, forest, parent, node) {
+            close(live, ends, parent, index);
+        }
+        return;
+    }
+    let index = forest.index(node);
+    let nothing = Part {
+        first: 0,
+        behind: 0,
+    };
+    let leaving = Leaving {
+        forest,
+        node,
+        parent,
+        index,
+    };
+    move_ends(live, ends, &leaving, inside, nothing);
+    close(live, ends, parent, index);
+}
+
+/// Moves the ends behind the child of a node that is gone, by the index that it had.
+fn close(live: &mut Slab<Points>, ends: &mut [RangeEnd], parent: Key, index: usize)
+    requires listed { IsListed live.old ends.old }
+    requires sorted { IsSortedByNode ends.old }
+    ensures moved { (slot : ℕ) → option_map range_from (get live.new slot) ≡ option_map (λ p. map_ends (after_closing parent index) (range_from p)) (get live.old slot) }
+    ensures listed { IsListed live.new ends.new }
+    ensures sorted { IsSortedByNode ends.new }
+{
+    let there = part_of(ends, parent);
+    let nothing = Part {
+        first: 0,
+        behind: 0,
+    };
+    move_ends(live, ends, &Closing { parent, index }, there, nothing);
+}
+
+/// The places from the first to the last of the ends that are at nodes in the tree of `top`. Each node of the tree costs
+/// two binary searches in the list. Where the tree has more nodes than the list has ends, the walk stops after as many:
+/// to test each end is less then.
+fn part_inside(forest: &Forest, top: Key, ends: &[RangeEnd]) -> Part
+    requires sorted { IsSortedByNode ends.now }
+    requires nodes { (k : ℕ) (d : RangeEnd) → k < length ends.now → (top < length forest.now.names) × ((slice_index_or ends.now k d).node < length forest.now.names) }
+    ensures within { result.behind ≤ length ends.now }
+    ensures all { (k : ℕ) (d : RangeEnd) → k < length ends.now → is_in result k ≡ false → is_inside forest.now top (slice_index_or ends.now k d).node ≡ false }
+{
+    forest.nodes_stand_once();
+    let mut part = Part {
+        first: ends.len(),
+        behind: 0,
+    };
+    let mut left = ends.len();
+    let mut at = Some(top);
+    while let Some(key) = at {
+        if left == 0 {
+            return part_tested(forest, top, ends);
+        }
+        left -= 1;
+        part = part.around(part_of(ends, key));
+        at = forest.following(key, top);
+    }
+    part
+}
+
+/// The same places, where each end is tested by going up from its node.
+fn part_tested(forest: &Forest, top: Key, ends: &[RangeEnd]) -> Part
+    requires nodes { (k : ℕ) (d : RangeEnd) → k < length ends.now → (top < length forest.now.names) × ((slice_index_or ends.now k d).node < length forest.now.names) }
+    ensures within { result.behind ≤ length ends.now }
+    ensures all { (k : ℕ) (d : RangeEnd) → k < length ends.now → is_in result k ≡ false → is_inside forest.now top (slice_index_or ends.now k d).node ≡ false }
+{
+    let mut part = Part {
+        first: ends.len(),
+        behind: 0,
+    };
+    for i in 0..ends.len() {
+        if forest.is_inclusive_ancestor(top, ends[i].node) {
+            part = part.around(Part {
+                first: i,
+                behind: i + 1,
+            });
+        }
+    }
+    part
+}
