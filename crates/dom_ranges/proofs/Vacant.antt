@@ -1,15 +1,12 @@
 -- A table without live ranges: no rule rewrites anything there.
-use Rattle.std.proofs.Common.{◌≡◌, ℕ, zero, suc, cond, List, [], ◌∷◌, map, Option, Some, None, is_some, refl, ap, arith}
+use Rattle.std.proofs.Common.{◌≡◌, ℕ, zero, suc, cond, List, [], ◌∷◌, Option, Some, None, is_some, refl, ap, arith}
 use Rattle.std.specs.Prelude.{count_by, slice_index_or}
 use Rattle.std.specs.Option.{option_map}
 use Rattle.std.proofs.lemmas.List.Sums.{sum_by-cons}
 use Rattle.slab.specs.Slab.{Slab, slab_len}
-use Rattle.dom_base.specs.declared.NodeName.{NodeName}
 use Rattle.dom_model.specs.Place.{Boundary}
-use Rattle.dom_model.specs.Ranges.{Range}
 use Rattle.dom_ranges.specs.declared.table.Points.{Points}
 use Rattle.dom_ranges.specs.Held.{range_kept}
-use Rattle.dom_ranges.specs.Settings.{named_ranges}
 use Rattle.dom_ranges.specs.Tables.{RangeList, range_in, range_from, ends_by}
 
 -- no rule rewrites anything
@@ -17,12 +14,6 @@ pub ends-none : (f : Boundary ℕ → Boundary ℕ) (rs : RangeList) → ((k : �
 ends-none f [] none = refl
 ends-none f (None ∷ rs) none = ap (λ zs. None ∷ zs) (ends-none f rs (λ k. none (suc k)))
 ends-none f (Some r ∷ rs) none = let h = none 0 in cc
-
--- nor by names
-pub named-none : (names : List NodeName) (g : Range NodeName → Range NodeName) (rs : RangeList) → ((k : ℕ) → range_in rs k ≡ None) → map (option_map g) (named_ranges names rs) ≡ named_ranges names rs
-named-none names g [] none = refl
-named-none names g (None ∷ rs) none = ap (λ zs. None ∷ zs) (named-none names g rs (λ k. none (suc k)))
-named-none names g (Some r ∷ rs) none = let h = none 0 in cc
 
 -- a slab without values holds none at a slot
 none-counted : (ms : List (Option Points)) → count_by is_some ms ≡ 0 → (s : ℕ) → slice_index_or ms s None ≡ None

@@ -182,12 +182,8 @@ impl Parts {
         ensures { self.new ≡ stepped (owner_in self.old parent) (make_room (name_in self.old parent) (index_of (trees_in self.old child) (name_in self.old child)) count) self.old }
     {
         self.forest.nodes_stand_once();
-        // An index is found by going through the siblings, so nobody pays for that without ranges.
-        if self.ranges.is_empty() {
-            return;
-        }
-        let index = self.forest.index(child);
-        self.ranges.on_insert(parent, index, count);
+        self.ranges
+            .on_insert_before(&self.forest, parent, child, count);
     }
 
     /// A Text, the child of a parent at an index, was split at an offset, and its tail is in a new Text: the ends of live
@@ -244,8 +240,8 @@ impl Parts {
         // What is joined is within the first Text, whose length is a number of the code's.
         let _whole = self.forest.length(first);
         let joined = size + self.forest.length(next);
-        let index = self.forest.index(next);
-        self.ranges.on_join(first, size, next, parent, index);
+        self.ranges
+            .on_join_child(&self.forest, first, size, next, parent);
         joined
     }
 }
