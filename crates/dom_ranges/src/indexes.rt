@@ -42,7 +42,7 @@ fn reach(live: &Slab<Points>, ends: &[RangeEnd], node: Key) -> usize
 
 /// The index of a node, where it is less than a limit (DOM Standard, concept: index). As many siblings as that are
 /// looked at, and no more.
-fn index_below(forest: &Forest, node: Key, limit: usize) -> Option<usize>
+pub(crate) fn index_below(forest: &Forest, node: Key, limit: usize) -> Option<usize>
     requires { node < length forest.now.names }
     ensures below { ForSome result (λ i. (i ≡ index_of forest.now.trees (name_at forest.now.names node)) × (i < limit)) }
     ensures none { result ≡ None → limit ≤ index_of forest.now.trees (name_at forest.now.names node) }

@@ -1,17 +1,20 @@
 //! The order of boundary points (DOM Standard, 5.2 Boundary points).
-ghost use Rattle.std.specs.Prelude.{◌≡◌, ◌≢◌, ◌<◌, ◌≤◌, ◌+◌, ◌⊎◌, length, true};
+ghost use Rattle.std.specs.Prelude.{◌≡◌, ◌≢◌, ◌<◌, ◌≤◌, ◌+◌, ◌⊎◌, length, nat_lt, true};
 ghost use Rattle.dom_model.specs.Names.{first_of};
 ghost use Rattle.dom_model.specs.Place.{same_root, is_before};
 ghost use Rattle.dom_model.specs.Ranges.{at};
+ghost use Rattle.dom_model.specs.Tree.{index_of};
 ghost use Rattle.dom_tree.specs.Forest.{name_at};
 ghost use Rattle.dom_ranges.specs.Climbs.{depth_at, path_at, Reaches, AreBeside};
 
+use crate::indexes::index_below;
 use dom_tree::Forest;
 use node_arena::Key;
 
 /// Whether a boundary point, a node and an offset, is before another one in the same tree (DOM Standard, concept:
-/// boundary point, before). The steps taken are as many as the nodes above the two nodes, and the siblings where they
-/// part.
+/// boundary point, before). The steps taken are as many as the nodes above the two nodes, and where they part, twice as
+/// many as the siblings between them or before the first. Where one node is in the other one's tree, no more siblings
+/// than that one's offset are looked at.
 pub fn is_before(forest: &Forest, first: (Key, usize), second: (Key, usize)) -> bool
     requires first_is_node { first.0 < length forest.now.names }
     requires second_is_node { second.0 < length forest.now.names }
@@ -26,11 +29,11 @@ pub fn is_before(forest: &Forest, first: (Key, usize), second: (Key, usize)) -> 
     let (second_top, second_child) = climb(forest, second_node, second_gauge);
     if first_top != second_top {
         let (first_side, second_side) = part(forest, first_top, second_top);
-        return forest.index(first_side) < forest.index(second_side);
+        return comes_first(forest, first_side, second_side);
     }
     match (first_child, second_child) {
-        (Some(child), _) => forest.index(child) < second_offset,
-        (None, Some(child)) => first_offset <= forest.index(child),
+        (Some(child), _) => index_below(forest, child, second_offset).is_some(),
+        (None, Some(child)) => index_below(forest, child, first_offset).is_none(),
         (None, None) => first_offset < second_offset,
     }
 }
@@ -114,6 +117,35 @@ fn part(forest: &Forest, first: Key, second: Key) -> (Key, Key)
             return (low, other);
         }
         low = above;
+        other = beside;
+    }
+}
+
+/// Whether the first of two siblings comes before the second. Both are left for the siblings before them in turn, until
+/// one of the two is met, or no sibling is left.
+fn comes_first(forest: &Forest, first: Key, second: Key) -> bool
+    requires first_is_node { first < length forest.now.names }
+    requires second_is_node { second < length forest.now.names }
+    requires apart { index_of forest.now.trees (name_at forest.now.names first) ≢ index_of forest.now.trees (name_at forest.now.names second) }
+    ensures { result ≡ nat_lt (index_of forest.now.trees (name_at forest.now.names first)) (index_of forest.now.trees (name_at forest.now.names second)) }
+{
+    forest.nodes_stand_once();
+    let mut low = first;
+    let mut other = second;
+    'back: loop {
+        let Some(before) = forest.prev(low) else {
+            return true;
+        };
+        let Some(beside) = forest.prev(other) else {
+            return false;
+        };
+        if before == second {
+            return false;
+        }
+        if beside == first {
+            return true;
+        }
+        low = before;
         other = beside;
     }
 }
