@@ -14,7 +14,7 @@ ghost use Rattle.dom_ranges.specs.Settings.{start_set, end_set, named_ranges, wi
 ghost use Rattle.dom_ranges.specs.Tables.{ranges_of, range_in, with_ranges, range_from, ends_by, EachRange, BothEnds, collapsed_range};
 
 use crate::change::{Change, Insertion, Join, Replacement, Split};
-use crate::ends::{RangeEnd, list_range, part_of};
+use crate::ends::{Part, RangeEnd, list_range, part_of};
 use crate::indexes::{index_among_ends, index_before_ends};
 use crate::moving::{drop_range, move_ends, put_end};
 use crate::numbers::Numbers;
@@ -383,7 +383,7 @@ impl RangeTable {
         index_among_ends(&self.live, self.ends.as_slice(), forest, parent, child)
     }
 
-    /// Rewrites the ends of all ranges for a step of a change, which moves none but those at two nodes.
+    /// Rewrites the ends of all ranges for a step of a change, which moves none but those at two nodes, or at one.
     fn apply<C: Change>(&mut self, change: &C, one: Key, two: Key)
         requires can_move { (o : Owners) → EachRange (BothEnds (C.can_move change.now)) (ranges_of self.old o) }
         requires nodes { IsAtTwo (C.rule change.now) one two }
@@ -391,7 +391,14 @@ impl RangeTable {
     {
         let ends = self.ends.as_mut_slice();
         let here = part_of(ends, one);
-        let there = part_of(ends, two);
+        let there = if one == two {
+            Part {
+                first: 0,
+                behind: 0,
+            }
+        } else {
+            part_of(ends, two)
+        };
         move_ends(&mut self.live, ends, change, here, there);
     }
 }
