@@ -2,6 +2,7 @@
 #![tactic(auto)]
 
 mod change;
+mod children;
 mod ends;
 mod indexes;
 mod laws;

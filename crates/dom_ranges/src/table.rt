@@ -256,20 +256,8 @@ impl RangeTable {
         self.apply(&change, parent, parent);
     }
 
-    /// Tells the table that `count` nodes are to come into `parent` before `child`, as `on_insert` does of the child's
-    /// index. That is looked for only as far as boundary points stand in the parent: without one there, not at all.
-    pub fn on_insert_before(&mut self, forest: &Forest, parent: Key, child: Key, count: usize)
-        requires child_is_node { child < length forest.now.names }
-        requires fits { (o : Owners) → EachRange (BothEnds (λ b. Fits (after_insert nat_eq parent (index_of forest.now.trees (name_at forest.now.names child)) count b))) (ranges_of self.old o) }
-        ensures { (o : Owners) → ranges_of self.new o ≡ ends_by (after_insert nat_eq parent (index_of forest.now.trees (name_at forest.now.names child)) count) (ranges_of self.old o) }
-    {
-        if let Some(index) = self.index_before(forest, parent, child) {
-            self.on_insert(parent, index, count);
-        }
-    }
-
     /// The index of a child, where boundary points stand behind the child in its parent.
-    fn index_before(&self, forest: &Forest, parent: Key, child: Key) -> Option<usize>
+    pub(crate) fn index_before(&self, forest: &Forest, parent: Key, child: Key) -> Option<usize>
         requires { child < length forest.now.names }
         ensures index { ForSome result (λ i. i ≡ index_of forest.now.trees (name_at forest.now.names child)) }
         ensures none { result ≡ None → (o : Owners) → EachRange (BothEnds (IsUpTo parent (index_of forest.now.trees (name_at forest.now.names child)))) (ranges_of self.now o) }
@@ -356,27 +344,8 @@ impl RangeTable {
         self.apply(&change, next, parent);
     }
 
-    /// Tells the table that the data of the Text `next`, a child of `parent`, were put behind those of the Text `first`, which
-    /// had `size` code units, as `on_join` does of the child's index. That is looked for only as far as boundary points
-    /// stand in the parent.
-    pub fn on_join_child(
-        &mut self,
-        forest: &Forest,
-        first: Key,
-        size: usize,
-        next: Key,
-        parent: Key,
-    )
-        requires next_is_node { next < length forest.now.names }
-        requires fits { (o : Owners) → EachRange (BothEnds (λ b. Fits (after_join nat_eq first size next parent (index_of forest.now.trees (name_at forest.now.names next)) b))) (ranges_of self.old o) }
-        ensures { (o : Owners) → ranges_of self.new o ≡ ends_by (after_join nat_eq first size next parent (index_of forest.now.trees (name_at forest.now.names next))) (ranges_of self.old o) }
-    {
-        let index = self.index_among(forest, parent, next);
-        self.on_join(first, size, next, parent, index);
-    }
-
     /// The index of a child, as far as boundary points stand in its parent.
-    fn index_among(&self, forest: &Forest, parent: Key, child: Key) -> usize
+    pub(crate) fn index_among(&self, forest: &Forest, parent: Key, child: Key) -> usize
         requires { child < length forest.now.names }
         ensures { (o : Owners) → EachRange (BothEnds (IsNear parent (index_of forest.now.trees (name_at forest.now.names child)) result)) (ranges_of self.now o) }
     {
