@@ -1,7 +1,7 @@
 -- A step that is made outside of shadow trees changes at most what is assigned to the old and to the new slot of its node,
 -- and signals no others.
 use Rattle.std.proofs.Common.{◌≡◌, inl, inr, ℕ, ◌<◌, Bool, true, false, ◌&&◌, List, [], ◌∷◌, ◌++◌, map, filter, length, Option, None, Some, refl, sym, ap, subst, ◌∙◌, true≢false}
-use Rattle.std.specs.Prelude.{if◌then◌else◌, is_none, is_some}
+use Rattle.std.specs.Prelude.{if◌then◌else◌, is_none, is_some, option_to_list}
 use Rattle.std.specs.Option.{option_map, option_map_or, ForSome}
 use Rattle.std.proofs.lemmas.Bool.{and_parts}
 use Rattle.std.proofs.lemmas.List.{append-nil}
@@ -17,19 +17,20 @@ use Rattle.dom_traversal.proofs.Shapes.{Has}
 use Rattle.dom_slots.specs.Hosts.{ShadowHost, host_named}
 use Rattle.dom_slots.specs.Insides.{own_slots}
 use Rattle.dom_slots.specs.Kept.{BegunStep, SlotsNow, StandsOnce, IsEndOf}
-use Rattle.dom_slots.specs.Renewals.{AreRenewed}
-use Rattle.dom_slots.specs.Shadows.{shadows, shadow_trees, assigned_at, is_bare_at, is_changed_at, signalled_by}
+use Rattle.dom_slots.specs.Renewals.{AreRenewed, IsButFor}
+use Rattle.dom_slots.specs.Shadows.{shadows, shadow_trees, slot_at, assigned_at, is_bare_at, is_changed_at, signalled_by}
 use Rattle.dom_slots.specs.Steps.{StepHasNodes, step_node, is_move, around_of, left_by, IsStepFrom, step_signals, is_outside, is_apart}
 use Rattle.dom_slots.specs.Tables.{SlotTable, IsTableOf}
 use Rattle.dom_slots.specs.declared.step.Step.{Step}
 use Rattle.dom_slots.specs.declared.step.Step.TheVariants.{Place, Removal, Attribute}
-use Rattle.dom_slots.proofs.Attributed.{parent-changed, changed-keeps}
+use Rattle.dom_slots.proofs.Attributed.{parent-changed, changed-keeps, changed-stays}
 use Rattle.dom_slots.proofs.Choices.{third-fails}
-use Rattle.dom_slots.proofs.Ended.{told-signals, there-was, there-now, both-stand, not-own, none-own, others-among, renewed-table}
+use Rattle.dom_slots.proofs.Ended.{told-signals, there-was, there-now, both-stand, not-own, none-own, but-for, others-among, renewed-table}
 use Rattle.dom_slots.proofs.Grafts.{Spot, grafted}
+use Rattle.dom_slots.proofs.Hosted.{AreDistinct}
 use Rattle.dom_slots.proofs.Moved.{AreBoth, IsAside, Outside, root-aside, moved-keeps}
 use Rattle.dom_slots.proofs.OwnSignals.{own-signalled}
-use Rattle.dom_slots.proofs.Settled.{KeepsAssigned}
+use Rattle.dom_slots.proofs.Settled.{KeepsAssigned, assigned-kept}
 use Rattle.dom_slots.proofs.Signalled.{fold-distinct}
 use Rattle.dom_slots.proofs.Stepping.{removal-unparented, removal-so, place-so, place-root, attribute-name}
 
@@ -96,12 +97,18 @@ module _ (was : Trees) (f : NamedTrees) (s : SlotsNow) (b : BegunStep) (ended : 
   abbrev At : Step → NodeName
   At step = name_at f.names (step_node step)
 
-  -- what is assigned to others stays, and the node around, where one was moved, is no slot without nodes; where there is
+  -- where the node of a step is not moved and has the slot that it had, all stays
+  abbrev Still : Step → Trees → Type 0
+  Still step ts =
+      is_move step ≡ false → slot_at (shadow_trees f.names was s.hosts) (At step) ≡ slot_at (shadow_trees f.names ts s.hosts) (At step) → (y : NodeName) → Has was y → Has ts y
+      → assigned_at (shadow_trees f.names was s.hosts) y ≡ assigned_at (shadow_trees f.names ts s.hosts) y
+
+  -- all others stay where they are assigned, and the node around, where one was moved, is no slot without nodes; where there is
   -- none, the node of the step had no parent and has none
   abbrev Keeps : Step → Type 0
   Keeps step =
       KeepsAssigned f.names s.hosts (At step) was f.trees × ForSome (around_of step b.left) (λ k. (is_move step && is_bare_at (shadows f s.hosts) (name_at f.names k)) ≡ false)
-      × (around_of step b.left ≡ None → (parent_of was (At step) ≡ None) × (parent_of f.trees (At step) ≡ None))
+      × (around_of step b.left ≡ None → (parent_of was (At step) ≡ None) × (parent_of f.trees (At step) ≡ None)) × Still step f.trees
 
   keeps : Keeps b.step
   keeps = by b.step ended.nodes ended.step ended.left_is tests.2 aside_from
@@ -117,12 +124,14 @@ module _ (was : Trees) (f : NamedTrees) (s : SlotsNow) (b : BegunStep) (ended : 
                 (not_bare f s.hosts true (name_at f.names parent)
                 (parent_unhosted f.names s.hosts (name_at f.names y) was f.trees a y_was y_now (name_at f.names parent) (option_map (name_at f.names) before) is (there-now was f s b ended stands parent nodes.1))),
             λ e. absurd (none-some parent (sym e)),
+            λ no_move. absurd (true≢false no_move),
           )
       by (Removal y) nodes is left up aside =
           let a = aside (subst (Outside f.names s.hosts f.trees) left tests.1) in (
             removal_keeps f.names s.hosts (name_at f.names y) was f.trees a (there-was was f s b ended stands y nodes) is.1,
             λ k e. not_bare f s.hosts true (name_at f.names k) (a.left (name_at f.names k) (sym left ∙ ap (option_map (name_at f.names)) e)),
             λ e. (sym left ∙ ap (option_map (name_at f.names)) e, removal-unparented (name_at f.names y) was f.trees a.both.once_was (there-was was f s b ended stands y nodes) is.1),
+            λ no_move. absurd (true≢false no_move),
           )
       by (Attribute y) nodes is left up aside =
           let z = name_at f.names y in
@@ -133,6 +142,9 @@ module _ (was : Trees) (f : NamedTrees) (s : SlotsNow) (b : BegunStep) (ended : 
                 (changed-keeps z g (attribute-name is.0 is.1) f.names s.hosts was a.both a (there-was was f s b ended stands y nodes) (subst (λ (ts : Trees). Has ts z) is.2 (there-now was f s b ended stands y nodes))),
             λ k e. refl,
             λ e. absurd (none-some y (sym e)),
+            subst (Still (Attribute y)) (sym is.2) (λ _ same v h i.
+                changed-stays z g (attribute-name is.0 is.1) f.names s.hosts was a.both a (there-was was f s b ended stands y nodes) (subst (λ (ts : Trees). Has ts z) is.2 (there-now was f s b ended stands y nodes)) v h i
+                (ap (λ o. is_in name_eq v (option_to_list o)) same)),
           )
 
   abbrev own : List NodeName
@@ -142,7 +154,12 @@ module _ (was : Trees) (f : NamedTrees) (s : SlotsNow) (b : BegunStep) (ended : 
   apart-stays : (k : ℕ) → k < length f.names → is_in name_eq (name_at f.names k) own ≡ false → assigned_at (shadow_trees f.names was s.hosts) (name_at f.names k) ≡ assigned_at (shadows f s.hosts) (name_at f.names k)
   apart-stays k within other =
       let none = not-own was f s b ended stands (name_at f.names k) other in
-      keeps.0 (name_at f.names k) (there-was was f s b ended stands k within) (there-now was f s b ended stands k within) none.0 none.1
+      let both = both-stand was f s b ended stands in
+      assigned-kept f.names s.hosts was f.trees both.once_was both.once_now x (name_at f.names k) none.0 none.1 (keeps.0 (name_at f.names k) (there-was was f s b ended stands k within) (there-now was f s b ended stands k within))
+
+  -- before the first list is renewed all are those of the trees now but for the node of the step
+  pub apart-but-for : AreDistinct f.names → IsButFor f s.hosts s.table b.slot b.step
+  apart-but-for distinct = but-for was f s b ended stands distinct keeps.0 keeps.3
 
   abbrev is_other : NodeName → Bool
   is_other = is_changed_at (shadow_trees f.names was s.hosts) (shadows f s.hosts)

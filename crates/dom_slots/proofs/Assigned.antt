@@ -13,7 +13,7 @@ use Rattle.dom_slots.specs.Shadows.{ShadowTrees, shadows, slot_at, assigned_at, 
 use Rattle.dom_slots.specs.Tables.{SlotTable, list_of, IsTableOf}
 
 -- a key among keys has its name among their names
-names-in : (names : List NodeName) (k : ℕ) (ks : List ℕ) → is_in nat_eq k ks ≡ true → In (name_at names k) (map (name_at names) ks)
+pub names-in : (names : List NodeName) (k : ℕ) (ks : List ℕ) → is_in nat_eq k ks ≡ true → In (name_at names k) (map (name_at names) ks)
 names-in names k [] e = absurd (true≢false (sym e))
 names-in names k (j ∷ ks) e = elim (or_cases (nat_eq k j) (is_in nat_eq k ks) e) [
   | inl same ↦ inl (ap (name_at names) (eqb-true k j same))
@@ -21,7 +21,7 @@ names-in names k (j ∷ ks) e = elim (or_cases (nat_eq k j) (is_in nat_eq k ks) 
 ]
 
 -- what a filter leaves passes its test
-left-passes : (p : NodeName → Bool) (x : NodeName) (xs : List NodeName) → In x (filter p xs) → p x ≡ true
+pub left-passes : (p : NodeName → Bool) (x : NodeName) (xs : List NodeName) → In x (filter p xs) → p x ≡ true
 left-passes p x [] i = absurd i
 left-passes p x (y ∷ ys) i = elim (cases_Bool (p y)) [
   | inl e ↦ elim (rw e at i) [ inl same ↦ ap p same ∙ e | inr j ↦ left-passes p x ys j ]

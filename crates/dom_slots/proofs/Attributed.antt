@@ -1,20 +1,21 @@
--- A node whose attributes are changed outside of shadow trees leaves all that is assigned to others than its slots.
-use Rattle.std.proofs.Common.{◌≡◌, ◌⊎◌, inl, inr, Bool, true, false, List, [], ◌∷◌, None, refl, sym, ap, ◌∙◌}
+-- A node whose attributes are changed outside of shadow trees leaves all others where they are assigned.
+use Rattle.std.proofs.Common.{◌≡◌, ◌⊎◌, inl, inr, Bool, true, false, List, [], ◌∷◌, None, Some, refl, sym, ap, ◌∙◌}
 use Rattle.std.specs.Prelude.{drop, find, if◌then◌else◌, unwrap_or}
 use Rattle.std.specs.Option.{option_map}
 use Rattle.std.proofs.lemmas.Bool.{cases_Bool}
 use Rattle.dom_base.specs.declared.NodeName.{NodeName}
 use Rattle.dom_model.specs.Names.{name_eq, first_of, last_of}
-use Rattle.dom_model.specs.Tree.{Trees, none, tree, Node, nodes, no_node, node_in, subtree, parent_of, root_of}
+use Rattle.dom_model.specs.Tree.{Trees, none, tree, Node, nodes, no_node, node_in, subtree, parent_of, root_of, children_of}
 use Rattle.dom_model.specs.TreeChanges.{map_nodes, change_node}
 use Rattle.dom_traversal.proofs.Lists.{name_eq-true, name_eq-other}
 use Rattle.dom_traversal.proofs.Shapes.{Has, has_or_not}
 use Rattle.dom_slots.specs.Hosts.{ShadowHost, host_named}
+use Rattle.dom_slots.specs.Shadows.{shadow_trees, is_assigned_at, assigned_at}
 use Rattle.dom_slots.proofs.Grafts.{others}
 use Rattle.dom_slots.proofs.Moved.{AreBoth, IsAside, root-aside}
 use Rattle.dom_slots.proofs.Recast.{nodes_recast, path_recast, subtree_recast, children_recast, found_recast}
 use Rattle.dom_slots.proofs.Rooted.{root-within}
-use Rattle.dom_slots.proofs.Settled.{IsSettled, KeepsHosts, KeepsAssigned, assigned-unhosted, assigned-settled}
+use Rattle.dom_slots.proofs.Settled.{IsSettled, KeepsHosts, KeepsAssigned, assigned-unhosted, assigned-settled, unmoved-settled}
 
 module _ (x : NodeName) (g : Node → Node) (keeps : (n : Node) → (g n).name ≡ n.name) where
   abbrev pub changed : Node → Node
@@ -61,10 +62,14 @@ module _ (x : NodeName) (g : Node → Node) (keeps : (n : Node) → (g n).name �
     pub changed-settled : (y : NodeName) → (Has (subtree was (root_of was y)) x → ⊥) → IsSettled was now y
     changed-settled y away = record { root = root_same y; tree = sym (subtree_recast changed changed_name was (root_of was y) ∙ changed_off (subtree was (root_of was y)) away) }
 
+    -- and hosts have the children that they had
+    pub children_same : (r h : NodeName) → host_named names hosts r ≡ Some h → children_of was h ≡ children_of now h
+    children_same r h e = sym (children_recast changed changed_name was h)
+
     pub keeps_hosts : KeepsHosts names hosts x was now
     keeps_hosts = record {
       stands = both.stands;
-      children = λ r h e. ap (others x) (sym (children_recast changed changed_name was h));
+      children = λ r h e. ap (others x) (children_same r h e);
       contents = λ r h c e i j other. sym (node_off was c other);
     }
 
@@ -78,9 +83,17 @@ module _ (x : NodeName) (g : Node → Node) (keeps : (n : Node) → (g n).name �
         | inr away ↦ inl (changed-settled y away)
       ]
 
-      -- all that is assigned to others stays
+      -- all others stay where they are assigned
       pub changed-keeps : KeepsAssigned names hosts x was now
-      changed-keeps y h k not_was not_now = elim (settled y h) [
-        | inl s ↦ assigned-settled names hosts was now both.once_was both.once_now y h k s x keeps_hosts not_was not_now
+      changed-keeps y h k = elim (settled y h) [
+        | inl s ↦ assigned-settled names hosts was now both.once_was both.once_now y h k s x keeps_hosts
+        | inr e ↦ ap (others x) (assigned-unhosted names hosts was now both.once_was both.once_now y e.0 e.1)
+      ]
+
+      -- and all where x has the slot that it had
+      pub changed-stays : (y : NodeName) → Has was y → Has now y → is_assigned_at (shadow_trees names was hosts) y x ≡ is_assigned_at (shadow_trees names now hosts) y x
+          → assigned_at (shadow_trees names was hosts) y ≡ assigned_at (shadow_trees names now hosts) y
+      changed-stays y h k mine = elim (settled y h) [
+        | inl s ↦ unmoved-settled names hosts was now both.once_was both.once_now y h k s x keeps_hosts children_same mine
         | inr e ↦ assigned-unhosted names hosts was now both.once_was both.once_now y e.0 e.1
       ]

@@ -18,13 +18,16 @@ use Rattle.dom_traversal.proofs.Shapes.{Has}
 use Rattle.dom_slots.specs.Hosts.{ShadowHost, HostsAreNodes, host_named}
 use Rattle.dom_slots.specs.Insides.{own_slots}
 use Rattle.dom_slots.specs.Kept.{BegunStep, SlotsNow, StandsOnce, AreSlotsOf, IsBegun, IsEndOf}
-use Rattle.dom_slots.specs.Renewals.{AreRenewed}
+use Rattle.dom_slots.specs.Renewals.{AreRenewed, IsButFor, names_but}
 use Rattle.dom_slots.specs.Shadows.{ShadowTrees, shadows, shadow_trees, slot_at, assigned_at, is_assigned_at, is_changed_at, signalled_by}
 use Rattle.dom_slots.specs.Steps.{StepHasNodes, IsStepFrom, step_node, around_of, is_move, left_by, step_signals}
 use Rattle.dom_slots.specs.declared.step.Step.{Step}
 use Rattle.dom_slots.specs.declared.step.Step.TheVariants.{Place, Removal, Attribute}
 use Rattle.dom_slots.specs.Tables.{SlotTable, list_of, IsTableOf}
+use Rattle.dom_slots.proofs.Assigned.{listed-slot}
+use Rattle.dom_slots.proofs.Hosted.{AreDistinct, named-key}
 use Rattle.dom_slots.proofs.Moved.{AreBoth}
+use Rattle.dom_slots.proofs.Settled.{KeepsBut}
 use Rattle.dom_slots.proofs.Signalled.{list_eq-self}
 use Rattle.dom_slots.proofs.Within.{slots-within}
 
@@ -123,6 +126,18 @@ module _ (was : Trees) (f : NamedTrees) (s : SlotsNow) (b : BegunStep) (ended : 
       ap option_to_list (ended.slot ∙ ap (λ o. option_and_then (λ r. slot_in (subtree was r) (node_in was x)) (option_and_then before.shadow_of o)) up_was) in
       let none_now : option_to_list (slot_at after x) ≡ [] = ap (λ o. option_to_list (option_and_then (λ r. slot_in (subtree f.trees r) (node_in f.trees x)) (option_and_then after.shadow_of o))) up_now in
       ap (λ ys. ys ++ option_to_list (slot_at after x)) none_was ∙ none_now
+
+  -- where all others than the node stay where they are assigned, and the node too if it is not moved and has the slot that it
+  -- had, the lists are those of the trees now but for the node
+  pub but-for : AreDistinct f.names → ((y : NodeName) → Has was y → Has f.trees y → KeepsBut f.names s.hosts x was f.trees y)
+      → (is_move b.step ≡ false → slot_at before x ≡ slot_at after x → (y : NodeName) → Has was y → Has f.trees y → assigned_at before y ≡ assigned_at after y) → IsButFor f s.hosts s.table b.slot b.step
+  but-for distinct kept still = record {
+    others = λ k within. ap (names_but x) (ended.slots.table.lists k within) ∙ kept (name_at f.names k) (there-was k within) (there-now k within);
+    listed = λ k within i.
+        named-key f.names distinct b.slot ended.slot_node k within (ended.slot ∙ sym (listed-slot record { names = f.names; trees = was } s.hosts s.table ended.slots.table (step_node b.step) k i));
+    stays = λ unmoved same k within.
+        ended.slots.table.lists k within ∙ still unmoved (sym ended.slot ∙ same) (name_at f.names k) (there-was k within) (there-now k within);
+  }
 
   -- before the first list is renewed
   pub none-renewed : AreRenewed f s.hosts is-other s.table [] [] s.table []

@@ -6,7 +6,7 @@ use Rattle.std.proofs.lemmas.Bool.{cases_Bool}
 use Rattle.std.proofs.lemmas.Option.{none-some}
 use Rattle.dom_base.specs.declared.NodeName.{NodeName}
 use Rattle.dom_model.specs.Names.{name_eq, is_in}
-use Rattle.dom_model.specs.Slots.{is_slot_element, slots_among}
+use Rattle.dom_model.specs.Slots.{is_slot_element, slot_in, slots_among}
 use Rattle.dom_model.specs.Tree.{Trees, none, tree, Node, node_in, subtree, parent_of, root_of, inclusive_descendants}
 use Rattle.dom_model.specs.TreeChanges.{change_node}
 use Rattle.dom_tree.specs.Forest.{name_at}
@@ -18,13 +18,13 @@ use Rattle.dom_slots.specs.Shadows.{shadow_trees, is_assigned_at, assigned_at}
 use Rattle.dom_slots.proofs.Attaching.{in_filter, to_filter}
 use Rattle.dom_slots.proofs.Attributed as Attributed
 use Rattle.dom_slots.proofs.Entering.{NoneHas, unslotted}
-use Rattle.dom_slots.proofs.Grafts.{Spot, grafted}
+use Rattle.dom_slots.proofs.Grafts.{Spot, grafted, others}
 use Rattle.dom_slots.proofs.Looks.{grafted-found, changed-slot, changed-found}
 use Rattle.dom_slots.proofs.Moved.{AreBoth}
 use Rattle.dom_slots.proofs.Moved as Moved
 use Rattle.dom_slots.proofs.Named.{named-filter}
 use Rattle.dom_slots.proofs.Rooted.{root-within, in-tree_of_root}
-use Rattle.dom_slots.proofs.Settled.{IsSettled, KeepsAssigned, assigned-found, assigned-settled}
+use Rattle.dom_slots.proofs.Settled.{IsSettled, KeepsBut, KeepsAssigned, assigned-found, assigned-unmoved, assigned-settled}
 
 -- ---- slots and nodes that are none
 
@@ -57,11 +57,9 @@ pub record IsAway (x : NodeName) (was now : Trees) (y : NodeName) : Type 0 where
 abbrev pub IsFar : NodeName → Trees → Trees → NodeName → Type 0
 IsFar x was now y = (slots_among (subtree now x) ≡ []) ⊎ (is_slot_element (node_in now y) ≡ true → IsAway x was now y)
 
--- what is assigned to such nodes stays, where they are not the old and not the new slot of x
+-- what is assigned to such nodes stays but for x
 abbrev pub KeepsFar : List NodeName → List ShadowHost → NodeName → Trees → Trees → Type 0
-KeepsFar names hosts x was now =
-    (y : NodeName) → Has was y → Has now y → is_assigned_at (shadow_trees names was hosts) y x ≡ false → is_assigned_at (shadow_trees names now hosts) y x ≡ false → IsFar x was now y
-    → assigned_at (shadow_trees names was hosts) y ≡ assigned_at (shadow_trees names now hosts) y
+KeepsFar names hosts x was now = (y : NodeName) → Has was y → Has now y → IsFar x was now y → KeepsBut names hosts x was now y
 
 -- ---- a tree that is moved
 
@@ -77,27 +75,27 @@ module _ (names : List NodeName) (hosts : List ShadowHost) (m : Node) (d us : Tr
   x = m.name
 
   pub far-kept : KeepsFar names hosts x was now
-  far-kept y h g not_was not_now far = elim (cases_Bool (is_slot_element (node_in now y))) [
+  far-kept y h g far = elim (cases_Bool (is_slot_element (node_in now y))) [
     | inl e ↦ by e far
     | inr e ↦
-        sym (no_slot-unassigned was both.once_was names hosts y (ap is_slot_element (Moved.contents_same names hosts m d us p q apart both y h g) ∙ e)) ∙ no_slot-unassigned now both.once_now names hosts y e
+        ap (others x)
+        (sym (no_slot-unassigned was both.once_was names hosts y (ap is_slot_element (Moved.contents_same names hosts m d us p q apart both y h g) ∙ e)) ∙ no_slot-unassigned now both.once_now names hosts y e)
   ]
     where
-      by : is_slot_element (node_in now y) ≡ true → IsFar x was now y → assigned_at (shadow_trees names was hosts) y ≡ assigned_at (shadow_trees names now hosts) y
+      by : is_slot_element (node_in now y) ≡ true → IsFar x was now y → KeepsBut names hosts x was now y
       by e (inr away) =
           let a = away e in
-          assigned-settled names hosts was now both.once_was both.once_now y h g (Moved.moved-settled names hosts m d us p q apart both y h g a.below a.left a.parent) x (Moved.keeps_hosts names hosts m d us p q apart both) not_was not_now
+          assigned-settled names hosts was now both.once_was both.once_now y h g (Moved.moved-settled names hosts m d us p q apart both y h g a.below a.left a.parent) x (Moved.keeps_hosts names hosts m d us p q apart both)
       by e (inl bare) =
           let below : Has (subtree now x) y → ⊥ = λ i. subst (In y) bare (slot-among now both.once_now x y i e) in
           let off : Has (tree m d none) y → ⊥ = λ i. below (subst (λ (ts : Trees). Has ts y) (sym (Moved.own_tree names hosts m d us p q apart both q)) i) in
           let own : slots_among (tree m d none) ≡ [] = ap slots_among (sym (Moved.own_tree names hosts m d us p q apart both q)) ∙ bare in
           assigned-found names hosts was now both.once_was both.once_now y (Moved.root_same names hosts m d us p q apart both y off)
-          (λ r n. ap (λ o. is_in name_eq y (option_to_list o)) (grafted-found m d own us p q apart r n)) x (Moved.keeps_hosts names hosts m d us p q apart both) not_was not_now
+          (λ r n. ap (λ o. is_in name_eq y (option_to_list o)) (grafted-found m d own us p q apart r n)) x (Moved.keeps_hosts names hosts m d us p q apart both)
 
-  -- where x had no parent and has none, all that is assigned to others stays
+  -- where x had no parent and has none, all others stay where they are assigned
   pub alone-kept : parent_of was x ≡ None → parent_of now x ≡ None → KeepsAssigned names hosts x was now
-  alone-kept e f y h g not_was not_now =
-      assigned-settled names hosts was now both.once_was both.once_now y h g settled x (Moved.keeps_hosts names hosts m d us p q apart both) not_was not_now
+  alone-kept e f y h g = assigned-settled names hosts was now both.once_was both.once_now y h g settled x (Moved.keeps_hosts names hosts m d us p q apart both)
     where
       settled : IsSettled was now y
       settled = elim (has_or_not (subtree now x) y) [
@@ -113,19 +111,28 @@ module _ (x : NodeName) (g : Node → Node) (keeps : (n : Node) → (g n).name �
   abbrev pub IsApart : NodeName → Type 0
   IsApart y = (is_slot_element (node_in (change_node g x ts) x) ≡ false) ⊎ (is_slot_element (node_in (change_node g x ts) y) ≡ true → Has (subtree (change_node g x ts) (root_of (change_node g x ts) x)) y → ⊥)
 
-  -- what is assigned to such nodes stays
-  pub changed-far : (y : NodeName) → Has ts y → Has (change_node g x ts) y → is_assigned_at (shadow_trees names ts hosts) y x ≡ false → is_assigned_at (shadow_trees names (change_node g x ts) hosts) y x ≡ false → IsApart y
+  -- where it is no slot each node finds the slot that it found
+  found-still : is_slot_element (node_in (change_node g x ts) x) ≡ false → (y r : NodeName) (n : Node) → is_in name_eq y (option_to_list (slot_in (subtree ts r) n)) ≡ is_in name_eq y (option_to_list (slot_in (subtree (change_node g x ts) r) n))
+  found-still off y r n = ap (λ o. is_in name_eq y (option_to_list o)) (changed-found x g keeps element ts two.once_was (sym (changed-slot x g keeps element ts x) ∙ off) r n)
+
+  -- so all stays where the node has the slot that it had
+  pub changed-still : is_slot_element (node_in (change_node g x ts) x) ≡ false → (y : NodeName) → is_assigned_at (shadow_trees names ts hosts) y x ≡ is_assigned_at (shadow_trees names (change_node g x ts) hosts) y x
       → assigned_at (shadow_trees names ts hosts) y ≡ assigned_at (shadow_trees names (change_node g x ts) hosts) y
-  changed-far y h i not_was not_now (inl off) =
-      assigned-found names hosts ts (change_node g x ts) two.once_was two.once_now y (Attributed.root_same x g keeps names hosts ts two y)
-      (λ r n. ap (λ o. is_in name_eq y (option_to_list o)) (changed-found x g keeps element ts two.once_was (sym (changed-slot x g keeps element ts x) ∙ off) r n)) x (Attributed.keeps_hosts x g keeps names hosts ts two) not_was not_now
-  changed-far y h i not_was not_now (inr apart) = elim (cases_Bool (is_slot_element (node_in (change_node g x ts) y))) [
+  changed-still off y mine =
+      assigned-unmoved names hosts ts (change_node g x ts) two.once_was two.once_now y (Attributed.root_same x g keeps names hosts ts two y) (found-still off y) x (Attributed.keeps_hosts x g keeps names hosts ts two)
+      (Attributed.children_same x g keeps names hosts ts two) mine
+
+  -- what is assigned to such nodes stays but for that one
+  pub changed-far : (y : NodeName) → Has ts y → Has (change_node g x ts) y → IsApart y → KeepsBut names hosts x ts (change_node g x ts) y
+  changed-far y h i (inl off) =
+      assigned-found names hosts ts (change_node g x ts) two.once_was two.once_now y (Attributed.root_same x g keeps names hosts ts two y) (found-still off y) x (Attributed.keeps_hosts x g keeps names hosts ts two)
+  changed-far y h i (inr apart) = elim (cases_Bool (is_slot_element (node_in (change_node g x ts) y))) [
     | inl e ↦
         assigned-settled names hosts ts (change_node g x ts) two.once_was two.once_now y h i
         (Attributed.changed-settled x g keeps names hosts ts two y (λ j.
         let same : root_of (change_node g x ts) y ≡ root_of (change_node g x ts) x =
         sym (Attributed.root_same x g keeps names hosts ts two y) ∙ (sym (root-within ts two.once_was y x h j) ∙ Attributed.root_same x g keeps names hosts ts two x) in
-        apart e (subst (λ z. Has (subtree (change_node g x ts) z) y) same (in-tree_of_root (change_node g x ts) two.once_now y i)))) x (Attributed.keeps_hosts x g keeps names hosts ts two) not_was not_now
+        apart e (subst (λ z. Has (subtree (change_node g x ts) z) y) same (in-tree_of_root (change_node g x ts) two.once_now y i)))) x (Attributed.keeps_hosts x g keeps names hosts ts two)
     | inr e ↦
-        sym (no_slot-unassigned ts two.once_was names hosts y (sym (changed-slot x g keeps element ts y) ∙ e)) ∙ no_slot-unassigned (change_node g x ts) two.once_now names hosts y e
+        ap (others x) (sym (no_slot-unassigned ts two.once_was names hosts y (sym (changed-slot x g keeps element ts y) ∙ e)) ∙ no_slot-unassigned (change_node g x ts) two.once_now names hosts y e)
   ]

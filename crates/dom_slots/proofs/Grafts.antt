@@ -6,6 +6,7 @@ use Rattle.dom_base.specs.declared.NodeName.{NodeName}
 use Rattle.dom_model.specs.Names.{name_eq, name_before, first_of}
 use Rattle.dom_model.specs.Tree.{Trees, none, tree, Node, roots, names_of, or_else, subtree, on_top, inclusive_ancestors, parent_of}
 use Rattle.dom_model.specs.TreeChanges.{without, is_given, put_before, put_below, put_root}
+use Rattle.dom_slots.specs.Renewals.{names_but}
 use Rattle.dom_traversal.proofs.Lists.{same_or_not, name_eq-from, name_eq-other, filter-no}
 use Rattle.dom_traversal.proofs.Removal.{Has-without}
 use Rattle.dom_traversal.proofs.Shapes.{Has, Once, above-absent, subtree-absent, subtree-here, subtree-below, subtree-beside}
@@ -18,7 +19,7 @@ pub data Spot : Type 0 where
 
 -- a list without a name
 abbrev pub others : NodeName → List NodeName → List NodeName
-others x ys = filter (λ y. not (name_eq x y)) ys
+others x ys = names_but x ys
 
 others-here : (x : NodeName) (ys : List NodeName) → others x (x ∷ ys) ≡ others x ys
 others-here x ys = filter-no (λ y. not (name_eq x y)) x ys (ap not (name_eq-from x x refl))

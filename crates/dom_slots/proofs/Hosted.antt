@@ -3,6 +3,7 @@ use Rattle.std.proofs.Common.{◌≡◌, inl, inr, ℕ, ◌<◌, Bool, true, fal
 use Rattle.std.specs.Prelude.{nat_eq, not, find, is_some, is_none, option_to_list}
 use Rattle.std.specs.Option.{option_map, option_and_then, option_eq, ForSome}
 use Rattle.std.proofs.lemmas.Bool.{cases_Bool, eqb-true, eq-eqb, both_ways}
+use Rattle.std.proofs.lemmas.Option.{same_Some, none-some}
 use Rattle.dom_base.specs.declared.NodeName.{NodeName}
 use Rattle.dom_model.specs.Names.{DomString, name_eq, is_in}
 use Rattle.dom_model.specs.Tree.{Node, node_in, nodes, parent_of, subtree}
@@ -59,6 +60,11 @@ module _ (names : List NodeName) (distinct : AreDistinct names) where
     | inl e ↦ e ∙ sym (ap (λ b. b || false) (name_eq-from (name_at names k) (name_at names j) (ap (name_at names) (sym (eqb-true j k e)))))
     | inr e ↦ e ∙ sym (ap (λ b. b || false) (name_eq-other (name_at names k) (name_at names j) (λ same. both_ways _ e (eq-eqb j k (sym (distinct k j i (h j refl) same))))))
   ]
+
+-- a key that has the name of another one is that one
+pub named-key : (names : List NodeName) → AreDistinct names → (o : Option ℕ) → ForSome o (λ k. k < length names) → (k : ℕ) → k < length names → option_map (name_at names) o ≡ Some (name_at names k) → o ≡ Some k
+named-key names distinct None nodes k within e = absurd (none-some (name_at names k) e)
+named-key names distinct (Some j) nodes k within e = ap Some (distinct j k (nodes j refl) within (same_Some (name_at names j) (name_at names k) e))
 
 -- a root that is found is a node
 pub root-node : (names : List NodeName) (hosts : List ShadowHost) → HostsAreNodes names hosts → (k r : ℕ) → root_of_host hosts k ≡ Some r → r < length names

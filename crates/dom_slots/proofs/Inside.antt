@@ -1,6 +1,7 @@
 -- A step inside of a shadow tree changes at most what is assigned to the old and to the new slot of its node and, where it
 -- moves a slot or changes its attributes, to the slots of the trees that it concerns.
 use Rattle.std.proofs.Common.{◌≡◌, ◌⊎◌, inl, inr, ℕ, ◌<◌, Bool, true, false, not, ◌&&◌, List, [], ◌++◌, All, map, filter, length, Option, None, Some, fold, refl, sym, ap, subst, ◌∙◌, true≢false}
+use Rattle.std.specs.Prelude.{option_to_list}
 use Rattle.std.specs.Option.{option_map, option_map_or}
 use Rattle.std.proofs.lemmas.Bool.{or_parts, false_from_ne_true}
 use Rattle.std.proofs.lemmas.List.Folds.{list_any-append}
@@ -16,20 +17,21 @@ use Rattle.dom_traversal.proofs.Shapes.{Has, subtree-present}
 use Rattle.dom_slots.specs.Hosts.{ShadowHost}
 use Rattle.dom_slots.specs.Insides.{tree_slots, own_slots, bare_around, slots_around, left_slots, MovesNone, AreMoved, MayMove, IsInside}
 use Rattle.dom_slots.specs.Kept.{BegunStep, SlotsNow, StandsOnce, IsEndOf}
-use Rattle.dom_slots.specs.Renewals.{AreRenewed}
-use Rattle.dom_slots.specs.Shadows.{ShadowTrees, shadows, shadow_trees, is_assigned_at, assigned_at, is_changed_at, signalled_by}
+use Rattle.dom_slots.specs.Renewals.{AreRenewed, IsButFor}
+use Rattle.dom_slots.specs.Shadows.{ShadowTrees, shadows, shadow_trees, slot_at, assigned_at, is_changed_at, signalled_by}
 use Rattle.dom_slots.specs.Steps.{StepHasNodes, step_node, is_move, around_of, left_by, IsStepFrom, step_signals}
 use Rattle.dom_slots.specs.Tables.{SlotTable, list_of, IsTableOf}
 use Rattle.dom_slots.specs.declared.step.Step.{Step}
 use Rattle.dom_slots.specs.declared.step.Step.TheVariants.{Place, Removal, Attribute}
-use Rattle.dom_slots.proofs.Ended.{told-signals, there-was, there-now, both-stand, not-own, none-own, others-among, renewed-table}
-use Rattle.dom_slots.proofs.Far.{IsAway, IsFar, KeepsFar, slot-among, far-kept, alone-kept, changed-far}
+use Rattle.dom_slots.proofs.Ended.{told-signals, there-was, there-now, both-stand, not-own, none-own, but-for, others-among, renewed-table}
+use Rattle.dom_slots.proofs.Far.{IsAway, IsFar, KeepsFar, slot-among, far-kept, alone-kept, changed-far, changed-still}
 use Rattle.dom_slots.proofs.Grafts.{Spot, grafted}
+use Rattle.dom_slots.proofs.Hosted.{AreDistinct}
 use Rattle.dom_slots.proofs.Moved.{AreBoth}
 use Rattle.dom_slots.proofs.OwnSignals.{own-signalled}
 use Rattle.dom_slots.proofs.Renewing.{renewed-anew}
 use Rattle.dom_slots.proofs.Rooted.{root-parent}
-use Rattle.dom_slots.proofs.Settled.{KeepsAssigned}
+use Rattle.dom_slots.proofs.Settled.{KeepsBut, KeepsAssigned, assigned-kept}
 use Rattle.dom_slots.proofs.Signalled.{fold-distinct}
 use Rattle.dom_slots.proofs.Stepping.{removal-unparented, removal-so, place-so, place-root, attribute-name}
 
@@ -91,18 +93,16 @@ module _ (was : Trees) (f : NamedTrees) (s : SlotsNow) (b : BegunStep) (ended : 
   not_left y a None e off = absurd (none-some a e)
   not_left y a (Some k) e off = subst (λ z. is_in name_eq y (tree_slots f.trees z) ≡ false) (same_Some (name_at f.names k) a e) off
 
-  -- what is assigned to a node stays that is neither the old nor the new slot, where no slot is moved or it is beyond
+  -- what is assigned to a node stays but for that of the step, where no slot is moved or it is beyond
   abbrev Stays : Step → Type 0
-  Stays step =
-      (y : NodeName) → Has was y → Has f.trees y → is_assigned_at before y (At step) ≡ false → is_assigned_at after y (At step) ≡ false → (MovesNone f s.hosts step ⊎ IsBeyond step y)
-      → assigned_at before y ≡ assigned_at after y
+  Stays step = (y : NodeName) → Has was y → Has f.trees y → (MovesNone f s.hosts step ⊎ IsBeyond step y) → KeepsBut f.names s.hosts (At step) was f.trees y
 
   stays : Stays b.step
   stays = by b.step ended.nodes ended.step ended.left_is
     where
       by : (step : Step) → StepHasNodes f.names step → IsStepFrom f.names was f.trees step b.left → option_map (name_at f.names) b.left ≡ left_by f.names was step → Stays step
-      by (Place z parent next) nodes is left y h i not_was not_now may =
-          place-so f.names s.hosts (KeepsFar f.names s.hosts) (far-so f.names s.hosts) (name_at f.names z) was f.trees both (here_was z nodes.0) (here_now z nodes.0) (name_at f.names parent) (option_map (name_at f.names) next) is y h i not_was not_now
+      by (Place z parent next) nodes is left y h i may =
+          place-so f.names s.hosts (KeepsFar f.names s.hosts) (far-so f.names s.hosts) (name_at f.names z) was f.trees both (here_was z nodes.0) (here_now z nodes.0) (name_at f.names parent) (option_map (name_at f.names) next) is y h i
           (far may)
         where
           x : NodeName
@@ -130,8 +130,8 @@ module _ (was : Trees) (f : NamedTrees) (s : SlotsNow) (b : BegunStep) (ended : 
                 left = λ a e. off_slots (root_of f.trees a) y slot (not_left y a b.left (left ∙ e) beyond.3);
                 parent = λ a e j. off_slots (root_of f.trees up) y slot off_up (subst (λ t. Has (subtree f.trees t) y) (same_tree a e) j);
               }
-      by (Removal z) nodes is left y h i not_was not_now may =
-          removal-so f.names s.hosts (KeepsFar f.names s.hosts) (far-so f.names s.hosts) (name_at f.names z) was f.trees both (here_was z nodes) is.1 y h i not_was not_now (far may)
+      by (Removal z) nodes is left y h i may =
+          removal-so f.names s.hosts (KeepsFar f.names s.hosts) (far-so f.names s.hosts) (name_at f.names z) was f.trees both (here_was z nodes) is.1 y h i (far may)
         where
           x : NodeName
           x = name_at f.names z
@@ -152,8 +152,8 @@ module _ (was : Trees) (f : NamedTrees) (s : SlotsNow) (b : BegunStep) (ended : 
                 left = λ a e. off_slots (root_of f.trees a) y slot (off_left a e);
                 parent = λ a e. absurd (none-some a (sym (removal-unparented x was f.trees both.once_was (here_was z nodes) is.1) ∙ e));
               }
-      by (Attribute z) nodes is left y h i not_was not_now may =
-          subst Kept (sym is.2) (λ two j not_so apart. changed-far x (with_attribute is.0 is.1) (attribute-name is.0 is.1) (attribute-slot is.0 is.1) f.names s.hosts was two y h j not_was not_so apart) both i not_now (apart_so may)
+      by (Attribute z) nodes is left y h i may =
+          subst Kept (sym is.2) (λ two j apart. changed-far x (with_attribute is.0 is.1) (attribute-name is.0 is.1) (attribute-slot is.0 is.1) f.names s.hosts was two y h j apart) both i (apart_so may)
         where
           x : NodeName
           x = name_at f.names z
@@ -162,14 +162,38 @@ module _ (was : Trees) (f : NamedTrees) (s : SlotsNow) (b : BegunStep) (ended : 
           IsApart ts = (is_slot_element (node_in ts x) ≡ false) ⊎ (is_slot_element (node_in ts y) ≡ true → Has (subtree ts (root_of ts x)) y → ⊥)
 
           Kept : Trees → Type 0
-          Kept ts =
-              AreBoth f.names s.hosts was ts → Has ts y → is_assigned_at (shadow_trees f.names ts s.hosts) y x ≡ false → IsApart ts → assigned_at before y ≡ assigned_at (shadow_trees f.names ts s.hosts) y
+          Kept ts = AreBoth f.names s.hosts was ts → Has ts y → IsApart ts → KeepsBut f.names s.hosts x was ts y
 
           apart_so : MovesNone f s.hosts (Attribute z) ⊎ IsBeyond (Attribute z) y → IsApart f.trees
           apart_so (inl (inl bare)) = inl (false_from_ne_true _ (λ slot. subst (In x) bare (slot-among f.trees both.once_now x x (own_tree x (here_now z nodes)) slot)))
           apart_so (inl (inr no_slot)) = inl no_slot.1
           apart_so (inr beyond) =
               inr (λ slot. off_slots (root_of f.trees x) y slot (subst (λ k. is_in name_eq y (tree_slots f.trees (name_at f.names k)) ≡ false) (sym (same_Some z beyond.0 beyond.1)) (beyond_parts (Attribute z) y beyond).0))
+
+  -- where no slot is moved, and the node is not moved and has the slot that it had, all stays
+  abbrev IsStill : Step → Type 0
+  IsStill step = MovesNone f s.hosts step → is_move step ≡ false → slot_at before (At step) ≡ slot_at after (At step) → (y : NodeName) → Has was y → Has f.trees y → assigned_at before y ≡ assigned_at after y
+
+  still : IsStill b.step
+  still = by b.step ended.nodes ended.step
+    where
+      by : (step : Step) → StepHasNodes f.names step → IsStepFrom f.names was f.trees step b.left → IsStill step
+      by (Place z parent next) nodes is moves no_move same y h i = absurd (true≢false no_move)
+      by (Removal z) nodes is moves no_move same y h i = absurd (true≢false no_move)
+      by (Attribute z) nodes is moves no_move same y h i =
+          subst Kept (sym is.2) (λ two off slots. changed-still x (with_attribute is.0 is.1) (attribute-name is.0 is.1) (attribute-slot is.0 is.1) f.names s.hosts was two off y (ap (λ o. is_in name_eq y (option_to_list o)) slots)) both
+          (no_slot moves) same
+        where
+          x : NodeName
+          x = name_at f.names z
+
+          Kept : Trees → Type 0
+          Kept ts =
+              AreBoth f.names s.hosts was ts → is_slot_element (node_in ts x) ≡ false → slot_at before x ≡ slot_at (shadow_trees f.names ts s.hosts) x → assigned_at before y ≡ assigned_at (shadow_trees f.names ts s.hosts) y
+
+          no_slot : MovesNone f s.hosts (Attribute z) → is_slot_element (node_in f.trees x) ≡ false
+          no_slot (inl bare) = false_from_ne_true _ (λ slot. subst (In x) bare (slot-among f.trees both.once_now x x (own_tree x (here_now z nodes)) slot))
+          no_slot (inr off) = off.1
 
   -- where there is no node around, the node of the step had no parent and has none
   abbrev IsAlone : Step → Type 0
@@ -196,19 +220,23 @@ module _ (was : Trees) (f : NamedTrees) (s : SlotsNow) (b : BegunStep) (ended : 
   abbrev is_other : NodeName → Bool
   is_other = is_changed_at before after
 
-  -- the same by keys
-  abbrev KeepsBut : List NodeName → Type 0
-  KeepsBut slots = (k : ℕ) → k < length f.names → is_in name_eq (name_at f.names k) slots ≡ false → assigned_at before (name_at f.names k) ≡ assigned_at after (name_at f.names k)
+  -- by keys, what is assigned to all but these slots stays
+  abbrev KeepsAllBut : List NodeName → Type 0
+  KeepsAllBut slots = (k : ℕ) → k < length f.names → is_in name_eq (name_at f.names k) slots ≡ false → assigned_at before (name_at f.names k) ≡ assigned_at after (name_at f.names k)
 
-  none_around : around_of b.step b.left ≡ None → KeepsBut own
+  none_around : around_of b.step b.left ≡ None → KeepsAllBut own
   none_around e k within other =
       let none = not-own was f s b ended stands (name_at f.names k) other in
-      (alone e).0 (name_at f.names k) (here_was k within) (here_now k within) none.0 none.1
+      assigned-kept f.names s.hosts was f.trees both.once_was both.once_now x (name_at f.names k) none.0 none.1 ((alone e).0 (name_at f.names k) (here_was k within) (here_now k within))
 
-  none_moved : MovesNone f s.hosts b.step → KeepsBut own
+  none_moved : MovesNone f s.hosts b.step → KeepsAllBut own
   none_moved moves k within other =
       let off = not-own was f s b ended stands (name_at f.names k) other in
-      stays (name_at f.names k) (here_was k within) (here_now k within) off.0 off.1 (inl moves)
+      assigned-kept f.names s.hosts was f.trees both.once_was both.once_now x (name_at f.names k) off.0 off.1 (stays (name_at f.names k) (here_was k within) (here_now k within) (inl moves))
+
+  -- and before the first list is renewed all are those of the trees now but for the node of the step
+  pub inside-but-for : AreDistinct f.names → MovesNone f s.hosts b.step → IsButFor f s.hosts s.table b.slot b.step
+  inside-but-for distinct moves = but-for was f s b ended stands distinct (λ y h i. stays y h i (inl moves)) (still moves)
 
   -- the slots that are renewed with a signal
   abbrev told_slots : ℕ → List NodeName
@@ -220,7 +248,7 @@ module _ (was : Trees) (f : NamedTrees) (s : SlotsNow) (b : BegunStep) (ended : 
       let y = name_at f.names k in
       let parts = or_parts _ _ (sym (list_any-append (name_eq y) own (slots_around f s.hosts b.step (name_at f.names around))) ∙ other) in
       let none = not-own was f s b ended stands y parts.0 in
-      stays y (here_was k within) (here_now k within) none.0 none.1 (inr (around, e, parts.1, off))
+      assigned-kept f.names s.hosts was f.trees both.once_was both.once_now x y none.0 none.1 (stays y (here_was k within) (here_now k within) (inr (around, e, parts.1, off)))
 
   -- ---- the lists that are renewed
 

@@ -29,3 +29,8 @@ pub mod Apart
 pub mod Inside
 pub mod Mapping
 pub mod Assigned
+pub mod Places
+pub mod Leaving
+pub mod Joining
+pub mod Parting
+pub mod Shortened

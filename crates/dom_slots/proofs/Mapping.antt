@@ -7,9 +7,9 @@ use Rattle.std.proofs.lemmas.List.{take_more, take-append-drop}
 use Rattle.std.proofs.lemmas.List.Folds.{list_any-append}
 use Rattle.std.proofs.lemmas.Option.{same_Some, none-some}
 use Rattle.dom_model.specs.Names.{is_in}
-use Rattle.dom_slots.specs.Lists.{table_in}
+use Rattle.dom_slots.specs.Lists.{table_in, items_or}
 use Rattle.dom_slots.specs.Tables.{list_of}
-use Rattle.dom_slots.proofs.Tables.{items_or, list-found, list-inserted}
+use Rattle.dom_slots.proofs.Tables.{list-found, list-inserted}
 
 -- whoever has a slot was given this one, as one of the nodes, or had it
 abbrev pub AreGiven : (ℕ → Option ℕ) → ℕ → List ℕ → (ℕ → Option ℕ) → Type 0

@@ -1,4 +1,4 @@
--- A tree that is moved outside of shadow trees leaves all that is assigned to others than the slots of its root.
+-- A tree that is moved outside of shadow trees leaves all others than its root where they are assigned.
 use Rattle.std.proofs.Common.{◌≡◌, ◌⊎◌, inl, inr, ◌+◌, length, List, Option, None, Some, refl, sym, ap, subst, ◌∙◌, arith, length-append}
 use Rattle.std.specs.Prelude.{unwrap_or}
 use Rattle.dom_base.specs.declared.NodeName.{NodeName}
@@ -205,7 +205,7 @@ module _ (names : List NodeName) (hosts : List ShadowHost) (m : Node) (d us : Tr
 
     -- so all that is assigned to others stays
     pub moved-keeps : KeepsAssigned names hosts x was now
-    moved-keeps y h g not_was not_now = elim (placed_so y h g) [
-      | inl s ↦ assigned-settled names hosts was now both.once_was both.once_now y h g s x keeps_hosts not_was not_now
-      | inr e ↦ assigned-unhosted names hosts was now both.once_was both.once_now y e.0 e.1
+    moved-keeps y h g = elim (placed_so y h g) [
+      | inl s ↦ assigned-settled names hosts was now both.once_was both.once_now y h g s x keeps_hosts
+      | inr e ↦ ap (others x) (assigned-unhosted names hosts was now both.once_was both.once_now y e.0 e.1)
     ]

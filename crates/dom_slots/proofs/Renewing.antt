@@ -20,7 +20,7 @@ use Rattle.dom_slots.proofs.OwnSignals.{again_added, passing}
 use Rattle.dom_slots.proofs.Signalled.{list_eq-self, list_eq-named, one_signalled, node_added}
 
 -- keys that are the same one by one
-same_keys : (js ks : List ℕ) → list_eq nat_eq js ks ≡ true → js ≡ ks
+pub same_keys : (js ks : List ℕ) → list_eq nat_eq js ks ≡ true → js ≡ ks
 same_keys [] [] e = refl
 same_keys [] (k ∷ ks) e = absurd (true≢false (sym e))
 same_keys (j ∷ js) [] e = absurd (true≢false (sym e))

@@ -7,11 +7,13 @@ use Rattle.dom_model.specs.Names.{DomString, name_eq, is_in}
 use Rattle.dom_model.specs.Slots.{has_slot_name, slottable_name, slot_in}
 use Rattle.dom_model.specs.Tree.{Trees, Node, nodes, names_of, node_in, subtree, parent_of, root_of, children_of}
 use Rattle.dom_traversal.proofs.Children.{parent-of_child, Has-names}
-use Rattle.dom_traversal.proofs.Lists.{In, is_in-not, filter-same, filter-no, name_eq-from, name_eq-true}
+use Rattle.dom_traversal.proofs.Lists.{In, is_in-not, same_or_not, filter-same, name_eq-from}
 use Rattle.dom_traversal.proofs.Shapes.{Has, Once, has_or_not, subtree-within}
 use Rattle.dom_slots.specs.Hosts.{ShadowHost, host_named, root_named}
 use Rattle.dom_slots.specs.Shadows.{ShadowTrees, shadow_trees, is_assigned_at, assigned_under, assigned_at}
+use Rattle.dom_slots.proofs.Assigned.{left-passes}
 use Rattle.dom_slots.proofs.Grafts.{others}
+use Rattle.dom_slots.proofs.Shortened.{but-none}
 use Rattle.dom_slots.proofs.Rooted.{Has-root_of, in-same_tree}
 
 -- a node has the same root, whose tree is the same
@@ -25,11 +27,13 @@ pub record KeepsHosts (names : List NodeName) (hosts : List ShadowHost) (x : Nod
   pub children : (r h : NodeName) → host_named names hosts r ≡ Some h → others x (children_of was h) ≡ others x (children_of now h)
   pub contents : (r h c : NodeName) → host_named names hosts r ≡ Some h → In c (children_of was h) → In c (children_of now h) → (c ≡ x → ⊥) → node_in was c ≡ node_in now c
 
--- what is assigned to each node that is neither the old nor the new slot of x stays
+-- what is assigned to a node stays but for x
+abbrev pub KeepsBut : List NodeName → List ShadowHost → NodeName → Trees → Trees → NodeName → Type 0
+KeepsBut names hosts x was now y = others x (assigned_at (shadow_trees names was hosts) y) ≡ others x (assigned_at (shadow_trees names now hosts) y)
+
+-- so it does to each node
 abbrev pub KeepsAssigned : List NodeName → List ShadowHost → NodeName → Trees → Trees → Type 0
-KeepsAssigned names hosts x was now =
-    (y : NodeName) → Has was y → Has now y → is_assigned_at (shadow_trees names was hosts) y x ≡ false → is_assigned_at (shadow_trees names now hosts) y x ≡ false
-    → assigned_at (shadow_trees names was hosts) y ≡ assigned_at (shadow_trees names now hosts) y
+KeepsAssigned names hosts x was now = (y : NodeName) → Has was y → Has now y → KeepsBut names hosts x was now y
 
 -- ---- a list without x
 
@@ -42,14 +46,20 @@ others-in x c (z ∷ zs) i = by (name_eq x z) refl i (others-in x c zs)
     by false e (inl same) deeper = (inl same, λ is. true≢false (sym (name_eq-from x z (sym is ∙ same)) ∙ e))
     by false e (inr j) deeper = let d = deeper j in (inr d.0, d.1)
 
--- a test that x fails finds the same there
-filter-others : (p : NodeName → Bool) (x : NodeName) → p x ≡ false → (xs : List NodeName) → filter p xs ≡ filter p (others x xs)
-filter-others p x fails [] = refl
-filter-others p x fails (z ∷ zs) = by (name_eq x z) refl (filter-others p x fails zs)
+-- a test finds there what it finds, without x
+filter-others : (p : NodeName → Bool) (x : NodeName) (xs : List NodeName) → others x (filter p xs) ≡ filter p (others x xs)
+filter-others p x [] = refl
+filter-others p x (z ∷ zs) = by (name_eq x z) refl (p z) refl (filter-others p x zs)
   where
-    by : (b : Bool) → name_eq x z ≡ b → filter p zs ≡ filter p (others x zs) → filter p (z ∷ zs) ≡ filter p (if not b then z ∷ others x zs else others x zs)
-    by true e rest = filter-no p z zs (ap p (sym (name_eq-true x z e)) ∙ fails) ∙ rest
-    by false e rest = ap (λ ys. if p z then z ∷ ys else ys) rest
+    by : (b : Bool) → name_eq x z ≡ b → (d : Bool) → p z ≡ d → others x (filter p zs) ≡ filter p (others x zs) → others x (if d then z ∷ filter p zs else filter p zs) ≡ filter p (if not b then z ∷ others x zs else others x zs)
+    by true e true i rest = ap (λ c. if not c then z ∷ others x (filter p zs) else others x (filter p zs)) e ∙ rest
+    by true e false i rest = rest
+    by false e true i rest = ap (λ c. if not c then z ∷ others x (filter p zs) else others x (filter p zs)) e ∙ (ap (λ ys. z ∷ ys) rest ∙ sym (ap (λ c. if c then z ∷ filter p (others x zs) else filter p (others x zs)) i))
+    by false e false i rest = rest ∙ sym (ap (λ c. if c then z ∷ filter p (others x zs) else filter p (others x zs)) i)
+
+-- a test that x fails finds no x
+without-failing : (p : NodeName → Bool) (x : NodeName) → p x ≡ false → (xs : List NodeName) → others x (filter p xs) ≡ filter p xs
+without-failing p x fails xs = but-none x (filter p xs) (λ i. true≢false (sym (left-passes p x xs i) ∙ fails))
 
 -- ---- a slot is found in the tree in which it is looked for
 
@@ -82,6 +92,17 @@ module _ (names : List NodeName) (hosts : List ShadowHost) (was now : Trees) (on
   pub assigned-unhosted : (y : NodeName) → host_named names hosts (root_of was y) ≡ None → host_named names hosts (root_of now y) ≡ None → assigned_at before y ≡ assigned_at after y
   assigned-unhosted y e f = ap (λ o. option_map_or (assigned_under before y) o []) e ∙ sym (ap (λ o. option_map_or (assigned_under after y) o []) f)
 
+  -- to a node to which x neither was nor is assigned all that was is
+  pub assigned-kept : (x y : NodeName) → is_assigned_at before y x ≡ false → is_assigned_at after y x ≡ false → KeepsBut names hosts x was now y → assigned_at before y ≡ assigned_at after y
+  assigned-kept x y not_was not_now kept = sym (bare before not_was) ∙ (kept ∙ bare after not_now)
+    where
+      bare : (s : ShadowTrees) → is_assigned_at s y x ≡ false → others x (assigned_at s y) ≡ assigned_at s y
+      bare s fails = by (s.host_of (root_of s.trees y))
+        where
+          by : (o : Option NodeName) → others x (option_map_or (assigned_under s y) o []) ≡ option_map_or (assigned_under s y) o []
+          by None = refl
+          by (Some h) = without-failing (is_assigned_at s y) x fails (children_of s.trees h)
+
   -- a node that has the same root, and that is found alike in the tree of each node
   module _ (y : NodeName) (same_root : root_of was y ≡ root_of now y)
       (alike : (r : NodeName) (n : Node) → is_in name_eq y (option_to_list (slot_in (subtree was r) n)) ≡ is_in name_eq y (option_to_list (slot_in (subtree now r) n)))
@@ -99,18 +120,32 @@ module _ (names : List NodeName) (hosts : List ShadowHost) (was now : Trees) (on
         from None = refl
         from (Some q) = ap (λ n. is_in name_eq y (option_to_list (slot_in (subtree was q) n))) (keeps.contents r h c e i j other) ∙ alike q (node_in now c)
 
-    -- has assigned to it what was, where x is not and was not
-    pub assigned-found : is_assigned_at before y x ≡ false → is_assigned_at after y x ≡ false → assigned_at before y ≡ assigned_at after y
-    assigned-found not_was not_now = under (host_named names hosts (root_of was y)) refl ∙ ap (λ z. option_map_or (assigned_under after y) (host_named names hosts z) []) same_root
+    -- has assigned to it what was but for x
+    pub assigned-found : KeepsBut names hosts x was now y
+    assigned-found = under (host_named names hosts (root_of was y)) refl ∙ ap (λ z. others x (option_map_or (assigned_under after y) (host_named names hosts z) [])) same_root
+      where
+        under : (o : Option NodeName) → host_named names hosts (root_of was y) ≡ o → others x (option_map_or (assigned_under before y) o []) ≡ others x (option_map_or (assigned_under after y) o [])
+        under None e = refl
+        under (Some h) e =
+            let same = keeps.children (root_of was y) h e in
+            filter-others (is_assigned_at before y) x (children_of was h)
+            ∙ (filter-same (is_assigned_at before y) (is_assigned_at after y) (others x (children_of was h))
+            (λ c i. let w = others-in x c (children_of was h) i in child_same (root_of was y) h c e w.0 (others-in x c (children_of now h) (subst (In c) same i)).0 w.1)
+            ∙ (ap (filter (is_assigned_at after y)) same ∙ sym (filter-others (is_assigned_at after y) x (children_of now h))))
+
+    -- and x too, where the hosts have their children in their order, and x its slot
+    pub assigned-unmoved : ((r h : NodeName) → host_named names hosts r ≡ Some h → children_of was h ≡ children_of now h) → is_assigned_at before y x ≡ is_assigned_at after y x → assigned_at before y ≡ assigned_at after y
+    assigned-unmoved unmoved mine = under (host_named names hosts (root_of was y)) refl ∙ ap (λ z. option_map_or (assigned_under after y) (host_named names hosts z) []) same_root
       where
         under : (o : Option NodeName) → host_named names hosts (root_of was y) ≡ o → option_map_or (assigned_under before y) o [] ≡ option_map_or (assigned_under after y) o []
         under None e = refl
         under (Some h) e =
-            let same = keeps.children (root_of was y) h e in
-            filter-others (is_assigned_at before y) x not_was (children_of was h)
-            ∙ (filter-same (is_assigned_at before y) (is_assigned_at after y) (others x (children_of was h))
-            (λ c i. let w = others-in x c (children_of was h) i in child_same (root_of was y) h c e w.0 (others-in x c (children_of now h) (subst (In c) same i)).0 w.1)
-            ∙ (ap (filter (is_assigned_at after y)) same ∙ sym (filter-others (is_assigned_at after y) x not_now (children_of now h))))
+            let same = unmoved (root_of was y) h e in
+            filter-same (is_assigned_at before y) (is_assigned_at after y) (children_of was h) (λ c i. elim (same_or_not c x) [
+              | inl is ↦ ap (is_assigned_at before y) is ∙ (mine ∙ sym (ap (is_assigned_at after y) is))
+              | inr other ↦ child_same (root_of was y) h c e i (subst (In c) same i) other
+            ])
+            ∙ ap (filter (is_assigned_at after y)) same
 
   module _ (y : NodeName) (at_was : Has was y) (at_now : Has now y) (settled : IsSettled was now y) where
     -- a node that looks in the tree of any other finds it in both or in neither
@@ -130,6 +165,11 @@ module _ (names : List NodeName) (hosts : List ShadowHost) (was now : Trees) (on
               off (subst (λ (ts : Trees). Has ts r) (sym settled.tree) (subst (λ z. Has (subtree now z) r) (sym settled.root) (in-same_tree now once_now r y i)))))
         ]
 
-    -- to a node of a tree that stays the same is assigned what was, where x is not and was not
-    pub assigned-settled : (x : NodeName) → KeepsHosts names hosts x was now → is_assigned_at before y x ≡ false → is_assigned_at after y x ≡ false → assigned_at before y ≡ assigned_at after y
-    assigned-settled x keeps not_was not_now = assigned-found y settled.root looks_same x keeps not_was not_now
+    -- to a node of a tree that stays the same is assigned what was but for x
+    pub assigned-settled : (x : NodeName) → KeepsHosts names hosts x was now → KeepsBut names hosts x was now y
+    assigned-settled x keeps = assigned-found y settled.root looks_same x keeps
+
+    -- and x too, where it is not moved and has its slot
+    pub unmoved-settled : (x : NodeName) → KeepsHosts names hosts x was now → ((r h : NodeName) → host_named names hosts r ≡ Some h → children_of was h ≡ children_of now h) → is_assigned_at before y x ≡ is_assigned_at after y x
+        → assigned_at before y ≡ assigned_at after y
+    unmoved-settled x keeps unmoved mine = assigned-unmoved y settled.root looks_same x keeps unmoved mine

@@ -3,12 +3,13 @@ use Rattle.std.proofs.Common.{◌≡◌, inl, inr, ℕ, ◌<◌, List, [], ◌�
 use Rattle.std.specs.List.{flat_map}
 use Rattle.std.specs.Option.{option_map, option_map_or, ForSome}
 use Rattle.std.proofs.lemmas.List.Concat.{flat_map-cons}
+use Rattle.std.proofs.lemmas.Option.{same_Some}
 use Rattle.dom_base.specs.declared.NodeName.{NodeName}
 use Rattle.dom_model.specs.Names.{name_eq, first_of, items_after, items_before}
 use Rattle.dom_model.specs.Tree.{Trees, parent_of, children_of, siblings, next_sibling, inclusive_descendants, subtree}
 use Rattle.dom_tree.specs.Forest.{NamedTrees, name_at}
 use Rattle.dom_traversal.proofs.Lists.{In, In-left, In-right, Single, Single-right, Single-apart, no_first, first_split, split_at, after-split, after-in, name_eq-from}
-use Rattle.dom_traversal.proofs.Shapes.{Once, Has, above-present, below-from_above}
+use Rattle.dom_traversal.proofs.Shapes.{Once, Has, above-present, above-parent, below-from_above}
 use Rattle.dom_traversal.proofs.Children.{In-names, parent-of_child, child-of_parent, descendants-children}
 use Rattle.dom_traversal.proofs.Order.{IsWithin, all_single}
 
@@ -57,6 +58,10 @@ children-single ts p once h =
     let all : Single (p ∷ flat_map (inclusive_descendants ts) (children_of ts p)) = subst Single (descendants-children ts p once h) (all_single ts p p w) in
     single_from_flat (inclusive_descendants ts) (children_of ts p) (λ y i. itself ts y once (parent-of_child ts p y once h i).1) all.1
 
+-- a parent stands where its child does
+pub parent-stands : (ts : Trees) → Once ts → (x h : NodeName) → Has ts x → parent_of ts x ≡ Some h → Has ts h
+parent-stands ts once x h at e = (above-parent ts x h once at e).1
+
 -- a key of a child of h
 pub record IsChild (f : NamedTrees) (h : NodeName) (k : ℕ) : Type 0 where
   pub node : k < length f.names
@@ -87,11 +92,23 @@ module _ (f : NamedTrees) (once : Once f.trees) (h : NodeName) (stands : Has f.t
         child_found next node (λ y is. let s = first_split (items_after name_eq x (children_of f.trees h)) y (sym first ∙ is) in after-in x y (children_of f.trees h) (subst (In y) (sym s.1) (inl refl))),
       )
 
+-- of a child that is among the siblings of another one, behind which the walk is
+module _ (f : NamedTrees) (once : Once f.trees) (x h : NodeName) (at : Has f.trees x) (up : parent_of f.trees x ≡ Some h) where
+  pub siblings-children : siblings f.trees x ≡ children_of f.trees h
+  siblings-children = ap (λ o. option_map_or (children_of f.trees) o (x ∷ [])) up
+
+  -- behind a child come the next one and all behind that one
+  pub next_sibling-step : (k : ℕ) → IsChild f h k → Has f.trees (name_at f.names k) → (next : Option ℕ) → option_map (name_at f.names) next ≡ next_sibling f.trees (name_at f.names k) → ForSome next (λ j. j < length f.names)
+      → (items_after name_eq (name_at f.names k) (siblings f.trees x) ≡ from_item (siblings f.trees x) (option_map (name_at f.names) next)) × ((g : NodeName) → parent_of f.trees x ≡ Some g → ForSome next (IsChild f g))
+  next_sibling-step k child here next e node =
+      let step = next_step f once h (parent-stands f.trees once x h at up) k child here next e node in (
+        subst (λ xs. items_after name_eq (name_at f.names k) xs ≡ from_item xs (option_map (name_at f.names) next)) (sym siblings-children) step.0,
+        λ g also. subst (λ p. ForSome next (IsChild f p)) (same_Some h g (sym up ∙ also)) step.1,
+      )
+
 -- what is left is less
-pub length-next : (f : NamedTrees) (h : NodeName) (k : ℕ) (at next : Option ℕ) → at ≡ Some k
-    → items_after name_eq (name_at f.names k) (children_of f.trees h) ≡ from_item (children_of f.trees h) (option_map (name_at f.names) next)
-    → length (from_item (children_of f.trees h) (option_map (name_at f.names) next)) < length (from_item (children_of f.trees h) (option_map (name_at f.names) at))
-length-next f h k at next is e =
-    let longer : length (from_item (children_of f.trees h) (option_map (name_at f.names) at)) ≡ suc (length (items_after name_eq (name_at f.names k) (children_of f.trees h))) =
-    ap (λ o. length (from_item (children_of f.trees h) (option_map (name_at f.names) o))) is in
+pub length-next : (f : NamedTrees) (xs : List NodeName) (k : ℕ) (at next : Option ℕ) → at ≡ Some k → items_after name_eq (name_at f.names k) xs ≡ from_item xs (option_map (name_at f.names) next)
+    → length (from_item xs (option_map (name_at f.names) next)) < length (from_item xs (option_map (name_at f.names) at))
+length-next f xs k at next is e =
+    let longer : length (from_item xs (option_map (name_at f.names) at)) ≡ suc (length (items_after name_eq (name_at f.names k) xs)) = ap (λ o. length (from_item xs (option_map (name_at f.names) o))) is in
     omega (arith, longer, ap (length {A = NodeName}) e)

@@ -1,15 +1,10 @@
 -- Tables as their maps hold them.
 use Rattle.std.proofs.Common.{◌≡◌, inl, inr, ℕ, Bool, true, false, cond, List, [], ◌∷◌, Option, Some, refl, sym, ap, ◌∙◌}
-use Rattle.std.specs.Prelude.{nat_eq, Vec, unwrap_or, if◌then◌else◌}
-use Rattle.std.specs.Option.{option_map}
+use Rattle.std.specs.Prelude.{nat_eq, Vec, if◌then◌else◌}
 use Rattle.std.specs.Map.{lookup}
 use Rattle.std.proofs.lemmas.Bool.{cases_Bool}
 use Rattle.dom_slots.specs.Tables.{list_of}
-use Rattle.dom_slots.specs.Lists.{table_in}
-
--- a list that is there, or none
-abbrev pub items_or : {A : Type 0} → Option (Vec ℕ A) → List ℕ
-items_or o = unwrap_or (option_map (λ v. v.items) o) []
+use Rattle.dom_slots.specs.Lists.{table_in, items_or}
 
 -- a list is found by its slot
 pub list-found : {A : Type 0} (k : ℕ) (es : List (ℕ × Vec ℕ A)) → items_or (lookup (nat_eq k) es) ≡ list_of (table_in es) k

@@ -1,9 +1,10 @@
 //! Slots by their names.
-ghost use Rattle.std.specs.Prelude.{◌≡◌, ◌<◌, map, length, find, IfOk, All};
+ghost use Rattle.std.specs.Prelude.{◌≡◌, ◌<◌, map, length, find, filter, Some, IfOk, All};
 ghost use Rattle.std.specs.Option.{option_map, ForSome};
 ghost use Rattle.dom_model.specs.Slots.{is_slot_element, has_slot_name, slottable_name, slot_name, slots_among};
-ghost use Rattle.dom_model.specs.Names.{text_eq};
-ghost use Rattle.dom_model.specs.Tree.{Node, node_in, nodes, subtree};
+ghost use Rattle.dom_base.specs.declared.NodeName.{NodeName as Name};
+ghost use Rattle.dom_model.specs.Names.{text_eq, name_eq, first_of, items_after};
+ghost use Rattle.dom_model.specs.Tree.{Node, node_in, nodes, subtree, parent_of, siblings};
 ghost use Rattle.dom_tree.specs.Forest.{name_at};
 ghost use Rattle.dom_slots.specs.Shadows.{looks_for};
 
@@ -99,6 +100,24 @@ pub(crate) fn looks_for(forest: &Forest, key: Key, name: &[u16]) -> bool
         Some(wanted) => is_same(wanted, name),
         None => false,
     }
+}
+
+/// The first sibling behind a child that looks for a slot of this name. It looks at each sibling up to that one.
+pub(crate) fn next_looking(forest: &Forest, child: Key, name: &[u16]) -> Option<Key>
+    requires node { child < length forest.now.names }
+    requires parent { (h : Name) × (parent_of forest.now.trees (name_at forest.now.names child) ≡ Some h) }
+    ensures value { option_map (name_at forest.now.names) result ≡ first_of (filter (λ y. looks_for name.now (node_in forest.now.trees y)) (items_after name_eq (name_at forest.now.names child) (siblings forest.now.trees (name_at forest.now.names child)))) }
+    ensures node { ForSome result (λ k. k < length forest.now.names) }
+{
+    forest.nodes_stand_once();
+    let mut at = forest.next(child);
+    while let Some(sibling) = at {
+        if looks_for(forest, sibling, name) {
+            return Some(sibling);
+        }
+        at = forest.next(sibling);
+    }
+    None
 }
 
 /// Whether two texts are the same.

@@ -1,8 +1,11 @@
 //! Which nodes are assigned to each slot, and the slot of each node that is assigned.
-ghost use Rattle.std.specs.Prelude.{◌≡◌, ◌⊎◌, ℕ, [], true, false, nat_eq, not, if◌then◌else◌, Some, OnOk};
+ghost use Rattle.std.specs.Prelude.{◌≡◌, ◌⊎◌, ℕ, ◌≤◌, [], true, false, length, nat_eq, not, if◌then◌else◌, Some, OnOk, OnErr};
+ghost use Rattle.std.specs.List.{insert as inserted, position};
 ghost use Rattle.std.specs.Option.{ForSome};
 ghost use Rattle.indexmap.specs.IndexMap.{get};
 ghost use Rattle.dom_model.specs.Names.{is_in, list_eq};
+ghost use Rattle.node_arena.specs.Nodes.{insert_before, without};
+ghost use Rattle.dom_slots.specs.Lists.{items_or};
 ghost use Rattle.dom_slots.specs.Tables.{list_of};
 
 use indexmap::IndexMap;
@@ -77,6 +80,90 @@ impl Table {
             None => Ok(()),
         }
     }
+
+    /// Takes a node out of the list of a slot, and tells whether it stood there.
+    pub(crate) fn take_out(&mut self, slot: Key, node: Key) -> bool
+        ensures stood { result ≡ is_in nat_eq node (list_of self.old slot) }
+        ensures lists { (k : ℕ) → list_of self.new k ≡ (if nat_eq slot k then without node (list_of self.old k) else list_of self.old k) }
+    {
+        forget(&mut self.slots, &[node], slot);
+        take_from(&mut self.lists, slot, node)
+    }
+
+    /// Puts a node into the list of a slot, just before another one of its nodes or last.
+    pub(crate) fn put(
+        &mut self,
+        alloc: Global,
+        slot: Key,
+        node: Key,
+        before: Option<Key>,
+    ) -> Result<(), AllocError>
+        ensures { OnOk result ((k : ℕ) → list_of self.new k ≡ (if nat_eq slot k then insert_before (list_of self.old k) node before else list_of self.old k)) }
+    {
+        put_into(alloc, &mut self.lists, slot, node, before)?;
+        let _ = self.slots.insert(node, slot)?;
+        Ok(())
+    }
+}
+
+/// Takes a node out of the list of a slot, and tells whether it stood there.
+fn take_from(lists: &mut IndexMap<Key, Vec<Key>>, slot: Key, node: Key) -> bool
+    ensures stood { result ≡ is_in nat_eq node (items_or (get nat_eq lists.old slot)) }
+    ensures lists { (k : ℕ) → items_or (get nat_eq lists.new k) ≡ (if nat_eq slot k then without node (items_or (get nat_eq lists.old k)) else items_or (get nat_eq lists.old k)) }
+{
+    match lists.get_mut(&slot) {
+        Some(list) => {
+            let stood = list.contains(&node);
+            list.retain(|other| *other != node);
+            stood
+        }
+        None => false,
+    }
+}
+
+/// Puts a node into the list of a slot, just before another one of its nodes or last. Where memory is refused, each list is
+/// as it was.
+fn put_into(
+    alloc: Global,
+    lists: &mut IndexMap<Key, Vec<Key>>,
+    slot: Key,
+    node: Key,
+    before: Option<Key>,
+) -> Result<(), AllocError>
+    ensures ok { OnOk result ((k : ℕ) → items_or (get nat_eq lists.new k) ≡ (if nat_eq slot k then insert_before (items_or (get nat_eq lists.old k)) node before else items_or (get nat_eq lists.old k))) }
+    ensures err { OnErr result ((k : ℕ) → items_or (get nat_eq lists.new k) ≡ items_or (get nat_eq lists.old k)) }
+{
+    match lists.get_mut(&slot) {
+        Some(list) => {
+            let at = place_of(list, before);
+            list.insert(at, node)?;
+        }
+        None => {
+            let mut list = Vec::new(alloc);
+            list.push(node)?;
+            let _ = lists.insert(slot, list)?;
+        }
+    }
+    Ok(())
+}
+
+/// The place just before a node of a list, or behind all.
+fn place_of(list: &[Key], before: Option<Key>) -> usize
+    ensures within { result ≤ length list.now }
+    ensures place { (node : ℕ) → inserted list.now result node ≡ insert_before list.now node before }
+{
+    let end = list.len();
+    match before {
+        Some(key) => position_of(list, key).unwrap_or(end),
+        None => end,
+    }
+}
+
+/// The place of a node in a list.
+fn position_of(list: &[Key], node: Key) -> Option<usize>
+    ensures { result ≡ position (λ other. nat_eq other node) list.now }
+{
+    list.iter().position(|other| *other == node)
 }
 
 /// Takes this slot from those of these nodes that have it.

@@ -6,8 +6,8 @@ ghost use Rattle.dom_model.specs.Slots.{is_slot_element, slots_among};
 ghost use Rattle.dom_model.specs.Tree.{node_in, subtree};
 ghost use Rattle.dom_tree.specs.Forest.{name_at};
 ghost use Rattle.dom_slots.specs.Hosts.{HostsAreNodes};
-ghost use Rattle.dom_slots.specs.Insides.{tree_slots, bare_around, left_slots, MayMove, IsInside};
-ghost use Rattle.dom_slots.specs.Renewals.{AreRenewed};
+ghost use Rattle.dom_slots.specs.Insides.{tree_slots, bare_around, left_slots, MovesNone, MayMove, IsInside};
+ghost use Rattle.dom_slots.specs.Renewals.{AreRenewed, IsButFor};
 ghost use Rattle.dom_slots.specs.Shadows.{shadows, is_bare_at};
 ghost use Rattle.dom_slots.specs.Steps.{StepHasNodes, step_node, is_move};
 ghost use Rattle.dom_slots.specs.Tables.{SlotTable};
@@ -35,6 +35,50 @@ impl Slots {
         requires slot { ForSome begun.slot (λ k. k < length forest.now.names) }
         ensures hosts { IfOk result (λ keys. self.new.hosts ≡ self.old.hosts) }
         ensures begun { IfOk result (λ keys. self.new.begun ≡ self.old.begun) }
+        ensures renewed { (p : Name → Truth) → (MovesNone forest.now self.old.hosts begun.step → IsButFor forest.now self.old.hosts self.old.table begun.slot begun.step) → AreRenewed forest.now self.old.hosts p self.old.table [] [] self.old.table [] → IfOk result (λ keys. IsInside forest.now self.old.hosts p self.old.table begun.step begun.left begun.slot self.new.table keys.items) }
+    {
+        let kept = begun;
+        let moved = self.moved_slots(forest, kept)?;
+        if moved.is_empty() {
+            return self.still_signals(forest, begun);
+        }
+        self.stirred_signals(forest, begun, &moved)
+    }
+
+    /// The same, where no slot was moved or changed.
+    fn still_signals(&mut self, forest: &Forest, begun: Begun) -> Result<Vec<Key>, AllocError>
+        requires hosts { HostsAreNodes forest.now.names self.old.hosts }
+        requires nodes { StepHasNodes forest.now.names begun.step }
+        requires left { ForSome begun.left (λ k. k < length forest.now.names) }
+        requires slot { ForSome begun.slot (λ k. k < length forest.now.names) }
+        requires still { MovesNone forest.now self.old.hosts begun.step }
+        ensures hosts { IfOk result (λ keys. self.new.hosts ≡ self.old.hosts) }
+        ensures begun { IfOk result (λ keys. self.new.begun ≡ self.old.begun) }
+        ensures renewed { (p : Name → Truth) → IsButFor forest.now self.old.hosts self.old.table begun.slot begun.step → AreRenewed forest.now self.old.hosts p self.old.table [] [] self.old.table [] → IfOk result (λ keys. IsInside forest.now self.old.hosts p self.old.table begun.step begun.left begun.slot self.new.table keys.items) }
+    {
+        let kept = begun;
+        let mut signals = self.moved_signals(forest, kept)?;
+        if let Some(around) = begun.step.around(begun.left) {
+            self.add_bare(forest, begun.step, around, &mut signals)?;
+        }
+        Ok(signals)
+    }
+
+    /// The same, where these slots were moved or may have been changed.
+    fn stirred_signals(
+        &mut self,
+        forest: &Forest,
+        begun: Begun,
+        moved: &[Key],
+    ) -> Result<Vec<Key>, AllocError>
+        requires hosts { HostsAreNodes forest.now.names self.old.hosts }
+        requires nodes { StepHasNodes forest.now.names begun.step }
+        requires left { ForSome begun.left (λ k. k < length forest.now.names) }
+        requires slot { ForSome begun.slot (λ k. k < length forest.now.names) }
+        requires moved { map (name_at forest.now.names) moved.now ≡ slots_among (subtree forest.now.trees (name_at forest.now.names (step_node begun.step))) }
+        requires moved_nodes { All (λ k. k < length forest.now.names) moved.now }
+        ensures hosts { IfOk result (λ keys. self.new.hosts ≡ self.old.hosts) }
+        ensures begun { IfOk result (λ keys. self.new.begun ≡ self.old.begun) }
         ensures renewed { (p : Name → Truth) (old : SlotTable) → AreRenewed forest.now self.old.hosts p old [] [] self.old.table [] → IfOk result (λ keys. IsInside forest.now self.old.hosts p old begun.step begun.left begun.slot self.new.table keys.items) }
     {
         let kept = begun;
@@ -42,7 +86,7 @@ impl Slots {
         if let Some(around) = begun.step.around(begun.left) {
             let step = begun.step;
             self.add_bare(forest, step, around, &mut signals)?;
-            self.renew_moved(forest, begun, around, &mut signals)?;
+            self.renew_moved(forest, begun, around, moved, &mut signals)?;
         }
         Ok(signals)
     }
@@ -80,30 +124,28 @@ impl Slots {
         Ok(list.is_empty())
     }
 
-    /// Renews, where a step moves a slot or changes its attributes, the lists of the slots in the tree around and in the tree
-    /// of its node, and then those of the tree that a placed node left, which are not signalled.
+    /// Renews the lists of the slots in the tree around and of those that a step moves, and then those of the tree that a
+    /// placed node left, which are not signalled.
     fn renew_moved(
         &mut self,
         forest: &Forest,
         begun: Begun,
         around: Key,
+        moved: &[Key],
         signals: &mut Vec<Key>,
     ) -> Result<(), AllocError>
         requires hosts { HostsAreNodes forest.now.names self.old.hosts }
         requires nodes { StepHasNodes forest.now.names begun.step }
         requires left { ForSome begun.left (λ k. k < length forest.now.names) }
         requires around { around < length forest.now.names }
+        requires moved { map (name_at forest.now.names) moved.now ≡ slots_among (subtree forest.now.trees (name_at forest.now.names (step_node begun.step))) }
+        requires moved_nodes { All (λ k. k < length forest.now.names) moved.now }
         ensures hosts { OnOk result (self.new.hosts ≡ self.old.hosts) }
         ensures begun { OnOk result (self.new.begun ≡ self.old.begun) }
         ensures renewed { (p : Name → Truth) (old : SlotTable) (done told : List Name) → AreRenewed forest.now self.old.hosts p old done told self.old.table signals.old.items → OnOk result (MayMove forest.now self.old.hosts p old done told begun.step begun.left (name_at forest.now.names around) self.new.table signals.new.items) }
     {
-        let kept = begun;
-        let moved = self.moved_slots(forest, kept)?;
-        if moved.is_empty() {
-            return Ok(());
-        }
         self.renew_tree(forest, around, signals)?;
-        self.renew(forest, &moved, signals)?;
+        self.renew(forest, moved, signals)?;
         self.renew_left(forest, begun)
     }
 

@@ -33,7 +33,7 @@ impl Slots {
     }
 
     /// Renews the list of a slot, and adds the slot to the signals where its list was another one.
-    fn renew_slot(
+    pub(super) fn renew_slot(
         &mut self,
         forest: &Forest,
         slot: Key,

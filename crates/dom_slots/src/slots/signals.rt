@@ -48,9 +48,11 @@ impl Slots {
     /// The slots that a step signals which has been done since it was begun, in order (own rule; DOM Standard, concept:
     /// signal a slot change). Then no step is begun. A value to which memory was refused is only dropped. Where there is no
     /// host this costs one look. A step outside of shadow trees costs the ways from its node and from the parents that the
-    /// node left and has now up to their roots; where one of these is a host, its shadow tree and its children are read.
-    /// A step inside of one costs as much, and a walk through what it moves. Only where that holds a slot, or a slot's
-    /// attributes change, the trees that were left and reached are walked, and their hosts' children read for each slot there.
+    /// node left and has now up to their roots. Where the parent is a host, its shadow tree is walked up to the first slot that
+    /// its node looks for; where that slot is another one than before, the list of the old one is read, and of the siblings
+    /// behind the node those up to the first that has the new one. A step inside of one costs as much, and a walk through
+    /// what it moves. Only where that holds a slot, or a slot's attributes change, the trees that were left and reached are
+    /// walked, and their hosts' children read for each slot there.
     pub fn end(&mut self, forest: &Forest) -> Result<Vec<Key>, AllocError>
         requires { (was : Trees) × (b : BegunStep) × IsEndOf was forest.now self.old b }
         ensures value { (was : Trees) (b : BegunStep) → IsEndOf was forest.now self.old b → IfOk result (λ keys. map (name_at forest.now.names) keys.items ≡ step_signals forest.now.names (shadow_trees forest.now.names was self.old.hosts) (shadows forest.now self.old.hosts) b.step b.left) }
@@ -66,7 +68,7 @@ impl Slots {
         }
         match self.begun.take() {
             Some(begun) if self.is_apart(forest, begun.step, begun.left) => {
-                self.own_signals(forest, begun)
+                self.moved_signals(forest, begun)
             }
             Some(begun) => self.inside_signals(forest, begun),
             None => Ok(Vec::new(self.alloc)),

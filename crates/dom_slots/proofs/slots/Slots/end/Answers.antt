@@ -10,15 +10,16 @@ use Rattle.dom_slots.specs.declared.slots.Begun.{Begun}
 use Rattle.dom_slots.specs.Fields.{hosts_in, begun_in}
 use Rattle.dom_slots.specs.Hosts.{ShadowHost, HostsAreNodes}
 use Rattle.dom_slots.specs.Kept.{BegunStep, SlotsNow, StandsOnce, AreSlotsOf, IsEndOf}
-use Rattle.dom_slots.specs.Insides.{own_slots, IsInside}
-use Rattle.dom_slots.specs.Renewals.{AreRenewed}
+use Rattle.dom_slots.specs.Insides.{own_slots, MovesNone, IsInside}
+use Rattle.dom_slots.specs.Renewals.{AreRenewed, IsButFor}
 use Rattle.dom_slots.specs.Shadows.{shadows, shadow_trees, is_changed_at}
 use Rattle.dom_slots.specs.Steps.{step_node, step_signals, is_apart}
 use Rattle.dom_slots.specs.Tables.{SlotTable, IsTableOf}
-use Rattle.dom_slots.proofs.Apart.{apart-table, apart-keys}
+use Rattle.dom_slots.proofs.Apart.{apart-but-for, apart-table, apart-keys}
 use Rattle.dom_slots.proofs.Ended.{none-renewed}
-use Rattle.dom_slots.proofs.Inside.{inside-table, inside-keys, inside-nodes}
+use Rattle.dom_slots.proofs.Inside.{inside-but-for, inside-table, inside-keys, inside-nodes}
 use Rattle.dom_slots.proofs.Hostless.{hostless-signals}
+use Rattle.dom_slots.proofs.slots.Slots.end.Goals.{After-moved_signals, After-inside_signals}
 use Rattle.dom_slots.proofs.slots.Slots.end.Goals as goal
 
 -- a list of no length
@@ -48,19 +49,26 @@ module _ (was : Trees) (f : NamedTrees) (s : SlotsNow) (b : BegunStep) (h : IsEn
   p = is_changed_at (shadow_trees f.names was s.hosts) (shadows f s.hosts)
 
   -- lists of slots alone, or those of a step inside of a shadow tree
-  abbrev Own : List ShadowHost → BegunStep → Vec ℕ Global → Type 0
-  Own hs e keys = AreRenewed f hs p s.table (own_slots f hs e.slot e.step) (filter p (own_slots f hs e.slot e.step)) new.table keys.items
+  abbrev Own : List ShadowHost → SlotTable → BegunStep → Vec ℕ Global → Type 0
+  Own hs table e keys = AreRenewed f hs p table (own_slots f hs e.slot e.step) (filter p (own_slots f hs e.slot e.step)) new.table keys.items
 
-  abbrev Inside : List ShadowHost → BegunStep → Vec ℕ Global → Type 0
-  Inside hs e keys = IsInside f hs p s.table e.step e.left e.slot new.table keys.items
+  abbrev Inside : List ShadowHost → SlotTable → BegunStep → Vec ℕ Global → Type 0
+  Inside hs table e keys = IsInside f hs p table e.step e.left e.slot new.table keys.items
+
+  -- what is known before
+  abbrev ButFor : List ShadowHost → SlotTable → BegunStep → Type 0
+  ButFor hs table e = IsButFor f hs table e.slot e.step
+
+  abbrev StillButFor : List ShadowHost → SlotTable → BegunStep → Type 0
+  StillButFor hs table e = MovesNone f hs e.step → IsButFor f hs table e.slot e.step
 
   -- by what is held
-  held : (R : List ShadowHost → BegunStep → Vec ℕ Global → Type 0) (hosts : List ShadowHost) (table : SlotTable) (d : BegunStep) → hosts ≡ s.hosts → table ≡ s.table → d ≡ b
-      → (AreRenewed f hosts p s.table [] [] table [] → IfOk result (R hosts d)) → IfOk result (R s.hosts b)
-  held R hosts table d hosts_are table_is same told =
-      subst (λ e. IfOk result (R s.hosts e)) same
-      (subst (λ hs. IfOk result (R hs d)) hosts_are
-      (told (subst (λ hs. AreRenewed f hs p s.table [] [] table []) (sym hosts_are) (subst (λ t. AreRenewed f s.hosts p s.table [] [] t []) (sym table_is) (none-renewed was f s b h stands)))))
+  held : (R : List ShadowHost → SlotTable → BegunStep → Vec ℕ Global → Type 0) (Q : List ShadowHost → SlotTable → BegunStep → Type 0) (hosts : List ShadowHost) (table : SlotTable) (d : BegunStep) → hosts ≡ s.hosts → table ≡ s.table → d ≡ b
+      → (Q hosts table d → AreRenewed f hosts p table [] [] table [] → IfOk result (R hosts table d)) → Q s.hosts s.table b → IfOk result (R s.hosts s.table b)
+  held R Q hosts table d hosts_are table_is same told given =
+      let known : Q hosts table d = subst (λ hs. Q hs table d) (sym hosts_are) (subst (λ t. Q s.hosts t d) (sym table_is) (subst (Q s.hosts s.table) (sym same) given)) in
+      let start = subst (λ hs. AreRenewed f hs p table [] [] table []) (sym hosts_are) (subst (λ t. AreRenewed f s.hosts p t [] [] t []) (sym table_is) (none-renewed was f s b h stands)) in
+      subst (λ e. IfOk result (R s.hosts s.table e)) same (subst (λ t. IfOk result (R s.hosts t d)) table_is (subst (λ hs. IfOk result (R hs table d)) hosts_are (told known start)))
 
   -- where the table is that of the trees now, these are its slots
   slots_are : (hosts : List ShadowHost) → hosts ≡ s.hosts → IfOk result (λ keys. IsTableOf f s.hosts new.table) → IfOk result (λ keys. new.hosts ≡ hosts) → IfOk result (λ keys. AreSlotsOf f new)
@@ -71,108 +79,94 @@ module _ (was : Trees) (f : NamedTrees) (s : SlotsNow) (b : BegunStep) (h : IsEn
       record { hosts = subst (HostsAreNodes f.names) (sym hs) h.slots.hosts; table = subst (λ hosts. IsTableOf f hosts new.table) (sym hs) w.0 })
       (both result (λ keys. IsTableOf f s.hosts new.table) (λ keys. new.hosts ≡ hosts) table stay)
 
+-- ---- a step outside of shadow trees
+
+module _ (c : After-moved_signals) where
+  abbrev f : NamedTrees
+  f = c.args.forest.now
+
+  abbrev s : SlotsNow
+  s = c.args.self.now
+
+  stands : StandsOnce c.args.forest.now
+  stands = record { once = c.nodes_stand_once.ensures.once; only = c.nodes_stand_once.ensures.only }
+
+  hosts_are : hosts_in c.self.inside.hosts.entries ≡ c.args.self.now.hosts
+  hosts_are = ap (λ (t : SlotsNow). t.hosts) c.self.view_is
+
+  module _ (was : Trees) (b : BegunStep) (h : IsEndOf was c.args.forest.now c.args.self.now b) where
+    same : begun_in c.in-Some.begun ≡ b
+    same = begun-same c.take.result c.in-Some.begun b c.in-Some.is (ap (option_map begun_in) c.take.ensures.value ∙ (ap (λ (t : SlotsNow). t.begun) c.self.view_is ∙ h.begun))
+
+    apart : is_apart (shadows f s.hosts) (name_at f.names (step_node b.step)) (option_map (name_at f.names) b.left) ≡ true
+    apart = begun-apart f (hosts_in c.self.inside.hosts.entries) s.hosts (begun_in c.in-Some.begun) b hosts_are same c.if-is_apart.ensures
+
+    renewed : IfOk c.moved_signals.result (Own was f s b h stands c.moved_signals.result c.moved_signals.new.self s.hosts s.table b)
+    renewed =
+        let result = c.moved_signals.result in
+        let new = c.moved_signals.new.self in
+        held was f s b h stands result new (Own was f s b h stands result new) (ButFor was f s b h stands result new) (hosts_in c.self.inside.hosts.entries) c.self.inside.table (begun_in c.in-Some.begun) hosts_are
+        (ap (λ (t : SlotsNow). t.table) c.self.view_is) same (c.moved_signals.ensures.renewed (is_changed_at (shadow_trees f.names was s.hosts) (shadows f s.hosts)))
+        (apart-but-for was f s b h stands apart c.nodes_stand_once.ensures.distinct)
+
 pub returns-in-Some-clause-value : goal.returns-in-Some-clause-value
-returns-in-Some-clause-value c =
-    λ was b h.
-    let s = c.args.self.now in
-    let f = c.args.forest.now in
-    let stands : StandsOnce f = record { once = c.nodes_stand_once.ensures.once; only = c.nodes_stand_once.ensures.only } in
-    let hosts_are : hosts_in c.self.inside.hosts.entries ≡ s.hosts = ap (λ (t : SlotsNow). t.hosts) c.self.view_is in
-    let same : begun_in c.in-Some.begun ≡ b =
-    begun-same c.take.result c.in-Some.begun b c.in-Some.is (ap (option_map begun_in) c.take.ensures.value ∙ (ap (λ (t : SlotsNow). t.begun) c.self.view_is ∙ h.begun)) in
-    let apart = begun-apart f (hosts_in c.self.inside.hosts.entries) s.hosts (begun_in c.in-Some.begun) b hosts_are same c.if-is_apart.ensures in
-    let result = c.own_signals.result in
-    let new = c.own_signals.new.self in
-    let p : NodeName → Bool = is_changed_at (shadow_trees f.names was s.hosts) (shadows f s.hosts) in
-    let renewed = held was f s b h stands result new (Own was f s b h stands result new) (hosts_in c.self.inside.hosts.entries) c.self.inside.table (begun_in c.in-Some.begun) hosts_are (ap (λ (t : SlotsNow). t.table) c.self.view_is) same (c.own_signals.ensures.renewed p s.table) in
-    IfOk-weaker result (Own was f s b h stands result new s.hosts b) _ (λ keys r. apart-keys was f s b h stands apart new.table keys.items r) renewed
+returns-in-Some-clause-value c = λ was b h. IfOk-weaker c.moved_signals.result _ _ (λ keys r. apart-keys was (f c) (s c) b h (stands c) (apart c was b h) c.moved_signals.new.self.table keys.items r) (renewed c was b h)
 
 pub returns-in-Some-clause-nodes : goal.returns-in-Some-clause-nodes
-returns-in-Some-clause-nodes c =
-    let was = c.requires.0 in
-    let b = c.requires.1 in
-    let h = c.requires.2 in
-    let s = c.args.self.now in
-    let f = c.args.forest.now in
-    let stands : StandsOnce f = record { once = c.nodes_stand_once.ensures.once; only = c.nodes_stand_once.ensures.only } in
-    let hosts_are : hosts_in c.self.inside.hosts.entries ≡ s.hosts = ap (λ (t : SlotsNow). t.hosts) c.self.view_is in
-    let same : begun_in c.in-Some.begun ≡ b =
-    begun-same c.take.result c.in-Some.begun b c.in-Some.is (ap (option_map begun_in) c.take.ensures.value ∙ (ap (λ (t : SlotsNow). t.begun) c.self.view_is ∙ h.begun)) in
-    let apart = begun-apart f (hosts_in c.self.inside.hosts.entries) s.hosts (begun_in c.in-Some.begun) b hosts_are same c.if-is_apart.ensures in
-    let result = c.own_signals.result in
-    let new = c.own_signals.new.self in
-    let p : NodeName → Bool = is_changed_at (shadow_trees f.names was s.hosts) (shadows f s.hosts) in
-    let renewed = held was f s b h stands result new (Own was f s b h stands result new) (hosts_in c.self.inside.hosts.entries) c.self.inside.table (begun_in c.in-Some.begun) hosts_are (ap (λ (t : SlotsNow). t.table) c.self.view_is) same (c.own_signals.ensures.renewed p s.table) in
-    IfOk-weaker result (Own was f s b h stands result new s.hosts b) _ (λ keys r. r.keys_nodes) renewed
+returns-in-Some-clause-nodes c = IfOk-weaker c.moved_signals.result _ _ (λ keys r. r.keys_nodes) (renewed c c.requires.0 c.requires.1 c.requires.2)
 
 pub returns-in-Some-clause-slots : goal.returns-in-Some-clause-slots
 returns-in-Some-clause-slots c =
     let was = c.requires.0 in
     let b = c.requires.1 in
     let h = c.requires.2 in
-    let s = c.args.self.now in
-    let f = c.args.forest.now in
-    let stands : StandsOnce f = record { once = c.nodes_stand_once.ensures.once; only = c.nodes_stand_once.ensures.only } in
-    let hosts_are : hosts_in c.self.inside.hosts.entries ≡ s.hosts = ap (λ (t : SlotsNow). t.hosts) c.self.view_is in
-    let same : begun_in c.in-Some.begun ≡ b =
-    begun-same c.take.result c.in-Some.begun b c.in-Some.is (ap (option_map begun_in) c.take.ensures.value ∙ (ap (λ (t : SlotsNow). t.begun) c.self.view_is ∙ h.begun)) in
-    let apart = begun-apart f (hosts_in c.self.inside.hosts.entries) s.hosts (begun_in c.in-Some.begun) b hosts_are same c.if-is_apart.ensures in
-    let result = c.own_signals.result in
-    let new = c.own_signals.new.self in
-    let p : NodeName → Bool = is_changed_at (shadow_trees f.names was s.hosts) (shadows f s.hosts) in
-    let renewed = held was f s b h stands result new (Own was f s b h stands result new) (hosts_in c.self.inside.hosts.entries) c.self.inside.table (begun_in c.in-Some.begun) hosts_are (ap (λ (t : SlotsNow). t.table) c.self.view_is) same (c.own_signals.ensures.renewed p s.table) in
-    let table = IfOk-weaker result (Own was f s b h stands result new s.hosts b) (λ keys. IsTableOf f s.hosts new.table) (λ keys r. apart-table was f s b h stands apart new.table keys.items r) renewed in
-    slots_are was f s b h stands result new (hosts_in c.self.inside.hosts.entries) hosts_are table c.own_signals.ensures.hosts
+    let new = c.moved_signals.new.self in
+    slots_are was (f c) (s c) b h (stands c) c.moved_signals.result new (hosts_in c.self.inside.hosts.entries) (hosts_are c)
+    (IfOk-weaker c.moved_signals.result _ (λ keys. IsTableOf (f c) c.args.self.now.hosts new.table) (λ keys r. apart-table was (f c) (s c) b h (stands c) (apart c was b h) new.table keys.items r) (renewed c was b h)) c.moved_signals.ensures.hosts
+
+-- ---- a step inside of one
+
+module _ (c : After-inside_signals) where
+  abbrev f_in : NamedTrees
+  f_in = c.args.forest.now
+
+  abbrev s_in : SlotsNow
+  s_in = c.args.self.now
+
+  stands_in : StandsOnce c.args.forest.now
+  stands_in = record { once = c.nodes_stand_once.ensures.once; only = c.nodes_stand_once.ensures.only }
+
+  hosts_in_are : hosts_in c.self.inside.hosts.entries ≡ c.args.self.now.hosts
+  hosts_in_are = ap (λ (t : SlotsNow). t.hosts) c.self.view_is
+
+  inside_renewed : (was : Trees) (b : BegunStep) (h : IsEndOf was c.args.forest.now c.args.self.now b)
+      → IfOk c.inside_signals.result (Inside was f_in s_in b h stands_in c.inside_signals.result c.inside_signals.new.self c.args.self.now.hosts c.args.self.now.table b)
+  inside_renewed was b h =
+      let result = c.inside_signals.result in
+      let new = c.inside_signals.new.self in
+      held was f_in s_in b h stands_in result new (Inside was f_in s_in b h stands_in result new) (StillButFor was f_in s_in b h stands_in result new) (hosts_in c.self.inside.hosts.entries) c.self.inside.table (begun_in c.in-Some.begun) hosts_in_are
+      (ap (λ (t : SlotsNow). t.table) c.self.view_is)
+      (begun-same c.take.result c.in-Some.begun b c.in-Some.is (ap (option_map begun_in) c.take.ensures.value ∙ (ap (λ (t : SlotsNow). t.begun) c.self.view_is ∙ h.begun)))
+      (c.inside_signals.ensures.renewed (is_changed_at (shadow_trees f_in.names was s_in.hosts) (shadows f_in s_in.hosts))) (inside-but-for was f_in s_in b h stands_in c.nodes_stand_once.ensures.distinct)
 
 pub returns-in-Some-2-clause-value : goal.returns-in-Some-2-clause-value
-returns-in-Some-2-clause-value c =
-    λ was b h.
-    let s = c.args.self.now in
-    let f = c.args.forest.now in
-    let stands : StandsOnce f = record { once = c.nodes_stand_once.ensures.once; only = c.nodes_stand_once.ensures.only } in
-    let hosts_are : hosts_in c.self.inside.hosts.entries ≡ s.hosts = ap (λ (t : SlotsNow). t.hosts) c.self.view_is in
-    let same : begun_in c.in-Some.begun ≡ b =
-    begun-same c.take.result c.in-Some.begun b c.in-Some.is (ap (option_map begun_in) c.take.ensures.value ∙ (ap (λ (t : SlotsNow). t.begun) c.self.view_is ∙ h.begun)) in
-    let result = c.inside_signals.result in
-    let new = c.inside_signals.new.self in
-    let p : NodeName → Bool = is_changed_at (shadow_trees f.names was s.hosts) (shadows f s.hosts) in
-    let renewed = held was f s b h stands result new (Inside was f s b h stands result new) (hosts_in c.self.inside.hosts.entries) c.self.inside.table (begun_in c.in-Some.begun) hosts_are (ap (λ (t : SlotsNow). t.table) c.self.view_is) same (c.inside_signals.ensures.renewed p s.table) in
-    IfOk-weaker result (Inside was f s b h stands result new s.hosts b) _ (λ keys r. inside-keys was f s b h stands new.table keys.items r) renewed
+returns-in-Some-2-clause-value c = λ was b h. IfOk-weaker c.inside_signals.result _ _ (λ keys r. inside-keys was (f_in c) (s_in c) b h (stands_in c) c.inside_signals.new.self.table keys.items r) (inside_renewed c was b h)
 
 pub returns-in-Some-2-clause-nodes : goal.returns-in-Some-2-clause-nodes
 returns-in-Some-2-clause-nodes c =
     let was = c.requires.0 in
     let b = c.requires.1 in
     let h = c.requires.2 in
-    let s = c.args.self.now in
-    let f = c.args.forest.now in
-    let stands : StandsOnce f = record { once = c.nodes_stand_once.ensures.once; only = c.nodes_stand_once.ensures.only } in
-    let hosts_are : hosts_in c.self.inside.hosts.entries ≡ s.hosts = ap (λ (t : SlotsNow). t.hosts) c.self.view_is in
-    let same : begun_in c.in-Some.begun ≡ b =
-    begun-same c.take.result c.in-Some.begun b c.in-Some.is (ap (option_map begun_in) c.take.ensures.value ∙ (ap (λ (t : SlotsNow). t.begun) c.self.view_is ∙ h.begun)) in
-    let result = c.inside_signals.result in
-    let new = c.inside_signals.new.self in
-    let p : NodeName → Bool = is_changed_at (shadow_trees f.names was s.hosts) (shadows f s.hosts) in
-    let renewed = held was f s b h stands result new (Inside was f s b h stands result new) (hosts_in c.self.inside.hosts.entries) c.self.inside.table (begun_in c.in-Some.begun) hosts_are (ap (λ (t : SlotsNow). t.table) c.self.view_is) same (c.inside_signals.ensures.renewed p s.table) in
-    IfOk-weaker result (Inside was f s b h stands result new s.hosts b) _ (λ keys r. inside-nodes was f s b h stands new.table keys.items r) renewed
+    IfOk-weaker c.inside_signals.result _ _ (λ keys r. inside-nodes was (f_in c) (s_in c) b h (stands_in c) c.inside_signals.new.self.table keys.items r) (inside_renewed c was b h)
 
 pub returns-in-Some-2-clause-slots : goal.returns-in-Some-2-clause-slots
 returns-in-Some-2-clause-slots c =
     let was = c.requires.0 in
     let b = c.requires.1 in
     let h = c.requires.2 in
-    let s = c.args.self.now in
-    let f = c.args.forest.now in
-    let stands : StandsOnce f = record { once = c.nodes_stand_once.ensures.once; only = c.nodes_stand_once.ensures.only } in
-    let hosts_are : hosts_in c.self.inside.hosts.entries ≡ s.hosts = ap (λ (t : SlotsNow). t.hosts) c.self.view_is in
-    let same : begun_in c.in-Some.begun ≡ b =
-    begun-same c.take.result c.in-Some.begun b c.in-Some.is (ap (option_map begun_in) c.take.ensures.value ∙ (ap (λ (t : SlotsNow). t.begun) c.self.view_is ∙ h.begun)) in
-    let result = c.inside_signals.result in
     let new = c.inside_signals.new.self in
-    let p : NodeName → Bool = is_changed_at (shadow_trees f.names was s.hosts) (shadows f s.hosts) in
-    let renewed = held was f s b h stands result new (Inside was f s b h stands result new) (hosts_in c.self.inside.hosts.entries) c.self.inside.table (begun_in c.in-Some.begun) hosts_are (ap (λ (t : SlotsNow). t.table) c.self.view_is) same (c.inside_signals.ensures.renewed p s.table) in
-    let table = IfOk-weaker result (Inside was f s b h stands result new s.hosts b) (λ keys. IsTableOf f s.hosts new.table) (λ keys r. inside-table was f s b h stands new.table keys.items r) renewed in
-    slots_are was f s b h stands result new (hosts_in c.self.inside.hosts.entries) hosts_are table c.inside_signals.ensures.hosts
+    slots_are was (f_in c) (s_in c) b h (stands_in c) c.inside_signals.result new (hosts_in c.self.inside.hosts.entries) (hosts_in_are c)
+    (IfOk-weaker c.inside_signals.result _ (λ keys. IsTableOf (f_in c) c.args.self.now.hosts new.table) (λ keys r. inside-table was (f_in c) (s_in c) b h (stands_in c) new.table keys.items r) (inside_renewed c was b h)) c.inside_signals.ensures.hosts
 
 pub returns-then-is_empty-clause-value : goal.returns-then-is_empty-clause-value
 returns-then-is_empty-clause-value c =

@@ -27,17 +27,13 @@ returns-clause-renewed c =
     let b = slots_among (subtree f.trees (name_at f.names (step_node step))) in
     let mid = c.renew.new.self.table in
     let keys = c.renew.new.signals.items in
-    let long : vec_len c.in_ok-moved.moved ≡ length c.in_ok-moved.moved.items = omega (arith, c.in_ok-moved.moved.ok) in
-    let below : map (name_at f.names) c.deref.result.now ≡ b = elim c.in_ok-moved.ensures.value [
-      | inl e ↦ ap (map (name_at f.names)) c.deref.ensures.value ∙ e
-      | inr e ↦ absurd (true≢false (sym (c.is_empty.ensures ∙ (ap (λ n. n == 0) long ∙ ap (λ xs. length xs == 0) e.0)) ∙ c.if-is_empty.false))
-    ] in
+    let below : map (name_at f.names) c.args.moved.now ≡ b = c.requires.moved in
     let hosts_then : c.renew_tree.new.self.hosts ≡ hosts = c.in_ok-renew_tree.ensures.hosts in
     let hosts_now : c.renew.new.self.hosts ≡ hosts = c.in_ok-renew.ensures.hosts ∙ hosts_then in
     let first = c.in_ok-renew_tree.ensures.renewed p old done told r in
     let second : AreRenewed f hosts p old ((done ++ a) ++ b) ((told ++ filter p a) ++ filter p b) mid keys =
     subst (λ ys. AreRenewed f hosts p old ((done ++ a) ++ ys) ((told ++ filter p a) ++ filter p ys) mid keys) below
-    (subst (λ hs. AreRenewed f hs p old ((done ++ a) ++ map (name_at f.names) c.deref.result.now) ((told ++ filter p a) ++ filter p (map (name_at f.names) c.deref.result.now)) mid keys) hosts_then
+    (subst (λ hs. AreRenewed f hs p old ((done ++ a) ++ map (name_at f.names) c.args.moved.now) ((told ++ filter p a) ++ filter p (map (name_at f.names) c.args.moved.now)) mid keys) hosts_then
     (c.in_ok-renew.ensures.renewed p old (done ++ a) (told ++ filter p a)
     (subst (λ hs. AreRenewed f hs p old (done ++ a) (told ++ filter p a) c.renew_tree.new.self.table c.renew_tree.new.signals.items) (sym hosts_then) first))) in
     let both : AreRenewed f hosts p old (done ++ (a ++ b)) (told ++ filter p (a ++ b)) mid keys =

@@ -3,10 +3,10 @@ use Rattle.std.specs.Prelude.{nat_eq, if◌then◌else◌, OnOk}
 use Rattle.std.specs.Map.{lookup}
 use Rattle.std.proofs.lemmas.Bool.{eq-eqb}
 use Rattle.dom_model.specs.Names.{is_in}
-use Rattle.dom_slots.specs.Lists.{table_in}
+use Rattle.dom_slots.specs.Lists.{table_in, items_or}
 use Rattle.dom_slots.specs.Tables.{SlotTable, list_of}
 use Rattle.dom_slots.proofs.Mapping.{AreTaken, AreGiven, agree-inserted}
-use Rattle.dom_slots.proofs.Tables.{items_or, list-inserted}
+use Rattle.dom_slots.proofs.Tables.{list-inserted}
 use Rattle.dom_slots.proofs.table.Table.insert.Goals.{in-Some, in_default}
 use Rattle.dom_slots.proofs.table.Table.insert.Goals as goal
 

@@ -1,6 +1,7 @@
 use Rattle.std.proofs.Common.{ap, ◌∙◌}
+use Rattle.dom_slots.specs.Lists.{items_or}
 use Rattle.dom_slots.specs.Tables.{SlotTable, list_of}
-use Rattle.dom_slots.proofs.Tables.{items_or, list-found}
+use Rattle.dom_slots.proofs.Tables.{list-found}
 use Rattle.dom_slots.proofs.table.Table.list.Goals as goal
 
 pub returns-in-Some : goal.returns-in-Some

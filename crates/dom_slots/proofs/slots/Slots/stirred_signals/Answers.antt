@@ -4,8 +4,8 @@ use Rattle.dom_tree.specs.Forest.{name_at}
 use Rattle.dom_slots.specs.Insides.{own_slots, bare_around, MayMove, IsInside}
 use Rattle.dom_slots.specs.Kept.{SlotsNow}
 use Rattle.dom_slots.specs.Renewals.{AreRenewed}
-use Rattle.dom_slots.proofs.slots.Slots.inside_signals.Goals as goal
-use Rattle.dom_slots.proofs.slots.Slots.inside_signals.Goals.{in-Some+in_ok-add_bare+in_ok-renew_moved, in_default}
+use Rattle.dom_slots.proofs.slots.Slots.stirred_signals.Goals as goal
+use Rattle.dom_slots.proofs.slots.Slots.stirred_signals.Goals.{in-Some+in_ok-add_bare+in_ok-renew_moved, in_default}
 
 pub returns-clause-renewed : goal.returns-clause-renewed
 returns-clause-renewed c =

@@ -1,0 +1,12 @@
+-- Names without one.
+use Rattle.std.proofs.Common.{◌≡◌, inl, inr, not, List, [], ◌∷◌, refl, ap, ◌∙◌}
+use Rattle.std.specs.Prelude.{if◌then◌else◌}
+use Rattle.dom_base.specs.declared.NodeName.{NodeName}
+use Rattle.dom_traversal.proofs.Lists.{In, name_eq-other}
+use Rattle.dom_model.specs.Names.{name_eq}
+use Rattle.dom_slots.specs.Renewals.{names_but}
+
+-- without a name that is not there all are
+pub but-none : (x : NodeName) (ys : List NodeName) → (In x ys → ⊥) → names_but x ys ≡ ys
+but-none x [] off = refl
+but-none x (y ∷ ys) off = ap (λ d. if not d then y ∷ names_but x ys else names_but x ys) (name_eq-other x y (λ e. off (inl e))) ∙ ap (λ zs. y ∷ zs) (but-none x ys (λ i. off (inr i)))

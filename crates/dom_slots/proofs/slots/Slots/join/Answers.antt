@@ -1,0 +1,47 @@
+use Rattle.std.proofs.Common.{◌≡◌, ℕ, ◌++◌, true, not, Some, filter, sym, ap, subst, ◌∙◌}
+use Rattle.std.specs.Prelude.{nat_eq, if◌then◌else◌, option_to_list}
+use Rattle.std.specs.Option.{option_map}
+use Rattle.std.proofs.lemmas.Result.{on_ok_weaker}
+use Rattle.dom_model.specs.Names.{append_once, name_eq, first_of, items_after, list_eq}
+use Rattle.dom_model.specs.Tree.{node_in, siblings}
+use Rattle.dom_tree.specs.Forest.{name_at}
+use Rattle.dom_traversal.proofs.Counts.{Once-forest, Has-forest}
+use Rattle.node_arena.specs.Nodes.{insert_before}
+use Rattle.dom_slots.specs.Kept.{SlotsNow}
+use Rattle.dom_slots.specs.Renewals.{AreRenewed}
+use Rattle.dom_slots.specs.Shadows.{looks_for}
+use Rattle.dom_slots.specs.Tables.{SlotTable, list_of}
+use Rattle.dom_slots.proofs.Joining.{inserted-differs, joined, not-listed, joined-inside}
+use Rattle.dom_slots.proofs.Leaving.{at-slot}
+use Rattle.dom_slots.proofs.Renewing.{renewed-more}
+use Rattle.dom_slots.proofs.slots.Slots.join.Goals as goal
+
+pub returns-clause-renewed : goal.returns-clause-renewed
+returns-clause-renewed c =
+    λ p old done told right r.
+    let f = c.args.forest.now in
+    let e = c.nodes_stand_once.ensures in
+    let once = Once-forest f e.once e.only in
+    let s = c.args.self.now in
+    let k = c.in-Some.key in
+    let node = c.args.node in
+    let x = name_at f.names node in
+    let list = list_of s.table k in
+    let before = c.next_looking-before.result in
+    let new = insert_before list node before in
+    let keys = c.args.signals.now.items in
+    let tables : c.self.inside.table ≡ s.table = ap (λ (t : SlotsNow). t.table) c.self.view_is in
+    let under = c.is_of_parent.ensures c.if-not-is_of_parent.false in
+    let at = Has-forest f e.once node c.requires.node in
+    let own = sym c.requires.own ∙ ap (option_map (name_at f.names)) c.in-Some.is in
+    let is = c.next_looking-before.ensures.value ∙ ap (λ a. first_of (filter (λ z. looks_for a (node_in f.trees z)) (items_after name_eq x (siblings f.trees x)))) c.slot_name.ensures in
+    let names = joined f once e.distinct s.hosts node k under.0 at under.2 under.1 own list (r.nodes k) (right k c.in-Some.is) before c.next_looking-before.ensures.node is in
+    let within = joined-inside f once e.distinct s.hosts node k under.0 at under.2 under.1 own list (r.nodes k) (right k c.in-Some.is) before c.next_looking-before.ensures.node is c.requires.node in
+    let off = not-listed f once e.distinct s.hosts node k under.0 at under.2 under.1 own list (r.nodes k) (right k c.in-Some.is) before c.next_looking-before.ensures.node is in
+    let differs : true ≡ not (list_eq nat_eq list new) = inserted-differs node before list off in
+    let lists = λ (j : ℕ). c.in_ok-put.ensures j ∙ ap (λ (t : SlotTable). if nat_eq k j then insert_before (list_of t j) node before else list_of t j) tables in
+    on_ok_weaker c.add_once.result
+    (λ (told_is : c.add_once.new.signals.items ≡ append_once nat_eq keys k).
+    subst (λ o. AreRenewed f s.hosts p old (done ++ option_to_list (option_map (name_at f.names) o)) (told ++ filter p (option_to_list (option_map (name_at f.names) o))) c.put.new.self c.add_once.new.signals.items) (sym c.in-Some.is)
+    (renewed-more f e.distinct s.hosts p old done told s.table keys r k (c.requires.slot k c.in-Some.is) new names within c.put.new.self (at-slot (λ xs. insert_before xs node before) k s.table c.put.new.self lists) c.add_once.new.signals.items
+    (told_is ∙ ap (λ b. if b then append_once nat_eq keys k else keys) differs))) c.add_once.ensures

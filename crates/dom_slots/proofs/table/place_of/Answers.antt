@@ -1,0 +1,14 @@
+use Rattle.std.proofs.Common.{length, sym, ap, ◌∙◌}
+use Rattle.std.specs.Prelude.{nat_eq, unwrap_or}
+use Rattle.std.specs.List.{insert, position_or_len}
+use Rattle.node_arena.specs.Nodes.{insert_before}
+use Rattle.dom_slots.proofs.Places.{place-or-end, inserted-there}
+use Rattle.dom_slots.proofs.table.place_of.Goals as goal
+
+pub returns-in-Some-clause-place : goal.returns-in-Some-clause-place
+returns-in-Some-clause-place c =
+    λ node.
+    let xs = c.args.list.now in
+    let b = c.in-Some.key in
+    ap (λ i. insert xs i node) (c.unwrap_or.ensures ∙ (ap (λ o. unwrap_or o (length xs)) c.position_of.ensures ∙ place-or-end b xs))
+    ∙ (inserted-there b xs node ∙ ap (λ o. insert_before xs node o) (sym c.in-Some.is))

@@ -1,0 +1,119 @@
+//! Steps that move no slot: their node leaves the list of its old slot and joins that of its new one.
+ghost use Rattle.std.specs.Prelude.{◌≡◌, ℕ, ◌<◌, ◌++◌, [], true, Bool as Truth, List, Some, map, length, filter, option_to_list, OnOk, IfOk};
+ghost use Rattle.std.specs.Option.{option_map, ForSome};
+ghost use Rattle.dom_base.specs.declared.NodeName.{NodeName as Name};
+ghost use Rattle.dom_model.specs.Tree.{parent_of, root_of};
+ghost use Rattle.dom_tree.specs.Forest.{name_at};
+ghost use Rattle.node_arena.specs.Nodes.{without};
+ghost use Rattle.dom_slots.specs.Hosts.{HostsAreNodes, host_named};
+ghost use Rattle.dom_slots.specs.Insides.{own_slots};
+ghost use Rattle.dom_slots.specs.Renewals.{AreRenewed, IsButFor, names_but};
+ghost use Rattle.dom_slots.specs.Shadows.{shadows, slot_at, assigned_at};
+ghost use Rattle.dom_slots.specs.Steps.{StepHasNodes};
+ghost use Rattle.dom_slots.specs.Tables.{SlotTable, list_of};
+
+use super::Begun;
+use crate::Slots;
+use crate::changes::add_once;
+use crate::find::{next_looking, slot_name};
+use dom_tree::Forest;
+use node_arena::Key;
+use std::alloc::AllocError;
+
+impl Slots {
+    /// Renews the lists of the old and of the new slot of a step's node, where all other nodes in the lists of slots stay, and
+    /// gives those of the two whose lists were others. Where the two are one and the node is not moved, nothing is looked at.
+    pub(super) fn moved_signals(
+        &mut self,
+        forest: &Forest,
+        begun: Begun,
+    ) -> Result<Vec<Key>, AllocError>
+        requires hosts { HostsAreNodes forest.now.names self.old.hosts }
+        requires nodes { StepHasNodes forest.now.names begun.step }
+        requires slot { ForSome begun.slot (λ k. k < length forest.now.names) }
+        ensures hosts { IfOk result (λ keys. self.new.hosts ≡ self.old.hosts) }
+        ensures begun { IfOk result (λ keys. self.new.begun ≡ self.old.begun) }
+        ensures renewed { (p : Name → Truth) → IsButFor forest.now self.old.hosts self.old.table begun.slot begun.step → AreRenewed forest.now self.old.hosts p self.old.table [] [] self.old.table [] → IfOk result (λ keys. AreRenewed forest.now self.old.hosts p self.old.table (own_slots forest.now self.old.hosts begun.slot begun.step) (filter p (own_slots forest.now self.old.hosts begun.slot begun.step)) self.new.table keys.items) }
+    {
+        forest.nodes_stand_once();
+        let node = begun.step.node();
+        let slot = self.slot_now(forest, node);
+        if slot == begun.slot {
+            if begun.step.is_move() {
+                return self.own_signals(forest, begun);
+            }
+            return Ok(Vec::new(self.alloc));
+        }
+        let mut signals = Vec::new(self.alloc);
+        self.leave(forest, begun.slot, node, &mut signals)?;
+        self.join(forest, slot, node, &mut signals)?;
+        Ok(signals)
+    }
+
+    /// Takes a node out of the list of a slot, if there is one, and adds the slot to the signals where the node stood there.
+    fn leave(
+        &mut self,
+        forest: &Forest,
+        slot: Option<Key>,
+        node: Key,
+        signals: &mut Vec<Key>,
+    ) -> Result<(), AllocError>
+        requires node { node < length forest.now.names }
+        requires slot { ForSome slot (λ k. k < length forest.now.names) }
+        ensures hosts { OnOk result (self.new.hosts ≡ self.old.hosts) }
+        ensures begun { OnOk result (self.new.begun ≡ self.old.begun) }
+        ensures renewed { (p : Name → Truth) (old : SlotTable) (done told : List Name) → ((k : ℕ) → slot ≡ Some k → map (name_at forest.now.names) (without node (list_of self.old.table k)) ≡ assigned_at (shadows forest.now self.old.hosts) (name_at forest.now.names k)) → AreRenewed forest.now self.old.hosts p old done told self.old.table signals.old.items → OnOk result (AreRenewed forest.now self.old.hosts p old (done ++ option_to_list (option_map (name_at forest.now.names) slot)) (told ++ filter p (option_to_list (option_map (name_at forest.now.names) slot))) self.new.table signals.new.items) }
+    {
+        forest.nodes_stand_once();
+        let Some(key) = slot else {
+            return Ok(());
+        };
+        if !self.table.take_out(key, node) {
+            return Ok(());
+        }
+        add_once(signals, key)
+    }
+
+    /// Puts a node into the list of its slot, if it has one, just before the first sibling behind it that has this slot, and adds
+    /// the slot to the signals.
+    fn join(
+        &mut self,
+        forest: &Forest,
+        slot: Option<Key>,
+        node: Key,
+        signals: &mut Vec<Key>,
+    ) -> Result<(), AllocError>
+        requires hosts { HostsAreNodes forest.now.names self.old.hosts }
+        requires node { node < length forest.now.names }
+        requires slot { ForSome slot (λ k. k < length forest.now.names) }
+        requires own { option_map (name_at forest.now.names) slot ≡ slot_at (shadows forest.now self.old.hosts) (name_at forest.now.names node) }
+        ensures hosts { OnOk result (self.new.hosts ≡ self.old.hosts) }
+        ensures begun { OnOk result (self.new.begun ≡ self.old.begun) }
+        ensures renewed { (p : Name → Truth) (old : SlotTable) (done told : List Name) → ((k : ℕ) → slot ≡ Some k → map (name_at forest.now.names) (list_of self.old.table k) ≡ names_but (name_at forest.now.names node) (assigned_at (shadows forest.now self.old.hosts) (name_at forest.now.names k))) → AreRenewed forest.now self.old.hosts p old done told self.old.table signals.old.items → OnOk result (AreRenewed forest.now self.old.hosts p old (done ++ option_to_list (option_map (name_at forest.now.names) slot)) (told ++ filter p (option_to_list (option_map (name_at forest.now.names) slot))) self.new.table signals.new.items) }
+    {
+        forest.nodes_stand_once();
+        let Some(key) = slot else {
+            return Ok(());
+        };
+        if !self.is_of_parent(forest, key, node) {
+            return self.renew_slot(forest, key, signals);
+        }
+        let before = next_looking(forest, node, slot_name(forest, key));
+        self.table.put(self.alloc, key, node, before)?;
+        add_once(signals, key)
+    }
+
+    /// Whether a slot stands in the shadow tree of the parent of a node.
+    fn is_of_parent(&self, forest: &Forest, slot: Key, node: Key) -> bool
+        requires hosts { HostsAreNodes forest.now.names self.now.hosts }
+        requires slot { slot < length forest.now.names }
+        requires node { node < length forest.now.names }
+        ensures { result ≡ true → (h : Name) × (host_named forest.now.names self.now.hosts (root_of forest.now.trees (name_at forest.now.names slot)) ≡ Some h) × (parent_of forest.now.trees (name_at forest.now.names node) ≡ Some h) }
+    {
+        forest.nodes_stand_once();
+        match self.host_of(forest.root(slot)) {
+            Some(host) => forest.parent(node) == Some(host),
+            None => false,
+        }
+    }
+}
