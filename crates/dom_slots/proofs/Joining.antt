@@ -2,7 +2,7 @@
 use Rattle.std.proofs.Common.{◌≡◌, inl, inr, ℕ, ◌<◌, Bool, true, false, not, ◌&&◌, ◌||◌, List, [], ◌∷◌, ◌++◌, All, map, filter, length, Option, None, Some, refl, sym, ap, subst, ◌∙◌, true≢false}
 use Rattle.std.specs.Prelude.{nat_eq, drop, if◌then◌else◌, option_to_list}
 use Rattle.std.specs.Option.{option_map, option_map_or, option_eq, ForSome}
-use Rattle.std.proofs.lemmas.Bool.{eqb-true, eq-eqb, and_parts, or_left, false_from_ne_true}
+use Rattle.std.proofs.lemmas.Bool.{eqb-true, eq-eqb, and_parts, or_right, false_from_ne_true}
 use Rattle.std.proofs.lemmas.List.{map-append, append-nil}
 use Rattle.std.proofs.lemmas.List.Elements.{All-nil, All-cons, All-head, All-tail, All-append, filter-append}
 use Rattle.std.proofs.lemmas.Option.{same_Some, none-some}
@@ -23,7 +23,7 @@ use Rattle.dom_slots.proofs.Assigned.{names-in}
 use Rattle.dom_slots.proofs.Attaching.{in_filter}
 use Rattle.dom_slots.proofs.Firsts.{assigned-first}
 use Rattle.dom_slots.proofs.Hosted.{AreDistinct}
-use Rattle.dom_slots.proofs.Places.{in-inserted}
+use Rattle.dom_slots.proofs.Mapping.{in-inserted}
 use Rattle.dom_slots.proofs.Renewing.{same_keys}
 use Rattle.dom_slots.proofs.Shortened.{but-none}
 use Rattle.dom_slots.proofs.Siblings.{children-single, parent-stands, siblings-children}
@@ -87,7 +87,7 @@ module _ (names : List NodeName) (distinct : AreDistinct names) (n : ℕ) where
 pub inserted-differs : (n : ℕ) (before : Option ℕ) (xs : List ℕ) → is_in nat_eq n xs ≡ false → true ≡ not (list_eq nat_eq xs (insert_before xs n before))
 inserted-differs n before xs off =
     sym (ap not (false_from_ne_true (list_eq nat_eq xs (insert_before xs n before)) (λ same.
-    true≢false (sym (ap (is_in nat_eq n) (same_keys xs (insert_before xs n before) same) ∙ in-inserted xs n n before (or_left (nat_eq n n) _ (eq-eqb n n refl))) ∙ off))))
+    true≢false (sym (ap (is_in nat_eq n) (same_keys xs (insert_before xs n before) same) ∙ (in-inserted n n before xs ∙ or_right (is_in nat_eq n xs) (nat_eq n n) (eq-eqb n n refl))) ∙ off))))
 
 module _ (f : NamedTrees) (once : Once f.trees) (distinct : AreDistinct f.names) (hosts : List ShadowHost) (n k : ℕ) (h : NodeName)
     (at : Has f.trees (name_at f.names n)) (up : parent_of f.trees (name_at f.names n) ≡ Some h) (hosted : host_named f.names hosts (root_of f.trees (name_at f.names k)) ≡ Some h)

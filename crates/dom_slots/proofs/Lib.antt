@@ -34,3 +34,4 @@ pub mod Leaving
 pub mod Joining
 pub mod Parting
 pub mod Shortened
+pub mod Unlisted

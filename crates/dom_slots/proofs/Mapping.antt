@@ -1,93 +1,192 @@
--- The slots of nodes, by look-ups: nodes that are given a slot, and nodes from which it is taken, one after another.
-use Rattle.std.proofs.Common.{◌≡◌, ◌⊎◌, inl, inr, ℕ, ◌+◌, ◌<◌, true, false, cond, ◌||◌, List, [], ◌∷◌, ◌++◌, take, drop, length, get_or, Option, Some, None, sym, ap, ◌∙◌, true≢false}
-use Rattle.std.specs.Prelude.{nat_eq, Vec, if◌then◌else◌}
-use Rattle.std.specs.Map.{lookup}
-use Rattle.std.proofs.lemmas.Bool.{cases_Bool, eqb-true, eq-eqb, or_left, or_right, false_from_ne_true}
-use Rattle.std.proofs.lemmas.List.{take_more, take-append-drop}
+-- The members of lists after nodes were taken out of them and put into them, and the lists of slots beside the slots of nodes.
+use Rattle.std.proofs.Common.{◌≡◌, inl, inr, ℕ, ◌+◌, ◌<◌, Bool, true, false, not, ◌&&◌, ◌||◌, List, [], ◌∷◌, ◌++◌, take, length, get_or, Option, Some, None, refl, sym, ap, ◌∙◌, true≢false}
+use Rattle.std.specs.Prelude.{nat_eq, slice_get, if◌then◌else◌}
+use Rattle.std.proofs.lemmas.Bool.{cases_Bool, eqb-true, eq-eqb, false_from_ne_true}
+use Rattle.std.proofs.lemmas.List.{take_more}
 use Rattle.std.proofs.lemmas.List.Folds.{list_any-append}
 use Rattle.std.proofs.lemmas.Option.{same_Some, none-some}
+use Rattle.node_arena.specs.Nodes.{put_before, insert_before, without}
 use Rattle.dom_model.specs.Names.{is_in}
-use Rattle.dom_slots.specs.Lists.{table_in, items_or}
-use Rattle.dom_slots.specs.Tables.{list_of}
-use Rattle.dom_slots.proofs.Tables.{list-found, list-inserted}
 
--- whoever has a slot was given this one, as one of the nodes, or had it
-abbrev pub AreGiven : (ℕ → Option ℕ) → ℕ → List ℕ → (ℕ → Option ℕ) → Type 0
-AreGiven was slot nodes now = (k s : ℕ) → now k ≡ Some s → ((s ≡ slot) × (is_in nat_eq k nodes ≡ true)) ⊎ (was k ≡ Some s)
+-- ---- members
 
--- whoever has a slot had it, and none of the nodes has this one
-abbrev pub AreTaken : (ℕ → Option ℕ) → ℕ → List ℕ → (ℕ → Option ℕ) → Type 0
-AreTaken was slot nodes now = (k s : ℕ) → now k ≡ Some s → (was k ≡ Some s) × (s ≡ slot → is_in nat_eq k nodes ≡ false)
+pub nat_eq-turned : (j k : ℕ) → nat_eq j k ≡ nat_eq k j
+nat_eq-turned j k = elim (cases_Bool (nat_eq j k)) [
+  | inl e ↦ e ∙ sym (eq-eqb k j (sym (eqb-true j k e)))
+  | inr e ↦ e ∙ sym (false_from_ne_true (nat_eq k j) (λ i. true≢false (sym (eq-eqb j k (sym (eqb-true k j i))) ∙ e)))
+]
+
+-- the members of a list without a node
+in-without : (n k : ℕ) (xs : List ℕ) → is_in nat_eq k (without n xs) ≡ (is_in nat_eq k xs && not (nat_eq n k))
+in-without n k [] = refl
+in-without n k (x ∷ xs) = by (nat_eq x n) refl (nat_eq k x) refl (in-without n k xs)
+  where
+    gone : (b m : Bool) → (m && not b) ≡ ((b || m) && not b)
+    gone true true = refl
+    gone true false = refl
+    gone false m = refl
+
+    by : (d : Bool) → nat_eq x n ≡ d → (e : Bool) → nat_eq k x ≡ e → is_in nat_eq k (without n xs) ≡ (is_in nat_eq k xs && not (nat_eq n k))
+        → is_in nat_eq k (if not d then x ∷ without n xs else without n xs) ≡ ((e || is_in nat_eq k xs) && not (nat_eq n k))
+    by true here e is rest =
+        let same : nat_eq n k ≡ e = ap (λ j. nat_eq j k) (sym (eqb-true x n here)) ∙ (nat_eq-turned x k ∙ is) in
+        rest ∙ (ap (λ b. is_in nat_eq k xs && not b) same ∙ (gone e (is_in nat_eq k xs) ∙ ap (λ b. (e || is_in nat_eq k xs) && not b) (sym same)))
+    by false here true is rest =
+        ap (λ b. b || is_in nat_eq k (without n xs)) is
+        ∙ sym (ap not (ap (nat_eq n) (eqb-true k x is) ∙ (nat_eq-turned n x ∙ here)))
+    by false here false is rest = ap (λ b. b || is_in nat_eq k (without n xs)) is ∙ rest
+
+pub taken-member : (n k : ℕ) (d : Bool) (xs : List ℕ) → is_in nat_eq k (if d then without n xs else xs) ≡ (is_in nat_eq k xs && not (d && nat_eq n k))
+taken-member n k true xs = in-without n k xs
+taken-member n k false xs = sym (and_true (is_in nat_eq k xs))
+  where
+    and_true : (b : Bool) → (b && true) ≡ b
+    and_true true = refl
+    and_true false = refl
+
+or_last : (m d : Bool) → (m || (d || false)) ≡ (m || d)
+or_last true d = refl
+or_last false true = refl
+or_last false false = refl
+
+in-put : (n b k : ℕ) (xs : List ℕ) → is_in nat_eq k (put_before xs n b) ≡ (is_in nat_eq k xs || nat_eq n k)
+in-put n b k [] = or_last false (nat_eq k n) ∙ nat_eq-turned k n
+in-put n b k (x ∷ xs) = by (nat_eq x b) (in-put n b k xs)
+  where
+    turned : (d e m : Bool) → (d || (e || m)) ≡ ((e || m) || d)
+    turned true true m = refl
+    turned true false true = refl
+    turned true false false = refl
+    turned false true m = refl
+    turned false false true = refl
+    turned false false false = refl
+
+    along : (e m d : Bool) → (e || (m || d)) ≡ ((e || m) || d)
+    along true m d = refl
+    along false m d = refl
+
+    by : (c : Bool) → is_in nat_eq k (put_before xs n b) ≡ (is_in nat_eq k xs || nat_eq n k) → is_in nat_eq k (if c then n ∷ x ∷ xs else x ∷ put_before xs n b) ≡ ((nat_eq k x || is_in nat_eq k xs) || nat_eq n k)
+    by true rest = ap (λ d. d || (nat_eq k x || is_in nat_eq k xs)) (nat_eq-turned k n) ∙ turned (nat_eq n k) (nat_eq k x) (is_in nat_eq k xs)
+    by false rest = ap (λ m. nat_eq k x || m) rest ∙ along (nat_eq k x) (is_in nat_eq k xs) (nat_eq n k)
+
+-- the members of a list with a node more
+pub in-inserted : (n k : ℕ) (before : Option ℕ) (xs : List ℕ) → is_in nat_eq k (insert_before xs n before) ≡ (is_in nat_eq k xs || nat_eq n k)
+in-inserted n k (Some b) xs = in-put n b k xs
+in-inserted n k None xs = list_any-append (nat_eq k) xs (n ∷ []) ∙ (or_last (is_in nat_eq k xs) (nat_eq k n) ∙ ap (λ d. is_in nat_eq k xs || d) (nat_eq-turned k n))
+
+pub put-member : (n k : ℕ) (before : Option ℕ) (d : Bool) (xs : List ℕ) → is_in nat_eq k (if d then insert_before xs n before else xs) ≡ (is_in nat_eq k xs || (d && nat_eq n k))
+put-member n k before true xs = in-inserted n k before xs
+put-member n k before false xs = sym (or_false (is_in nat_eq k xs))
+  where
+    or_false : (b : Bool) → (b || false) ≡ b
+    or_false true = refl
+    or_false false = refl
+
+-- the first is a member, and of no first one there is none
+pub first-member : (xs : List ℕ) (k : ℕ) → slice_get xs 0 ≡ Some k → is_in nat_eq k xs ≡ true
+first-member [] k e = absurd (none-some k e)
+first-member (x ∷ xs) k e = ap (λ b. b || is_in nat_eq k xs) (eq-eqb k x (sym (same_Some x k e)))
+
+pub no-member : (xs : List ℕ) (k : ℕ) → slice_get xs 0 ≡ None → is_in nat_eq k xs ≡ false
+no-member [] k e = refl
+no-member (x ∷ xs) k e = absurd (none-some x (sym e))
+
+-- ---- both maps
+
+and_turned : (c d : Bool) → (c && d) ≡ (d && c)
+and_turned true true = refl
+and_turned true false = refl
+and_turned false true = refl
+and_turned false false = refl
+
+-- a node has just the slots in whose lists it stands
+abbrev pub Agree : (ℕ → List ℕ) → (ℕ → List ℕ) → Type 0
+Agree lists slots = (k s : ℕ) → is_in nat_eq s (slots k) ≡ is_in nat_eq k (lists s)
+
+module _ (slot n : ℕ) (lists new_lists slots new_slots : ℕ → List ℕ) (agree : Agree lists slots) where
+  pub agree-taken_out : ((k : ℕ) → new_lists k ≡ (if nat_eq slot k then without n (lists k) else lists k)) → ((k : ℕ) → new_slots k ≡ (if nat_eq n k then without slot (slots k) else slots k)) → Agree new_lists new_slots
+  agree-taken_out by_slot by_node k s =
+      ap (is_in nat_eq s) (by_node k)
+      ∙ (taken-member slot s (nat_eq n k) (slots k)
+      ∙ (ap (λ m. m && not (nat_eq n k && nat_eq slot s)) (agree k s)
+      ∙ (ap (λ b. is_in nat_eq k (lists s) && not b) (and_turned (nat_eq n k) (nat_eq slot s)) ∙ sym (ap (is_in nat_eq k) (by_slot s) ∙ taken-member n k (nat_eq slot s) (lists s)))))
+
+  pub agree-put : (before : Option ℕ) → ((k : ℕ) → new_lists k ≡ (if nat_eq slot k then insert_before (lists k) n before else lists k)) → ((k : ℕ) → new_slots k ≡ (if nat_eq n k then insert_before (slots k) slot None else slots k)) → Agree new_lists new_slots
+  agree-put before by_slot by_node k s =
+      ap (is_in nat_eq s) (by_node k)
+      ∙ (put-member slot s None (nat_eq n k) (slots k)
+      ∙ (ap (λ m. m || (nat_eq n k && nat_eq slot s)) (agree k s)
+      ∙ (ap (λ b. is_in nat_eq k (lists s) || b) (and_turned (nat_eq n k) (nat_eq slot s)) ∙ sym (ap (is_in nat_eq k) (by_slot s) ∙ put-member n k before (nat_eq slot s) (lists s)))))
+
+-- ---- one node after another
+
+-- this slot was taken from these nodes
+abbrev pub AreTaken : (ℕ → List ℕ) → ℕ → List ℕ → (ℕ → List ℕ) → Type 0
+AreTaken was slot nodes now = (k s : ℕ) → is_in nat_eq s (now k) ≡ (is_in nat_eq s (was k) && not (nat_eq slot s && is_in nat_eq k nodes))
+
+-- this slot was given to these nodes
+abbrev pub AreGiven : (ℕ → List ℕ) → ℕ → List ℕ → (ℕ → List ℕ) → Type 0
+AreGiven was slot nodes now = (k s : ℕ) → is_in nat_eq s (now k) ≡ (is_in nat_eq s (was k) || (nat_eq slot s && is_in nat_eq k nodes))
+
+-- from no nodes it is taken from none
+pub none_taken : (a d : Bool) → a ≡ (a && not (d && false))
+none_taken true true = refl
+none_taken true false = refl
+none_taken false d = refl
 
 -- members of the first items and one more
-in-more : (k : ℕ) (nodes : List ℕ) (i n : ℕ) → n ≡ get_or nodes i n → i < length nodes → is_in nat_eq k (take (i + 1) nodes) ≡ (is_in nat_eq k (take i nodes) || (nat_eq k n || false))
+in-more : (k : ℕ) (nodes : List ℕ) (i n : ℕ) → n ≡ get_or nodes i n → i < length nodes → is_in nat_eq k (take (i + 1) nodes) ≡ (is_in nat_eq k (take i nodes) || nat_eq n k)
 in-more k nodes i n at within =
-    ap (is_in nat_eq k) (take_more nodes i n within ∙ ap (λ j. take i nodes ++ j ∷ []) (sym at)) ∙ list_any-append (nat_eq k) (take i nodes) (n ∷ [])
+    ap (is_in nat_eq k) (take_more nodes i n within ∙ ap (λ j. take i nodes ++ j ∷ []) (sym at))
+    ∙ (list_any-append (nat_eq k) (take i nodes) (n ∷ []) ∙ (or_last (is_in nat_eq k (take i nodes)) (nat_eq k n) ∙ ap (λ d. is_in nat_eq k (take i nodes) || d) (nat_eq-turned k n)))
 
--- of the first items they are members of all
-in-all : (k : ℕ) (nodes : List ℕ) (i : ℕ) → is_in nat_eq k (take i nodes) ≡ true → is_in nat_eq k nodes ≡ true
-in-all k nodes i e =
-    sym (ap (is_in nat_eq k) (take-append-drop i nodes)) ∙ (list_any-append (nat_eq k) (take i nodes) (drop i nodes) ∙ or_left (is_in nat_eq k (take i nodes)) (is_in nat_eq k (drop i nodes)) e)
+module _ (was : ℕ → List ℕ) (slot : ℕ) (nodes : List ℕ) (i n : ℕ) (at : n ≡ get_or nodes i n) (within : i < length nodes) (now next : ℕ → List ℕ) where
+  pub taken-more : ((k : ℕ) → next k ≡ (if nat_eq n k then without slot (now k) else now k)) → AreTaken was slot (take i nodes) now → AreTaken was slot (take (i + 1) nodes) next
+  taken-more updated taken k s =
+      ap (is_in nat_eq s) (updated k)
+      ∙ (taken-member slot s (nat_eq n k) (now k)
+      ∙ (ap (λ m. m && not (nat_eq n k && nat_eq slot s)) (taken k s)
+      ∙ (both (is_in nat_eq s (was k)) (nat_eq slot s) (is_in nat_eq k (take i nodes)) (nat_eq n k) ∙ ap (λ m. is_in nat_eq s (was k) && not (nat_eq slot s && m)) (sym (in-more k nodes i n at within)))))
+    where
+      both : (a d m e : Bool) → ((a && not (d && m)) && not (e && d)) ≡ (a && not (d && (m || e)))
+      both false d m e = refl
+      both true false m true = refl
+      both true false m false = refl
+      both true true true e = refl
+      both true true false true = refl
+      both true true false false = refl
 
-module _ (was : ℕ → Option ℕ) (slot : ℕ) (nodes : List ℕ) (i : ℕ) where
-  -- all nodes are given it where the first ones are
-  pub given-all : (now : ℕ → Option ℕ) → AreGiven was slot (take i nodes) now → AreGiven was slot nodes now
-  given-all now given k s e = elim (given k s e) [ inl p ↦ inl (p.0, in-all k nodes i p.1) | inr p ↦ inr p ]
-
-  module _ (n : ℕ) (at : n ≡ get_or nodes i n) (within : i < length nodes) (now next : ℕ → Option ℕ) where
-    -- one node more is given it
-    pub given-more : ((k : ℕ) → next k ≡ cond (nat_eq n k) (Some slot) (now k)) → AreGiven was slot (take i nodes) now → AreGiven was slot (take (i + 1) nodes) next
-    given-more updated given k s e = elim (cases_Bool (nat_eq n k)) [
-      | inl same ↦ inl (
-        sym (same_Some slot s (sym (updated k ∙ ap (λ b. cond b (Some slot) (now k)) same) ∙ e)),
-        in-more k nodes i n at within ∙ or_right (is_in nat_eq k (take i nodes)) (nat_eq k n || false) (or_left (nat_eq k n) false (eq-eqb k n (sym (eqb-true n k same)))),
-      )
-      | inr other ↦ elim (given k s (sym (updated k ∙ ap (λ b. cond b (Some slot) (now k)) other) ∙ e)) [
-        | inl p ↦ inl (p.0, in-more k nodes i n at within ∙ or_left (is_in nat_eq k (take i nodes)) (nat_eq k n || false) p.1)
-        | inr p ↦ inr p
-      ]
-    ]
-
-    -- no member of the first items and not the next
-    absent-more : (k : ℕ) → is_in nat_eq k (take i nodes) ≡ false → (k ≡ n → ⊥) → is_in nat_eq k (take (i + 1) nodes) ≡ false
-    absent-more k e other =
-        in-more k nodes i n at within ∙ (ap (λ b. b || (nat_eq k n || false)) e ∙ ap (λ b. b || false) (false_from_ne_true (nat_eq k n) (λ same. other (eqb-true k n same))))
-
-    -- it is taken from one node more
-    pub taken-more : ((k : ℕ) → next k ≡ cond (nat_eq n k) None (now k)) → AreTaken was slot (take i nodes) now → AreTaken was slot (take (i + 1) nodes) next
-    taken-more updated taken k s e = elim (cases_Bool (nat_eq n k)) [
-      | inl same ↦ absurd (none-some s (sym (updated k ∙ ap (λ b. cond b None (now k)) same) ∙ e))
-      | inr other ↦
-          let left = taken k s (sym (updated k ∙ ap (λ b. cond b None (now k)) other) ∙ e) in (
-            left.0,
-            λ is. absent-more k (left.1 is) (λ same. true≢false (sym (eq-eqb n k (sym same)) ∙ other)),
-          )
-    ]
-
-    -- a node that has another slot keeps it
-    pub taken-passed : (now n ≡ Some slot → ⊥) → AreTaken was slot (take i nodes) now → AreTaken was slot (take (i + 1) nodes) now
-    taken-passed other taken k s e =
-        let left = taken k s e in (
-          left.0,
-          λ is. absent-more k (left.1 is) (λ same. other (sym (ap now same) ∙ (e ∙ ap Some is))),
-        )
+  pub given-more : ((k : ℕ) → next k ≡ (if nat_eq n k then insert_before (now k) slot None else now k)) → AreGiven was slot (take i nodes) now → AreGiven was slot (take (i + 1) nodes) next
+  given-more updated given k s =
+      ap (is_in nat_eq s) (updated k)
+      ∙ (put-member slot s None (nat_eq n k) (now k)
+      ∙ (ap (λ m. m || (nat_eq n k && nat_eq slot s)) (given k s)
+      ∙ (both (is_in nat_eq s (was k)) (nat_eq slot s) (is_in nat_eq k (take i nodes)) (nat_eq n k) ∙ ap (λ m. is_in nat_eq s (was k) || (nat_eq slot s && m)) (sym (in-more k nodes i n at within)))))
+    where
+      both : (a d m e : Bool) → ((a || (d && m)) || (e && d)) ≡ (a || (d && (m || e)))
+      both true d m e = refl
+      both false false m true = refl
+      both false false m false = refl
+      both false true true e = refl
+      both false true false true = refl
+      both false true false false = refl
 
 -- a slot is given another list: it is taken from the nodes of its old list, and given to those of the new one
-module _ {A : Type 0} (slot : ℕ) (v : Vec ℕ A) (es now : List (ℕ × Vec ℕ A)) (updated : (k : ℕ) → lookup (nat_eq k) now ≡ cond (nat_eq slot k) (Some v) (lookup (nat_eq k) es))
-    (gone : List ℕ) (is : items_or (lookup (nat_eq slot) es) ≡ gone) (was mid after : ℕ → Option ℕ) where
-  -- whoever has a slot still stands in its list
-  pub agree-inserted : ((k s : ℕ) → was k ≡ Some s → is_in nat_eq k (list_of (table_in es) s) ≡ true) → AreTaken was slot gone mid → AreGiven mid slot v.items after
-      → (k s : ℕ) → after k ≡ Some s → is_in nat_eq k (list_of (table_in now) s) ≡ true
-  agree-inserted agree taken given k s e = elim (given k s e) [
-    | inl p ↦
-        ap (is_in nat_eq k) (list-inserted slot v es now updated s ∙ ap (λ b. if b then v.items else list_of (table_in es) s) (eq-eqb slot s (sym p.0)))
-        ∙ p.1
-    | inr p ↦
-        let left = taken k s p in
-        let here : is_in nat_eq k (list_of (table_in es) s) ≡ true = agree k s left.0 in
-        let other : nat_eq slot s ≡ false =
-        false_from_ne_true (nat_eq slot s) (λ same.
-        let at : s ≡ slot = sym (eqb-true slot s same) in
-        true≢false (sym here ∙ (ap (λ t. is_in nat_eq k (list_of (table_in es) t)) at ∙ (ap (is_in nat_eq k) (sym (list-found slot es) ∙ is) ∙ left.1 at)))) in
-        ap (is_in nat_eq k) (list-inserted slot v es now updated s ∙ ap (λ b. if b then v.items else list_of (table_in es) s) other) ∙ here
-  ]
+pub agree-inserted : (slot : ℕ) (list : List ℕ) (lists new_lists slots mid after : ℕ → List ℕ) → Agree lists slots → ((k : ℕ) → new_lists k ≡ (if nat_eq slot k then list else lists k)) → AreTaken slots slot (lists slot) mid → AreGiven mid slot list after
+    → Agree new_lists after
+agree-inserted slot list lists new_lists slots mid after agree by_slot taken given k s =
+    given k s
+    ∙ (ap (λ m. m || (nat_eq slot s && is_in nat_eq k list)) (taken k s ∙ ap (λ m. m && not (nat_eq slot s && is_in nat_eq k (lists slot))) (agree k s))
+    ∙ (by (nat_eq slot s) refl ∙ sym (ap (is_in nat_eq k) (by_slot s))))
+  where
+    here : (m l : Bool) → ((m && not m) || l) ≡ l
+    here true l = refl
+    here false l = refl
+
+    there : (m : Bool) → ((m && true) || false) ≡ m
+    there true = refl
+    there false = refl
+
+    by : (d : Bool) → nat_eq slot s ≡ d → ((is_in nat_eq k (lists s) && not (d && is_in nat_eq k (lists slot))) || (d && is_in nat_eq k list)) ≡ is_in nat_eq k (if d then list else lists s)
+    by true e = ap (λ j. (is_in nat_eq k (lists s) && not (is_in nat_eq k (lists j))) || is_in nat_eq k list) (eqb-true slot s e) ∙ here (is_in nat_eq k (lists s)) (is_in nat_eq k list)
+    by false e = there (is_in nat_eq k (lists s))

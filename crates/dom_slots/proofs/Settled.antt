@@ -72,7 +72,7 @@ found-other q (n ∷ ns) y off = by (q n) (found-other q ns y (λ i. off (inr i)
     by true rest = is_in-not y (n.name ∷ []) (λ i. elim i [ inl e ↦ off (inl e) | inr j ↦ j ])
     by false rest = rest
 
-slot-outside : (ts : Trees) (n : Node) (y : NodeName) → (Has ts y → ⊥) → is_in name_eq y (option_to_list (slot_in ts n)) ≡ false
+pub slot-outside : (ts : Trees) (n : Node) (y : NodeName) → (Has ts y → ⊥) → is_in name_eq y (option_to_list (slot_in ts n)) ≡ false
 slot-outside ts n y off = by (slottable_name n)
   where
     by : (o : Option DomString) → is_in name_eq y (option_to_list (option_and_then (λ name. option_map (λ (m : Node). m.name) (find (has_slot_name name) (nodes ts))) o)) ≡ false

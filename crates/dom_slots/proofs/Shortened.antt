@@ -3,7 +3,6 @@ use Rattle.std.proofs.Common.{◌≡◌, inl, inr, not, List, [], ◌∷◌, ref
 use Rattle.std.specs.Prelude.{if◌then◌else◌}
 use Rattle.dom_base.specs.declared.NodeName.{NodeName}
 use Rattle.dom_traversal.proofs.Lists.{In, name_eq-other}
-use Rattle.dom_model.specs.Names.{name_eq}
 use Rattle.dom_slots.specs.Renewals.{names_but}
 
 -- without a name that is not there all are

@@ -1,6 +1,6 @@
 -- Tables as their maps hold them.
-use Rattle.std.proofs.Common.{◌≡◌, inl, inr, ℕ, Bool, true, false, cond, List, [], ◌∷◌, Option, Some, refl, sym, ap, ◌∙◌}
-use Rattle.std.specs.Prelude.{nat_eq, Vec, if◌then◌else◌}
+use Rattle.std.proofs.Common.{◌≡◌, inl, inr, ℕ, Bool, true, false, cond, List, [], ◌∷◌, Option, Some, Result, Ok, Err, refl, sym, ap, ◌∙◌, true≢false}
+use Rattle.std.specs.Prelude.{nat_eq, Vec, if◌then◌else◌, OnOk, is_err}
 use Rattle.std.specs.Map.{lookup}
 use Rattle.std.proofs.lemmas.Bool.{cases_Bool}
 use Rattle.dom_slots.specs.Tables.{list_of}
@@ -21,3 +21,14 @@ pub list-inserted : {A : Type 0} (slot : ℕ) (v : Vec ℕ A) (es now : List (�
     → (k : ℕ) → list_of (table_in now) k ≡ (if nat_eq slot k then v.items else list_of (table_in es) k)
 list-inserted slot v es now updated k =
     sym (list-found k now) ∙ (ap items_or (updated k) ∙ (items-chosen (nat_eq slot k) v (lookup (nat_eq k) es) ∙ ap (λ xs. if nat_eq slot k then v.items else xs) (list-found k es)))
+
+-- the lists by the entries, after that of one slot was changed
+pub changed-found : {A B : Type 0} (change : List ℕ → List ℕ) (slot : ℕ) (es : List (ℕ × Vec ℕ A)) (now : List (ℕ × Vec ℕ B))
+    → ((k : ℕ) → items_or (lookup (nat_eq k) now) ≡ (if nat_eq slot k then change (items_or (lookup (nat_eq k) es)) else items_or (lookup (nat_eq k) es)))
+    → (k : ℕ) → list_of (table_in now) k ≡ (if nat_eq slot k then change (list_of (table_in es) k) else list_of (table_in es) k)
+changed-found change slot es now lists k = sym (list-found k now) ∙ (lists k ∙ ap (λ xs. if nat_eq slot k then change xs else xs) (list-found k es))
+
+-- what holds on success holds where no error is told
+pub when-ok : {X E : Type 0} (r : Result X E) (P : Type 0) → is_err r ≡ false → OnOk r P → P
+when-ok (Ok x) P e p = p
+when-ok (Err x) P e p = absurd (true≢false e)

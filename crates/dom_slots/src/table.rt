@@ -1,5 +1,5 @@
-//! Which nodes are assigned to each slot, and the slot of each node that is assigned.
-ghost use Rattle.std.specs.Prelude.{◌≡◌, ◌⊎◌, ℕ, ◌≤◌, [], true, false, length, nat_eq, not, if◌then◌else◌, Some, OnOk, OnErr};
+//! Which nodes are assigned to each slot, and the slots of each node.
+ghost use Rattle.std.specs.Prelude.{◌≡◌, ℕ, ◌≤◌, ◌&&◌, ◌||◌, [], true, false, length, nat_eq, not, if◌then◌else◌, None, OnOk, OnErr};
 ghost use Rattle.std.specs.List.{insert as inserted, position};
 ghost use Rattle.std.specs.Option.{ForSome};
 ghost use Rattle.indexmap.specs.IndexMap.{get};
@@ -13,12 +13,12 @@ use node_arena::Key;
 use std::alloc::{AllocError, Global};
 use std::marker::Model;
 
-/// Lists of nodes by slots, and the slots of the nodes in these lists. A slot without a list has an empty one. A node that
-/// stands in two lists, as between two renewals, may be without its slot.
+/// Lists of nodes by slots, and the slots of each node in whose lists it stands: one as a rule, and two while a node's old list
+/// is still to be renewed. A slot without a list has an empty one, and so has a node; who had one keeps it, empty.
 #[derive(Drop)]
 pub(crate) struct Table {
     lists: IndexMap<Key, Vec<Key>>,
-    slots: IndexMap<Key, Key>,
+    slots: IndexMap<Key, Vec<Key>>,
 }
 
 impl Model for Table {
@@ -54,11 +54,15 @@ impl Table {
         }
     }
 
-    /// The slot in whose list a node stands, found by one look-up. There may be none though the node stands in lists.
+    /// A slot in whose list a node stands, found by one look-up; none where it stands in no list.
     pub(crate) fn slot(&self, node: Key) -> Option<Key>
-        ensures { ForSome result (λ slot. is_in nat_eq node (list_of self.now slot) ≡ true) }
+        ensures some { ForSome result (λ slot. is_in nat_eq node (list_of self.now slot) ≡ true) }
+        ensures none { result ≡ None → (slot : ℕ) → is_in nat_eq node (list_of self.now slot) ≡ false }
     {
-        self.slots.get(&node).copied()
+        match self.slots.get(&node) {
+            Some(slots) => slots.first().copied(),
+            None => None,
+        }
     }
 
     /// Whether the list of a slot is another one than these nodes.
@@ -68,17 +72,29 @@ impl Table {
         self.list(slot) != nodes
     }
 
-    /// Gives a slot its list.
-    pub(crate) fn insert(&mut self, slot: Key, list: Vec<Key>) -> Result<(), AllocError>
+    /// Gives a slot its list. Where memory is refused the table is given up, and has no lists, or it is as it was.
+    pub(crate) fn insert(
+        &mut self,
+        alloc: Global,
+        slot: Key,
+        list: Vec<Key>,
+    ) -> Result<(), AllocError>
         ensures { OnOk result ((k : ℕ) → list_of self.new k ≡ (if nat_eq slot k then list.items else list_of self.old k)) }
     {
-        if let Some(old) = self.lists.insert(slot, list)? {
-            forget(&mut self.slots, &old, slot);
+        if let Some(old) = self.lists.get(&slot) {
+            forget(&mut self.slots, old, slot);
         }
-        match self.lists.get(&slot) {
-            Some(list) => remember(&mut self.slots, list, slot),
-            None => Ok(()),
+        if remember(alloc, &mut self.slots, &list, slot).is_err() {
+            self.lists.clear();
+            self.slots.clear();
+            return Err(AllocError);
         }
+        if self.lists.insert(slot, list).is_err() {
+            self.lists.clear();
+            self.slots.clear();
+            return Err(AllocError);
+        }
+        Ok(())
     }
 
     /// Takes a node out of the list of a slot, and tells whether it stood there.
@@ -86,11 +102,12 @@ impl Table {
         ensures stood { result ≡ is_in nat_eq node (list_of self.old slot) }
         ensures lists { (k : ℕ) → list_of self.new k ≡ (if nat_eq slot k then without node (list_of self.old k) else list_of self.old k) }
     {
-        forget(&mut self.slots, &[node], slot);
+        let _ = take_from(&mut self.slots, node, slot);
         take_from(&mut self.lists, slot, node)
     }
 
-    /// Puts a node into the list of a slot, just before another one of its nodes or last.
+    /// Puts a node into the list of a slot, just before another one of its nodes or last. Where memory is refused the table is
+    /// given up, and has no lists, or it is as it was.
     pub(crate) fn put(
         &mut self,
         alloc: Global,
@@ -101,7 +118,11 @@ impl Table {
         ensures { OnOk result ((k : ℕ) → list_of self.new k ≡ (if nat_eq slot k then insert_before (list_of self.old k) node before else list_of self.old k)) }
     {
         put_into(alloc, &mut self.lists, slot, node, before)?;
-        let _ = self.slots.insert(node, slot)?;
+        if put_into(alloc, &mut self.slots, node, slot, None).is_err() {
+            self.lists.clear();
+            self.slots.clear();
+            return Err(AllocError);
+        }
         Ok(())
     }
 }
@@ -166,23 +187,26 @@ fn position_of(list: &[Key], node: Key) -> Option<usize>
     list.iter().position(|other| *other == node)
 }
 
-/// Takes this slot from those of these nodes that have it.
-fn forget(slots: &mut IndexMap<Key, Key>, nodes: &[Key], slot: Key)
-    ensures { (k s : ℕ) → get nat_eq slots.new k ≡ Some s → (get nat_eq slots.old k ≡ Some s) × (s ≡ slot → is_in nat_eq k nodes.now ≡ false) }
+/// Takes this slot from these nodes.
+fn forget(slots: &mut IndexMap<Key, Vec<Key>>, nodes: &[Key], slot: Key)
+    ensures { (k s : ℕ) → is_in nat_eq s (items_or (get nat_eq slots.new k)) ≡ (is_in nat_eq s (items_or (get nat_eq slots.old k)) && not (nat_eq slot s && is_in nat_eq k nodes.now)) }
 {
     for node in nodes {
-        if slots.get(node).copied() == Some(slot) {
-            let _ = slots.swap_remove(node);
-        }
+        let _ = take_from(slots, *node, slot);
     }
 }
 
 /// Gives these nodes this slot.
-fn remember(slots: &mut IndexMap<Key, Key>, nodes: &[Key], slot: Key) -> Result<(), AllocError>
-    ensures { (k s : ℕ) → get nat_eq slots.new k ≡ Some s → ((s ≡ slot) × (is_in nat_eq k nodes.now ≡ true)) ⊎ (get nat_eq slots.old k ≡ Some s) }
+fn remember(
+    alloc: Global,
+    slots: &mut IndexMap<Key, Vec<Key>>,
+    nodes: &[Key],
+    slot: Key,
+) -> Result<(), AllocError>
+    ensures { OnOk result ((k s : ℕ) → is_in nat_eq s (items_or (get nat_eq slots.new k)) ≡ (is_in nat_eq s (items_or (get nat_eq slots.old k)) || (nat_eq slot s && is_in nat_eq k nodes.now))) }
 {
     for node in nodes {
-        let _ = slots.insert(*node, slot)?;
+        put_into(alloc, slots, *node, slot, None)?;
     }
     Ok(())
 }

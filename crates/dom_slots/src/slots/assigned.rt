@@ -1,10 +1,12 @@
 //! The slot of a node, and the nodes assigned to a slot.
-ghost use Rattle.std.specs.Prelude.{◌≡◌, ◌<◌, None, map, length, IfOk, All};
+ghost use Rattle.std.specs.Prelude.{◌≡◌, ℕ, ◌<◌, false, nat_eq, None, map, length, IfOk, All};
 ghost use Rattle.std.specs.Option.{option_map, ForSome};
+ghost use Rattle.dom_model.specs.Names.{is_in};
 ghost use Rattle.dom_tree.specs.Forest.{name_at};
 ghost use Rattle.dom_slots.specs.Hosts.{HostsAreNodes};
 ghost use Rattle.dom_slots.specs.Kept.{AreSlotsOf};
 ghost use Rattle.dom_slots.specs.Shadows.{shadows, slot_at, is_first_at, assigned_at, assigned_under};
+ghost use Rattle.dom_slots.specs.Tables.{list_of};
 
 use crate::Slots;
 use crate::find::{looks_for, slot_name, slot_named, slottable_name};
@@ -14,8 +16,7 @@ use std::alloc::AllocError;
 
 impl Slots {
     /// The slot to which a node is assigned: the first one of its name in the shadow tree of its parent (DOM Standard,
-    /// concept: find a slot). It is found by one look-up; only of a child of a host that has no slot the shadow tree is
-    /// walked. Takes no memory.
+    /// concept: find a slot). It is found by one look-up; of a node that has none three more tell that. Takes no memory.
     pub fn slot_of(&self, forest: &Forest, node: Key) -> Option<Key>
         requires node_is_node { node < length forest.now.names }
         requires free { self.now.begun ≡ None }
@@ -25,8 +26,26 @@ impl Slots {
     {
         match self.table.slot(node) {
             Some(slot) => Some(slot),
-            None => self.slot_now(forest, node),
+            None => self.slot_unlisted(forest, node),
         }
+    }
+
+    /// The slot of a node that stands in no list: none, where its parent is no host, or is the host of a tree of its own. Of a
+    /// host whose shadow root is no root, or that of another host too, the shadow tree is walked; nobody makes such ones.
+    fn slot_unlisted(&self, forest: &Forest, node: Key) -> Option<Key>
+        requires node_is_node { node < length forest.now.names }
+        requires slots { AreSlotsOf forest.now self.now }
+        requires unlisted { (slot : ℕ) → is_in nat_eq node (list_of self.now.table slot) ≡ false }
+        ensures value { option_map (name_at forest.now.names) result ≡ slot_at (shadows forest.now self.now.hosts) (name_at forest.now.names node) }
+        ensures node { ForSome result (λ k. k < length forest.now.names) }
+    {
+        forest.nodes_stand_once();
+        let parent = forest.parent(node)?;
+        let root = self.root_of(parent)?;
+        if forest.parent(root).is_none() && self.host_of(root) == Some(parent) {
+            return None;
+        }
+        self.slot_now(forest, node)
     }
 
     /// The nodes assigned to a slot, in the order of their host's children; none to a node outside of shadow trees (DOM

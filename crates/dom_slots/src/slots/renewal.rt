@@ -48,7 +48,7 @@ impl Slots {
         forest.nodes_stand_once();
         let list = self.assigned_now(forest, slot)?;
         if self.table.has_other(slot, &list) {
-            self.table.insert(slot, list)?;
+            self.table.insert(self.alloc, slot, list)?;
             add_once(signals, slot)?;
         }
         Ok(())

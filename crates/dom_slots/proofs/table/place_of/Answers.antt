@@ -1,6 +1,6 @@
 use Rattle.std.proofs.Common.{length, sym, ap, ◌∙◌}
-use Rattle.std.specs.Prelude.{nat_eq, unwrap_or}
-use Rattle.std.specs.List.{insert, position_or_len}
+use Rattle.std.specs.Prelude.{unwrap_or}
+use Rattle.std.specs.List.{insert}
 use Rattle.node_arena.specs.Nodes.{insert_before}
 use Rattle.dom_slots.proofs.Places.{place-or-end, inserted-there}
 use Rattle.dom_slots.proofs.table.place_of.Goals as goal

@@ -1,4 +1,4 @@
-use Rattle.std.proofs.Common.{◌≡◌, ℕ, not, ◌==◌, Some, refl, sym, ap, subst, ◌∙◌, rules}
+use Rattle.std.proofs.Common.{not, ◌==◌, refl, ap, subst, ◌∙◌, rules}
 use Rattle.std.specs.Prelude.{nat_eq, IsSome}
 use Rattle.std.proofs.lemmas.Fn.{filter_same}
 use Rattle.indexmap.specs.IndexMap.{get}

@@ -1,9 +1,6 @@
-use Rattle.std.proofs.Common.{◌≡◌, true, Option, None, Some, sym, ap, ◌∙◌, true≢false}
-use Rattle.std.specs.Option.{option_map, option_eq}
-use Rattle.std.proofs.lemmas.Bool.{eqb-true}
-use Rattle.dom_model.specs.Tree.{parent_of, root_of}
+use Rattle.std.proofs.Common.{Some, sym, ap, ◌∙◌}
+use Rattle.std.specs.Option.{option_map}
 use Rattle.dom_tree.specs.Forest.{name_at}
-use Rattle.node_arena.specs.contracts.key.KeyPartialEq.TheImpl as KeyImpl
 use Rattle.dom_slots.specs.Hosts.{host_named}
 use Rattle.dom_slots.proofs.Hosted.{host-named}
 use Rattle.dom_slots.proofs.Joining.{same-option}

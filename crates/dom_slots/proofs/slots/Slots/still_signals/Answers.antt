@@ -1,4 +1,4 @@
-use Rattle.std.proofs.Common.{◌≡◌, inl, ◌++◌, filter, sym, ap, subst, ◌∙◌}
+use Rattle.std.proofs.Common.{inl, ◌++◌, filter, sym, ap, subst, ◌∙◌}
 use Rattle.std.proofs.lemmas.Option.{same_Some, none-some}
 use Rattle.dom_tree.specs.Forest.{name_at}
 use Rattle.dom_slots.specs.Insides.{own_slots, bare_around, MovesNone, MayMove, IsInside}

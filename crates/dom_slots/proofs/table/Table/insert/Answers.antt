@@ -1,59 +1,60 @@
-use Rattle.std.proofs.Common.{◌≡◌, ℕ, [], true, cond, List, Option, Some, Result, Ok, Err, refl, sym, ap, subst, ◌∙◌}
-use Rattle.std.specs.Prelude.{nat_eq, if◌then◌else◌, OnOk}
+use Rattle.std.proofs.Common.{◌≡◌, ℕ, [], not, ◌&&◌, ◌||◌, sym, ap, subst, ◌∙◌}
+use Rattle.std.specs.Prelude.{nat_eq, if◌then◌else◌}
 use Rattle.std.specs.Map.{lookup}
-use Rattle.std.proofs.lemmas.Bool.{eq-eqb}
 use Rattle.dom_model.specs.Names.{is_in}
 use Rattle.dom_slots.specs.Lists.{table_in, items_or}
 use Rattle.dom_slots.specs.Tables.{SlotTable, list_of}
-use Rattle.dom_slots.proofs.Mapping.{AreTaken, AreGiven, agree-inserted}
-use Rattle.dom_slots.proofs.Tables.{list-inserted}
-use Rattle.dom_slots.proofs.table.Table.insert.Goals.{in-Some, in_default}
+use Rattle.dom_slots.proofs.Mapping.{AreTaken, AreGiven, agree-inserted, none_taken}
+use Rattle.dom_slots.proofs.Tables.{list-found, list-inserted, when-ok}
+use Rattle.dom_slots.proofs.table.Table.insert.Goals.{Else-is_err-2, in-Some, in_default}
 use Rattle.dom_slots.proofs.table.Table.insert.Goals as goal
 
-pub invariant_of-self-in-Some-get : goal.invariant_of-self-in-Some-get
-invariant_of-self-in-Some-get c =
-    let slot = c.args.slot in
-    let es = c.self.inside.lists.entries in
-    let now = c.insert.new.self.entries in
-    let was : ℕ → Option ℕ = λ k. lookup (nat_eq k) c.self.inside.slots.entries in
-    let mid : ℕ → Option ℕ = λ k. lookup (nat_eq k) c.match-branch-2.self-inside.slots.entries in
-    let after : ℕ → Option ℕ = λ k. lookup (nat_eq k) c.remember.new.slots.entries in
-    let updated = c.in_ok-old.ensures.updates.0 in
-    let lists : c.match-branch-2.self-inside.lists.entries ≡ now = elim c.match-branch-2.branch [
-      | in-Some w ↦ ap (λ t. t.lists.entries) w.self-inside-is
-      | in_default w ↦ ap (λ t. t.lists.entries) w.self-inside-is
-    ] in
-    let taken : (gone : List ℕ) × (items_or (lookup (nat_eq slot) es) ≡ gone) × AreTaken was slot gone mid = elim c.match-branch-2.branch [
-      | in-Some w ↦ (
-        w.deref.result.now,
-        ap items_or (sym c.in_ok-old.ensures.old ∙ w.in-Some.is) ∙ sym w.deref.ensures.value,
-        subst (λ t. AreTaken was slot w.deref.result.now (λ k. lookup (nat_eq k) t.slots.entries)) (sym w.self-inside-is) w.forget.ensures,
-      )
-      | in_default w ↦ (
-        [],
-        ap items_or (sym c.in_ok-old.ensures.old ∙ w.in_default.is),
-        subst (λ t. AreTaken was slot [] (λ k. lookup (nat_eq k) t.slots.entries)) (sym w.self-inside-is) (λ k s e. (e, λ _. refl)),
-      )
-    ] in
-    let items : c.deref-in-Some-get.result.now ≡ c.args.list.items =
-    c.deref-in-Some-get.ensures.value
-    ∙ ap items_or (c.in-Some-get.ensures.value ∙ (ap (lookup (nat_eq slot)) lists ∙ (updated slot ∙ ap (λ b. cond b (Some c.args.list) (lookup (nat_eq slot) es)) (eq-eqb slot slot refl)))) in
-    subst (λ ls. (k s : ℕ) → after k ≡ Some s → is_in nat_eq k (list_of (table_in ls) s) ≡ true) (sym lists)
-    (agree-inserted slot c.args.list es now updated taken.0 taken.1 was mid after c.self.invariant taken.2 (subst (λ xs. AreGiven mid slot xs after) items c.remember.ensures))
+module _ (c : Else-is_err-2) where
+  -- the lists are still those that they were
+  same : c.match-get.self-inside.lists.entries ≡ c.self.inside.lists.entries
+  same = elim c.match-get.branch [
+    | in-Some w ↦ ap (λ t. t.lists.entries) w.self-inside-is
+    | in_default w ↦ ap (λ t. t.lists.entries) w.self-inside-is
+  ]
 
--- a fact holds also where it is asked for after success alone
-on-ok : {X E : Type 0} (r : Result X E) (P : Type 0) → P → OnOk r P
-on-ok (Ok x) P p = p
-on-ok (Err e) P p = tt
+  -- with the one that is given
+  lists : (k : ℕ) → list_of (table_in c.insert.new.self.entries) k ≡ (if nat_eq c.args.slot k then c.args.list.items else list_of (table_in c.self.inside.lists.entries) k)
+  lists k =
+      list-inserted c.args.slot c.args.list c.match-get.self-inside.lists.entries c.insert.new.self.entries (when-ok c.insert.result _ (sym c.is_err-2.ensures.value ∙ c.if-is_err-2.false) c.insert.ensures.updates).0 k
+      ∙ ap (λ es. if nat_eq c.args.slot k then c.args.list.items else list_of (table_in es) k) same
 
-pub returns-in-Some-get : goal.returns-in-Some-get
-returns-in-Some-get c =
-    let lists : c.match-branch-2.self-inside.lists.entries ≡ c.insert.new.self.entries = elim c.match-branch-2.branch [
-      | in-Some w ↦ ap (λ t. t.lists.entries) w.self-inside-is
-      | in_default w ↦ ap (λ t. t.lists.entries) w.self-inside-is
-    ] in
-    on-ok c.remember.result _
-    (λ k.
-    ap (λ es. list_of (table_in es) k) lists
-    ∙ (list-inserted c.args.slot c.args.list c.self.inside.lists.entries c.insert.new.self.entries c.in_ok-old.ensures.updates.0 k
-    ∙ ap (λ (t : SlotTable). if nat_eq c.args.slot k then c.args.list.items else list_of t k) c.self.view_is))
+  -- the slot was taken from the nodes of the old one
+  taken : AreTaken (list_of (table_in c.self.inside.slots.entries)) c.args.slot (list_of (table_in c.self.inside.lists.entries) c.args.slot) (list_of (table_in c.match-get.self-inside.slots.entries))
+  taken = elim c.match-get.branch [
+    | in-Some w ↦
+        let old : w.deref.result.now ≡ list_of (table_in c.self.inside.lists.entries) c.args.slot = w.deref.ensures.value ∙ (ap items_or w.in-Some.ensures.value ∙ list-found c.args.slot c.self.inside.lists.entries) in
+        let told : AreTaken (λ k. items_or (lookup (nat_eq k) c.self.inside.slots.entries)) c.args.slot (list_of (table_in c.self.inside.lists.entries) c.args.slot) (λ k. items_or (lookup (nat_eq k) c.match-get.self-inside.slots.entries)) =
+        subst (λ t. AreTaken (λ k. items_or (lookup (nat_eq k) c.self.inside.slots.entries)) c.args.slot (list_of (table_in c.self.inside.lists.entries) c.args.slot) (λ k. items_or (lookup (nat_eq k) t.slots.entries))) (sym w.self-inside-is)
+        (subst (λ xs. AreTaken (λ k. items_or (lookup (nat_eq k) c.self.inside.slots.entries)) c.args.slot xs (λ k. items_or (lookup (nat_eq k) w.forget.new.slots.entries))) old w.forget.ensures) in
+        λ k s.
+        ap (is_in nat_eq s) (sym (list-found k c.match-get.self-inside.slots.entries))
+        ∙ (told k s ∙ ap (λ xs. is_in nat_eq s xs && not (nat_eq c.args.slot s && is_in nat_eq k (list_of (table_in c.self.inside.lists.entries) c.args.slot))) (list-found k c.self.inside.slots.entries))
+    | in_default w ↦
+        let old : list_of (table_in c.self.inside.lists.entries) c.args.slot ≡ [] = sym (list-found c.args.slot c.self.inside.lists.entries) ∙ sym (ap items_or w.in_default.ensures.value) in
+        λ k s.
+        ap (λ t. is_in nat_eq s (list_of (table_in t.slots.entries) k)) w.self-inside-is
+        ∙ (none_taken (is_in nat_eq s (list_of (table_in c.self.inside.slots.entries) k)) (nat_eq c.args.slot s)
+        ∙ ap (λ xs. is_in nat_eq s (list_of (table_in c.self.inside.slots.entries) k) && not (nat_eq c.args.slot s && is_in nat_eq k xs)) (sym old))
+  ]
+
+  -- and given to those of the new one
+  given : AreGiven (list_of (table_in c.match-get.self-inside.slots.entries)) c.args.slot c.args.list.items (list_of (table_in c.remember.new.slots.entries))
+  given k s =
+      let told = when-ok c.remember.result _ (sym c.is_err.ensures.value ∙ c.if-is_err.false) c.remember.ensures in
+      ap (is_in nat_eq s) (sym (list-found k c.remember.new.slots.entries))
+      ∙ (told k s
+      ∙ (ap (λ xs. is_in nat_eq s xs || (nat_eq c.args.slot s && is_in nat_eq k c.deref-2.result.now)) (list-found k c.match-get.self-inside.slots.entries)
+      ∙ ap (λ xs. is_in nat_eq s (list_of (table_in c.match-get.self-inside.slots.entries) k) || (nat_eq c.args.slot s && is_in nat_eq k xs)) c.deref-2.ensures.value))
+
+pub invariant_of-self-else-is_err-2 : goal.invariant_of-self-else-is_err-2
+invariant_of-self-else-is_err-2 c =
+    agree-inserted c.args.slot c.args.list.items (list_of (table_in c.self.inside.lists.entries)) (list_of (table_in c.insert.new.self.entries)) (list_of (table_in c.self.inside.slots.entries)) (list_of (table_in c.match-get.self-inside.slots.entries))
+    (list_of (table_in c.remember.new.slots.entries)) c.self.invariant (lists c) (taken c) (given c)
+
+pub returns : goal.returns
+returns c = λ k. lists c k ∙ ap (λ (t : SlotTable). if nat_eq c.args.slot k then c.args.list.items else list_of t k) c.self.view_is
