@@ -22,7 +22,7 @@ use std::alloc::AllocError;
 
 impl Slots {
     /// Renews the lists of the old and of the new slot of a step's node, where all other nodes in the lists of slots stay, and
-    /// gives those of the two whose lists were others. Where the two are one and the node is not moved, nothing is looked at.
+    /// gives those of the two whose lists were others. Where the two are one and the node is not moved, no list is looked at.
     pub(super) fn moved_signals(
         &mut self,
         forest: &Forest,
