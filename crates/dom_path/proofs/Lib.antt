@@ -1,4 +1,9 @@
+pub mod Nesting
+pub mod Goings
 pub mod Places
+pub mod Steps
+pub mod Viewed
 pub mod Tracks
 pub mod Sightings
 pub mod Shows
+pub mod InWorlds

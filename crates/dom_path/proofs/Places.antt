@@ -1,140 +1,205 @@
--- The places of nodes by keys are their places by names.
-use Rattle.std.proofs.Common.{◌≡◌, ℕ, ◌<◌, Bool, true, false, not, ◌&&◌, ◌||◌, List, [], ◌∷◌, length, Option, Some, None, refl, sym, ap, ◌∙◌}
-use Rattle.std.specs.Prelude.{nat_eq, option_map, option_to_list, unwrap_or, if◌then◌else◌}
-use Rattle.std.specs.Option.{ForSome, option_or}
+-- The trees on an event's way by keys, and what is seen from them, are those by names.
+use Rattle.std.proofs.Common.{◌≡◌, ℕ, zero, suc, ◌<◌, Bool, true, false, not, ◌&&◌, ◌||◌, List, [], ◌∷◌, length, map, find, flat_map, Option, Some, None, refl, sym, ap, subst, ◌∙◌, arith, append-nil}
+use Rattle.std.specs.Prelude.{nat_eq, option_map, option_to_list, unwrap_or, slice_get, is_some, if◌then◌else◌}
+use Rattle.std.specs.List.{AllByRecursion}
+use Rattle.std.specs.Option.{option_map_or}
+use Rattle.std.proofs.lemmas.Bool.{cond-true, cond-false}
 use Rattle.dom_base.specs.declared.NodeName.{NodeName}
-use Rattle.dom_model.specs.Names.{name_eq, is_in, last_of}
-use Rattle.dom_model.specs.Tree.{Trees, inclusive_ancestors, parent_of, root_of}
-use Rattle.dom_isolation.specs.Sights.{seen_as}
+use Rattle.dom_model.specs.Names.{name_eq, is_in}
+use Rattle.dom_model.specs.Tree.{root_of}
 use Rattle.dom_tree.specs.Forest.{NamedTrees, name_at}
-use Rattle.dom_traversal.proofs.Shapes.{Has, Once, above-parent, above-present}
-use Rattle.dom_slots.specs.Hosts.{ShadowHost, HostsAreNodes, host_of_root, host_named}
-use Rattle.dom_slots.specs.Shadows.{shadows, slot_at}
-use Rattle.dom_slots.proofs.Hosted.{AreDistinct, key-test, host-named, found-test}
-use Rattle.dom_path.specs.declared.stand.Stand.{Stand}
-use Rattle.dom_path.specs.Stands.{IsStand, seen_from, related_from, is_key, ends_before, is_silent}
-use Rattle.dom_path.specs.Ways.{host_above_at, shares_tree_at, seen_at, related_at, event_parent_at, ends_at, is_empty_at}
+use Rattle.dom_slots.specs.Hosts.{ShadowHost, host_named}
+use Rattle.dom_slots.specs.Shadows.{ShadowTrees, shadows}
+use Rattle.dom_slots.proofs.Hosted.{AreDistinct, key-test, is_some-named}
+use Rattle.dom_path.specs.declared.trees.Tree.{Tree}
+use Rattle.dom_path.specs.Hosted.{IsHosted}
+use Rattle.dom_path.specs.Nests.{AreNested, roots_up, roots_around, hiding_host, outer_of, seen_up, seen_from}
+use Rattle.dom_path.specs.Stands.{IsTreeOf, AreTrees}
+use Rattle.dom_path.specs.Ways.{EndsWithin, chain_at, host_above_at, is_hidden_at, seen_at}
+use Rattle.dom_path.proofs.Nesting.{hides, hiding-is, outer-is, outer-below}
 
--- a node's parent has its root
-pub root-parent : (ts : Trees) (x p : NodeName) → Once ts → Has ts x → parent_of ts x ≡ Some p → root_of ts p ≡ root_of ts x
-root-parent ts x p once has up =
-    let above = above-parent ts x p once has up in
-    let path = above-present ts p above.1 in
-    from path.0 path.1 above.0
-  where
-    from : (rest : List NodeName) → inclusive_ancestors ts p ≡ p ∷ rest → inclusive_ancestors ts x ≡ x ∷ inclusive_ancestors ts p → root_of ts p ≡ root_of ts x
-    from rest e g =
-        ap (λ path. unwrap_or (last_of path) p) e
-        ∙ sym (ap (λ path. unwrap_or (last_of path) x) (g ∙ ap (λ path. x ∷ path) e) ∙ last_any rest p)
-      where
-        last_any : (rest : List NodeName) (y : NodeName) → unwrap_or (last_of (y ∷ rest)) x ≡ unwrap_or (last_of (y ∷ rest)) p
-        last_any [] y = refl
-        last_any (z ∷ rest) y = last_any rest z
+-- ---- the chain of hosts of a node
 
--- what is seen of a node, by its key and by its name
-seen-cases : (names : List NodeName) (host : Option ℕ) (node : ℕ) (same : Bool) → name_at names (if same then node else unwrap_or host node) ≡ seen_as (option_map (name_at names) host) (name_at names node) same
-seen-cases names None node true = refl
-seen-cases names None node false = refl
-seen-cases names (Some host) node true = refl
-seen-cases names (Some host) node false = refl
+module _ (s : ShadowTrees) where
+  -- a node in no shadow tree is alone
+  pub chain-alone : (depth : ℕ) (x : NodeName) → host_above_at s x ≡ None → chain_at s depth x ≡ x ∷ []
+  chain-alone zero x e = refl
+  chain-alone (suc depth) x e = ap (λ o. x ∷ flat_map (chain_at s depth) (option_to_list o)) e
 
--- and it is a node
-seen-within : (names : List NodeName) (host : Option ℕ) (node : ℕ) (same : Bool) → node < length names → ForSome host (λ k. k < length names) → (if same then node else unwrap_or host node) < length names
-seen-within names host node true h g = h
-seen-within names None node false h g = h
-seen-within names (Some host) node false h g = g host refl
+  -- any other one stands before the chain of its host
+  pub chain-host : (depth : ℕ) (x host : NodeName) → host_above_at s x ≡ Some host → chain_at s (suc depth) x ≡ x ∷ chain_at s depth host
+  chain-host depth x host e =
+      ap (λ o. x ∷ flat_map (chain_at s depth) (option_to_list o)) e ∙ ap (λ ys. x ∷ ys) (append-nil (chain_at s depth host))
 
-module _ (f : NamedTrees) (hosts : List ShadowHost) (distinct : AreDistinct f.names) where
+  -- the node is the first
+  pub chain-first : (depth : ℕ) (x : NodeName) → (rest : List NodeName) × (chain_at s depth x ≡ x ∷ rest)
+  chain-first zero x = ([], refl)
+  chain-first (suc depth) x = (flat_map (chain_at s depth) (option_to_list (host_above_at s x)), refl)
+
+-- the test of a key among others is that of its name
+in-named : (names : List NodeName) → AreDistinct names → (k : ℕ) (ks : List ℕ) → k < length names → AllByRecursion (λ j. j < length names) ks
+    → is_in nat_eq k ks ≡ is_in name_eq (name_at names k) (map (name_at names) ks)
+in-named names distinct k [] h g = refl
+in-named names distinct k (j ∷ ks) h g = λ i. key-test names distinct k j h g.0 i || in-named names distinct k ks h g.1 i
+
+-- a host, unless the tree is around the viewer
+pick : (o : Option NodeName) (b : Bool) → (if b then None else o) ≡ (if is_some o && not b then o else None)
+pick None true = refl
+pick None false = refl
+pick (Some x) true = refl
+pick (Some x) false = refl
+
+picked : (o : Option NodeName) (b : Bool) → is_some (if b then None else o) ≡ (is_some o && not b)
+picked None true = refl
+picked None false = refl
+picked (Some x) true = refl
+picked (Some x) false = refl
+
+pick-named : (names : List NodeName) (o : Option ℕ) (b : Bool) → option_map (name_at names) (if b then None else o) ≡ (if b then None else option_map (name_at names) o)
+pick-named names o true = refl
+pick-named names o false = refl
+
+-- ---- nodes
+
+module _ (f : NamedTrees) (hosts : List ShadowHost) (trees : List Tree) (are : AreTrees f hosts trees) where
+  -- the roots around a tree are nodes
+  roots-nodes : (n place : ℕ) → AllByRecursion (λ k. k < length f.names) (roots_up trees n place)
+  roots-nodes zero place = tt
+  roots-nodes (suc n) place = from (roots-nodes n) (slice_get trees place) refl
+    where
+      from : ((outer : ℕ) → AllByRecursion (λ k. k < length f.names) (roots_up trees n outer)) → (o : Option Tree) → slice_get trees place ≡ o
+          → AllByRecursion (λ k. k < length f.names) (option_map_or (λ (t : Tree). t.root ∷ (if is_some t.host then roots_up trees n t.outer else [])) o [])
+      from again None e = tt
+      from again (Some t) e = ((are.nodes place t e).root, by (is_some t.host) (again t.outer))
+        where
+          by : (b : Bool) → AllByRecursion (λ k. k < length f.names) (roots_up trees n t.outer) → AllByRecursion (λ k. k < length f.names) (if b then roots_up trees n t.outer else [])
+          by true h = h
+          by false h = tt
+
+  -- and so is what is seen of one
+  seen-up_node : (n viewer node place : ℕ) → AreNested trees → node < length f.names → seen_up trees n viewer node place < length f.names
+  seen-up_node zero viewer node place nested h = h
+  seen-up_node (suc n) viewer node place nested h = from (λ host g. seen-up_node n viewer host (outer_of trees place) nested g) (hiding_host trees viewer place) refl
+    where
+      from : ((host : ℕ) → host < length f.names → seen_up trees n viewer host (outer_of trees place) < length f.names) → (o : Option ℕ) → hiding_host trees viewer place ≡ o
+          → option_map_or (λ host. seen_up trees n viewer host (outer_of trees place)) o node < length f.names
+      from again None e = h
+      from again (Some host) e = let k = hides trees nested viewer place host e in again host ((are.nodes place k.t k.here).host host k.its)
+
+  pub seen-node : (viewer node place : ℕ) → AreNested trees → node < length f.names → seen_from trees viewer node place < length f.names
+  seen-node viewer node place nested h = seen-up_node (suc place) viewer node place nested h
+
+-- ---- by names
+
+module _ (f : NamedTrees) (hosts : List ShadowHost) (distinct : AreDistinct f.names) (trees : List Tree) (nested : AreNested trees) (are : AreTrees f hosts trees)
+    (depth : ℕ) (hosted : IsHosted f hosts depth) where
   abbrev name : ℕ → NodeName
   name k = name_at f.names k
 
-  -- the name of a node with its place
-  abbrev named : Stand → NodeName
-  named x = name x.node
+  abbrev s : ShadowTrees
+  s = shadows f hosts
 
-  -- two places in one tree
-  pub tree-test : (a x : Stand) → IsStand f hosts a → IsStand f hosts x → nat_eq a.root x.root ≡ shares_tree_at (shadows f hosts) (named a) (named x)
-  tree-test a x h g =
-      key-test f.names distinct a.root x.root h.root_node g.root_node ∙ ap (λ r. name_eq r (name x.root)) h.root ∙ ap (name_eq (root_of f.trees (named a))) g.root
+  -- The tree at a place, which is a node's.
+  record Here (place : ℕ) (x : NodeName) : Type 0 where
+    t : Tree
+    at : slice_get trees place ≡ Some t
+    root : name t.root ≡ root_of f.trees x
+    above : option_map name t.host ≡ host_above_at s x
 
-  -- the host of a place
-  pub host-place : (a : Stand) → IsStand f hosts a → option_map (name_at f.names) a.host ≡ host_above_at (shadows f hosts) (named a)
-  host-place a h = h.host ∙ ap (host_named f.names hosts) h.root
-
-  -- what is seen in a node's place
-  pub seen-named : (a x : Stand) → IsStand f hosts a → IsStand f hosts x → name (seen_from a x.root) ≡ seen_at (shadows f hosts) (named x) (named a)
-  seen-named a x h g =
-      seen-cases f.names a.host a.node (nat_eq a.root x.root)
-      ∙ ap (λ o. seen_as o (named a) (nat_eq a.root x.root)) (host-place a h)
-      ∙ ap (seen_as (host_above_at (shadows f hosts) (named a)) (named a)) (tree-test a x h g)
-
-  -- it is a node
-  pub seen-node : (a : Stand) (root : ℕ) → IsStand f hosts a → seen_from a root < length f.names
-  seen-node a root h = seen-within f.names a.host a.node (nat_eq a.root root) h.node h.host_node
-
-  -- the same of the related node
-  pub related-named : (r : Option Stand) (x : Stand) → ForSome r (IsStand f hosts) → IsStand f hosts x
-      → option_map (name_at f.names) (related_from r x.root) ≡ related_at (shadows f hosts) (named x) (option_map (λ (a : Stand). named a) r)
-  related-named None x h g = refl
-  related-named (Some a) x h g = ap Some (seen-named a x (h a refl) g)
-
-  -- it is a node
-  pub related-node : (r : Option Stand) (root : ℕ) → ForSome r (IsStand f hosts) → ForSome (related_from r root) (λ k. k < length f.names)
-  related-node None root h k e = cc
-  related-node (Some a) root h k e = let same : seen_from a root ≡ k = cc in rw (← same) (seen-node a root (h a refl))
-
-  -- whether a path ends before a place
-  pub ends-named : (t : Stand) (r : Option Stand) (x : Stand) → IsStand f hosts t → ForSome r (IsStand f hosts) → IsStand f hosts x
-      → ends_before t r x ≡ ends_at (shadows f hosts) (named t) (option_map (λ (a : Stand). named a) r) (named x)
-  ends-named t r x ht hr hx =
-      let test_node = key-test f.names distinct x.node t.node hx.node ht.node in
-      let test_seen = key-test f.names distinct x.node (seen_from t x.root) hx.node (seen-node t x.root ht) ∙ ap (name_eq (named x)) (seen-named t x ht hx) in
-      let test_related = found-test f.names distinct (related_from r x.root) x.node (related-node r x.root hr) hx.node
-      ∙ ap (λ o. is_in name_eq (named x) (option_to_list o)) (related-named r x hr hx) in
-      λ j. not (test_node j) && (test_seen j && test_related j)
-
-  -- whether there is a path
-  pub silent-named : (t : Stand) (r : Option Stand) → IsStand f hosts t → ForSome r (IsStand f hosts)
-      → is_silent t r ≡ is_empty_at (shadows f hosts) (named t) (option_map (λ (a : Stand). named a) r)
-  silent-named t r ht hr =
-      let test_related = found-test f.names distinct (related_from r t.root) t.node (related-node r t.root hr) ht.node
-      ∙ ap (λ o. is_in name_eq (named t) (option_to_list o)) (related-named r t hr ht) in
-      λ j. test_related j && not (is_related r hr j)
+  here : (place : ℕ) (x : NodeName) → IsTreeOf f trees place x → Here place x
+  here place x is = from (slice_get trees place) refl is
     where
-      is_related : (r : Option Stand) → ForSome r (IsStand f hosts) → is_key (option_map (λ (a : Stand). a.node) r) t.node ≡ is_in name_eq (named t) (option_to_list (option_map (λ (a : Stand). named a) r))
-      is_related None h = refl
-      is_related (Some a) h = found-test f.names distinct (Some a.node) t.node (λ k e. let same : a.node ≡ k = cc in rw (← same) ((h a refl).node)) ht.node
+      from : (o : Option Tree) → slice_get trees place ≡ o → option_map (λ (t : Tree). name t.root) o ≡ Some (root_of f.trees x) → Here place x
+      from None e k = cc
+      from (Some t) e k =
+          let root : name t.root ≡ root_of f.trees x = cc in
+          record { t = t; at = e; root = root; above = (are.each depth hosted place t e).host ∙ ap (host_named f.names hosts) root }
 
-  -- ---- the event parent
-  module _ (composed : Bool) (top : ℕ) (x : Stand) (place : IsStand f hosts x) (top_node : top < length f.names) where
-    abbrev up : Option NodeName
-    up = event_parent_at (shadows f hosts) composed (name top) (named x)
+  -- the tree around it is its host's
+  around : (place : ℕ) (x : NodeName) (h : Here place x) → (host : ℕ) → h.t.host ≡ Some host → (host_above_at s x ≡ Some (name host)) × IsTreeOf f trees h.t.outer (name host)
+  around place x h host e = (sym h.above ∙ ap (option_map name) e, (are.each depth hosted place h.t h.at).outer host e)
 
-    -- whether an event goes on from a shadow root
-    opens : (composed || not (nat_eq x.node top)) ≡ (composed || not (name_eq (named x) (name top)))
-    opens = ap (λ b. composed || not b) (key-test f.names distinct x.node top place.node top_node)
+  -- the roots around a tree are those of the chain of each of its nodes
+  roots-named : (n d place : ℕ) (x : NodeName) → place < n → EndsWithin s d x → IsTreeOf f trees place x → map name (roots_up trees n place) ≡ map (root_of f.trees) (chain_at s d x)
+  roots-named zero d place x h ends is = absurd (omega arith)
+  roots-named (suc n) d place x h ends is =
+      let k = here place x is in
+      ap (λ o. map name (option_map_or (λ (t : Tree). t.root ∷ (if is_some t.host then roots_up trees n t.outer else [])) o [])) k.at
+      ∙ by k d ends (λ d' outer host below ends' is'. roots-named n d' outer host (omega (arith, below, h)) ends' is') k.t.host refl
+    where
+      by : (k : Here place x) (d : ℕ) → EndsWithin s d x
+          → ((d' outer : ℕ) (host : NodeName) → outer < place → EndsWithin s d' host → IsTreeOf f trees outer host → map name (roots_up trees n outer) ≡ map (root_of f.trees) (chain_at s d' host))
+          → (o : Option ℕ) → k.t.host ≡ o → name k.t.root ∷ map name (if is_some k.t.host then roots_up trees n k.t.outer else []) ≡ map (root_of f.trees) (chain_at s d x)
+      by k d ends again None e =
+          let alone = chain-alone s d x (sym k.above ∙ ap (option_map name) e) in
+          ap (λ o. name k.t.root ∷ map name (if is_some o then roots_up trees n k.t.outer else [])) e ∙ ap (λ r. r ∷ []) k.root ∙ sym (ap (map (root_of f.trees)) alone)
+      by k zero ends again (Some host) e = let up = (around place x k host e).0 in let both : None ≡ Some (name host) = sym ends ∙ up in cc
+      by k (suc d) ends again (Some host) e =
+          let up = around place x k host e in
+          let below = (nested place k.t k.at).behind (ap is_some e) in
+          ap (λ o. name k.t.root ∷ map name (if is_some o then roots_up trees n k.t.outer else [])) e
+          ∙ (λ j. k.root j ∷ again d k.t.outer (name host) below (ends (name host) up.0) up.1 j)
+          ∙ sym (ap (map (root_of f.trees)) (chain-host s d x (name host) up.0))
 
-    -- of a shadow root
-    at-shadow : x.is_shadow_root ≡ true → up ≡ (if composed || not (nat_eq x.node top) then host_named f.names hosts (named x) else None)
-    at-shadow e =
-        ap (λ b. if b then (if composed || not (name_eq (named x) (name top)) then host_named f.names hosts (named x) else None) else option_or (slot_at (shadows f hosts) (named x)) (parent_of f.trees (named x))) (sym place.shadow ∙ e)
-        ∙ ap (λ b. if b then host_named f.names hosts (named x) else None) (sym opens)
+  -- From a viewer x in the tree at a place:
+  module _ (viewer : ℕ) (x : NodeName) (mine : IsTreeOf f trees viewer x) where
+    -- whether a node's tree is around the viewer
+    around-test : (place : ℕ) (a : NodeName) (k : Here place a)
+        → is_in nat_eq k.t.root (roots_around trees viewer) ≡ is_in name_eq (root_of f.trees a) (map (root_of f.trees) (chain_at s depth x))
+    around-test place a k =
+        in-named f.names distinct k.t.root (roots_around trees viewer) (are.nodes place k.t k.at).root (roots-nodes f hosts trees are (suc viewer) viewer)
+        ∙ (λ j. is_in name_eq (k.root j) (roots-named (suc viewer) depth viewer x (omega arith) (hosted.nested x) mine j))
 
-    -- its host
-    pub up-host : HostsAreNodes f.names hosts → x.is_shadow_root ≡ true → (composed || not (nat_eq x.node top)) ≡ true → option_map (name_at f.names) (host_of_root hosts x.node) ≡ up
-    up-host nodes e opened =
-        host-named f.names distinct hosts nodes x.node place.node
-        ∙ sym (at-shadow e ∙ ap (λ b. if b then host_named f.names hosts (named x) else None) opened)
+    -- the host by which it is hidden
+    hiding-picked : (place : ℕ) (a : NodeName) → IsTreeOf f trees place a
+        → option_map name (hiding_host trees viewer place) ≡ (if is_in name_eq (root_of f.trees a) (map (root_of f.trees) (chain_at s depth x)) then None else host_above_at s a)
+    hiding-picked place a is =
+        let k = here place a is in
+        let b = is_in nat_eq k.t.root (roots_around trees viewer) in
+        ap (option_map name) (hiding-is trees viewer place k.t b k.at refl) ∙ pick-named f.names k.t.host b ∙ (λ j. if around-test place a k j then None else k.above j)
 
-    -- or none
-    pub up-shut : x.is_shadow_root ≡ true → (composed || not (nat_eq x.node top)) ≡ false → None ≡ up
-    up-shut e shut = sym (at-shadow e ∙ ap (λ b. if b then host_named f.names hosts (named x) else None) shut)
+    -- whether it is hidden
+    pub hidden-named : (place : ℕ) (a : NodeName) → IsTreeOf f trees place a → is_some (hiding_host trees viewer place) ≡ is_hidden_at s depth x a
+    hidden-named place a is =
+        is_some-named name (hiding_host trees viewer place) ∙ ap is_some (hiding-picked place a is)
+        ∙ picked (host_above_at s a) (is_in name_eq (root_of f.trees a) (map (root_of f.trees) (chain_at s depth x)))
 
-    -- of another node
-    pub up-plain : x.is_shadow_root ≡ false → option_or (slot_at (shadows f hosts) (named x)) (parent_of f.trees (named x)) ≡ up
-    up-plain e = sym (ap (λ b. if b then (if composed || not (name_eq (named x) (name top)) then host_named f.names hosts (named x) else None) else option_or (slot_at (shadows f hosts) (named x)) (parent_of f.trees (named x))) (sym place.shadow ∙ e))
+    -- what is seen of it
+    seen-up_named : (n d node place : ℕ) (a other : NodeName) → place < n → name node ≡ a → EndsWithin s d a → IsTreeOf f trees place a
+        → name (seen_up trees n viewer node place) ≡ unwrap_or (find (λ y. not (is_hidden_at s depth x y)) (chain_at s d a)) other
+    seen-up_named zero d node place a other h same ends is = absurd (omega arith)
+    seen-up_named (suc n) d node place a other h same ends is =
+        by d ends (λ d' host outer below ends' is'. seen-up_named n d' host outer (name host) other (omega (arith, below, h)) refl ends' is') (hiding_host trees viewer place) refl
+      where
+        by : (d : ℕ) → EndsWithin s d a
+            → ((d' host outer : ℕ) → outer < place → EndsWithin s d' (name host) → IsTreeOf f trees outer (name host)
+            → name (seen_up trees n viewer host outer) ≡ unwrap_or (find (λ y. not (is_hidden_at s depth x y)) (chain_at s d' (name host))) other)
+            → (o : Option ℕ) → hiding_host trees viewer place ≡ o
+            → name (option_map_or (λ host. seen_up trees n viewer host (outer_of trees place)) o node) ≡ unwrap_or (find (λ y. not (is_hidden_at s depth x y)) (chain_at s d a)) other
+        by d ends again None e =
+            let first = chain-first s d a in
+            let shown : is_hidden_at s depth x a ≡ false = sym (hidden-named place a is) ∙ ap is_some e in
+            same
+            ∙ sym (ap (λ ys. unwrap_or (find (λ y. not (is_hidden_at s depth x y)) ys) other) first.1
+            ∙ ap (λ o. unwrap_or o other) (cond-true (not (is_hidden_at s depth x a)) (Some a) (find (λ y. not (is_hidden_at s depth x y)) first.0) (ap not shown)))
+        by zero ends again (Some host) e =
+            let k = here place a is in
+            let hid = hides trees nested viewer place host e in
+            let same_tree : Some hid.t ≡ Some k.t = sym hid.here ∙ k.at in
+            let its : k.t.host ≡ Some host = subst (λ (o : Option Tree). option_map_or (λ (t : Tree). t.host) o None ≡ Some host) same_tree hid.its in
+            let both : None ≡ Some (name host) = sym ends ∙ (around place a k host its).0 in
+            cc
+        by (suc d) ends again (Some host) e =
+            let k = here place a is in
+            let hid = hides trees nested viewer place host e in
+            let same_tree : Some hid.t ≡ Some k.t = sym hid.here ∙ k.at in
+            let its : k.t.host ≡ Some host = subst (λ (o : Option Tree). option_map_or (λ (t : Tree). t.host) o None ≡ Some host) same_tree hid.its in
+            let up = around place a k host its in
+            let outer = outer-is trees place k.t k.at in
+            let hidden : is_hidden_at s depth x a ≡ true = sym (hidden-named place a is) ∙ ap is_some e in
+            again d host (outer_of trees place) (outer-below trees nested viewer place host e) (ends (name host) up.0) (subst (λ p. IsTreeOf f trees p (name host)) (sym outer) up.1)
+            ∙ sym (ap (λ ys. unwrap_or (find (λ y. not (is_hidden_at s depth x y)) ys) other) (chain-host s d a (name host) up.0)
+            ∙ ap (λ o. unwrap_or o other) (cond-false (not (is_hidden_at s depth x a)) (Some a) (find (λ y. not (is_hidden_at s depth x y)) (chain_at s d (name host))) (ap not hidden)))
 
--- a related node by its place is that by its key
-pub related-key : (names : List NodeName) (r : Option Stand) (k : Option ℕ) → option_map (λ (a : Stand). a.node) r ≡ k → option_map (λ (a : Stand). name_at names a.node) r ≡ option_map (name_at names) k
-related-key names None k e = ap (option_map (name_at names)) e
-related-key names (Some a) k e = ap (option_map (name_at names)) e
+    pub seen-named : (node place : ℕ) → IsTreeOf f trees place (name node) → name (seen_from trees viewer node place) ≡ seen_at s depth x (name node)
+    seen-named node place is = seen-up_named (suc place) depth node place (name node) (name node) (omega arith) refl (hosted.nested (name node)) is

@@ -1,26 +1,32 @@
--- What is read of trees with hosts is what is read of a world that has just these: roots, hosts, event parents, and what is hidden.
-use Rattle.std.proofs.Common.{◌≡◌, inl, inr, Bool, true, false, ◌&&◌, ◌||◌, not, List, Option, Some, None, refl, sym, ap, ◌∙◌}
-use Rattle.std.specs.Prelude.{if◌then◌else◌, is_some, IsTrue}
+-- What is read of trees with hosts is what is read of a world that has just these: roots, chains of hosts, event parents, and what is
+-- hidden. So the trees with hosts of such a world are as a path asks.
+use Rattle.std.proofs.Common.{◌≡◌, inl, inr, ℕ, zero, suc, ◌≤◌, Bool, true, false, ◌&&◌, ◌||◌, not, List, ◌∷◌, map, find, Option, Some, None, unwrap_or, refl, sym, ap, ◌∙◌, arith}
+use Rattle.std.specs.Prelude.{if◌then◌else◌, is_some, option_map, option_to_list, IsTrue}
 use Rattle.std.specs.Option.{option_and_then, option_or}
 use Rattle.std.proofs.lemmas.Bool.{cases_Bool, both_ways}
 use Rattle.dom_base.specs.declared.NodeName.{NodeName}
-use Rattle.dom_model.specs.Names.{name_eq}
+use Rattle.dom_base.specs.declared.Owner.{Owner}
+use Rattle.dom_model.specs.Names.{name_eq, is_in, owner_depth, max_depth}
 use Rattle.dom_model.specs.Paths.{is_node, is_hidden_from, retarget, retarget_related, event_parent}
+use Rattle.dom_model.specs.Slots.{slot_of, is_assigned_to}
 use Rattle.dom_model.specs.Tree.{Trees, Node, is_shadow, has_node, node_in, parent_of, root_of}
-use Rattle.dom_model.specs.World.{World, part_of, shadow_root_of, some_if, host_above, kind_at, node_at, parent_at, root_at}
-use Rattle.dom_isolation.specs.Sights.{seen_as}
+use Rattle.dom_model.specs.World.{World, part_of, component_at, shadow_root_of, some_if, host_above, host_chain, hosts_from, kind_at, node_at, parent_at, root_at}
+use Rattle.dom_model.proofs.OwnerLaws.{depth-maker}
 use Rattle.dom_isolation.specs.Tables.{IsNodeAt}
+use Rattle.dom_isolation.proofs.Chains.{above-host, below-host, hosts-alone, chain-below, hidden-by_chain}
 use Rattle.dom_isolation.proofs.FollowPaths.{shadow-name}
-use Rattle.dom_isolation.proofs.Sights.{hidden-by_roots, retarget-by_roots}
+use Rattle.dom_isolation.proofs.Makers.{hosted, hosted-maker, hosted-owned, hosted-is, component-host}
+use Rattle.dom_isolation.proofs.ReachedFacts.{shadow_roots-are_roots}
 use Rattle.dom_tree.specs.Forest.{NamedTrees}
 use Rattle.dom_tree.proofs.Owned.{read_own, stays_own}
 use Rattle.dom_traversal.proofs.Lists.{name_eq-true, name_eq-from}
-use Rattle.dom_slots.specs.Hosts.{ShadowHost}
+use Rattle.dom_slots.specs.Hosts.{ShadowHost, host_named, root_named}
 use Rattle.dom_slots.specs.Shadows.{ShadowTrees, shadows, IsShownBy, slot_at, is_assigned_at}
 use Rattle.dom_slots.proofs.Shown.{slot-shown}
-use Rattle.dom_model.specs.Slots.{slot_of, is_assigned_to}
+use Rattle.dom_path.specs.Hosted.{IsHosted}
 use Rattle.dom_path.specs.Items.{IsWorldOf}
-use Rattle.dom_path.specs.Ways.{host_above_at, is_hidden_at, seen_at, related_at, event_parent_at, ends_at, is_empty_at}
+use Rattle.dom_path.specs.Ways.{host_above_at, EndsWithin, chain_at, is_hidden_at, seen_at, related_at, event_parent_at, ends_at, is_empty_at}
+use Rattle.dom_path.proofs.Places.{chain-alone, chain-host}
 
 -- a value that is there is kept, or not
 kept : (o : Option NodeName) (b : Bool) → b ≡ true → option_and_then (some_if b) o ≡ o
@@ -31,6 +37,11 @@ kept (Some x) b e = ap (λ c. some_if c x) e
 dropped : (o : Option NodeName) (b : Bool) → b ≡ false → option_and_then (some_if b) o ≡ None
 dropped None b e = refl
 dropped (Some x) b e = ap (λ c. some_if c x) e
+
+-- a node in no shadow tree stands in no more of them than any number
+ends-outside : (s : ShadowTrees) (depth : ℕ) (x : NodeName) → host_above_at s x ≡ None → EndsWithin s depth x
+ends-outside s zero x e = e
+ends-outside s (suc depth) x e = λ h g. let both : None ≡ Some h = sym e ∙ g in cc
 
 module _ (f : NamedTrees) (hosts : List ShadowHost) (w : World) (is : IsWorldOf f hosts w) where
   abbrev s : ShadowTrees
@@ -68,30 +79,112 @@ module _ (f : NamedTrees) (hosts : List ShadowHost) (w : World) (is : IsWorldOf 
             dropped o (name_eq r its) e ∙ sym (shown.only r (λ same. both_ways _ e (name_eq-from r its (same ∙ ap shadow_root_of owner))))
       ]
 
+  -- ---- chains of hosts
+
+  -- a node in a shadow tree is not deeper than nodes may be
+  not_deeper : (x host : NodeName) → host_above w x ≡ Some host → owner_depth x.owner ≤ max_depth
+  not_deeper x host e =
+      let below = below-host w is.reached.world x host e in
+      let deeper = below.deeper in
+      let k = hosted w x.owner host (above-host w x host e).0 in
+      let room = depth-maker k.maker (hosted-maker w is.reached.world.makers x.owner host k) in
+      let own = ap owner_depth (hosted-owned w is.reached.world x.owner host k) in
+      omega (arith, deeper, room, own)
+
+  -- the chains are the same
+  chain-from : (depth : ℕ) (x : NodeName) → owner_depth x.owner ≤ depth → host_chain w x ≡ chain_at s depth x
+  chain-from zero x h = by (host_above w x) refl
+    where
+      by : (o : Option NodeName) → host_above w x ≡ o → host_chain w x ≡ chain_at s zero x
+      by None e = hosts-alone (owner_depth x.owner) w x e
+      by (Some host) e = let deeper = (below-host w is.reached.world x host e).deeper in absurd (omega (arith, h, deeper))
+  chain-from (suc depth) x h = by (λ y g. chain-from depth y g) (host_above w x) refl
+    where
+      by : ((y : NodeName) → owner_depth y.owner ≤ depth → host_chain w y ≡ chain_at s depth y) → (o : Option NodeName) → host_above w x ≡ o → host_chain w x ≡ chain_at s (suc depth) x
+      by again None e = hosts-alone (owner_depth x.owner) w x e ∙ sym (chain-alone s (suc depth) x (sym (host-is x) ∙ e))
+      by again (Some host) e =
+          let below = below-host w is.reached.world x host e in
+          let deeper = below.deeper in
+          chain-below w x host below ∙ ap (λ ys. x ∷ ys) (again host (omega (arith, h, deeper))) ∙ sym (chain-host s depth x host (sym (host-is x) ∙ e))
+
+  chain-is : (x : NodeName) → host_chain w x ≡ chain_at s max_depth x
+  chain-is x = by (host_above w x) refl
+    where
+      by : (o : Option NodeName) → host_above w x ≡ o → host_chain w x ≡ chain_at s max_depth x
+      by None e = hosts-alone (owner_depth x.owner) w x e ∙ sym (chain-alone s max_depth x (sym (host-is x) ∙ e))
+      by (Some host) e = chain-from max_depth x (not_deeper x host e)
+
+  -- and they end
+  ends-from : (depth : ℕ) (x : NodeName) → owner_depth x.owner ≤ depth → EndsWithin s depth x
+  ends-from zero x h = by (host_above w x) refl
+    where
+      by : (o : Option NodeName) → host_above w x ≡ o → host_above_at s x ≡ None
+      by None e = sym (host-is x) ∙ e
+      by (Some host) e = let deeper = (below-host w is.reached.world x host e).deeper in absurd (omega (arith, h, deeper))
+  ends-from (suc depth) x h = λ host e. let deeper = (below-host w is.reached.world x host (host-is x ∙ e)).deeper in ends-from depth host (omega (arith, h, deeper))
+
+  ends-is : (x : NodeName) → EndsWithin s max_depth x
+  ends-is x = by (host_above w x) refl
+    where
+      by : (o : Option NodeName) → host_above w x ≡ o → EndsWithin s max_depth x
+      by None e = ends-outside s max_depth x (sym (host-is x) ∙ e)
+      by (Some host) e = ends-from max_depth x (not_deeper x host e)
+
+  -- a host is that of its shadow root
+  theirs-is : (host root : NodeName) → root_named f.names hosts host ≡ Some root → host_named f.names hosts root ≡ Some host
+  theirs-is host root e = by (component_at w host) refl
+    where
+      by : (o : Option Owner) → component_at w host ≡ o → host_named f.names hosts root ≡ Some host
+      by None g = let both : Some root ≡ None = sym e ∙ shown.roots host ∙ ap (option_map shadow_root_of) g in cc
+      by (Some c) g =
+          let both : Some root ≡ Some (shadow_root_of c) = sym e ∙ shown.roots host ∙ ap (option_map shadow_root_of) g in
+          let same : root ≡ shadow_root_of c = cc in
+          ap (host_named f.names hosts) same ∙ shown.hosts c ∙ hosted-is w c host (component-host w is.reached.world.makers host c g)
+
+  -- which has no parent
+  roots-is : (root : NodeName) → IsTrue (is_some (host_named f.names hosts root)) → parent_of f.trees root ≡ None
+  roots-is root h = elim (cases_Bool (name_eq root (shadow_root_of root.owner))) [
+    | inl e ↦
+        let same = name_eq-true root (shadow_root_of root.owner) e in
+        let there : is_some (Rattle.dom_model.specs.World.host_of w root.owner) ≡ true = ap is_some (sym (shown.hosts root.owner)) ∙ ap (λ r. is_some (host_named f.names hosts r)) (sym same) ∙ h in
+        sym (parent-is root) ∙ ap (parent_at w) same ∙ (shadow_roots-are_roots false w is.reached root.owner there).2
+    | inr e ↦
+        let none : host_named f.names hosts root ≡ None = shown.only root (λ same. both_ways _ e (name_eq-from root (shadow_root_of root.owner) same)) in
+        let both : false ≡ true = ap is_some (sym none) ∙ h in
+        cc
+  ]
+
+  -- so they are as a path asks
+  pub world-hosted : IsHosted f hosts max_depth
+  world-hosted = record { nested = ends-is; theirs = theirs-is; roots = roots-is }
+
+  -- ---- what is seen
+
   -- what is hidden
-  pub hidden-is : (x y : NodeName) → is_hidden_from w x y ≡ is_hidden_at s x y
-  hidden-is x y = hidden-by_roots false w is.reached x y ∙ (λ j. is_some (host-is y j) && not (name_eq (root-is y j) (root-is x j)))
+  pub hidden-is : (x y : NodeName) → is_hidden_from w x y ≡ is_hidden_at s max_depth x y
+  hidden-is x y =
+      hidden-by_chain w is.reached.world x y ∙ (λ j. is_some (host-is y j) && not (is_in name_eq (root-is y j) (map (λ z. root-is z j) (chain-is x j))))
 
   -- what is seen
-  pub seen-is : (a x : NodeName) → retarget w a x ≡ seen_at s x a
-  seen-is a x = retarget-by_roots false w is.reached a x ∙ (λ j. seen_as (host-is a j) a (name_eq (root-is a j) (root-is x j)))
+  pub seen-is : (a x : NodeName) → retarget w a x ≡ seen_at s max_depth x a
+  seen-is a x = λ j. unwrap_or (find (λ z. not (hidden-is x z j)) (chain-is a j)) a
 
   -- of the related node
-  pub related-is : (r : Option NodeName) (x : NodeName) → retarget_related w r x ≡ related_at s x r
+  pub related-is : (r : Option NodeName) (x : NodeName) → retarget_related w r x ≡ related_at s max_depth x r
   related-is None x = refl
   related-is (Some a) x = ap Some (seen-is a x)
 
   -- where a path ends
-  pub ends-is : (target : NodeName) (related : Option NodeName) (x : NodeName) → Rattle.dom_model.specs.Paths.ends_at w target related x ≡ ends_at s target related x
-  ends-is target related x = λ j. not (name_eq x target) && (name_eq x (seen-is target x j) && is_node x (related-is related x j))
+  pub ends_at-is : (target : NodeName) (related : Option NodeName) (x : NodeName) → Rattle.dom_model.specs.Paths.ends_at w target related x ≡ ends_at s max_depth target related x
+  ends_at-is target related x = λ j. not (name_eq x target) && (name_eq x (seen-is target x j) && is_node x (related-is related x j))
 
   -- and whether there is one
-  pub empty-is : (target : NodeName) (related : Option NodeName) → (is_node target (retarget_related w related target) && not (is_node target related)) ≡ is_empty_at s target related
+  pub empty-is : (target : NodeName) (related : Option NodeName) → (is_node target (retarget_related w related target) && not (is_node target related)) ≡ is_empty_at s max_depth target related
   empty-is target related = ap (λ o. is_node target o && not (is_node target related)) (related-is related target)
 
   -- the slot that was entered
   pub entered-is : (y x : NodeName) → is_assigned_to w y x ≡ is_assigned_at s y x
-  entered-is y x = ap (λ o. Rattle.dom_model.specs.Names.is_in name_eq y (Rattle.std.specs.Prelude.option_to_list o)) (slot-shown s w shown x)
+  entered-is y x = ap (λ o. is_in name_eq y (option_to_list o)) (slot-shown s w shown x)
 
   -- the host of a shadow root
   shadow-host : (composed : Bool) (first x : NodeName) → is_shadow (kind_at w x) ≡ true → Rattle.dom_model.specs.World.host_of w x.owner ≡ s.host_of x

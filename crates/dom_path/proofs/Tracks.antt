@@ -1,70 +1,127 @@
 -- The items of a path while it is built: what may still come, and what is there.
-use Rattle.std.proofs.Common.{◌≡◌, Bool, false, List, [], ◌∷◌, ◌++◌, Option, Some, None, refl, sym, ap, subst, ◌∙◌, append_assoc}
-use Rattle.std.specs.Prelude.{option_map}
+use Rattle.std.proofs.Common.{◌≡◌, ℕ, Bool, false, List, [], ◌∷◌, ◌++◌, Option, Some, None, refl, sym, ap, subst, ◌∙◌, arith, append_assoc}
+use Rattle.std.specs.Prelude.{option_map, Result, Ok, Err, IfOk}
 use Rattle.std.specs.List.{AllByRecursion}
 use Rattle.std.specs.Option.{ForSome}
 use Rattle.std.proofs.lemmas.List.{append-nil}
+use Rattle.dom_base.specs.declared.NodeName.{NodeName}
 use Rattle.dom_tree.specs.Forest.{NamedTrees, name_at}
 use Rattle.dom_slots.specs.Hosts.{ShadowHost}
 use Rattle.dom_slots.specs.Shadows.{shadows, is_assigned_at}
 use Rattle.dom_path.specs.declared.item.Item.{Item}
 use Rattle.dom_path.specs.declared.stand.Stand.{Stand}
-use Rattle.dom_path.specs.Stands.{IsStand, item_from}
-use Rattle.dom_path.specs.Built.{IsItemOf, IsWay, GoesOn, next_name}
+use Rattle.dom_path.specs.declared.trees.Tree.{Tree}
+use Rattle.dom_path.specs.Built.{IsEvent, IsItemOf, IsWay, IsBuilt, GoesOn, next_name, related_name}
+use Rattle.dom_path.specs.Hosted.{IsHosted}
+use Rattle.dom_path.specs.Nests.{Grows}
+use Rattle.dom_path.specs.Stands.{AreTrees, IsStand}
+use Rattle.dom_path.specs.Ways.{is_empty_at}
+use Rattle.dom_path.proofs.Goings.{tree-kept, stand-kept}
+use Rattle.dom_path.proofs.Nesting.{grows-longer}
 
 -- what holds of all items, and of one more
 pub all-more : (P : Item → Type 0) (xs : List Item) (y : Item) → AllByRecursion P xs → P y → AllByRecursion P (xs ++ y ∷ [])
 all-more P [] y h p = (p, tt)
 all-more P (x ∷ xs) y h p = (h.0, all-more P xs y h.1 p)
 
-module _ (f : NamedTrees) (hosts : List ShadowHost) (target : Stand) (related : Option Stand) (composed : Bool) where
-  -- the items that come, where this is the place that is next
-  abbrev pub Comes : Option Stand → List Item → Type 0
-  Comes None rest = rest ≡ []
-  Comes (Some x) [] = ⊥
-  Comes (Some x) (i ∷ rest) = (i.node ≡ x.node) × (i.slot_in_closed ≡ x.is_entered) × GoesOn f hosts target related composed (name_at f.names i.node) rest
+-- what follows from it
+pub all-other : (P Q : Item → Type 0) → ((y : Item) → P y → Q y) → (xs : List Item) → AllByRecursion P xs → AllByRecursion Q xs
+all-other P Q g [] h = tt
+all-other P Q g (x ∷ xs) h = (g x h.0, all-other P Q g xs h.1)
 
-  -- the items so far, and those that come, make up the path
-  pub record IsTrack (items : List Item) (next : Option Stand) : Type 0 where
-    pub place : ForSome next (IsStand f hosts)
-    pub each : AllByRecursion (IsItemOf f hosts target related) items
-    pub way : (rest : List Item) → Comes next rest → IsWay f hosts target related composed (items ++ rest)
+module _ (f : NamedTrees) (hosts : List ShadowHost) (t : NodeName) (r : Option NodeName) where
+  -- an item stays one among more trees
+  item-kept : (trees new : List Tree) → Grows trees new → (i : Item) → IsItemOf f hosts t r trees i → IsItemOf f hosts t r new i
+  item-kept trees new g i h = record {
+    node = h.node;
+    within = let longer = grows-longer trees new g in let w = h.within in omega (arith, longer, w);
+    target_node = h.target_node;
+    related_node = h.related_node;
+    at_target = h.at_target;
+    shadow = h.shadow;
+    shown = λ depth hosted. let k = h.shown depth hosted in
+        record { in_tree = tree-kept f hosts trees new i.tree (name_at f.names i.node) g k.in_tree; target_seen = k.target_seen; related_seen = k.related_seen };
+  }
 
-  -- as it begins
-  pub track-first : (items : List Item) → items ≡ [] → IsStand f hosts target → target.is_entered ≡ false → IsTrack items (Some target)
-  track-first items e place off = subst (λ is. IsTrack is (Some target)) (sym e) (record {
-    place = λ x h. subst (IsStand f hosts) (let same : target ≡ x = cc in same) place;
-    each = tt;
-    way = begins;
-  })
-    where
-      begins : (rest : List Item) → Comes (Some target) rest → IsWay f hosts target related composed rest
-      begins [] h = h
-      begins (i ∷ rest) h = (h.0, h.1 ∙ off, h.2)
+  module _ (composed : Bool) where
+    -- the items that come, where this is the place that is next
+    abbrev pub Comes : ℕ → Option Stand → List Item → Type 0
+    Comes depth None rest = rest ≡ []
+    Comes depth (Some x) [] = ⊥
+    Comes depth (Some x) (i ∷ rest) = (i.node ≡ x.node) × (i.slot_in_closed ≡ x.is_entered) × GoesOn f hosts t r depth composed (name_at f.names i.node) rest
 
-  -- one item more
-  pub track-more : (items : List Item) (x : Stand) (more : List Item) (next : Option Stand) → IsTrack items (Some x)
-      → more ≡ items ++ item_from target related x ∷ []
-      → ForSome next (IsStand f hosts)
-      → option_map (λ (y : Stand). name_at f.names y.node) next ≡ next_name f hosts target related composed (name_at f.names x.node)
-      → ForSome next (λ y. y.is_entered ≡ is_assigned_at (shadows f hosts) (name_at f.names y.node) (name_at f.names x.node))
-      → IsTrack more next
-  track-more items x more next t e place value entered = subst (λ is. IsTrack is next) (sym e) (record {
-    place = place;
-    each = all-more (IsItemOf f hosts target related) items (item_from target related x) t.each (x, t.place x refl, refl);
-    way = λ rest h. subst (IsWay f hosts target related composed) (sym (append_assoc items (item_from target related x ∷ []) rest))
-        (t.way (item_from target related x ∷ rest) (refl, refl, goes next value entered rest h));
-  })
-    where
-      goes : (next : Option Stand) → option_map (λ (y : Stand). name_at f.names y.node) next ≡ next_name f hosts target related composed (name_at f.names x.node)
-          → ForSome next (λ y. y.is_entered ≡ is_assigned_at (shadows f hosts) (name_at f.names y.node) (name_at f.names x.node))
-          → (rest : List Item) → Comes next rest → GoesOn f hosts target related composed (name_at f.names x.node) rest
-      goes None v en rest h = subst (GoesOn f hosts target related composed (name_at f.names x.node)) (sym h) (sym v)
-      goes (Some y) v en [] h = absurd h
-      goes (Some y) v en (i ∷ rest) h =
-          let same : name_at f.names y.node ≡ name_at f.names i.node = ap (name_at f.names) (sym h.0) in
-          (sym v ∙ ap Some same, h.1 ∙ en y refl ∙ ap (λ z. is_assigned_at (shadows f hosts) z (name_at f.names x.node)) same, h.2)
+    -- the items so far, and those that come, make up the path
+    pub record IsTrack (trees : List Tree) (items : List Item) (next : Option Stand) : Type 0 where
+      pub place : ForSome next (IsStand f hosts trees)
+      pub each : AllByRecursion (IsItemOf f hosts t r trees) items
+      pub way : (depth : ℕ) → IsHosted f hosts depth → (rest : List Item) → Comes depth next rest → IsWay f hosts t r depth composed (items ++ rest)
 
-  -- as it ends
-  pub track-last : (items : List Item) (next : Option Stand) → next ≡ None → IsTrack items next → IsWay f hosts target related composed items
-  track-last items next e t = subst (IsWay f hosts target related composed) (append-nil items) (t.way [] (subst (λ n. Comes n []) (sym e) refl))
+    -- as it begins
+    pub track-first : (trees : List Tree) (items : List Item) (x : Stand) → items ≡ [] → IsStand f hosts trees x → name_at f.names x.node ≡ t → x.is_entered ≡ false → IsTrack trees items (Some x)
+    track-first trees items x e place named off = subst (λ is. IsTrack trees is (Some x)) (sym e) (record {
+      place = λ y h. subst (IsStand f hosts trees) (let same : x ≡ y = cc in same) place;
+      each = tt;
+      way = λ depth hosted rest h. begins depth rest h;
+    })
+      where
+        begins : (depth : ℕ) (rest : List Item) → Comes depth (Some x) rest → IsWay f hosts t r depth composed rest
+        begins depth [] h = h
+        begins depth (i ∷ rest) h = (ap (name_at f.names) h.0 ∙ named, h.1 ∙ off, h.2)
+
+    -- one item more, among more trees
+    pub track-more : (trees new : List Tree) (items : List Item) (x : Stand) (i : Item) (more : List Item) (next : Option Stand) → IsTrack trees items (Some x) → Grows trees new
+        → more ≡ items ++ i ∷ [] → IsItemOf f hosts t r trees i → i.node ≡ x.node → i.slot_in_closed ≡ x.is_entered
+        → ForSome next (IsStand f hosts new)
+        → ((depth : ℕ) → IsHosted f hosts depth → option_map (λ (y : Stand). name_at f.names y.node) next ≡ next_name f hosts t r depth composed (name_at f.names x.node))
+        → ForSome next (λ y. y.is_entered ≡ is_assigned_at (shadows f hosts) (name_at f.names y.node) (name_at f.names x.node))
+        → IsTrack new more next
+    track-more trees new items x i more next track g e item node entered place value behind = subst (λ is. IsTrack new is next) (sym e) (record {
+      place = place;
+      each = all-other (IsItemOf f hosts t r trees) (IsItemOf f hosts t r new) (item-kept trees new g) (items ++ i ∷ [])
+          (all-more (IsItemOf f hosts t r trees) items i track.each item);
+      way = λ depth hosted rest h. subst (IsWay f hosts t r depth composed) (sym (append_assoc items (i ∷ []) rest))
+          (track.way depth hosted (i ∷ rest) (node, entered, goes depth next (value depth hosted) behind rest h));
+    })
+      where
+        at : name_at f.names x.node ≡ name_at f.names i.node
+        at = ap (name_at f.names) (sym node)
+
+        goes : (depth : ℕ) (next : Option Stand) → option_map (λ (y : Stand). name_at f.names y.node) next ≡ next_name f hosts t r depth composed (name_at f.names x.node)
+            → ForSome next (λ y. y.is_entered ≡ is_assigned_at (shadows f hosts) (name_at f.names y.node) (name_at f.names x.node))
+            → (rest : List Item) → Comes depth next rest → GoesOn f hosts t r depth composed (name_at f.names i.node) rest
+        goes depth None v en rest h = subst (λ z. GoesOn f hosts t r depth composed z rest) at (subst (GoesOn f hosts t r depth composed (name_at f.names x.node)) (sym h) (sym v))
+        goes depth (Some y) v en [] h = absurd h
+        goes depth (Some y) v en (j ∷ rest) h =
+            let same : name_at f.names y.node ≡ name_at f.names j.node = ap (name_at f.names) (sym h.0) in
+            subst (λ z. GoesOn f hosts t r depth composed z (j ∷ rest)) at
+            (sym v ∙ ap Some same, h.1 ∙ en y refl ∙ ap (λ z. is_assigned_at (shadows f hosts) z (name_at f.names x.node)) same, h.2)
+
+    -- as it ends
+    pub track-last : (trees : List Tree) (items : List Item) (next : Option Stand) → next ≡ None → IsTrack trees items next → (depth : ℕ) → IsHosted f hosts depth → IsWay f hosts t r depth composed items
+    track-last trees items next e track depth hosted =
+        subst (IsWay f hosts t r depth composed) (append-nil items) (track.way depth hosted [] (subst (λ n. Comes depth n []) (sym e) refl))
+
+-- an event's places stay among more trees
+pub event-kept : (f : NamedTrees) (hosts : List ShadowHost) (trees new : List Tree) (target : Stand) (related : Option Stand) → Grows trees new → IsEvent f hosts trees target related → IsEvent f hosts new target related
+event-kept f hosts trees new target related g h = record {
+  at_target = stand-kept f hosts trees new target g h.at_target;
+  at_related = λ x e. stand-kept f hosts trees new x g (h.at_related x e);
+  begins = h.begins;
+}
+
+-- An event on its way: the items so far, and the trees.
+pub record IsOnWay (f : NamedTrees) (hosts : List ShadowHost) (target : Stand) (related : Option Stand) (composed : Bool) (trees : List Tree) (items : List Item) (next : Option Stand) : Type 0 where
+  pub track : IsTrack f hosts (name_at f.names target.node) (related_name f.names related) composed trees items next
+  pub are : AreTrees f hosts trees
+  pub event : IsEvent f hosts trees target related
+
+-- a way is the path, where that is not empty
+pub built-way : (f : NamedTrees) (hosts : List ShadowHost) (t : NodeName) (r : Option NodeName) (depth : ℕ) (composed : Bool) (items : List Item)
+    → is_empty_at (shadows f hosts) depth t r ≡ false → IsWay f hosts t r depth composed items → IsBuilt f hosts t r depth composed items
+built-way f hosts t r depth composed [] e h = absurd h
+built-way f hosts t r depth composed (i ∷ items) e h = (e, h)
+
+-- what follows from what holds of an answer
+pub ok-other : {A E : Type 0} (P Q : A → Type 0) → ((x : A) → P x → Q x) → (answer : Result A E) → IfOk answer P → IfOk answer Q
+ok-other P Q g (Ok x) h = g x h
+ok-other P Q g (Err e) h = tt

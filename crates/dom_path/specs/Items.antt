@@ -14,11 +14,17 @@ use Rattle.dom_tree.specs.Forest.{NamedTrees, name_at}
 use Rattle.dom_slots.specs.Hosts.{ShadowHost}
 use Rattle.dom_slots.specs.Shadows.{shadows, IsShownBy}
 use Rattle.dom_path.specs.declared.item.Item.{Item}
+use Rattle.dom_path.specs.declared.trees.Tree.{Tree}
 
--- the items of a path, and what the event shows at each of them
+-- the items of a path, their trees, and what the event shows at each item
 pub record PathNow : Type 0 where
   pub items : List Item
+  pub trees : List Tree
   pub views : List (View ℕ)
+
+-- the items have their trees among these
+abbrev pub AreInTrees : List Tree → List Item → Type 0
+AreInTrees trees items = AllByRecursion (λ (i : Item). i.tree < length trees) items
 
 -- An item of an event path (DOM Standard, 2.2: path: its struct): the node, the event's target where the node is that,
 -- the related node as it is seen there, whether the node is a shadow root, and whether it is the slot of the node before.

@@ -1,17 +1,20 @@
 //! The rules by which a path is built.
-ghost use Rattle.std.specs.Prelude.{◌≡◌, ◌<◌, length, None, option_map, IfOk};
+ghost use Rattle.std.specs.Prelude.{◌≡◌, ℕ, ◌<◌, length, None, option_map, IfOk, OnOk};
 ghost use Rattle.std.specs.Option.{ForSome};
 ghost use Rattle.std.specs.List.{AllByRecursion};
 ghost use Rattle.dom_tree.specs.Forest.{name_at};
 ghost use Rattle.dom_slots.specs.Hosts.{HostsAreNodes};
 ghost use Rattle.dom_slots.specs.Kept.{AreSlotsOf};
 ghost use Rattle.dom_slots.specs.Shadows.{shadows, is_assigned_at};
-ghost use Rattle.dom_path.specs.Stands.{IsStand, item_from, ends_before, is_silent, related_from};
-ghost use Rattle.dom_path.specs.Built.{IsEvent, IsItemOf, IsWay};
+ghost use Rattle.dom_path.specs.Hosted.{IsHosted};
+ghost use Rattle.dom_path.specs.Nests.{Grows};
+ghost use Rattle.dom_path.specs.Stands.{AreTrees, IsStand, item_from, ends_before, is_silent, related_from};
+ghost use Rattle.dom_path.specs.Built.{IsEvent, IsItemOf, IsWay, IsBuilt, related_name};
 ghost use Rattle.dom_path.specs.Ways.{next_at};
 
 use crate::item::Item;
 use crate::stand::Stand;
+use crate::trees::Trees;
 use dom_slots::Slots;
 use dom_tree::Forest;
 use node_arena::Key;
@@ -20,54 +23,62 @@ use std::alloc::{AllocError, Global};
 
 /// The places of an event's target and of its related node, and whether it is composed.
 #[derive(Drop)]
-pub(crate) struct Event {
-    pub(crate) target: Stand,
-    pub(crate) related: Option<Stand>,
-    pub(crate) composed: bool,
+struct Event {
+    target: Stand,
+    related: Option<Stand>,
+    composed: bool,
+}
+
+/// The items of the path of an event at a target (DOM Standard, concept: dispatch). This adds the trees on its way.
+pub(crate) fn items_of(
+    alloc: Global,
+    trees: &mut Trees,
+    forest: &Forest,
+    slots: &Slots,
+    target: Key,
+    related: Option<Key>,
+    composed: bool,
+) -> Result<SmallVec<Item, 16>, AllocError>
+    requires target_is_node { target < length forest.now.names }
+    requires related_is_node { ForSome related (λ k. k < length forest.now.names) }
+    requires trees { AreTrees forest.now slots.now.hosts trees.old }
+    requires free { slots.now.begun ≡ None }
+    requires slots { AreSlotsOf forest.now slots.now }
+    ensures trees { OnOk result (AreTrees forest.now slots.now.hosts trees.new) }
+    ensures path { IfOk result (λ items. (depth : ℕ) → IsHosted forest.now slots.now.hosts depth → IsBuilt forest.now slots.now.hosts (name_at forest.now.names target) (option_map (name_at forest.now.names) related) depth composed items.items) }
+    ensures each { IfOk result (λ items. AllByRecursion (IsItemOf forest.now slots.now.hosts (name_at forest.now.names target) (option_map (name_at forest.now.names) related) trees.new) items.items) }
+{
+    forest.nodes_stand_once();
+    let target = Stand::of(trees, forest, slots, target)?;
+    let related = Stand::of_any(trees, forest, slots, related)?;
+    let event = Event {
+        target,
+        related,
+        composed,
+    };
+    if event.is_silent(trees) {
+        return Ok(SmallVec::new(alloc));
+    }
+    event.items(alloc, trees, forest, slots)
 }
 
 impl Event {
-    /// The places of a target and of the related node, if there is one.
-    pub(crate) fn new(
-        forest: &Forest,
-        slots: &Slots,
-        target: Key,
-        related: Option<Key>,
-        composed: bool,
-    ) -> Event
-        requires target_is_node { target < length forest.now.names }
-        requires related_is_node { ForSome related (λ k. k < length forest.now.names) }
-        requires hosts { HostsAreNodes forest.now.names slots.now.hosts }
-        ensures places { IsEvent forest.now slots.now.hosts result.target result.related }
-        ensures target { result.target.node ≡ target }
-        ensures related { option_map (λ x. x.node) result.related ≡ related }
-        ensures composed { result.composed ≡ composed }
-    {
-        let target = Stand::of(forest, slots, target, false);
-        let related = match related {
-            Some(related) => Some(Stand::of(forest, slots, related, false)),
-            None => None,
-        };
-        Event {
-            target,
-            related,
-            composed,
-        }
-    }
-
     /// The items of the path: of the target, and then each event parent's, up to where the path ends (DOM Standard, concept:
-    /// dispatch). One look for a slot a node, and the walks up to roots are walks along the path. Up to 16 items take no memory.
-    pub(crate) fn items(
+    /// dispatch). One look for a slot a node, and no walk up to a root. Up to 16 items take no memory.
+    fn items(
         &self,
         alloc: Global,
+        trees: &mut Trees,
         forest: &Forest,
         slots: &Slots,
     ) -> Result<SmallVec<Item, 16>, AllocError>
-        requires event { IsEvent forest.now slots.now.hosts self.now.target self.now.related }
+        requires trees { AreTrees forest.now slots.now.hosts trees.old }
+        requires event { IsEvent forest.now slots.now.hosts trees.old self.now.target self.now.related }
         requires free { slots.now.begun ≡ None }
         requires slots { AreSlotsOf forest.now slots.now }
-        ensures way { IfOk result (λ items. IsWay forest.now slots.now.hosts self.now.target self.now.related self.now.composed items.items) }
-        ensures each { IfOk result (λ items. AllByRecursion (IsItemOf forest.now slots.now.hosts self.now.target self.now.related) items.items) }
+        ensures trees { OnOk result (AreTrees forest.now slots.now.hosts trees.new) }
+        ensures way { IfOk result (λ items. (depth : ℕ) → IsHosted forest.now slots.now.hosts depth → IsWay forest.now slots.now.hosts (name_at forest.now.names self.now.target.node) (related_name forest.now.names self.now.related) depth self.now.composed items.items) }
+        ensures each { IfOk result (λ items. AllByRecursion (IsItemOf forest.now slots.now.hosts (name_at forest.now.names self.now.target.node) (related_name forest.now.names self.now.related) trees.new) items.items) }
     {
         forest.nodes_stand_once();
         let mut items = SmallVec::new(alloc);
@@ -75,68 +86,90 @@ impl Event {
         while let Some(at) = next {
             // The loop ends since the number of items is a `usize`.
             prove!(items.len() <= usize::MAX);
-            items.push(self.item(&at))?;
-            next = self.next(forest, slots, &at);
+            items.push(self.item(trees, &at))?;
+            next = self.next(trees, forest, slots, &at)?;
         }
         Ok(items)
     }
 
     /// Whether the path is empty: the target sees itself in the related node's place, and is not the related node (DOM
     /// Standard, concept: dispatch).
-    pub(crate) fn is_silent(&self) -> bool
-        ensures { result ≡ is_silent self.now.target self.now.related }
+    fn is_silent(&self, trees: &Trees) -> bool
+        requires target { self.now.target.tree < length trees.now }
+        requires related { ForSome self.now.related (λ x. x.tree < length trees.now) }
+        ensures { result ≡ is_silent trees.now self.now.target self.now.related }
     {
         let node = self.target.node;
         let is_related = match &self.related {
             Some(related) => related.node == node,
             None => false,
         };
-        self.related_from(self.target.root) == Some(node) && !is_related
+        self.related_from(trees, self.target.tree) == Some(node) && !is_related
     }
 
-    /// The place behind another one on the path, if the path doesn't end there.
-    fn next(&self, forest: &Forest, slots: &Slots, at: &Stand) -> Option<Stand>
-        requires event { IsEvent forest.now slots.now.hosts self.now.target self.now.related }
-        requires stands { IsStand forest.now slots.now.hosts at.now }
+    /// The place behind another one on the path, if the path doesn't end there. Of a slot this adds the tree.
+    fn next(
+        &self,
+        trees: &mut Trees,
+        forest: &Forest,
+        slots: &Slots,
+        at: &Stand,
+    ) -> Result<Option<Stand>, AllocError>
+        requires trees { AreTrees forest.now slots.now.hosts trees.old }
+        requires event { IsEvent forest.now slots.now.hosts trees.old self.now.target self.now.related }
+        requires stands { IsStand forest.now slots.now.hosts trees.old at.now }
         requires free { slots.now.begun ≡ None }
         requires slots { AreSlotsOf forest.now slots.now }
-        ensures stands { ForSome result (λ x. IsStand forest.now slots.now.hosts x) }
-        ensures value { option_map (λ x. name_at forest.now.names x.node) result ≡ next_at (shadows forest.now slots.now.hosts) (name_at forest.now.names self.now.target.node) (option_map (λ x. name_at forest.now.names x.node) self.now.related) self.now.composed (name_at forest.now.names at.now.node) }
-        ensures entered { ForSome result (λ x. x.is_entered ≡ is_assigned_at (shadows forest.now slots.now.hosts) (name_at forest.now.names x.node) (name_at forest.now.names at.now.node)) }
+        ensures grown { OnOk result (Grows trees.old trees.new) }
+        ensures trees { OnOk result (AreTrees forest.now slots.now.hosts trees.new) }
+        ensures stands { IfOk result (λ next. ForSome next (λ x. IsStand forest.now slots.now.hosts trees.new x)) }
+        ensures value { IfOk result (λ next. (depth : ℕ) → IsHosted forest.now slots.now.hosts depth → option_map (λ x. name_at forest.now.names x.node) next ≡ next_at (shadows forest.now slots.now.hosts) depth (name_at forest.now.names self.now.target.node) (related_name forest.now.names self.now.related) self.now.composed (name_at forest.now.names at.now.node)) }
+        ensures entered { IfOk result (λ next. ForSome next (λ x. x.is_entered ≡ is_assigned_at (shadows forest.now slots.now.hosts) (name_at forest.now.names x.node) (name_at forest.now.names at.now.node))) }
     {
         forest.nodes_stand_once();
-        let above = at.above(forest, slots, self.target.root, self.composed)?;
-        if self.ends_before(&above) {
-            return None;
+        let top = trees.at(self.target.tree).root;
+        let Some(above) = at.above(trees, forest, slots, top, self.composed)? else {
+            return Ok(None);
+        };
+        if self.ends_before(trees, &above) {
+            return Ok(None);
         }
-        Some(above)
+        Ok(Some(above))
     }
 
     /// Whether the path ends before a node: it is not the target, and sees itself in the place of the target and in that of the
     /// related node (DOM Standard, concept: dispatch).
-    fn ends_before(&self, at: &Stand) -> bool
-        ensures { result ≡ ends_before self.now.target self.now.related at.now }
+    fn ends_before(&self, trees: &Trees, at: &Stand) -> bool
+        requires target { self.now.target.tree < length trees.now }
+        requires related { ForSome self.now.related (λ x. x.tree < length trees.now) }
+        requires at { at.now.tree < length trees.now }
+        ensures { result ≡ ends_before trees.now self.now.target self.now.related at.now }
     {
         at.node != self.target.node
-            && at.node == self.target.seen_from(at.root)
-            && self.related_from(at.root) == Some(at.node)
+            && at.node == self.target.seen_from(trees, at.tree)
+            && self.related_from(trees, at.tree) == Some(at.node)
     }
 
-    /// What is seen in the related node's place from the tree with this root.
-    fn related_from(&self, root: Key) -> Option<Key>
-        ensures { result ≡ related_from self.now.related root }
+    /// What is seen in the related node's place from the nodes of a tree.
+    fn related_from(&self, trees: &Trees, viewer: usize) -> Option<Key>
+        requires related { ForSome self.now.related (λ x. x.tree < length trees.now) }
+        requires viewer { viewer < length trees.now }
+        ensures { result ≡ related_from trees.now viewer self.now.related }
     {
         match &self.related {
-            Some(related) => Some(related.seen_from(root)),
+            Some(related) => Some(related.seen_from(trees, viewer)),
             None => None,
         }
     }
 
     /// The item of a node of the path.
-    fn item(&self, at: &Stand) -> Item
-        ensures { result ≡ item_from self.now.target self.now.related at.now }
+    fn item(&self, trees: &Trees, at: &Stand) -> Item
+        requires target { self.now.target.tree < length trees.now }
+        requires related { ForSome self.now.related (λ x. x.tree < length trees.now) }
+        requires at { at.now.tree < length trees.now }
+        ensures { result ≡ item_from trees.now self.now.target self.now.related at.now }
     {
-        let event_target = self.target.seen_from(at.root);
+        let event_target = self.target.seen_from(trees, at.tree);
         let target = if at.node == event_target {
             Some(at.node)
         } else {
@@ -145,12 +178,11 @@ impl Event {
         Item {
             node: at.node,
             target,
-            related: self.related_from(at.root),
+            related: self.related_from(trees, at.tree),
             root_of_closed: at.is_shadow_root,
             slot_in_closed: at.is_entered,
             event_target,
-            root: at.root,
-            host: at.host,
+            tree: at.tree,
         }
     }
 }

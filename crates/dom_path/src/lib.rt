@@ -6,6 +6,7 @@ mod event;
 mod item;
 mod path;
 mod stand;
+mod trees;
 
 pub use item::Item;
 pub use path::Path;

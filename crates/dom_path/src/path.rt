@@ -9,8 +9,9 @@ ghost use Rattle.dom_slots.specs.Kept.{AreSlotsOf};
 ghost use Rattle.dom_path.specs.Stands.{view_in};
 ghost use Rattle.dom_path.specs.Items.{IsWorldOf, HasNodes, ShowsNodes, item_named, view_named, path_items};
 
-use crate::event::Event;
+use crate::event::items_of;
 use crate::item::Item;
+use crate::trees::Trees;
 use dom_slots::Slots;
 use dom_tree::Forest;
 use node_arena::Key;
@@ -22,6 +23,7 @@ use std::marker::Model;
 #[derive(Drop)]
 pub struct Path {
     items: SmallVec<Item, 16>,
+    trees: Trees,
     alloc: Global,
 }
 
@@ -33,7 +35,11 @@ impl Model for Path {
     ghost use Rattle.dom_path.specs.Stands.{view_in};
     ghost use Rattle.std.specs.Prelude.{map};
 
-    ghost view = { λ p. record { items = p.items.items; views = map (view_in p.items.items) p.items.items } };
+    ghost view = { λ p. record { items = p.items.items; trees = p.trees; views = map (view_in p.trees p.items.items) p.items.items } };
+
+    ghost use Rattle.dom_path.specs.Items.{AreInTrees};
+
+    ghost invariant = { λ p. AreInTrees p.trees p.items.items };
 }
 
 impl Path {
@@ -57,21 +63,19 @@ impl Path {
         ensures shown_nodes { IfOk result (λ p. AllByRecursion (ShowsNodes forest.now.names) p.views) }
     {
         forest.nodes_stand_once();
-        let event = Event::new(forest, slots, target, related, composed);
-        if event.is_silent() {
-            return Ok(Path {
-                items: SmallVec::new(alloc),
-                alloc,
-            });
-        }
-        let items = event.items(alloc, forest, slots)?;
-        Ok(Path { items, alloc })
+        let mut trees = Trees::new(alloc);
+        let items = items_of(alloc, &mut trees, forest, slots, target, related, composed)?;
+        Ok(Path {
+            items,
+            trees,
+            alloc,
+        })
     }
 
     /// The items of the path, the target's first. What the event shows at each of them is as they say.
     pub fn items(&self) -> &[Item]
         ensures items { result.now ≡ self.now.items }
-        ensures views { self.now.views ≡ map (view_in self.now.items) self.now.items }
+        ensures views { self.now.views ≡ map (view_in self.now.trees self.now.items) self.now.items }
     {
         self.items.as_slice()
     }
@@ -82,11 +86,11 @@ impl Path {
         requires { at < length self.now.items }
         ensures { IfOk result (λ nodes. option_map (λ (v : View ℕ). v.path) (slice_get self.now.views at) ≡ Some nodes.items) }
     {
-        let items = self.items();
-        let root = items[at].root;
+        let items = self.items.as_slice();
+        let viewer = items[at].tree;
         let mut nodes = SmallVec::new(self.alloc);
         for item in items {
-            if !item.is_hidden_from(root) {
+            if self.trees.hiding_host(item.tree, viewer).is_none() {
                 nodes.push(item.node)?;
             }
         }

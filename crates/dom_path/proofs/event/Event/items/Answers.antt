@@ -1,21 +1,36 @@
-use Rattle.std.proofs.Common.{◌∷◌, [], ◌++◌, ap, subst, ◌∙◌}
-use Rattle.dom_path.proofs.Tracks.{IsTrack, track-first, track-more, track-last}
+use Rattle.std.proofs.Common.{refl, sym, ap, subst}
+use Rattle.dom_tree.specs.Forest.{name_at}
+use Rattle.dom_path.specs.declared.item.Item.{Item}
+use Rattle.dom_path.specs.Built.{IsItemOf, related_name}
+use Rattle.dom_path.proofs.Tracks.{IsTrack, track-more, track-last, event-kept}
+use Rattle.dom_path.proofs.Viewed.{item-made}
 use Rattle.dom_path.proofs.event.Event.items.Goals as goal
-
-pub loop-next-init : goal.loop-next-init
-loop-next-init c =
-    let e = c.args.self.now in
-    track-first c.args.forest.now c.args.slots.now.hosts e.target e.related e.composed c.new-items.result.items c.new-items.ensures.items c.requires.event.at_target c.requires.event.begins
 
 pub loop-next-preserved : goal.loop-next-preserved
 loop-next-preserved c =
+    let f = c.args.forest.now in
+    let hosts = c.args.slots.now.hosts in
     let e = c.args.self.now in
-    let so_far = subst (IsTrack c.args.forest.now c.args.slots.now.hosts e.target e.related e.composed c.loop-next.items.items) c.in-Some.is c.loop-next.invariant in
-    track-more c.args.forest.now c.args.slots.now.hosts e.target e.related e.composed c.loop-next.items.items c.in-Some.at c.push.new.self.items c.next-next.result so_far
-    (c.in_ok-push.ensures.ok ∙ ap (λ i. c.loop-next.items.items ++ i ∷ []) c.item.ensures)
-    c.next-next.ensures.stands c.next-next.ensures.value c.next-next.ensures.entered
+    let t = name_at f.names e.target.node in
+    let r = related_name f.names e.related in
+    let trees = c.loop-next.trees in
+    let new = c.next.new.trees in
+    let items = c.loop-next.items.items in
+    let x = c.in-Some.at in
+    let so_far = subst (IsTrack f hosts t r e.composed trees items) c.in-Some.is c.loop-next.invariant.track in
+    let item = subst (IsItemOf f hosts t r trees) (sym c.item.ensures)
+    (item-made f hosts c.nodes_stand_once.ensures.distinct trees c.loop-next.invariant.are e.target e.related x c.loop-next.invariant.event (so_far.place x refl)) in
+    record {
+      track = track-more f hosts t r e.composed trees new items x c.item.result c.push.new.self.items c.in_ok-next.next so_far c.in_ok-next.ensures.grown c.in_ok-push.ensures.ok item
+          (ap (λ (i : Item). i.node) c.item.ensures) (ap (λ (i : Item). i.slot_in_closed) c.item.ensures)
+          c.in_ok-next.ensures.stands c.in_ok-next.ensures.value c.in_ok-next.ensures.entered;
+      are = c.in_ok-next.ensures.trees;
+      event = event-kept f hosts trees new e.target e.related c.in_ok-next.ensures.grown c.loop-next.invariant.event;
+    }
 
 pub returns-clause-way : goal.returns-clause-way
 returns-clause-way c =
+    let f = c.args.forest.now in
     let e = c.args.self.now in
-    track-last c.args.forest.now c.args.slots.now.hosts e.target e.related e.composed c.loop-next.items.items c.loop-next.next c.in_default.is c.loop-next.invariant
+    track-last f c.args.slots.now.hosts (name_at f.names e.target.node) (related_name f.names e.related) e.composed c.loop-next.trees c.loop-next.items.items c.loop-next.next c.in_default.is
+    c.loop-next.invariant.track

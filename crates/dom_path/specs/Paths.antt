@@ -1,0 +1,52 @@
+-- The path of an event in trees with shadow hosts, whoever owns the nodes, and what the event shows along it (DOM Standard, 2.9
+-- Dispatching events).
+use Rattle.std.specs.Prelude.{◌≡◌, ℕ, Bool, true, false, not, List, [], ◌∷◌, filter, map, Option, Some, None, if◌then◌else◌}
+use Rattle.std.specs.Option.{option_map_or}
+use Rattle.dom_base.specs.declared.NodeName.{NodeName}
+use Rattle.dom_model.specs.Names.{name_eq}
+use Rattle.dom_model.specs.Paths.{View}
+use Rattle.dom_model.specs.Tree.{is_shadow, node_in}
+use Rattle.dom_slots.specs.Shadows.{ShadowTrees, is_assigned_at}
+use Rattle.dom_path.specs.Items.{PathItem}
+use Rattle.dom_path.specs.Ways.{is_empty_at, is_hidden_at, next_at, related_at, seen_at}
+
+-- In trees whose shadow trees lie in one another at most so deep:
+module _ (s : ShadowTrees) (depth : ℕ) where
+  -- Of an event with this target and this related node:
+  module _ (target : NodeName) (related : Option NodeName) where
+    -- the item of a node of its path, behind the node before
+    abbrev pub item_at : Option NodeName → NodeName → PathItem
+    item_at before x = record {
+      node = x;
+      target = if name_eq x (seen_at s depth x target) then Some x else None;
+      related = related_at s depth x related;
+      root_of_closed = is_shadow (node_in s.trees x).kind;
+      slot_in_closed = option_map_or (is_assigned_at s x) before false;
+    }
+
+    -- the items of nodes that follow one another
+    abbrev pub items_at : Option NodeName → List NodeName → List PathItem
+    items_at before [] = []
+    items_at before (x ∷ xs) = item_at before x ∷ items_at (Some x) xs
+
+    -- what it shows at a node of its path (DOM Standard, 2.2: composedPath(); 4.8: retarget)
+    abbrev pub view_of : List NodeName → NodeName → View NodeName
+    view_of path x = record { node = x; target = seen_at s depth x target; related = related_at s depth x related; path = filter (λ y. not (is_hidden_at s depth x y)) path }
+
+    -- the nodes of a path behind x: each is the event parent of the one before, and behind the last the path ends
+    abbrev pub GoesUp : Bool → NodeName → List NodeName → Type 0
+    GoesUp composed x [] = next_at s depth target related composed x ≡ None
+    GoesUp composed x (y ∷ ys) = (next_at s depth target related composed x ≡ Some y) × GoesUp composed y ys
+
+    -- the nodes of its path, the target first; there are none where the related node is retargeted to the target and is not the
+    -- target (DOM Standard, concept: dispatch)
+    abbrev pub IsPath : Bool → List NodeName → Type 0
+    IsPath composed [] = is_empty_at s depth target related ≡ true
+    IsPath composed (x ∷ xs) = (is_empty_at s depth target related ≡ false) × (x ≡ target) × GoesUp composed x xs
+
+  -- these are the items of an event's path, and what it shows at each of them
+  pub record IsPathShown (target : NodeName) (related : Option NodeName) (composed : Bool) (items : List PathItem) (views : List (View NodeName)) : Type 0 where
+    pub nodes : List NodeName
+    pub path : IsPath target related composed nodes
+    pub items_are : items ≡ items_at target related None nodes
+    pub views_are : views ≡ map (view_of target related nodes) nodes
