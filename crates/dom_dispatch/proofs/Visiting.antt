@@ -16,6 +16,7 @@ use Rattle.dom_model.specs.World.{part_of}
 use Rattle.dom_tree.specs.Forest.{NamedTrees, name_at}
 use Rattle.dom_slots.specs.Hosts.{ShadowHost}
 use Rattle.dom_path.specs.declared.item.Item.{Item}
+use Rattle.dom_path.specs.declared.trees.Tree.{Tree}
 use Rattle.dom_path.specs.Items.{ShowsNodes}
 use Rattle.dom_path.specs.Stands.{view_in}
 use Rattle.dom_dispatch.specs.declared.event.Outcome.{Outcome}
@@ -67,17 +68,17 @@ there [] i h = absurd (omega arith)
 there (x ∷ xs) zero h = (x, refl)
 there (x ∷ xs) (suc i) h = there xs i (omega arith)
 
-module _ (items : List Item) (vs : List (View ℕ)) (shown : vs ≡ map (view_in items) items) where
+module _ (trees : List Tree) (items : List Item) (vs : List (View ℕ)) (shown : vs ≡ map (view_in trees items) items) where
   -- what is shown at an item
-  pub view-is : (i : ℕ) (x : Item) → i < length items → x ≡ get_or items i x → slice_get vs i ≡ Some (view_in items x)
+  pub view-is : (i : ℕ) (x : Item) → i < length items → x ≡ get_or items i x → slice_get vs i ≡ Some (view_in trees items x)
   view-is i x h g =
-      ap (λ xs. slice_get xs i) shown ∙ slice_get-map (view_in items) items i ∙ ap (option_map (view_in items)) (slice_get-get_or items i x h ∙ ap Some (sym g))
+      ap (λ xs. slice_get xs i) shown ∙ slice_get-map (view_in trees items) items i ∙ ap (option_map (view_in trees items)) (slice_get-get_or items i x h ∙ ap Some (sym g))
 
   -- something is
   pub view-there : (i : ℕ) → i < length items → (v : View ℕ) × (slice_get vs i ≡ Some v)
   view-there i h =
       let x = there items i h in
-      (view_in items x.0, ap (λ xs. slice_get xs i) shown ∙ slice_get-map (view_in items) items i ∙ ap (option_map (view_in items)) x.1)
+      (view_in trees items x.0, ap (λ xs. slice_get xs i) shown ∙ slice_get-map (view_in trees items) items i ∙ ap (option_map (view_in trees items)) x.1)
 
 -- what is shown are nodes
 views-of : (names : List NodeName) (vs : List (View ℕ)) → AllByRecursion (ShowsNodes names) vs → AllByRecursion (IsViewOf names) vs

@@ -11,7 +11,10 @@ use Rattle.dom_model.specs.Paths.{View, views}
 use Rattle.dom_model.specs.World.{World, part_of}
 use Rattle.dom_tree.specs.Forest.{NamedTrees, name_at}
 use Rattle.dom_slots.specs.Hosts.{ShadowHost}
+use Rattle.dom_slots.specs.Shadows.{shadows}
+use Rattle.dom_path.specs.Hosted.{IsHosted}
 use Rattle.dom_path.specs.Items.{IsWorldOf, ShowsNodes, view_named}
+use Rattle.dom_path.specs.Paths.{AreViews}
 use Rattle.dom_dispatch.specs.declared.event.EventInit.{EventInit}
 use Rattle.dom_dispatch.specs.declared.event.LogLine.{LogLine}
 use Rattle.dom_dispatch.specs.declared.event.Outcome.{Outcome}
@@ -54,12 +57,13 @@ KeepsOwners v before after =
     (names : List NodeName) → v.owner ≡ (name_at names v.current).owner → AllByRecursion (IsOwnLine names) before.lines.items → AllByRecursion (IsOwnLine names) after.lines.items
 
 module _ (f : NamedTrees) (hosts : List ShadowHost) (before after : List (Listener ℕ)) (target : ℕ) (related : Option ℕ) (e : EventWords) (outcome : Outcome) where
-  -- An event was dispatched along its path: what it shows there are nodes, and in every world that has these trees and hosts it is
-  -- what the event shows (DOM Standard, concept: dispatch).
+  -- An event was dispatched along its path: what it shows there are nodes; it is what the event shows in these trees and hosts, and in
+  -- every world that has them (DOM Standard, concept: dispatch).
   pub record IsDispatched : Type 0 where
     pub shown : List (View ℕ)
     pub nodes : AllByRecursion (ShowsNodes f.names) shown
     pub path : (w : World) → IsWorldOf f hosts w → map (view_named f.names) shown ≡ views w (name_at f.names target) (option_map (name_at f.names) related) e.composed
+    pub hosted : (depth : ℕ) → IsHosted f hosts depth → AreViews (shadows f hosts) depth (name_at f.names target) (option_map (name_at f.names) related) e.composed (map (view_named f.names) shown)
     pub listeners : after ≡ (dispatch_along before e shown).listeners
     pub lines : map line_in outcome.lines.items ≡ (dispatch_along before e shown).lines
     pub answer : outcome.answer ≡ not (dispatch_along before e shown).cancelled

@@ -106,7 +106,7 @@ module _ (f : NamedTrees) (hosts : List ShadowHost) (w : World) (is : IsWorldOf 
   pub in-world : has_node f.trees t ≡ true → (items : List PathItem) (shown : List (View NodeName)) → IsPathShown s max_depth t r composed items shown
       → (items ≡ path_items w t r composed) × (shown ≡ views w t r composed)
   in-world there items shown p =
-      let path = nodes-are there p.nodes p.path in (
-        p.items_are ∙ sym (items-are None p.nodes) ∙ ap (items_along w t r None) (sym path),
-        p.views_are ∙ sym (λ j. map (λ x. view-is p.nodes x j) p.nodes) ∙ ap (λ xs. map (view_at w t r xs) xs) (sym path),
+      let path = nodes-are there p.shown.nodes p.shown.path in (
+        p.items_are ∙ sym (items-are None p.shown.nodes) ∙ ap (items_along w t r None) (sym path),
+        p.shown.views_are ∙ sym (λ j. map (λ x. view-is p.shown.nodes x j) p.shown.nodes) ∙ ap (λ xs. map (view_at w t r xs) xs) (sym path),
       )

@@ -7,3 +7,4 @@ pub mod Tracks
 pub mod Sightings
 pub mod Shows
 pub mod InWorlds
+pub mod Attached

@@ -36,6 +36,11 @@ module _ (s : ShadowTrees) where
   chain-first zero x = ([], refl)
   chain-first (suc depth) x = (flat_map (chain_at s depth) (option_to_list (host_above_at s x)), refl)
 
+  -- a node in no shadow tree stands in no more of them than any number
+  pub ends-outside : (depth : ℕ) (x : NodeName) → host_above_at s x ≡ None → EndsWithin s depth x
+  ends-outside zero x e = e
+  ends-outside (suc depth) x e = λ h g. let both : None ≡ Some h = sym e ∙ g in cc
+
 -- the test of a key among others is that of its name
 in-named : (names : List NodeName) → AreDistinct names → (k : ℕ) (ks : List ℕ) → k < length names → AllByRecursion (λ j. j < length names) ks
     → is_in nat_eq k ks ≡ is_in name_eq (name_at names k) (map (name_at names) ks)

@@ -110,7 +110,10 @@ module _ (f : NamedTrees) (hosts : List ShadowHost) (distinct : AreDistinct f.na
   -- all of it
   pub path-shown : (items : List Item) → AllByRecursion Item_of items → IsBuilt f hosts t r depth composed items
       → IsPathShown s depth t r composed (map (item_named f.names) items) (map (view_named f.names) (map (view_in trees items) items))
-  path-shown items h g = record { nodes = map named items; path = nodes-are items g; items_are = items-are items h g; views_are = views-along items h items h }
+  path-shown items h g = record {
+    shown = record { nodes = map named items; path = nodes-are items g; views_are = views-along items h items h };
+    items_are = items-are items h g;
+  }
 
 module _ (f : NamedTrees) (hosts : List ShadowHost) (t : NodeName) (r : Option NodeName) (trees : List Tree) where
   -- the nodes of the items are nodes of the forest

@@ -26,7 +26,7 @@ use Rattle.dom_slots.proofs.Shown.{slot-shown}
 use Rattle.dom_path.specs.Hosted.{IsHosted}
 use Rattle.dom_path.specs.Items.{IsWorldOf}
 use Rattle.dom_path.specs.Ways.{host_above_at, EndsWithin, chain_at, is_hidden_at, seen_at, related_at, event_parent_at, ends_at, is_empty_at}
-use Rattle.dom_path.proofs.Places.{chain-alone, chain-host}
+use Rattle.dom_path.proofs.Places.{chain-alone, chain-host, ends-outside}
 
 -- a value that is there is kept, or not
 kept : (o : Option NodeName) (b : Bool) → b ≡ true → option_and_then (some_if b) o ≡ o
@@ -37,11 +37,6 @@ kept (Some x) b e = ap (λ c. some_if c x) e
 dropped : (o : Option NodeName) (b : Bool) → b ≡ false → option_and_then (some_if b) o ≡ None
 dropped None b e = refl
 dropped (Some x) b e = ap (λ c. some_if c x) e
-
--- a node in no shadow tree stands in no more of them than any number
-ends-outside : (s : ShadowTrees) (depth : ℕ) (x : NodeName) → host_above_at s x ≡ None → EndsWithin s depth x
-ends-outside s zero x e = e
-ends-outside s (suc depth) x e = λ h g. let both : None ≡ Some h = sym e ∙ g in cc
 
 module _ (f : NamedTrees) (hosts : List ShadowHost) (w : World) (is : IsWorldOf f hosts w) where
   abbrev s : ShadowTrees

@@ -44,9 +44,13 @@ module _ (s : ShadowTrees) (depth : ℕ) where
     IsPath composed [] = is_empty_at s depth target related ≡ true
     IsPath composed (x ∷ xs) = (is_empty_at s depth target related ≡ false) × (x ≡ target) × GoesUp composed x xs
 
-  -- these are the items of an event's path, and what it shows at each of them
-  pub record IsPathShown (target : NodeName) (related : Option NodeName) (composed : Bool) (items : List PathItem) (views : List (View NodeName)) : Type 0 where
+  -- this is what an event shows at each node of its path
+  pub record AreViews (target : NodeName) (related : Option NodeName) (composed : Bool) (views : List (View NodeName)) : Type 0 where
     pub nodes : List NodeName
     pub path : IsPath target related composed nodes
-    pub items_are : items ≡ items_at target related None nodes
     pub views_are : views ≡ map (view_of target related nodes) nodes
+
+  -- and these are the items of the path
+  pub record IsPathShown (target : NodeName) (related : Option NodeName) (composed : Bool) (items : List PathItem) (views : List (View NodeName)) : Type 0 where
+    pub shown : AreViews target related composed views
+    pub items_are : items ≡ items_at target related None shown.nodes

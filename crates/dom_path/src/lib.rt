@@ -4,9 +4,11 @@
 
 mod event;
 mod item;
+mod laws;
 mod path;
 mod stand;
 mod trees;
 
 pub use item::Item;
+pub use laws::hosts_nest;
 pub use path::Path;

@@ -6,6 +6,9 @@ ghost use Rattle.dom_model.specs.Paths.{View, views};
 ghost use Rattle.dom_model.specs.World.{World};
 ghost use Rattle.dom_tree.specs.Forest.{name_at};
 ghost use Rattle.dom_slots.specs.Kept.{AreSlotsOf};
+ghost use Rattle.dom_slots.specs.Shadows.{shadows};
+ghost use Rattle.dom_path.specs.Hosted.{IsHosted};
+ghost use Rattle.dom_path.specs.Paths.{IsPathShown};
 ghost use Rattle.dom_path.specs.Stands.{view_in};
 ghost use Rattle.dom_path.specs.Items.{IsWorldOf, HasNodes, ShowsNodes, item_named, view_named, path_items};
 
@@ -59,6 +62,7 @@ impl Path {
         requires slots { AreSlotsOf forest.now slots.now }
         ensures items { IfOk result (λ p. (w : World) → IsWorldOf forest.now slots.now.hosts w → map (item_named forest.now.names) p.items ≡ path_items w (name_at forest.now.names target) (option_map (name_at forest.now.names) related) composed) }
         ensures views { IfOk result (λ p. (w : World) → IsWorldOf forest.now slots.now.hosts w → map (view_named forest.now.names) p.views ≡ views w (name_at forest.now.names target) (option_map (name_at forest.now.names) related) composed) }
+        ensures hosted { IfOk result (λ p. (depth : ℕ) → IsHosted forest.now slots.now.hosts depth → IsPathShown (shadows forest.now slots.now.hosts) depth (name_at forest.now.names target) (option_map (name_at forest.now.names) related) composed (map (item_named forest.now.names) p.items) (map (view_named forest.now.names) p.views)) }
         ensures nodes { IfOk result (λ p. AllByRecursion (HasNodes forest.now.names) p.items) }
         ensures shown_nodes { IfOk result (λ p. AllByRecursion (ShowsNodes forest.now.names) p.views) }
     {

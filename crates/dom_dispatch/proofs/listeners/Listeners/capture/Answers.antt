@@ -10,7 +10,7 @@ loop-at-preserved c =
     let path = c.args.path.now in
     let within : c.loop-at.at - 1 < length path.items = omega (arith, c.loop-at.invariant.within) in
     let next : c.loop-at.at ≡ suc (c.loop-at.at - 1) = omega arith in
-    let v = view-there path.items path.views c.items-at.ensures.views (c.loop-at.at - 1) within in
+    let v = view-there path.trees path.items path.views c.items-at.ensures.views (c.loop-at.at - 1) within in
     record {
       within = omega (arith, c.loop-at.invariant.within);
       visits = captured-more (visited nat_eq (event_words c.args.event.now)) (visit_of nat_eq true) path.views (c.loop-at.at - 1) c.loop-at.at v.0 next v.1

@@ -27,6 +27,7 @@ returns-clause-keys c =
       shown = views;
       nodes = c.in_ok-path.ensures.shown_nodes;
       path = c.in_ok-path.ensures.views;
+      hosted = λ depth hosted. (c.in_ok-path.ensures.hosted depth hosted).shown;
       listeners = ap (λ (d : Dispatching ℕ). d.listeners) whole;
       lines = ap (λ (d : Dispatching ℕ). d.lines) whole;
       answer = ap (λ (d : Dispatching ℕ). not d.cancelled) whole;

@@ -42,3 +42,11 @@ pub returns-clause-shown_nodes : goal.returns-clause-shown_nodes
 returns-clause-shown_nodes c =
     let f = c.args.forest.now in
     shown-within f c.args.slots.now.hosts (name_at f.names c.args.target) (option_map (name_at f.names) c.args.related) c.items_of.new.trees c.in_ok-items.items.items c.in_ok-items.ensures.each
+
+pub returns-clause-hosted : goal.returns-clause-hosted
+returns-clause-hosted c = λ depth hosted.
+    let f = c.args.forest.now in
+    let t = name_at f.names c.args.target in
+    let r = option_map (name_at f.names) c.args.related in
+    path-shown f c.args.slots.now.hosts c.nodes_stand_once.ensures.distinct t r c.args.composed c.items_of.new.trees c.in_ok-items.ensures.trees depth hosted c.in_ok-items.items.items c.in_ok-items.ensures.each
+    (c.in_ok-items.ensures.path depth hosted)
