@@ -1,2 +1,3 @@
 pub mod Moves
 pub mod Selections
+pub mod Hosting

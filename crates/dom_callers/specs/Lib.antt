@@ -3,3 +3,4 @@ pub mod Focus
 pub mod Fronts
 pub mod Labels
 pub mod Words
+pub mod Widgets

@@ -9,6 +9,7 @@ mod ranges;
 mod selecting;
 mod traversal;
 mod tree;
+mod widgets;
 
 pub use arena::move_to_front;
 pub use observing::watch_attributes;
@@ -17,3 +18,4 @@ pub use ranges::select_contents;
 pub use selecting::has_match;
 pub use traversal::next_focus;
 pub use tree::label;
+pub use widgets::{count_widget_visits, press};

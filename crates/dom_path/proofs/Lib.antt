@@ -8,3 +8,4 @@ pub mod Sightings
 pub mod Shows
 pub mod InWorlds
 pub mod Attached
+pub mod Endings

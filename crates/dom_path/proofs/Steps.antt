@@ -29,7 +29,7 @@ found-in q (n ∷ ns) y e = by (q n) (λ k. found-in q ns y k) e
     by true again k = inl (let same : n.name ≡ y = cc in sym same)
     by false again k = inr (again k)
 
-slot-has : (ts : Trees) (n : Node) (y : NodeName) → slot_in ts n ≡ Some y → Has ts y
+pub slot-has : (ts : Trees) (n : Node) (y : NodeName) → slot_in ts n ≡ Some y → Has ts y
 slot-has ts n y e = by (slottable_name n) e
   where
     by : (o : Option DomString) → option_and_then (λ name. option_map (λ (m : Node). m.name) (find (has_slot_name name) (nodes ts))) o ≡ Some y → Has ts y

@@ -10,5 +10,5 @@ mod stand;
 mod trees;
 
 pub use item::Item;
-pub use laws::hosts_nest;
+pub use laws::{hosts_nest, paths_end};
 pub use path::Path;

@@ -1,0 +1,10 @@
+use Rattle.dom_traversal.proofs.Counts.{Once-forest, Has-forest}
+use Rattle.dom_path.proofs.Endings.{paths-end, path-once}
+use Rattle.dom_path.proofs.laws.paths_end.Goals as goal
+
+pub returns-clause-there : goal.returns-clause-there
+returns-clause-there c f slots depth stands are hosted k node related composed =
+    paths-end f slots.hosts depth hosted (Once-forest f stands.once stands.only) (λ j there. Has-forest f stands.once j there) are.hosts k node related composed
+
+pub returns-clause-once : goal.returns-clause-once
+returns-clause-once c s depth target related composed xs ys g h = path-once s depth target related composed xs ys g h
