@@ -1,5 +1,6 @@
-//! What no line of a script reaches, since it refuses related nodes of other owners: each tree of a path sees a related node of its
-//! own, and a path is empty where the target would see itself as the related node.
+//! What no line of a script reaches. It refuses related nodes of other owners: each tree of a path sees a related node of its own, and
+//! a path is empty where the target would see itself as the related node. And no component has a host yet: a closed tree in another
+//! one sees out of it, and is not seen into.
 mod scene;
 
 use scene::Line::{Append, Attach};
@@ -26,6 +27,18 @@ const NESTED: [Line<'static>; 7] = [
     Append("k0", "k1"),
 ];
 
+// A host in the closed tree of another one, whose `span` is slotted there; the slot is a child of the inner host, and slotted again.
+const WITHIN: [Line<'static>; 8] = [
+    Append("n0", "n1"),
+    Attach("n1", "m0"),
+    Append("n1", "n2"),
+    Append("m0", "m2"),
+    Attach("m2", "k0"),
+    Append("m2", "m1"),
+    Append("k0", "k2"),
+    Append("k0", "k1"),
+];
+
 #[test]
 fn no_path_where_the_target_sees_itself_as_related(rt: HostRuntime) -> Result<(), Fail> {
     run(&rt, rt.alloc(), &SLOTTED, ("n1", "m2", true), &[])
@@ -43,4 +56,43 @@ fn each_tree_sees_another_related_node(rt: HostRuntime) -> Result<(), Fail> {
         Row("n0", "", "n2", "n1", "", "n2 n1 n0"),
     ];
     run(&rt, rt.alloc(), &NESTED, ("k1", "m2", true), &rows)
+}
+
+#[test]
+fn an_inner_tree_sees_the_outer_ones(rt: HostRuntime) -> Result<(), Fail> {
+    let rows = [
+        Row("k1", "k1", "k1", "", "", "k1 k0 m2 m0 n1 n0"),
+        Row("k0", "", "k1", "", "root", "k1 k0 m2 m0 n1 n0"),
+        Row("m2", "m2", "m2", "", "", "m2 m0 n1 n0"),
+        Row("m0", "", "m2", "", "root", "m2 m0 n1 n0"),
+        Row("n1", "n1", "n1", "", "", "n1 n0"),
+        Row("n0", "", "n1", "", "", "n1 n0"),
+    ];
+    run(&rt, rt.alloc(), &WITHIN, ("k1", "", true), &rows)
+}
+
+#[test]
+fn a_path_goes_through_two_slots(rt: HostRuntime) -> Result<(), Fail> {
+    let rows = [
+        Row("n2", "n2", "n2", "", "", "n2 n1 n0"),
+        Row("m1", "", "n2", "", "slot", "n2 m1 m2 m0 n1 n0"),
+        Row("k2", "", "n2", "", "slot", "n2 m1 k2 k0 m2 m0 n1 n0"),
+        Row("k0", "", "n2", "", "root", "n2 m1 k2 k0 m2 m0 n1 n0"),
+        Row("m2", "", "n2", "", "", "n2 m1 m2 m0 n1 n0"),
+        Row("m0", "", "n2", "", "root", "n2 m1 m2 m0 n1 n0"),
+        Row("n1", "", "n2", "", "", "n2 n1 n0"),
+        Row("n0", "", "n2", "", "", "n2 n1 n0"),
+    ];
+    run(&rt, rt.alloc(), &WITHIN, ("n2", "", true), &rows)
+}
+
+#[test]
+fn a_path_ends_in_the_outer_tree(rt: HostRuntime) -> Result<(), Fail> {
+    let rows = [
+        Row("k1", "k1", "k1", "m1", "", "k1 k0 m2 m0"),
+        Row("k0", "", "k1", "m1", "root", "k1 k0 m2 m0"),
+        Row("m2", "m2", "m2", "m1", "", "m2 m0"),
+        Row("m0", "", "m2", "m1", "root", "m2 m0"),
+    ];
+    run(&rt, rt.alloc(), &WITHIN, ("k1", "m1", true), &rows)
 }

@@ -242,7 +242,7 @@ fn compare(
 }
 
 // Makes trees, and compares the path of an event with rows. The page has n0 to n2, the first component the shadow root m0, the
-// slot m1 and m2, the second one the shadow root k0 and k1.
+// slot m1 and m2, the second one the shadow root k0, k1 and the slot k2.
 pub(super) fn run(
     rt: &impl Abort,
     alloc: Global,
@@ -251,7 +251,7 @@ pub(super) fn run(
     rows: &[Row<'_>],
 ) -> Result<(), Fail> {
     let page = ["html", "div", "span"];
-    let mut forest = nodes(alloc, &page, &["slot", "b"], &["i"])?;
+    let mut forest = nodes(alloc, &page, &["slot", "b"], &["i", "slot"])?;
     let mut slots = Slots::new(alloc);
     for line in lines {
         perform(rt, &mut forest, &mut slots, line)?;
