@@ -6,7 +6,7 @@ ghost use Rattle.dom_words.specs.declared.not_read.NotRead.TheVariants.{Memory};
 use std::alloc::{AllocError, AllocFailed};
 
 /// Why nothing was read: the grammar has no such line, or memory was refused.
-#[derive(Clone, Copy, PartialEq, Eq, Debug)]
+#[derive(Clone, Copy)]
 pub enum NotRead {
     Syntax,
     Memory,
