@@ -8,4 +8,5 @@ pub mod SelectorExamples
 pub mod EventExamples
 pub mod ProtocolExamples
 pub mod LineExamples
+pub mod SaidExamples
 pub mod PathExamples

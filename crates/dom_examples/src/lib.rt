@@ -12,6 +12,7 @@ ghost use Rattle.dom_examples.specs.SelectorExamples.{query_and_match, query_in_
 ghost use Rattle.dom_examples.specs.EventExamples.{slotted_child, slots_by_name, events_from_inside, host_slotted_into_host, listener_words, stops_and_labels};
 ghost use Rattle.dom_examples.specs.ProtocolExamples.{refusals_and_busy_turns, with_component, without_component, first_family, second_family};
 ghost use Rattle.dom_examples.specs.LineExamples.{ownerless, malformed, unknown, longest, too_long, too_long_letters, too_long_words};
+ghost use Rattle.dom_examples.specs.SaidExamples.{SaysEach, commands_said, optional_words_said};
 ghost use Rattle.dom_examples.specs.PathExamples.{paths_are_right};
 
 use dom_base::Owner;
@@ -85,6 +86,12 @@ pub fn lines()
     ensures too_long { Singles too_long }
     ensures too_long_letters { Singles too_long_letters }
     ensures too_long_words { Singles too_long_words }
+{}
+
+/// Lines of each form, with and without the words that may be left out, and the command that each says.
+pub fn said()
+    ensures commands { SaysEach commands_said }
+    ensures optional_words { SaysEach optional_words_said }
 {}
 
 /// Two worlds with equal lines of the page, one with a component and one without: the page is answered alike. Two worlds

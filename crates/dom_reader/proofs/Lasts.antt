@@ -4,7 +4,7 @@ use Rattle.dom_words.specs.declared.not_read.NotRead.{NotRead}
 use Rattle.dom_words.specs.declared.not_read.NotRead.TheVariants.{Syntax, Memory}
 use Rattle.dom_words.specs.Gives.{Fails}
 use Rattle.dom_model.specs.Names.{Word}
-use Rattle.dom_text.specs.Readers.{at_end, next_word, last_as}
+use Rattle.dom_text.specs.Readers.{◌>>=◌, at_end, next_word, last_as}
 
 -- a word that says something, and then the end of the line
 read_last : {A : Type 0} (says : Word → Option A) (bytes word rest : List ℕ) (x : A)
@@ -32,3 +32,8 @@ pub last_fails : {A : Type 0} (says : Word → Option A) (bytes word rest : List
     → next_word bytes ≡ Some (word, rest) → says word ≡ Some x → Fails e (at_end {A = Unit {0}} tt rest) → Fails e (last_as says bytes)
 last_fails says bytes word rest x Syntax e f end = read_last says bytes word rest x e f ∙ not_ended (Some x) rest end
 last_fails says bytes word rest x Memory e f end = tt
+
+-- what is made of the value at the end of the line
+pub made_at_end : {A B : Type 0} (makes : A → B) (x : A) (rest : List ℕ) → (at_end x rest >>= λ y. Some (makes y)) ≡ at_end (makes x) rest
+made_at_end makes x [] = refl
+made_at_end makes x (b ∷ rest) = refl

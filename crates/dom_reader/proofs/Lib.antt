@@ -1,6 +1,7 @@
 mod Names
 mod Firsts
 mod Commas
+mod Parts
 mod Lasts
 pub mod StreamLaws
 mod FedPieces

@@ -7,14 +7,14 @@ use dom_base::{Action, DomStr, Move, Owner, Verdict};
 ///
 /// For the page `nJ` is its own, and `mJ` and `cK:mJ` are foreign; for a component `mJ` is its own, and `nJ` and every
 /// `cK:mJ` are foreign.
-#[derive(Clone, Copy, PartialEq, Eq, Debug)]
+#[derive(Clone, Copy)]
 pub enum Spelled {
     Own(u32),
     Foreign,
 }
 
 /// The kinds of node that a filter shows: `all`, or those named.
-#[derive(Clone, Copy, PartialEq, Eq, Debug)]
+#[derive(Clone, Copy)]
 pub struct Show {
     pub element: bool,
     pub text: bool,
@@ -24,21 +24,21 @@ pub struct Show {
 }
 
 /// `skip=NAME` or `reject=NAME`.
-#[derive(PartialEq, Eq, Debug, Drop)]
+#[derive(Drop)]
 pub struct NameFilter {
     pub name: String,
     pub verdict: Verdict,
 }
 
 /// The words of an iterator or a walker behind its root: SHOW `[FILTER]`.
-#[derive(PartialEq, Eq, Debug, Drop)]
+#[derive(Drop)]
 pub struct Filter {
     pub shown: Show,
     pub named: Option<NameFilter>,
 }
 
 /// The words of `listen` behind the node: TYPE LABEL ACTION `[capture] [once] [passive]`.
-#[derive(PartialEq, Eq, Debug, Drop)]
+#[derive(Drop)]
 pub struct ListenerWords {
     pub event: String,
     pub label: String,
@@ -49,7 +49,7 @@ pub struct ListenerWords {
 }
 
 /// The words of `dispatch` behind the target, without the related node: TYPE `[bubbles] [cancelable] [composed]`.
-#[derive(PartialEq, Eq, Debug, Drop)]
+#[derive(Drop)]
 pub struct EventWords {
     pub event: String,
     pub bubbles: bool,
@@ -58,7 +58,7 @@ pub struct EventWords {
 }
 
 /// The words of `observe` behind the node, and the names behind `filter=`.
-#[derive(PartialEq, Eq, Debug, Drop)]
+#[derive(Drop)]
 pub struct ObserveWords {
     pub child_list: bool,
     pub attributes: bool,
@@ -71,7 +71,7 @@ pub struct ObserveWords {
 
 /// A command with its words, in the order of the line. Numbers of ranges, iterators, walkers and observers come before
 /// nodes; an offset or a count is in code units or children, as its command has it.
-#[derive(PartialEq, Eq, Debug, Drop)]
+#[derive(Drop)]
 pub enum Command {
     /// `new element WORD`
     NewElement(String),
@@ -190,7 +190,7 @@ pub enum Command {
 }
 
 /// An owner's command.
-#[derive(PartialEq, Eq, Debug, Drop)]
+#[derive(Drop)]
 pub struct Line {
     pub owner: Owner,
     pub command: Command,

