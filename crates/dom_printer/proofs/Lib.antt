@@ -1,3 +1,4 @@
 pub mod KeepLaws
 pub mod LineLaws
+pub mod PutLaws
 pub mod TreeLaws

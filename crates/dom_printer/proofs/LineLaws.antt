@@ -13,3 +13,7 @@ pub child_list_row : (owner space a n kind target b c d e f g h i end : List ℕ
     → owner ++ space ++ ((a ++ n) ++ (((space ++ kind) ++ target) ++ ((b ++ c) ++ ((d ++ e) ++ ((f ++ g) ++ ((h ++ i) ++ [])))))) ++ end
     ≡ ((owner ++ space ++ (a ++ n ++ space ++ (kind ++ target ++ b ++ c ++ d ++ e ++ f ++ g ++ h ++ i))) ++ end) ++ []
 child_list_row owner space a n kind target b c d e f g h i end = simp (append_assoc, append-nil)
+
+-- the line of a tree
+pub tree_row : (owner space ok steps : List ℕ) → (owner ++ (space ++ ok)) ++ steps ≡ owner ++ space ++ (ok ++ steps)
+tree_row owner space ok steps = simp append_assoc

@@ -1,0 +1,23 @@
+-- The nodes so far, and one more.
+use Rattle.std.proofs.Common.{◌≡◌, ◌++◌, take}
+use Rattle.std.specs.Prelude.{codes}
+use Rattle.std.specs.List.{flat_map}
+use Rattle.dom_text.specs.Text.{next_node_text}
+use Rattle.dom_printer.proofs.PutLaws.{failed_put, both, same}
+use Rattle.dom_printer.proofs.names.put_others.Goals as goal
+
+pub returns-in_err-extend_from_slice : goal.returns-in_err-extend_from_slice
+returns-in_err-extend_from_slice c =
+    let r = c.from_residual in
+    let before = c.loop-node.out.items in
+    let after = c.extend_from_slice.new.self.items in
+    failed_put r.result _ _ before _ after r.ensures.0 c.loop-node.invariant (same before after c.in_err-extend_from_slice.ensures.items)
+
+pub returns-in_err-put_node : goal.returns-in_err-put_node
+returns-in_err-put_node c =
+    let r = c.from_residual-in_err-put_node in
+    let before = c.loop-node.out.items in
+    let comma : c.extend_from_slice.new.self.items ≡ before ++ codes "," = c.in_ok-extend_from_slice.ensures.items in
+    let nodes = flat_map (next_node_text c.args.viewer) (take c.loop-node.node-index c.args.nodes.now) in
+    failed_put r.result _ (nodes ++ codes ",") c.extend_from_slice.new.self.items _ c.put_node.new.out.items r.ensures.0
+    (both _ nodes before (codes ",") _ c.loop-node.invariant comma) c.in_err-put_node.ensures.err

@@ -1,0 +1,8 @@
+-- The attributes so far, and one more.
+use Rattle.dom_printer.proofs.PutLaws.{failed_put}
+use Rattle.dom_printer.proofs.trees.put_attributes.Goals as goal
+
+pub returns-in_err-put_attribute : goal.returns-in_err-put_attribute
+returns-in_err-put_attribute c =
+    let r = c.from_residual in
+    failed_put r.result _ _ c.loop-attribute.out.items _ c.put_attribute.new.out.items r.ensures.0 c.loop-attribute.invariant c.in_err-put_attribute.ensures.err

@@ -1,0 +1,40 @@
+-- The parts of an opening, one behind the other.
+use Rattle.std.proofs.Common.{◌≡◌, ◌++◌}
+use Rattle.std.specs.Prelude.{codes}
+use Rattle.dom_text.specs.Words.{kind_word}
+use Rattle.dom_text.specs.Text.{node_text}
+use Rattle.dom_printer.proofs.PutLaws.{failed_put, both, same, last_put}
+use Rattle.dom_printer.proofs.trees.put_step.Goals as goal
+
+pub returns-in_err-put_node-in-Opens : goal.returns-in_err-put_node-in-Opens
+returns-in_err-put_node-in-Opens c =
+    let r = c.from_residual-in_err-put_node-in-Opens in
+    let parens : c.extend_from_slice-in-Opens.new.self.items ≡ c.args.out.now.items ++ codes " (" = c.in_ok-extend_from_slice-in-Opens.ensures.items in
+    failed_put r.result _ (codes " (") _ _ c.put_node.new.out.items r.ensures.0 parens c.in_err-put_node-in-Opens.ensures.err
+
+pub returns-in_err-extend_from_slice-in-Opens-2 : goal.returns-in_err-extend_from_slice-in-Opens-2
+returns-in_err-extend_from_slice-in-Opens-2 c =
+    let r = c.from_residual-in_err-extend_from_slice-in-Opens-2 in
+    let old = c.args.out.now.items in
+    let node = node_text c.args.viewer c.in-Opens.opening.name in
+    let parens : c.extend_from_slice-in-Opens.new.self.items ≡ old ++ codes " (" = c.in_ok-extend_from_slice-in-Opens.ensures.items in
+    let named = both old (codes " (") _ node c.put_node.new.out.items parens c.in_ok-put_node-in-Opens.ensures.ok in
+    failed_put r.result old (codes " (" ++ node) _ _ _ r.ensures.0 named
+    (same c.put_node.new.out.items c.extend_from_slice-in-Opens-2.new.self.items c.in_err-extend_from_slice-in-Opens-2.ensures.items)
+
+pub returns-in_ok-extend_from_slice-in-Opens-3 : goal.returns-in_ok-extend_from_slice-in-Opens-3
+returns-in_ok-extend_from_slice-in-Opens-3 c =
+    let old = c.args.out.now.items in
+    let opening = c.in-Opens.opening in
+    let node = node_text c.args.viewer opening.name in
+    let kind = kind_word opening.kind in
+    let first = c.extend_from_slice-in-Opens.new.self.items in
+    let second = c.extend_from_slice-in-Opens-2.new.self.items in
+    let third = c.extend_from_slice-in-Opens-3.new.self.items in
+    let parens : first ≡ old ++ codes " (" = c.in_ok-extend_from_slice-in-Opens.ensures.items in
+    let space : second ≡ c.put_node.new.out.items ++ codes " " = c.in_ok-extend_from_slice-in-Opens-2.ensures.items in
+    let word : third ≡ second ++ kind = rw (← c.kind_name.ensures, ← c.as_bytes.ensures.value) c.in_ok-extend_from_slice-in-Opens-3.ensures.items in
+    let named = both old (codes " (") first node c.put_node.new.out.items parens c.in_ok-put_node-in-Opens.ensures.ok in
+    let spaced = both old (codes " (" ++ node) _ (codes " ") second named space in
+    let kinded = both old ((codes " (" ++ node) ++ codes " ") _ kind third spaced word in
+    rw c.in-Opens.is (last_put c.put_own_parts.result old (((codes " (" ++ node) ++ codes " ") ++ kind) third _ _ kinded c.put_own_parts.ensures)
