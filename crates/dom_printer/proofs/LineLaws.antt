@@ -17,3 +17,15 @@ child_list_row owner space a n kind target b c d e f g h i end = simp (append_as
 -- the line of a tree
 pub tree_row : (owner space ok steps : List ℕ) → (owner ++ (space ++ ok)) ++ steps ≡ owner ++ space ++ (ok ++ steps)
 tree_row owner space ok steps = simp append_assoc
+
+-- the line of a record of an attribute
+pub attributes_row : (owner space a n kind target b c d e end : List ℕ)
+    → owner ++ space ++ ((a ++ n) ++ (((space ++ kind) ++ target) ++ ((b ++ c) ++ ((d ++ e) ++ [])))) ++ end
+    ≡ ((owner ++ space ++ (a ++ n ++ space ++ (kind ++ target ++ b ++ c ++ d ++ e))) ++ end) ++ []
+attributes_row owner space a n kind target b c d e end = simp (append_assoc, append-nil)
+
+-- the line of a record of data
+pub data_row : (owner space a n kind target b c end : List ℕ)
+    → owner ++ space ++ ((a ++ n) ++ (((space ++ kind) ++ target) ++ ((b ++ c) ++ []))) ++ end
+    ≡ ((owner ++ space ++ (a ++ n ++ space ++ (kind ++ target ++ b ++ c))) ++ end) ++ []
+data_row owner space a n kind target b c end = simp (append_assoc, append-nil)

@@ -1,0 +1,24 @@
+-- The quote and the units so far are kept.
+use Rattle.std.proofs.Common.{[], ◌∷◌, take, append_assoc, ◌∙◌}
+use Rattle.std.specs.List.{flat_map}
+use Rattle.dom_text.specs.Text.{unit_text}
+use Rattle.dom_printer.proofs.PutLaws.{failed_put, same}
+use Rattle.dom_printer.proofs.strings.put_units.Goals as goal
+
+pub returns-in_err-put_unit : goal.returns-in_err-put_unit
+returns-in_err-put_unit c =
+    let r = c.from_residual-in_err-put_unit in
+    let old = c.args.out.now.items in
+    let units = flat_map unit_text (take c.loop-unit.unit-index c.args.units.now) in
+    let so_far = c.loop-unit.invariant ∙ append_assoc old (34 ∷ []) units in
+    failed_put r.result old (34 ∷ units) c.loop-unit.out.items _ c.put_unit.new.out.items r.ensures.0 so_far c.in_err-put_unit.ensures.err
+
+pub returns-in_err-push-2 : goal.returns-in_err-push-2
+returns-in_err-push-2 c =
+    let r = c.from_residual-in_err-push-2 in
+    let old = c.args.out.now.items in
+    let before = c.loop-unit.out.items in
+    let after = c.push-2.new.self.items in
+    let units = flat_map unit_text (take c.loop-unit.unit-index c.args.units.now) in
+    let so_far = c.loop-unit.invariant ∙ append_assoc old (34 ∷ []) units in
+    failed_put r.result old (34 ∷ units) before _ after r.ensures.0 so_far (same before after c.in_err-push-2.ensures.items)
