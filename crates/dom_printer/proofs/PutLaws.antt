@@ -1,8 +1,9 @@
 -- Puts one after the other: what the buffer has when all are done, and what it keeps where one was refused memory.
-use Rattle.std.proofs.Common.{◌≡◌, ℕ, List, ◌++◌, length, take, Ok, Err, subst, ap, ◌∙◌, append_assoc, arith}
+use Rattle.std.proofs.Common.{◌≡◌, ℕ, ◌+◌, ◌<◌, List, ◌++◌, length, take, get_or, Ok, Err, subst, sym, ap, ◌∙◌, append_assoc, arith}
 use Rattle.std.specs.Prelude.{Result, OnOk, OnErr, is_ok, if◌then◌else◌}
 use Rattle.std.specs.Result.{IsErr}
-use Rattle.std.proofs.lemmas.List.{take_all}
+use Rattle.std.specs.List.{flat_map}
+use Rattle.std.proofs.lemmas.List.{take_all, take_more, flat_map_more}
 use Rattle.dom_printer.specs.Keeping.{Keeps}
 use Rattle.dom_printer.proofs.KeepLaws.{keeps_front}
 
@@ -42,3 +43,12 @@ failed (Err x) old text new h keeps = record { ok = tt; err = keeps }
 pub bytes_put : {X E : Type 0} (r : Result X E) (old bytes new : List ℕ) → new ≡ (if is_ok r then old ++ bytes else old) → Puts r old bytes new
 bytes_put (Ok x) old bytes new e = record { ok = e; err = tt }
 bytes_put (Err x) old bytes new e = record { ok = tt; err = same old new e }
+
+-- texts of things one behind the other, and one more
+pub one_more : {X : Type 0} (f : X → List ℕ) (xs : List X) (i : ℕ) (d : X) (old mid new : List ℕ) → i < length xs
+    → mid ≡ old ++ flat_map f (take i xs) → new ≡ mid ++ f (get_or xs i d) → new ≡ old ++ flat_map f (take (i + 1) xs)
+one_more {X = X} f xs i d old mid new inside so_far put =
+    put
+    ∙ ap (λ (x : List ℕ). x ++ f (get_or xs i d)) so_far
+    ∙ flat_map_more f old (take i xs) (get_or xs i d)
+    ∙ ap (λ (ys : List X). old ++ flat_map f ys) (sym (take_more xs i d inside))

@@ -1,8 +1,8 @@
 -- The quote and the units so far are kept.
-use Rattle.std.proofs.Common.{[], ◌∷◌, take, append_assoc, ◌∙◌}
+use Rattle.std.proofs.Common.{[], ◌∷◌, ◌++◌, take, append_assoc, ◌∙◌}
 use Rattle.std.specs.List.{flat_map}
 use Rattle.dom_text.specs.Text.{unit_text}
-use Rattle.dom_printer.proofs.PutLaws.{failed_put, same}
+use Rattle.dom_printer.proofs.PutLaws.{failed_put, same, one_more}
 use Rattle.dom_printer.proofs.strings.put_units.Goals as goal
 
 pub returns-in_err-put_unit : goal.returns-in_err-put_unit
@@ -22,3 +22,8 @@ returns-in_err-push-2 c =
     let units = flat_map unit_text (take c.loop-unit.unit-index c.args.units.now) in
     let so_far = c.loop-unit.invariant ∙ append_assoc old (34 ∷ []) units in
     failed_put r.result old (34 ∷ units) before _ after r.ensures.0 so_far (same before after c.in_err-push-2.ensures.items)
+
+pub loop-unit-preserved : goal.loop-unit-preserved
+loop-unit-preserved c =
+    one_more unit_text c.args.units.now c.loop-unit.unit-index _ (c.args.out.now.items ++ 34 ∷ []) c.loop-unit.out.items c.put_unit.new.out.items
+    c.loop-unit-test.true c.loop-unit.invariant c.in_ok-put_unit.ensures.ok
