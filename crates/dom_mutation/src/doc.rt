@@ -17,6 +17,7 @@ ghost use Rattle.dom_tree.specs.Owners.{trees_of_owner, AreOwned};
 ghost use Rattle.dom_slots.specs.Kept.{AreSlotsOf};
 ghost use Rattle.dom_slots.specs.Shadows.{shadows, IsShownBy};
 ghost use Rattle.dom_mutation.specs.Doc.{made};
+ghost use Rattle.dom_mutation.specs.Ready.{IsReady};
 
 mod attaching;
 mod attributes;
@@ -64,7 +65,8 @@ impl Model for Doc {
 impl Doc {
     /// The page with its first document, and no component. It is refused where memory is refused, and only then.
     pub fn new(alloc: Global) -> Result<Self, AllocError>
-        ensures { IfOk result (λ doc. doc ≡ record { names = node_of Page 0 ∷ []; world = first_world }) }
+        ensures value { IfOk result (λ doc. doc ≡ record { names = node_of Page 0 ∷ []; world = first_world }) }
+        ensures ready { IfOk result IsReady }
     {
         let parts = Parts::new(alloc)?;
         Ok(Doc { parts })
@@ -120,7 +122,9 @@ impl Doc {
         ensures limit { (result ≡ Err (Fault.Refused Limit)) ↔ (past_limit (part_of self.old.world owner).node_count 1 ≡ true) }
         ensures other { IfErr result (λ fault. (fault ≡ Fault.Refused Limit) ⊎ (fault ≡ Fault.Memory)) }
         ensures err { OnErr result (self.new ≡ self.old) }
+        ensures ready { IsReady self.old → OnOk result (IsReady self.new) }
     {
+        self.parts.laws();
         self.parts.add(owner, node)
     }
 }

@@ -6,6 +6,7 @@ ghost use Rattle.dom_base.specs.declared.Refusal.{Refusal as RefusalOf};
 ghost use Rattle.dom_model.specs.DocumentMachine.{attaching};
 ghost use Rattle.dom_model.specs.World.{part_of, component_made, shadow_root_of};
 ghost use Rattle.dom_mutation.specs.Doc.{name_in, owner_in, attaching_refusal};
+ghost use Rattle.dom_mutation.specs.Ready.{IsReady};
 
 use crate::Doc;
 use dom_base::Fault;
@@ -24,6 +25,7 @@ impl Doc {
         ensures world { OnOk result (self.new.world ≡ (attaching self.old.world Page (name_in self.old host)).0) }
         ensures refused { (r : RefusalOf) → (result ≡ Err (Fault.Refused r)) ↔ (attaching_refusal (part_of self.old.world Page) (name_in self.old host) ≡ Some r) }
         ensures unchanged { (r : RefusalOf) → result ≡ Err (Fault.Refused r) → self.new ≡ self.old }
+        ensures ready { IsReady self.old → OnOk result (IsReady self.new) }
     {
         self.parts.attach(host)
     }

@@ -4,6 +4,7 @@ ghost use Rattle.dom_base.specs.declared.Refusal.TheVariants.{InvalidCharacter};
 ghost use Rattle.dom_model.specs.Names.{is_name};
 ghost use Rattle.dom_model.specs.Changes.{setting_attribute, unsetting_attribute};
 ghost use Rattle.dom_mutation.specs.Doc.{made, name_in, owner_in};
+ghost use Rattle.dom_mutation.specs.Ready.{IsReady};
 
 use crate::Doc;
 use dom_algorithms::{remove_attr, set_attr};
@@ -22,7 +23,9 @@ impl Doc {
         ensures unchanged { is_name name.now ≡ false → self.new ≡ self.old }
         ensures names { OnOk result (self.new.names ≡ self.old.names) }
         ensures world { OnOk result (self.new.world ≡ made (owner_in self.old node) (setting_attribute (name_in self.old node) name.now value.items) self.old.world) }
+        ensures ready { IsReady self.old → OnOk result (IsReady self.new) }
     {
+        self.parts.laws();
         set_attr(&mut self.parts, node, name, value)
     }
 
@@ -32,7 +35,9 @@ impl Doc {
         requires { node < length self.old.names }
         ensures names { OnOk result (self.new.names ≡ self.old.names) }
         ensures world { OnOk result (self.new.world ≡ made (owner_in self.old node) (unsetting_attribute (name_in self.old node) name.now) self.old.world) }
+        ensures ready { IsReady self.old → OnOk result (IsReady self.new) }
     {
+        self.parts.laws();
         remove_attr(&mut self.parts, node, name)
     }
 }

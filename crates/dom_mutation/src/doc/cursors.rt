@@ -1,5 +1,5 @@
 //! Iterators and walkers of each owner, by their numbers (DOM Standard, 6 Traversal).
-ghost use Rattle.std.specs.Prelude.{◌≡◌, ◌<◌, ◌↔◌, ◌⊎◌, length, true, is_some, slice_get, IfOk, IfErr, OnErr};
+ghost use Rattle.std.specs.Prelude.{◌≡◌, ◌<◌, ◌↔◌, ◌⊎◌, length, true, is_some, slice_get, IfOk, IfErr, OnErr, OnOk};
 ghost use Rattle.std.specs.Option.{option_map, ForSome};
 ghost use Rattle.dom_base.specs.declared.Refusal.TheVariants.{Limit};
 ghost use Rattle.dom_model.specs.Command.{Command, own};
@@ -9,6 +9,7 @@ ghost use Rattle.dom_model.specs.World.{part_of};
 ghost use Rattle.dom_model.specs.CommandRefusals.{past_limit};
 ghost use Rattle.dom_traversal.specs.Filters.{filter_of};
 ghost use Rattle.dom_mutation.specs.Doc.{name_in, owner_in, Makes};
+ghost use Rattle.dom_mutation.specs.Ready.{IsReady};
 
 use crate::Doc;
 use dom_base::{Fault, Move, Owner};
@@ -40,6 +41,7 @@ impl Doc {
         ensures limit { (result ≡ Err (Fault.Refused Limit)) ↔ (past_limit (length (part_of self.old.world owner).iterators) 1 ≡ true) }
         ensures other { IfErr result (λ fault. (fault ≡ Fault.Refused Limit) ⊎ (fault ≡ Fault.Memory)) }
         ensures err { OnErr result (self.new ≡ self.old) }
+        ensures ready { IsReady self.old → OnOk result (IsReady self.new) }
     {
         self.parts.iter_make(owner, root, filter)
     }
@@ -54,6 +56,7 @@ impl Doc {
         ensures limit { (result ≡ Err (Fault.Refused Limit)) ↔ (past_limit (length (part_of self.old.world owner).walkers) 1 ≡ true) }
         ensures other { IfErr result (λ fault. (fault ≡ Fault.Refused Limit) ⊎ (fault ≡ Fault.Memory)) }
         ensures err { OnErr result (self.new ≡ self.old) }
+        ensures ready { IsReady self.old → OnOk result (IsReady self.new) }
     {
         self.parts.walk_make(owner, root, filter)
     }
@@ -65,6 +68,7 @@ impl Doc {
         ensures names { self.new.names ≡ self.old.names }
         ensures node { ForSome result (λ k. k < length self.old.names) }
         ensures world { Makes owner (Command.iterator_next number) (node_or_null (option_map (name_in self.old) result)) self.old.world self.new.world }
+        ensures ready { IsReady self.old → IsReady self.new }
     {
         self.parts.iter_next(owner, number)
     }
@@ -76,6 +80,7 @@ impl Doc {
         ensures names { self.new.names ≡ self.old.names }
         ensures node { ForSome result (λ k. k < length self.old.names) }
         ensures world { Makes owner (Command.iterator_previous number) (node_or_null (option_map (name_in self.old) result)) self.old.world self.new.world }
+        ensures ready { IsReady self.old → IsReady self.new }
     {
         self.parts.iter_previous(owner, number)
     }
@@ -97,6 +102,7 @@ impl Doc {
         ensures names { self.new.names ≡ self.old.names }
         ensures node { ForSome result (λ k. k < length self.old.names) }
         ensures world { Makes owner (Command.walk number step) (node_or_null (option_map (name_in self.old) result)) self.old.world self.new.world }
+        ensures ready { IsReady self.old → IsReady self.new }
     {
         self.parts.walk(owner, number, step)
     }
@@ -117,6 +123,7 @@ impl Doc {
         requires own { owner_in self.old current ≡ owner }
         ensures names { self.new.names ≡ self.old.names }
         ensures world { Makes owner (Command.walker_set number (own (name_in self.old current).number)) nothing self.old.world self.new.world }
+        ensures ready { IsReady self.old → IsReady self.new }
     {
         self.parts.walk_set(owner, number, current);
     }

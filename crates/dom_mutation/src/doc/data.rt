@@ -7,6 +7,7 @@ ghost use Rattle.dom_model.specs.World.{part_of};
 ghost use Rattle.dom_model.specs.CommandRefusals.{past_end};
 ghost use Rattle.dom_isolation.specs.Bounds.{HasBounds};
 ghost use Rattle.dom_mutation.specs.Doc.{made, planned, name_in, owner_in, trees_in};
+ghost use Rattle.dom_mutation.specs.Ready.{IsReady};
 
 use crate::Doc;
 use dom_algorithms::{delete_data, replace_data, set_data};
@@ -33,7 +34,9 @@ impl Doc {
         ensures unchanged { past_end (part_of self.old.world (owner_in self.old node)) (name_in self.old node) offset ≡ true → self.new ≡ self.old }
         ensures names { OnOk result (self.new.names ≡ self.old.names) }
         ensures world { OnOk result (self.new.world ≡ made (owner_in self.old node) (replacing_data (name_in self.old node) offset count «data».items) self.old.world) }
+        ensures ready { IsReady self.old → OnOk result (IsReady self.new) }
     {
+        self.parts.laws();
         replace_data(&mut self.parts, node, offset, count, data)
     }
 
@@ -45,7 +48,9 @@ impl Doc {
         requires bounds { HasBounds (part_of self.old.world (owner_in self.old node)) }
         ensures names { OnOk result (self.new.names ≡ self.old.names) }
         ensures world { OnOk result (self.new.world ≡ made (owner_in self.old node) (replacing_all_data (name_in self.old node) «data».items) self.old.world) }
+        ensures ready { IsReady self.old → OnOk result (IsReady self.new) }
     {
+        self.parts.laws();
         set_data(&mut self.parts, node, data)
     }
 
@@ -53,8 +58,10 @@ impl Doc {
     /// string). Where memory is refused, the document is only to be dropped.
     pub fn delete_data(&mut self, node: Key, offset: usize, count: usize) -> Result<(), AllocError>
         requires { node < length self.old.names }
-        ensures { OnOk result (self.new ≡ planned (owner_in self.old node) (replacing_data (name_in self.old node) offset count []) self.old) }
+        ensures state { OnOk result (self.new ≡ planned (owner_in self.old node) (replacing_data (name_in self.old node) offset count []) self.old) }
+        ensures ready { IsReady self.old → has_data (kind_of (trees_in self.old node) (name_in self.old node)) ≡ true → OnOk result (IsReady self.new) }
     {
+        self.parts.laws();
         delete_data(&mut self.parts, node, offset, count)
     }
 }

@@ -2,6 +2,7 @@
 ghost use Rattle.std.specs.Prelude.{◌≡◌, ◌<◌, length, false, OnOk, ◌↔◌, Some};
 ghost use Rattle.std.specs.Option.{option_map, ForSome};
 ghost use Rattle.dom_model.specs.Names.{name_eq};
+ghost use Rattle.dom_model.specs.Tree.{kind_of, has_data, is_shadow};
 ghost use Rattle.dom_model.specs.Changes.{pre_inserting, reference_for, inserting, observed};
 ghost use Rattle.dom_base.specs.declared.Refusal.{Refusal as RefusalOf};
 ghost use Rattle.dom_model.specs.Validity.{insertion_refusal};
@@ -9,6 +10,7 @@ ghost use Rattle.dom_model.specs.World.{part_of};
 ghost use Rattle.dom_isolation.specs.Bounds.{HasBounds};
 ghost use Rattle.dom_tree.specs.Forest.{err_of};
 ghost use Rattle.dom_mutation.specs.Doc.{made, planned, name_in, owner_in, trees_in, MayMove, IsChild};
+ghost use Rattle.dom_mutation.specs.Ready.{IsReady};
 
 use crate::Doc;
 use dom_algorithms::{insert, pre_insert, reference_for};
@@ -33,7 +35,9 @@ impl Doc {
         // A refusal is the Standard's, and changes nothing; nothing else but memory stops an insertion.
         ensures refused { (r : RefusalOf) → (result ≡ Err (Fault.Refused r)) ↔ (insertion_refusal (trees_in self.old parent) (name_in self.old parent) (name_in self.old node) (option_map (name_in self.old) child) ≡ Some r) }
         ensures unchanged { (r : RefusalOf) → result ≡ Err (Fault.Refused r) → self.new ≡ self.old }
+        ensures ready { IsReady self.old → OnOk result (IsReady self.new) }
     {
+        self.parts.laws();
         pre_insert(&mut self.parts, parent, node, child)
     }
 
@@ -50,8 +54,10 @@ impl Doc {
         requires may_move { MayMove self.old parent child node }
         requires child_is_child { ForSome child (IsChild self.old parent) }
         requires bounds { HasBounds (part_of self.old.world (owner_in self.old parent)) }
-        ensures { OnOk result (self.new ≡ planned (owner_in self.old parent) (inserting observed (name_in self.old node) (name_in self.old parent) (option_map (name_in self.old) child)) self.old) }
+        ensures state { OnOk result (self.new ≡ planned (owner_in self.old parent) (inserting observed (name_in self.old node) (name_in self.old parent) (option_map (name_in self.old) child)) self.old) }
+        ensures ready { IsReady self.old → has_data (kind_of (trees_in self.old parent) (name_in self.old parent)) ≡ false → is_shadow (kind_of (trees_in self.old node) (name_in self.old node)) ≡ false → OnOk result (IsReady self.new) }
     {
+        self.parts.laws();
         insert(&mut self.parts, parent, node, child)
     }
 

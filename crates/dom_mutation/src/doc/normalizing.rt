@@ -4,6 +4,7 @@ ghost use Rattle.dom_model.specs.TextChanges.{normalizing};
 ghost use Rattle.dom_model.specs.World.{part_of};
 ghost use Rattle.dom_isolation.specs.Bounds.{HasBounds};
 ghost use Rattle.dom_mutation.specs.Doc.{made, name_in, owner_in};
+ghost use Rattle.dom_mutation.specs.Ready.{IsReady};
 
 use crate::Doc;
 use dom_algorithms::normalize;
@@ -19,7 +20,9 @@ impl Doc {
         requires bounds { HasBounds (part_of self.old.world (owner_in self.old node)) }
         ensures names { OnOk result (self.new.names ≡ self.old.names) }
         ensures world { OnOk result (self.new.world ≡ made (owner_in self.old node) (normalizing (name_in self.old node)) self.old.world) }
+        ensures ready { IsReady self.old → OnOk result (IsReady self.new) }
     {
+        self.parts.laws();
         normalize(&mut self.parts, node)
     }
 }

@@ -5,6 +5,7 @@ ghost use Rattle.dom_base.specs.declared.Refusal.TheVariants.{Hierarchy, NotSupp
 ghost use Rattle.dom_model.specs.Tree.{kind_of};
 ghost use Rattle.dom_model.specs.Changes.{removing, adopting, observed};
 ghost use Rattle.dom_mutation.specs.Doc.{made, name_in, owner_in, trees_in, adoption_refusal};
+ghost use Rattle.dom_mutation.specs.Ready.{IsReady};
 
 use crate::Doc;
 use dom_algorithms::{adopt, remove};
@@ -19,7 +20,9 @@ impl Doc {
         requires { node < length self.old.names }
         ensures names { OnOk result (self.new.names ≡ self.old.names) }
         ensures world { OnOk result (self.new.world ≡ made (owner_in self.old node) (removing observed (name_in self.old node)) self.old.world) }
+        ensures ready { IsReady self.old → OnOk result (IsReady self.new) }
     {
+        self.parts.laws();
         remove(&mut self.parts, node)
     }
 
@@ -35,7 +38,9 @@ impl Doc {
         ensures unchanged { (r : RefusalOf) → result ≡ Err (Fault.Refused r) → self.new ≡ self.old }
         ensures names { OnOk result (self.new.names ≡ self.old.names) }
         ensures world { OnOk result (self.new.world ≡ made (owner_in self.old node) (adopting (name_in self.old document) (name_in self.old node)) self.old.world) }
+        ensures ready { IsReady self.old → OnOk result (IsReady self.new) }
     {
+        self.parts.laws();
         adopt(&mut self.parts, document, node)
     }
 }

@@ -6,6 +6,7 @@ ghost use Rattle.dom_model.specs.Validity.{replacement_refusal};
 ghost use Rattle.dom_model.specs.World.{part_of};
 ghost use Rattle.dom_isolation.specs.Bounds.{HasBounds};
 ghost use Rattle.dom_mutation.specs.Doc.{made, name_in, owner_in, trees_in};
+ghost use Rattle.dom_mutation.specs.Ready.{IsReady};
 
 use crate::Doc;
 use dom_algorithms::replace;
@@ -29,7 +30,9 @@ impl Doc {
         // A refusal is the Standard's, and changes nothing; nothing else but memory stops a replacement.
         ensures refused { (r : RefusalOf) → (result ≡ Err (Fault.Refused r)) ↔ (replacement_refusal (trees_in self.old parent) (name_in self.old parent) (name_in self.old node) (name_in self.old child) ≡ Some r) }
         ensures unchanged { (r : RefusalOf) → result ≡ Err (Fault.Refused r) → self.new ≡ self.old }
+        ensures ready { IsReady self.old → OnOk result (IsReady self.new) }
     {
+        self.parts.laws();
         replace(&mut self.parts, parent, node, child)
     }
 }

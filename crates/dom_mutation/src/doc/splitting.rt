@@ -4,10 +4,12 @@ ghost use Rattle.dom_base.specs.declared.Refusal.{Refusal as RefusalOf};
 ghost use Rattle.dom_base.specs.declared.Refusal.TheVariants.{IndexSize, Limit};
 ghost use Rattle.dom_model.specs.Part.{next_name};
 ghost use Rattle.dom_model.specs.TextChanges.{splitting};
+ghost use Rattle.dom_model.specs.Tree.{kind_of, is_text};
 ghost use Rattle.dom_model.specs.World.{part_of};
 ghost use Rattle.dom_model.specs.CommandRefusals.{past_end};
 ghost use Rattle.dom_isolation.specs.Bounds.{HasBounds};
-ghost use Rattle.dom_mutation.specs.Doc.{made, name_in, owner_in, splitting_refusal};
+ghost use Rattle.dom_mutation.specs.Doc.{made, name_in, owner_in, trees_in, splitting_refusal};
+ghost use Rattle.dom_mutation.specs.Ready.{IsReady};
 
 use crate::Doc;
 use dom_algorithms::split;
@@ -30,7 +32,9 @@ impl Doc {
         ensures refused { (r : RefusalOf) → result ≡ Err (Fault.Refused r) → splitting_refusal (part_of self.old.world (owner_in self.old node)) (name_in self.old node) offset ≡ Some r }
         ensures stopped { (r : RefusalOf) → splitting_refusal (part_of self.old.world (owner_in self.old node)) (name_in self.old node) offset ≡ Some r → (result ≡ Err (Fault.Refused r)) ⊎ (result ≡ Err Fault.Memory) }
         ensures unchanged { (r : RefusalOf) → result ≡ Err (Fault.Refused r) → self.new ≡ self.old }
+        ensures ready { IsReady self.old → is_text (kind_of (trees_in self.old node) (name_in self.old node)) ≡ true → OnOk result (IsReady self.new) }
     {
+        self.parts.laws();
         split(&mut self.parts, node, offset)
     }
 }

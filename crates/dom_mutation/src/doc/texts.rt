@@ -6,6 +6,7 @@ ghost use Rattle.dom_model.specs.World.{part_of};
 ghost use Rattle.dom_model.specs.CommandRefusals.{past_limit, made_by_text};
 ghost use Rattle.dom_isolation.specs.Bounds.{HasBounds};
 ghost use Rattle.dom_mutation.specs.Doc.{made, name_in, owner_in, texts_made};
+ghost use Rattle.dom_mutation.specs.Ready.{IsReady};
 
 use crate::Doc;
 use dom_algorithms::set_text;
@@ -26,7 +27,9 @@ impl Doc {
         ensures refused { (result ≡ Err (Fault.Refused Limit)) ↔ (past_limit (part_of self.old.world (owner_in self.old node)).node_count (made_by_text (part_of self.old.world (owner_in self.old node)) (name_in self.old node) «data».items) ≡ true) }
         ensures other { IfErr result (λ fault. (fault ≡ Fault.Refused Limit) ⊎ (fault ≡ Fault.Memory)) }
         ensures unchanged { result ≡ Err (Fault.Refused Limit) → self.new ≡ self.old }
+        ensures ready { IsReady self.old → OnOk result (IsReady self.new) }
     {
+        self.parts.laws();
         set_text(&mut self.parts, node, data)
     }
 }

@@ -68,4 +68,4 @@ returns-clause-world c =
     let r = range_at_points d.names points in
     let wide = sym (c.is_collapsed.ensures d.names (c.laws.ensures.distinct points.start.0 points.end.0 k.start_is_node k.end_is_node)) ∙ c.if-is_collapsed.false in
     deletion-done c.args.owner c.args.number d c.delete_contents.new.doc c.range_put.new.self points.start.0 r c.both_at.result.start c.both_at.result.end c.place_after-place.result here.owner alone here.there wide c.place_after-place.ensures.value
-    c.in_ok-delete_contents.ensures c.both_at.ensures.start c.both_at.ensures.end c.range_put.ensures
+    c.in_ok-delete_contents.ensures c.both_at.ensures.start c.both_at.ensures.end c.range_put.ensures.state

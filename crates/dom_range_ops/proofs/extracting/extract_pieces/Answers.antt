@@ -113,7 +113,7 @@ returns-clause-names c =
     ∙ ap (λ document. made o (doing (make (new_fragment_node (next_name p) document))) d.world) (c.own_document-document.ensures.value ∙ ap (λ r. own_document (part_of d.world r).trees (name_in d c.args.start)) c.requires.start_owner) in
     let f = c.take_pieces.new.doc in
     let alone_then = subst (IsAlone e.world) (into-owner d e o c.in_ok-into.into n alone c.in_ok-into.ensures.names world c.in_ok-into.ensures.key) (c.laws-2.ensures.alone c.in_ok-into.into (into-node d e o c.in_ok-into.into n alone c.in_ok-into.ensures.names world c.in_ok-into.ensures.key)) in
-    ap (λ (s : DocState). s.names) c.range_put.ensures ∙ names-then d e o c.in_ok-into.into n alone c.in_ok-into.ensures.names world c.in_ok-into.ensures.key c.args.pieces.now c.requires.pieces_are_nodes (c.laws-2.ensures.parts o) alone_then c.requires.may_take f c.in_ok-take_pieces.ensures.world c.in_ok-take_pieces.ensures.names
+    ap (λ (s : DocState). s.names) c.range_put.ensures.state ∙ names-then d e o c.in_ok-into.into n alone c.in_ok-into.ensures.names world c.in_ok-into.ensures.key c.args.pieces.now c.requires.pieces_are_nodes (c.laws-2.ensures.parts o) alone_then c.requires.may_take f c.in_ok-take_pieces.ensures.world c.in_ok-take_pieces.ensures.names
 
 pub returns-clause-world : goal.returns-clause-world
 returns-clause-world c =
@@ -129,4 +129,4 @@ returns-clause-world c =
     let f = c.take_pieces.new.doc in
     let alone_then = subst (IsAlone e.world) (into-owner d e o c.in_ok-into.into n alone c.in_ok-into.ensures.names world c.in_ok-into.ensures.key) (c.laws-2.ensures.alone c.in_ok-into.into (into-node d e o c.in_ok-into.into n alone c.in_ok-into.ensures.names world c.in_ok-into.ensures.key)) in
     extracted d e o c.in_ok-into.into n alone c.in_ok-into.ensures.names world c.in_ok-into.ensures.key c.args.pieces.now c.requires.pieces_are_nodes (c.laws-2.ensures.parts o) alone_then c.requires.may_take f c.in_ok-take_pieces.ensures.world c.range_put.new.self c.args.number (both_at (at (name_in d c.args.place.0) c.args.place.1))
-    (c.range_put.ensures ∙ ap (λ y. stepped o (set_range c.args.number (both_at (at y c.args.place.1))) f) (name-kept e f _ c.args.place.0 c.in_ok-take_pieces.ensures.names (node-kept d e _ c.args.place.0 c.in_ok-into.ensures.names c.requires.place_is_node) ∙ name-kept d e _ c.args.place.0 c.in_ok-into.ensures.names c.requires.place_is_node))
+    (c.range_put.ensures.state ∙ ap (λ y. stepped o (set_range c.args.number (both_at (at y c.args.place.1))) f) (name-kept e f _ c.args.place.0 c.in_ok-take_pieces.ensures.names (node-kept d e _ c.args.place.0 c.in_ok-into.ensures.names c.requires.place_is_node) ∙ name-kept d e _ c.args.place.0 c.in_ok-into.ensures.names c.requires.place_is_node))

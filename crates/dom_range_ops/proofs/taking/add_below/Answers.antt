@@ -43,4 +43,4 @@ returns-clause-world c =
     below-made d e top n c.requires.top_is_node (c.laws.ensures.alone top c.requires.top_is_node) (c.laws.ensures.parts _) (c.laws.ensures.stand top c.requires.top_is_node) refl
     (c.in_ok-new.ensures.names ∙ ap (λ (o : Owner). d.names ++ next_name (part_of d.world o) ∷ []) owner)
     (c.in_ok-new.ensures.world ∙ ap (λ (o : Owner). made o (doing (make (node_from d.names (next_name (part_of d.world o)) c.args.node))) d.world) owner)
-    c.insert_before.new.self (c.in_ok-insert_before.ensures ∙ ap (λ k. planned (owner_in e top) (inserting observed (name_in e k) (name_in e top) None) e) c.in_ok-new.ensures.key)
+    c.insert_before.new.self (c.in_ok-insert_before.ensures.state ∙ ap (λ k. planned (owner_in e top) (inserting observed (name_in e k) (name_in e top) None) e) c.in_ok-new.ensures.key)

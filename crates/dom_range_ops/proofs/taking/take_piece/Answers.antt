@@ -99,13 +99,13 @@ pub returns-in_ok-insert_before-in-Whole-clause-world : goal.returns-in_ok-inser
 returns-in_ok-insert_before-in-Whole-clause-world c =
     let d = c.args.doc.now in
     let top = c.top_of-top.ensures ∙ ap (λ (ks : List ℕ). unwrap_or (slice_get ks (length ks - 1)) c.args.into) c.as_slice.ensures.value in
-    at-top d c.args.into c.args.clones.now.items c.args.piece c.requires.into_is_node c.requires.clones_are_nodes c.requires.may_take (c.laws.ensures.parts _) c.top_of-top.result top c.insert_before.new.self (whole_item (name_in d c.in-Whole.node)) (ap (λ (s : DocState). s.world) c.in_ok-insert_before-in-Whole.ensures) (ap (item_in d.names) (sym c.in-Whole.is))
+    at-top d c.args.into c.args.clones.now.items c.args.piece c.requires.into_is_node c.requires.clones_are_nodes c.requires.may_take (c.laws.ensures.parts _) c.top_of-top.result top c.insert_before.new.self (whole_item (name_in d c.in-Whole.node)) (ap (λ (s : DocState). s.world) c.in_ok-insert_before-in-Whole.ensures.state) (ap (item_in d.names) (sym c.in-Whole.is))
 
 pub returns-in_ok-insert_before-in-Whole-clause-clones_are_nodes : goal.returns-in_ok-insert_before-in-Whole-clause-clones_are_nodes
 returns-in_ok-insert_before-in-Whole-clause-clones_are_nodes c =
     let d = c.args.doc.now in
     let top = c.top_of-top.ensures ∙ ap (λ (ks : List ℕ). unwrap_or (slice_get ks (length ks - 1)) c.args.into) c.as_slice.ensures.value in
-    own-kept d c.insert_before.new.self [] c.args.into (ap (λ (s : DocState). s.names) c.in_ok-insert_before-in-Whole.ensures ∙ sym (append-nil d.names)) c.requires.into_is_node c.args.clones.now.items c.requires.clones_are_nodes
+    own-kept d c.insert_before.new.self [] c.args.into (ap (λ (s : DocState). s.names) c.in_ok-insert_before-in-Whole.ensures.state ∙ sym (append-nil d.names)) c.requires.into_is_node c.args.clones.now.items c.requires.clones_are_nodes
 
 pub returns-in_ok-take_units-in-Cut-clause-names : goal.returns-in_ok-take_units-in-Cut-clause-names
 returns-in_ok-take_units-in-Cut-clause-names c =

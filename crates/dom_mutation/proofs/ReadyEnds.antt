@@ -1,0 +1,104 @@
+-- Steps keep both ends of a live range at nodes of one tree, whatever else the part holds. The laws for this speak of all tables, so
+-- they are read of a part without the others.
+use Rattle.std.proofs.Common.{◌≡◌, ℕ, List, [], ◌∷◌, ◌++◌, flat_map, filter, fold, map, Option, Some, None, refl, sym, ap, subst, ◌∙◌}
+use Rattle.std.specs.Prelude.{nat_eq, slice_set, Bool, slice_get, unwrap_or}
+use Rattle.std.specs.List.{AllByRecursion}
+use Rattle.std.specs.Option.{option_map_or}
+use Rattle.dom_base.specs.declared.NodeName.{NodeName}
+use Rattle.dom_model.specs.Names.{name_eq, distinct, append_once}
+use Rattle.dom_model.specs.Observers.{Registration, target_of, registrations_on, interested, fits, transients_for, copied_source}
+use Rattle.dom_model.specs.Output.{Change}
+use Rattle.dom_model.specs.Part.{Part, queue_of}
+use Rattle.dom_model.specs.Steps.{Step, make, make_room, place, take_out, set_document, set_attribute, replace_data, split_at, join_at, set_range, queue_record, part_step, leave, after, interested_in, record_in}
+use Rattle.dom_model.specs.Tree.{inclusive_ancestors, parent_of}
+use Rattle.dom_isolation.specs.Bounds.{HasBounds}
+use Rattle.dom_isolation.specs.Tables.{EndsIn, HasTables}
+use Rattle.dom_isolation.specs.Worlds.{IsPart}
+use Rattle.dom_isolation.proofs.TableRecords.{tables-after}
+use Rattle.dom_isolation.proofs.TableSteps.{Fits, MadeIn}
+
+-- the part with its trees and live ranges alone
+abbrev pub bare : Part → Part
+bare p = record p { iterators = []; walkers = []; registrations = []; record_queues = []; pending = []; listeners = []; attached = [] }
+
+-- there are no registrations on a path
+none-on : (path : List NodeName) → registrations_on name_eq path [] ≡ []
+none-on [] = refl
+none-on (x ∷ path) = none-on path
+
+-- so nobody is interested, and nothing is copied
+none-interested : (path : List NodeName) (c : Change NodeName) → interested name_eq path [] c ≡ []
+none-interested path c = ap (λ (rs : List (Registration NodeName)). distinct nat_eq (map (λ (r : Registration NodeName). r.observer) (filter (fits name_eq c) rs))) (none-on path)
+
+none-copied : (x : NodeName) (path : List NodeName) → transients_for name_eq x path [] ≡ []
+none-copied x path =
+    ap (λ (rs : List (Registration NodeName)). map (λ (r : Registration NodeName). record { node = x; observer = r.observer; options = r.options; source = copied_source name_eq r }) (filter (λ (r : Registration NodeName). r.options.subtree) rs)) (none-on path)
+
+-- a step does the same with the others left out
+pub bare-step : (p : Part) (s : Step) → part_step (bare p) s ≡ bare (part_step p s)
+bare-step p (take_out x) = by (parent_of p.trees x)
+  where
+    by : (o : Option NodeName) → option_map_or (leave (bare p) x) o (bare p) ≡ bare (option_map_or (leave p x) o p)
+    by None = refl
+    by (Some parent) = ap (λ (rs : List (Registration NodeName)). record (bare (leave p x parent)) { registrations = rs }) (none-copied x (inclusive_ancestors p.trees parent))
+bare-step p (queue_record c) =
+    let add : List (List (Change NodeName)) → ℕ → List (List (Change NodeName)) = λ queues k. slice_set queues k (queue_of queues k ++ record_in (bare p) c k ∷ []) in
+    ap (λ (ks : List ℕ). record (bare p) { record_queues = fold add [] ks; pending = fold (append_once nat_eq) [] ks }) (none-interested (inclusive_ancestors p.trees (target_of c)) c)
+bare-step p (make n) = refl
+bare-step p (make_room parent index count) = refl
+bare-step p (place x parent before) = refl
+bare-step p (set_document x d) = refl
+bare-step p (set_attribute x a v) = refl
+bare-step p (replace_data x offset count new) = refl
+bare-step p (split_at x offset new parent index) = refl
+bare-step p (join_at first size next parent index) = refl
+bare-step p (set_range k r) = refl
+
+-- and so do many
+pub bare-after : (p : Part) (steps : List Step) → after (bare p) steps ≡ bare (after p steps)
+bare-after p [] = refl
+bare-after p (s ∷ steps) = ap (λ (q : Part). after q steps) (bare-step p s) ∙ bare-after (part_step p s) steps
+
+-- and it fits where it did
+bare-fits : (p : Part) (s : Step) → Fits (bare p) s ≡ Fits p s
+bare-fits p (make n) = refl
+bare-fits p (make_room parent index count) = refl
+bare-fits p (place x parent before) = refl
+bare-fits p (take_out x) = refl
+bare-fits p (set_document x d) = refl
+bare-fits p (set_attribute x a v) = refl
+bare-fits p (replace_data x offset count new) = refl
+bare-fits p (split_at x offset new parent index) = refl
+bare-fits p (join_at first size next parent index) = refl
+bare-fits p (set_range k r) = refl
+bare-fits p (queue_record c) = refl
+
+-- many do
+pub bare-made : (p : Part) (steps : List Step) → MadeIn p steps → MadeIn (bare p) steps
+bare-made p [] m = tt
+bare-made p (s ∷ steps) m =
+    (subst (λ (t : Type 0). t) (sym (bare-fits p s)) m.0, subst (λ (q : Part). MadeIn q steps) (sym (bare-step p s)) (bare-made (part_step p s) steps m.1))
+
+pub made-bare : (p : Part) (steps : List Step) → MadeIn (bare p) steps → MadeIn p steps
+made-bare p [] m = tt
+made-bare p (s ∷ steps) m =
+    (subst (λ (t : Type 0). t) (bare-fits p s) m.0, made-bare (part_step p s) steps (subst (λ (q : Part). MadeIn q steps) (bare-step p s) m.1))
+
+-- what holds of the part holds of it then
+pub bare-part : (p : Part) → IsPart p → IsPart (bare p)
+bare-part p i = record { unique = i.unique; owned = i.owned; numbered = i.numbered }
+
+pub bare-bounds : (p : Part) → HasBounds p → HasBounds (bare p)
+bare-bounds p h = record { ranges = h.ranges; leaves = h.leaves }
+
+pub bounds-bare : (p : Part) → HasBounds (bare p) → HasBounds p
+bounds-bare p h = record { ranges = h.ranges; leaves = h.leaves }
+
+-- its tables are the live ranges alone
+pub bare-tables : (p : Part) → AllByRecursion (EndsIn p.trees) p.ranges → HasTables (bare p)
+bare-tables p h = record { hosts = tt; ranges = h; iterators = tt; walkers = tt; registrations = tt; pending = tt; listeners = tt }
+
+-- So steps that fit keep the ends of live ranges.
+pub ends-after : (p : Part) (steps : List Step) → IsPart p → MadeIn p steps → AllByRecursion (EndsIn p.trees) p.ranges → AllByRecursion (EndsIn (after p steps).trees) (after p steps).ranges
+ends-after p steps i m h =
+    let t : HasTables (bare (after p steps)) = subst HasTables (bare-after p steps) (tables-after (bare p) steps (bare-part p i) (bare-made p steps m) (bare-tables p h)) in t.ranges

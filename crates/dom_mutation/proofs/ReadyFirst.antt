@@ -1,0 +1,45 @@
+-- A part with one node alone is ready: so are the first world, and a world with one component more.
+use Rattle.std.proofs.Common.{◌≡◌, List, [], ◌∷◌, ◌++◌, drop, length, Option, Some, None, refl}
+use Rattle.dom_base.specs.declared.Kind.{Kind}
+use Rattle.dom_base.specs.declared.Kind.TheVariants.{Document, Shadow}
+use Rattle.dom_base.specs.declared.NodeName.{NodeName}
+use Rattle.dom_base.specs.declared.Owner.{Owner}
+use Rattle.dom_base.specs.declared.Owner.TheVariants.{Page, Component}
+use Rattle.dom_model.specs.DocumentMachine.{first_world, part_with_root, new_root, attaching}
+use Rattle.dom_model.specs.Names.{name_eq, node_of, first_of}
+use Rattle.dom_model.specs.Part.{Part}
+use Rattle.dom_model.specs.Tree.{Trees, none, tree, Node, node_in, names_of, roots, trees_below, children_of, parent_of}
+use Rattle.dom_model.specs.World.{World, part_of, with_part, component_made}
+use Rattle.dom_model.proofs.PartLaws.{owner-part_of}
+use Rattle.dom_isolation.proofs.Tests.{either_way}
+use Rattle.dom_mutation.specs.Ready.{IsReadyPart, AreReady}
+use Rattle.dom_mutation.proofs.ReadyTables.{ready-same}
+use Rattle.dom_mutation.proofs.ReadyWorlds.{ready-written}
+
+-- it has no child and no parent
+alone-children : (n : Node) (x : NodeName) → children_of (tree n none none) x ≡ []
+alone-children n x = either_way (λ (ts : Trees). names_of (roots (trees_below ts)) ≡ []) (name_eq n.name x) (tree n none none) none refl refl
+
+alone-parent : (n : Node) (x : NodeName) → parent_of (tree n none none) x ≡ None
+alone-parent n x = either_way (λ (path : List NodeName). first_of (drop 1 path) ≡ None) (name_eq n.name x) (x ∷ []) [] refl refl
+
+-- a part with its first node alone
+ready-root : (o : Owner) (k : Kind) (d : Option NodeName) → IsReadyPart (part_with_root o k d)
+ready-root o k d =
+    let n = new_root (node_of o 0) k d in
+    record { bounds = record { ranges = tt; leaves = λ x h. alone-children n x }; ends = tt; roots = λ x h. alone-parent n x }
+
+-- the first world
+pub ready-first : AreReady first_world
+ready-first Page = ready-root Page Document None
+ready-first (Component k) = record { bounds = record { ranges = tt; leaves = λ x h. refl }; ends = tt; roots = λ x h. refl }
+
+-- one component more
+pub ready-attaching : (w : World) (o : Owner) (x : NodeName) → AreReady w → AreReady (attaching w o x).0
+ready-attaching w o x h =
+    let p = part_of w o in
+    let c = component_made o (length p.attached) in
+    let more : Part = record p { attached = p.attached ++ x ∷ [] } in
+    let d = (node_in p.trees x).document in
+    ready-written (with_part w more) (part_with_root c Shadow d) c refl (ready-root c Shadow d)
+    (ready-written w more o (owner-part_of w o) (ready-same p more refl refl (h o)) h)

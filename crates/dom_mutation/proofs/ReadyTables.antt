@@ -1,0 +1,179 @@
+-- Commands that change tables alone keep an owner's part ready: those on iterators, walkers and observers leave its trees and live ranges,
+-- and those on live ranges set ends within nodes of one tree.
+use Rattle.std.proofs.Common.{◌≡◌, ◌≤◌, ℕ, suc, zero, Bool, true, false, not, ◌&&◌, List, [], ◌∷◌, ◌++◌, Option, Some, None, option_map, refl, sym, ap, ◌∙◌, arith, true≢false, subst}
+use Rattle.std.specs.Prelude.{IsTrue, slice_get, slice_set, if◌then◌else◌}
+use Rattle.std.specs.List.{AllByRecursion}
+use Rattle.std.specs.Option.{option_map_or}
+use Rattle.std.proofs.lemmas.Bool.{and_parts, ltb-false}
+use Rattle.dom_base.specs.declared.Move.{Move}
+use Rattle.dom_base.specs.declared.NodeName.{NodeName}
+use Rattle.dom_base.specs.declared.Owner.{Owner}
+use Rattle.dom_model.specs.Command.{Command, Spelled, Filter, ObserveWords}
+use Rattle.dom_model.specs.CommandNames.{named}
+use Rattle.dom_model.specs.CommandRefusals.{past_end}
+use Rattle.dom_model.specs.Effects.{Effect, tables, changes, effect, answers, moves_iterator, sets_walker, node_or_null, with_range, collapsed_to}
+use Rattle.dom_model.specs.Extract.{both_at}
+use Rattle.dom_model.specs.Output.{Value, Said, nothing}
+use Rattle.dom_model.specs.Part.{Part, first_node, range_at}
+use Rattle.dom_model.specs.Place.{Boundary, same_root, is_before}
+use Rattle.dom_model.specs.Ranges.{Range, at, from_to, with_start, with_end}
+use Rattle.dom_model.specs.Traversal.{Iterator, Walker, iterator_next_node, iterator_previous_node, walker_move}
+use Rattle.dom_model.specs.Tree.{Trees, has_node}
+use Rattle.dom_model.specs.Turns.{notified}
+use Rattle.dom_model.specs.World.{World, part_of, with_part}
+use Rattle.dom_model.proofs.PartLaws.{owner-part_of}
+use Rattle.dom_isolation.specs.Bounds.{IsWithin, EndsWithin}
+use Rattle.dom_isolation.specs.Tables.{IsNodeIn, HasEnds, EndsIn}
+use Rattle.dom_isolation.proofs.BoundLines.{under-at}
+use Rattle.dom_isolation.proofs.Bounds.{RangeUnder, reach, nowhere}
+use Rattle.dom_isolation.proofs.KeptOffsets.{room-of}
+use Rattle.dom_isolation.proofs.Lists.{all-append}
+use Rattle.dom_isolation.proofs.PlanRoots.{ends-at}
+use Rattle.dom_isolation.proofs.Roots.{roots-equal, roots-same}
+use Rattle.dom_isolation.proofs.TableSteps.{all-set}
+use Rattle.dom_isolation.proofs.Tests.{which_way}
+use Rattle.dom_isolation.specs.Worlds.{IsPart}
+use Rattle.dom_mutation.specs.Ready.{IsReadyPart, AreReady}
+use Rattle.dom_mutation.proofs.ReadyEnds.{bare, bare-tables}
+use Rattle.dom_mutation.proofs.ReadyWorlds.{ready-written}
+use Rattle.dom_parts.specs.Doc.{MakesSaying}
+
+-- a part with the same trees and live ranges
+pub ready-same : (p q : Part) → q.trees ≡ p.trees → q.ranges ≡ p.ranges → IsReadyPart p → IsReadyPart q
+ready-same p q t r h =
+    let ends = λ (P : Trees → Option (Range NodeName) → Type 0) (all : AllByRecursion (P p.trees) p.ranges).
+    subst (AllByRecursion (P q.trees)) (sym r) (subst (λ ts. AllByRecursion (P ts) p.ranges) (sym t) all) in
+    record {
+      bounds = record {
+        ranges = ends EndsWithin h.bounds.ranges;
+        leaves = subst (λ ts. (x : NodeName) → IsTrue (Rattle.dom_model.specs.Tree.has_data (Rattle.dom_model.specs.Tree.kind_of ts x)) → Rattle.dom_model.specs.Tree.children_of ts x ≡ []) (sym t) h.bounds.leaves;
+      };
+      ends = ends EndsIn h.ends;
+      roots = subst (λ ts. (x : NodeName) → Rattle.dom_model.specs.Tree.is_shadow (Rattle.dom_model.specs.Tree.kind_of ts x) ≡ true → Rattle.dom_model.specs.Tree.parent_of ts x ≡ None) (sym t) h.roots;
+    }
+
+-- what tables an effect leaves
+abbrev pub ReadyEffect : Effect → Type 0
+ReadyEffect (tables q lines v) = IsReadyPart q
+ReadyEffect (changes steps v) = Unit {0}
+
+-- The world after a command that changes tables alone.
+pub ready-makes : (o : Owner) (c : Command) (lines : List Said) (v : Value) (was now : World) → MakesSaying o c lines v was now → AreReady was → ReadyEffect (effect (part_of was o) c) → AreReady now
+ready-makes o c lines v was now m h e =
+    subst AreReady (sym m.1) (ready-written was (part_of now o) o (owner-part_of now o) (subst ReadyEffect m.0 e) h)
+
+module _ (p : Part) (h : IsReadyPart p) where
+  -- of a thing that is there
+  some-ready : {X : Type 0} (o : Option X) (f : X → Effect) (d : Effect) → ((x : X) → ReadyEffect (f x)) → ReadyEffect d → ReadyEffect (option_map_or f o d)
+  some-ready None f d g e = e
+  some-ready (Some x) f d g e = g x
+
+  -- a walker that is set
+  walker-ready : (k : ℕ) (w : Walker) (o : Option NodeName) (v : Value) → ReadyEffect (sets_walker p k w o v)
+  walker-ready k w None v = h
+  walker-ready k w (Some x) v = ready-same p _ refl refl h
+
+  -- iterators and walkers
+  pub iterator_new-ready : (x : Spelled) (f : Filter) → ReadyEffect (effect p (Command.iterator_new x f))
+  iterator_new-ready x f = ready-same p _ refl refl h
+
+  pub walker_new-ready : (x : Spelled) (f : Filter) → ReadyEffect (effect p (Command.walker_new x f))
+  walker_new-ready x f = ready-same p _ refl refl h
+
+  pub iterator_next-ready : (k : ℕ) → ReadyEffect (effect p (Command.iterator_next k))
+  iterator_next-ready k = some-ready (slice_get p.iterators k) (λ i. moves_iterator p k false i (iterator_next_node p.trees i)) (answers p nothing) (λ i. ready-same p _ refl refl h) h
+
+  pub iterator_previous-ready : (k : ℕ) → ReadyEffect (effect p (Command.iterator_previous k))
+  iterator_previous-ready k = some-ready (slice_get p.iterators k) (λ i. moves_iterator p k true i (iterator_previous_node p.trees i)) (answers p nothing) (λ i. ready-same p _ refl refl h) h
+
+  pub walk-ready : (k : ℕ) (m : Move) → ReadyEffect (effect p (Command.walk k m))
+  walk-ready k m =
+      some-ready (slice_get p.walkers k) (λ w. sets_walker p k w (walker_move p.trees w m) (node_or_null (walker_move p.trees w m))) (answers p nothing)
+      (λ w. walker-ready k w (walker_move p.trees w m) (node_or_null (walker_move p.trees w m))) h
+
+  pub walker_set-ready : (k : ℕ) (x : Spelled) → ReadyEffect (effect p (Command.walker_set k x))
+  walker_set-ready k x = some-ready (slice_get p.walkers k) (λ w. sets_walker p k w (Some (named p x)) nothing) (answers p nothing) (λ w. walker-ready k w (Some (named p x)) nothing) h
+
+  -- observers
+  pub observer-ready : ReadyEffect (effect p Command.observer)
+  observer-ready = ready-same p _ refl refl h
+
+  pub observe-ready : (k : ℕ) (x : Spelled) (w : ObserveWords) → ReadyEffect (effect p (Command.observe k x w))
+  observe-ready k x w = ready-same p _ refl refl h
+
+  pub disconnect-ready : (k : ℕ) → ReadyEffect (effect p (Command.disconnect k))
+  disconnect-ready k = ready-same p _ refl refl h
+
+  pub take-ready : (k : ℕ) → ReadyEffect (effect p (Command.take k))
+  take-ready k = ready-same p _ refl refl h
+
+  pub notified-ready : IsReadyPart (notified p)
+  notified-ready = ready-same p (notified p) refl refl h
+
+  -- Live ranges that are written.
+  range-ready : (k : ℕ) (r : Option (Range NodeName)) → EndsIn p.trees r → EndsWithin p.trees r → IsReadyPart (with_range p k r)
+  range-ready k r e w =
+      record {
+        bounds = record { ranges = all-set (EndsWithin p.trees) p.ranges k r h.bounds.ranges w; leaves = h.bounds.leaves };
+        ends = all-set (EndsIn p.trees) p.ranges k r h.ends e;
+        roots = h.roots;
+      }
+
+  -- with other ends
+  mapped-ready : (k : ℕ) (f : Range NodeName → Range NodeName) → IsPart p → ((r : Range NodeName) → HasEnds p.trees r → EndsWithin p.trees (Some r) → HasEnds p.trees (f r) × EndsWithin p.trees (Some (f r))) → IsReadyPart (with_range p k (option_map f (range_at p k)))
+  mapped-ready k f i g = let both = by (range_at p k) (ends-at (bare p) k (bare-tables p h.ends)) (under-at p k (room-of p i h.bounds)) in range-ready k (option_map f (range_at p k)) both.0 both.1
+    where
+      by : (o : Option (Range NodeName)) → EndsIn p.trees o → RangeUnder (reach nowhere p) o → EndsIn p.trees (option_map f o) × EndsWithin p.trees (option_map f o)
+      by None e u = (tt, tt)
+      by (Some r) e u = g r e (let a = u.0 in omega arith, let b = u.1 in omega arith)
+
+  -- a boundary point within a node that is there
+  abbrev IsPoint : Boundary NodeName → Type 0
+  IsPoint b = IsNodeIn p.trees b.node × IsWithin p.trees b
+
+  one-place : (b : Boundary NodeName) → IsPoint b → HasEnds p.trees (from_to b b) × EndsWithin p.trees (Some (from_to b b))
+  one-place b t = (record { start = t.0; end = t.0; one_root = roots-same p.trees b.node b.node refl }, (t.1, t.1))
+
+  -- a new range, at the owner's first node
+  pub range_new-ready : IsNodeIn p.trees (first_node p) → ReadyEffect (effect p Command.range_new)
+  range_new-ready f =
+      let new = both_at (at (first_node p) 0) in
+      let t = one-place (at (first_node p) 0) (f, omega arith) in
+      record {
+        bounds = record { ranges = all-append (EndsWithin p.trees) p.ranges (Some new ∷ []) h.bounds.ranges (t.1, tt); leaves = h.bounds.leaves };
+        ends = all-append (EndsIn p.trees) p.ranges (Some new ∷ []) h.ends (t.0, tt);
+        roots = h.roots;
+      }
+
+  -- another start, and another end
+  pub range_start-ready : (k : ℕ) (x : Spelled) (j : ℕ) → IsPart p → IsNodeIn p.trees (named p x) → past_end p (named p x) j ≡ false → ReadyEffect (effect p (Command.range_start k x j))
+  range_start-ready k x j i t low =
+      let b = at (named p x) j in
+      let point : IsPoint b = (t, ltb-false _ j low) in
+      mapped-ready k (with_start p.trees b) i
+      (λ r e w. which_way (λ (q : Range NodeName). HasEnds p.trees q × EndsWithin p.trees (Some q)) (same_root p.trees b.node r.end.node && not (is_before p.trees r.end b)) (from_to b r.end) (from_to b b)
+      (λ s. (record { start = t; end = e.end; one_root = (and_parts (same_root p.trees b.node r.end.node) (not (is_before p.trees r.end b)) s).0 }, (point.1, w.1))) (λ s. one-place b point))
+
+  pub range_end-ready : (k : ℕ) (x : Spelled) (j : ℕ) → IsPart p → IsNodeIn p.trees (named p x) → past_end p (named p x) j ≡ false → ReadyEffect (effect p (Command.range_end k x j))
+  range_end-ready k x j i t low =
+      let b = at (named p x) j in
+      let point : IsPoint b = (t, ltb-false _ j low) in
+      mapped-ready k (with_end p.trees b) i
+      (λ r e w. which_way (λ (q : Range NodeName). HasEnds p.trees q × EndsWithin p.trees (Some q)) (same_root p.trees b.node r.start.node && not (is_before p.trees b r.start)) (from_to r.start b) (from_to b b)
+      (λ s. (record {
+        start = e.start;
+        end = t;
+        one_root = roots-same p.trees r.start.node b.node (sym (roots-equal p.trees b.node r.start.node (and_parts (same_root p.trees b.node r.start.node) (not (is_before p.trees b r.start)) s).0));
+      }, (w.0, point.1))) (λ s. one-place b point))
+
+  -- both ends at one of them
+  pub range_collapse-ready : (k : ℕ) (to_start : Bool) → IsPart p → ReadyEffect (effect p (Command.range_collapse k to_start))
+  range_collapse-ready k to_start i = mapped-ready k (collapsed_to to_start) i (λ r e w. by to_start r e w)
+    where
+      by : (b : Bool) (r : Range NodeName) → HasEnds p.trees r → EndsWithin p.trees (Some r) → HasEnds p.trees (collapsed_to b r) × EndsWithin p.trees (Some (collapsed_to b r))
+      by true r e w = one-place r.start (e.start, w.0)
+      by false r e w = one-place r.end (e.end, w.1)
+
+  -- a range that is dropped
+  pub range_drop-ready : (k : ℕ) → ReadyEffect (effect p (Command.range_drop k))
+  range_drop-ready k = range-ready k None tt tt
