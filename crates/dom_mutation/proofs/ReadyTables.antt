@@ -160,11 +160,14 @@ module _ (p : Part) (h : IsReadyPart p) where
       let point : IsPoint b = (t, ltb-false _ j low) in
       mapped-ready k (with_end p.trees b) i
       (λ r e w. which_way (λ (q : Range NodeName). HasEnds p.trees q × EndsWithin p.trees (Some q)) (same_root p.trees b.node r.start.node && not (is_before p.trees b r.start)) (from_to r.start b) (from_to b b)
-      (λ s. (record {
-        start = e.start;
-        end = t;
-        one_root = roots-same p.trees r.start.node b.node (sym (roots-equal p.trees b.node r.start.node (and_parts (same_root p.trees b.node r.start.node) (not (is_before p.trees b r.start)) s).0));
-      }, (w.0, point.1))) (λ s. one-place b point))
+      (λ s. (
+        record {
+          start = e.start;
+          end = t;
+          one_root = roots-same p.trees r.start.node b.node (sym (roots-equal p.trees b.node r.start.node (and_parts (same_root p.trees b.node r.start.node) (not (is_before p.trees b r.start)) s).0));
+        },
+        (w.0, point.1),
+      )) (λ s. one-place b point))
 
   -- both ends at one of them
   pub range_collapse-ready : (k : ℕ) (to_start : Bool) → IsPart p → ReadyEffect (effect p (Command.range_collapse k to_start))

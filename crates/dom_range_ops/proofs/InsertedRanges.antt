@@ -1,5 +1,5 @@
 -- A live range is there after any steps that it was there before, and a range's owner's nodes are few.
-use Rattle.std.proofs.Common.{◌≡◌, ◌≤◌, ℕ, ◌+◌, zero, suc, true, false, List, [], ◌∷◌, map, Option, Some, None, is_some, refl, sym, ap, subst, ◌∙◌, arith}
+use Rattle.std.proofs.Common.{◌≡◌, ◌≤◌, ◌<◌, ℕ, ◌+◌, zero, suc, true, false, List, [], ◌∷◌, length, map, Option, Some, None, is_some, refl, sym, ap, subst, ◌∙◌, arith}
 use Rattle.std.specs.Prelude.{slice_get, slice_set, option_map}
 use Rattle.std.specs.Option.{option_flatten, option_map_or}
 use Rattle.std.proofs.lemmas.Bool.{ltb-false}
@@ -15,8 +15,10 @@ use Rattle.dom_model.specs.Ranges.{Range, map_ends}
 use Rattle.dom_model.specs.Steps.{Step, make, make_room, place, take_out, set_document, set_attribute, replace_data, split_at, join_at, set_range, queue_record, part_step, leave, after}
 use Rattle.dom_model.specs.Tree.{has_data, kind_of, length_of, parent_of}
 use Rattle.dom_model.specs.World.{World, part_of}
-use Rattle.dom_mutation.specs.Doc.{made}
+use Rattle.dom_mutation.specs.Doc.{DocState, made, owner_in}
 use Rattle.dom_mutation.specs.Hosting.{PlansOwn, IsAlone}
+use Rattle.dom_mutation.proofs.ReadyCalls.{HasLaws, part-planned}
+use Rattle.dom_mutation.proofs.ReadyPlans.{KeepReady}
 use Rattle.dom_parts.proofs.BoundedPlans.{length_few}
 use Rattle.dom_parts.proofs.Made.{plan_alone}
 
@@ -63,6 +65,12 @@ step_there p (queue_record c) k h = h
 steps_there : (p : Part) (steps : List Step) (k : ℕ) → is_some (range_at p k) ≡ true → is_some (range_at (after p steps) k) ≡ true
 steps_there p [] k h = h
 steps_there p (s ∷ steps) k h = steps_there (part_step p s) steps k (step_there p s k h)
+
+-- after a plan that keeps the owner's part ready
+pub range-there : (d : DocState) (k : ℕ) (o : Owner) (plan : Plan) (now : World) → HasLaws d → k < length d.names → owner_in d k ≡ o → now ≡ made o plan d.world → KeepReady (part_of d.world o) (plan (part_of d.world o)) →
+    (j : ℕ) → is_some (range_at (part_of d.world o) j) ≡ true → is_some (range_at (part_of now o) j) ≡ true
+range-there d k o plan now laws there own e keep j h =
+    subst (λ (p : Part). is_some (range_at p j) ≡ true) (sym (part-planned d k o plan now laws there own e keep.made)) (steps_there (part_of d.world o) (plan (part_of d.world o)) j h)
 
 -- after a plan of its owner
 pub range-kept : (o : Owner) (f : Plan) (v w : World) → IsAlone v o → PlansOwn o f → w ≡ made o f v → (k : ℕ) → is_some (range_at (part_of v o) k) ≡ true → is_some (range_at (part_of w o) k) ≡ true

@@ -13,6 +13,7 @@ ghost use Rattle.dom_model.specs.RangeOps.{cutting_data, outermost_contained, de
 ghost use Rattle.dom_model.specs.Ranges.{at};
 ghost use Rattle.dom_model.specs.World.{part_of};
 ghost use Rattle.dom_mutation.specs.Doc.{made, planned, name_in, owner_in, trees_in};
+ghost use Rattle.dom_mutation.specs.Ready.{IsReady};
 ghost use Rattle.dom_range_ops.specs.Deletions.{IsRangeIn, cutting};
 ghost use Rattle.dom_range_ops.specs.Texts.{range_at_points, AreEnds};
 ghost use Rattle.dom_tree.specs.Forest.{name_at};
@@ -37,6 +38,8 @@ pub fn delete(alloc: Global, doc: &mut Doc, owner: Owner, number: u32) -> Result
     ensures names { OnOk result (doc.new.names ≡ doc.old.names) }
     ensures world { OnOk result (doc.new.world ≡ made owner (λ p. plan_of_range p number (deleting number)) doc.old.world) }
     ensures other { IfErr result (λ fault. fault ≡ Memory) }
+    ensures ready { IsReady doc.old → OnOk result (IsReady doc.new) }
+    ensures there { IsReady doc.old → OnOk result (is_some (range_at (part_of doc.new.world owner) number) ≡ true) }
 {
     doc.laws();
     doc.forest().nodes_stand_once();

@@ -15,6 +15,7 @@ ghost use Rattle.dom_model.specs.Steps.{make, part_step};
 ghost use Rattle.dom_model.specs.Tree.{kind_of, is_document};
 ghost use Rattle.dom_model.specs.World.{part_of, is_there};
 ghost use Rattle.dom_mutation.specs.Doc.{made, name_in, owner_in, trees_in};
+ghost use Rattle.dom_mutation.specs.Ready.{IsReady};
 ghost use Rattle.dom_range_ops.specs.Extractions.{ShadowRootsHaveNoParent, extracting_items};
 ghost use Rattle.dom_range_ops.specs.Deletions.{IsRangeIn};
 ghost use Rattle.dom_range_ops.specs.Pieces.{item_in, items_of, made_by};
@@ -51,6 +52,8 @@ pub fn extract(alloc: Global, doc: &mut Doc, owner: Owner, number: u32) -> Resul
     ensures refused { (r : RefusalOf) → result ≡ Err (Fault.Refused r) → of_range (part_of doc.old.world owner) number None (λ range. limit_on (part_of doc.old.world owner).node_count (made_by_extracting (part_of doc.old.world owner) range)) ≡ Some r }
     ensures stopped { (r : RefusalOf) → of_range (part_of doc.old.world owner) number None (λ range. limit_on (part_of doc.old.world owner).node_count (made_by_extracting (part_of doc.old.world owner) range)) ≡ Some r → (result ≡ Err (Fault.Refused r)) ⊎ (result ≡ Err Fault.Memory) }
     ensures unchanged { (r : RefusalOf) → result ≡ Err (Fault.Refused r) → doc.new ≡ doc.old }
+    ensures ready { IsReady doc.old → OnOk result (IsReady doc.new) }
+    ensures there { IsReady doc.old → OnOk result (is_some (range_at (part_of doc.new.world owner) number) ≡ true) }
 {
     doc.laws();
     doc.forest().nodes_stand_once();

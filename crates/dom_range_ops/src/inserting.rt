@@ -10,6 +10,7 @@ ghost use Rattle.dom_model.specs.RangeOps.{start_reference, insertion_parent, ca
 ghost use Rattle.dom_model.specs.Tree.{kind_of, has_data, is_text, children_of, length_of, is_inclusive_ancestor};
 ghost use Rattle.dom_model.specs.World.{part_of};
 ghost use Rattle.dom_mutation.specs.Doc.{made, planned, name_in, owner_in, trees_in, MayMove, IsChild};
+ghost use Rattle.dom_mutation.specs.Ready.{IsReady};
 ghost use Rattle.dom_range_ops.specs.Insertions.{inserting_node, inserting_before_tail, node_refusal, inserting_refusal, names_given, tail_names, offset_behind};
 ghost use Rattle.dom_range_ops.specs.Texts.{range_at_points};
 ghost use Rattle.dom_tree.specs.Forest.{err_of};
@@ -38,6 +39,8 @@ pub fn insert_node(doc: &mut Doc, owner: Owner, number: u32, node: Key) -> Resul
     ensures refused { (r : RefusalOf) → result ≡ Err (Fault.Refused r) → inserting_refusal (part_of doc.old.world owner) number (name_in doc.old node) ≡ Some r }
     ensures stopped { (r : RefusalOf) → inserting_refusal (part_of doc.old.world owner) number (name_in doc.old node) ≡ Some r → (result ≡ Err (Fault.Refused r)) ⊎ (result ≡ Err Fault.Memory) }
     ensures unchanged { (r : RefusalOf) → result ≡ Err (Fault.Refused r) → doc.new ≡ doc.old }
+    ensures ready { IsReady doc.old → OnOk result (IsReady doc.new) }
+    ensures there { IsReady doc.old → OnOk result (is_some (range_at (part_of doc.new.world owner) number) ≡ true) }
 {
     doc.laws();
     let points = doc.range_points(owner, number);

@@ -10,10 +10,12 @@ mod extracting;
 mod inserting;
 mod pieces;
 mod points;
+mod ready;
 mod taking;
 mod text;
 
 pub use deleting::delete;
 pub use extracting::extract;
 pub use inserting::insert_node;
+pub use ready::law_ready;
 pub use text::range_text;

@@ -2,6 +2,11 @@ use Rattle.std.proofs.Common.{sym, ◌∙◌}
 use Rattle.dom_range_ops.specs.Texts.{range_at_points}
 use Rattle.dom_range_ops.proofs.DeletionDocs.{of-points}
 use Rattle.dom_range_ops.proofs.DeletionPlans.{deletion-done, deletion-there, deletion-owner}
+use Rattle.dom_model.specs.Effects.{plan_of_range}
+use Rattle.dom_model.specs.RangeOps.{deleting}
+use Rattle.dom_mutation.proofs.ReadyCalls.{ready-planned}
+use Rattle.dom_mutation.proofs.ReadyPlans.{ready-deleting}
+use Rattle.dom_range_ops.proofs.InsertedRanges.{range-there}
 use Rattle.dom_range_ops.proofs.deleting.delete.Goals as goal
 
 pub place_after-place-requires : goal.place_after-place-requires
@@ -69,3 +74,17 @@ returns-clause-world c =
     let wide = sym (c.is_collapsed.ensures d.names (c.laws.ensures.distinct points.start.0 points.end.0 k.start_is_node k.end_is_node)) ∙ c.if-is_collapsed.false in
     deletion-done c.args.owner c.args.number d c.delete_contents.new.doc c.range_put.new.self points.start.0 r c.both_at.result.start c.both_at.result.end c.place_after-place.result here.owner alone here.there wide c.place_after-place.ensures.value
     c.in_ok-delete_contents.ensures c.both_at.ensures.start c.both_at.ensures.end c.range_put.ensures.state
+
+pub returns-clause-ready : goal.returns-clause-ready
+returns-clause-ready c h =
+    let k = c.range_points-points.ensures in
+    let n = c.args.number in
+    ready-planned c.args.doc.now c.range_points-points.result.start.0 c.args.owner (λ p. plan_of_range p n (deleting n)) c.range_put.new.self.world
+    (record { alone = c.laws.ensures.alone; parts = c.laws.ensures.parts; stand = c.laws.ensures.stand }) k.start_is_node k.own_start (returns-clause-world c) h (λ i r. ready-deleting _ i r n)
+
+pub returns-clause-there : goal.returns-clause-there
+returns-clause-there c h =
+    let k = c.range_points-points.ensures in
+    let n = c.args.number in
+    range-there c.args.doc.now c.range_points-points.result.start.0 c.args.owner (λ p. plan_of_range p n (deleting n)) c.range_put.new.self.world
+    (record { alone = c.laws.ensures.alone; parts = c.laws.ensures.parts; stand = c.laws.ensures.stand }) k.start_is_node k.own_start (returns-clause-world c) (ready-deleting _ (c.laws.ensures.parts c.args.owner) (h c.args.owner) n) n c.requires.there

@@ -8,6 +8,11 @@ use Rattle.dom_model.specs.World.{part_of, is_there}
 use Rattle.dom_mutation.specs.Doc.{name_in}
 use Rattle.dom_range_ops.proofs.DeletionDocs.{of-points}
 use Rattle.dom_range_ops.proofs.ExtractedRanges.{if-done, own-may_take, names-own, world-own, limit-refused, limit-kept}
+use Rattle.dom_model.specs.Effects.{plan_of_range}
+use Rattle.dom_model.specs.Extract.{extracting}
+use Rattle.dom_mutation.proofs.ReadyCalls.{ready-planned}
+use Rattle.dom_mutation.proofs.ReadyPlans.{ready-extracting}
+use Rattle.dom_range_ops.proofs.InsertedRanges.{range-there}
 use Rattle.dom_range_ops.proofs.extracting.extract.Goals as goal
 
 pub pieces_in-requires : goal.pieces_in-requires
@@ -128,3 +133,19 @@ returns-clause-stopped c =
     let value = c.in_ok-pieces.ensures.value in
     let count = c.count_made.ensures d.names ∙ ap (λ ps. made_by (map (item_in d.names) ps)) c.deref.ensures.value in
     λ r is. let none = limit-kept d c.args.owner c.args.number points here pieces value c.count_made.result count (sym c.is_past_limit.ensures ∙ c.if-is_past_limit.false) in let no : None ≡ Some r = sym none ∙ is in absurd cc
+
+pub returns-clause-ready : goal.returns-clause-ready
+returns-clause-ready c h =
+    let k = c.range_points-points.ensures in
+    let n = c.args.number in
+    if-done c.extract_pieces.result
+    (λ w. ready-planned c.args.doc.now c.range_points-points.result.start.0 c.args.owner (λ p. plan_of_range p n (extracting n)) c.extract_pieces.new.doc.world
+    (record { alone = c.laws.ensures.alone; parts = c.laws.ensures.parts; stand = c.laws.ensures.stand }) k.start_is_node k.own_start w h (λ i r. ready-extracting _ i r n)) (returns-clause-world c)
+
+pub returns-clause-there : goal.returns-clause-there
+returns-clause-there c h =
+    let k = c.range_points-points.ensures in
+    let n = c.args.number in
+    if-done c.extract_pieces.result
+    (λ w. range-there c.args.doc.now c.range_points-points.result.start.0 c.args.owner (λ p. plan_of_range p n (extracting n)) c.extract_pieces.new.doc.world
+    (record { alone = c.laws.ensures.alone; parts = c.laws.ensures.parts; stand = c.laws.ensures.stand }) k.start_is_node k.own_start w (ready-extracting _ (c.laws.ensures.parts c.args.owner) (h c.args.owner) n) n c.requires.there) (returns-clause-world c)
