@@ -20,7 +20,6 @@ use Rattle.dom_model.specs.Ranges.{Range}
 use Rattle.dom_model.specs.Steps.{Step, make, set_document, set_range, part_step, after}
 use Rattle.dom_model.specs.Tree.{Node, has_node, is_shadow}
 use Rattle.dom_model.specs.World.{World, part_of}
-use Rattle.dom_model.specs.WorldSteps.{world_after}
 use Rattle.dom_model.proofs.PartLaws.{owner-part_of}
 use Rattle.dom_model.proofs.StepLaws.{owner-part_step, part_of-stepped}
 use Rattle.dom_isolation.specs.Tables.{IsNodeIn}

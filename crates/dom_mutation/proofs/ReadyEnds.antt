@@ -1,7 +1,7 @@
 -- Steps keep both ends of a live range at nodes of one tree, whatever else the part holds. The laws for this speak of all tables, so
 -- they are read of a part without the others.
-use Rattle.std.proofs.Common.{◌≡◌, ℕ, List, [], ◌∷◌, ◌++◌, flat_map, filter, fold, map, Option, Some, None, refl, sym, ap, subst, ◌∙◌}
-use Rattle.std.specs.Prelude.{nat_eq, slice_set, Bool, slice_get, unwrap_or}
+use Rattle.std.proofs.Common.{◌≡◌, ℕ, List, [], ◌∷◌, ◌++◌, filter, fold, map, Option, Some, None, refl, sym, ap, subst, ◌∙◌}
+use Rattle.std.specs.Prelude.{nat_eq, slice_set}
 use Rattle.std.specs.List.{AllByRecursion}
 use Rattle.std.specs.Option.{option_map_or}
 use Rattle.dom_base.specs.declared.NodeName.{NodeName}
@@ -9,7 +9,7 @@ use Rattle.dom_model.specs.Names.{name_eq, distinct, append_once}
 use Rattle.dom_model.specs.Observers.{Registration, target_of, registrations_on, interested, fits, transients_for, copied_source}
 use Rattle.dom_model.specs.Output.{Change}
 use Rattle.dom_model.specs.Part.{Part, queue_of}
-use Rattle.dom_model.specs.Steps.{Step, make, make_room, place, take_out, set_document, set_attribute, replace_data, split_at, join_at, set_range, queue_record, part_step, leave, after, interested_in, record_in}
+use Rattle.dom_model.specs.Steps.{Step, make, make_room, place, take_out, set_document, set_attribute, replace_data, split_at, join_at, set_range, queue_record, part_step, leave, after, record_in}
 use Rattle.dom_model.specs.Tree.{inclusive_ancestors, parent_of}
 use Rattle.dom_isolation.specs.Bounds.{HasBounds}
 use Rattle.dom_isolation.specs.Tables.{EndsIn, HasTables}

@@ -1,5 +1,5 @@
 -- A part with one node alone is ready: so are the first world, and a world with one component more.
-use Rattle.std.proofs.Common.{◌≡◌, List, [], ◌∷◌, ◌++◌, drop, length, Option, Some, None, refl}
+use Rattle.std.proofs.Common.{◌≡◌, List, [], ◌∷◌, ◌++◌, drop, length, Option, None, refl}
 use Rattle.dom_base.specs.declared.Kind.{Kind}
 use Rattle.dom_base.specs.declared.Kind.TheVariants.{Document, Shadow}
 use Rattle.dom_base.specs.declared.NodeName.{NodeName}

@@ -1,14 +1,13 @@
 -- The plans of changes keep an owner's part ready for calls.
-use Rattle.std.proofs.Common.{◌≡◌, ◌≤◌, ℕ, Bool, true, false, not, List, [], ◌∷◌, ◌++◌, drop, filter, Option, Some, None, refl, sym, ap, ◌∙◌, arith, true≢false, subst}
-use Rattle.std.specs.Prelude.{IsTrue, if◌then◌else◌}
-use Rattle.std.specs.List.{AllByRecursion}
+use Rattle.std.proofs.Common.{◌≡◌, ℕ, Bool, true, false, not, List, [], ◌∷◌, drop, filter, Option, Some, None, refl, sym, ap, ◌∙◌, arith, true≢false, subst}
+use Rattle.std.specs.Prelude.{IsTrue}
 use Rattle.std.specs.Option.{option_map_or}
 use Rattle.std.proofs.lemmas.Bool.{not-false}
 use Rattle.dom_base.specs.declared.Kind.{Kind}
 use Rattle.dom_base.specs.declared.Kind.TheVariants.{Document, Fragment, Shadow, Element, Text, Comment}
 use Rattle.dom_base.specs.declared.NodeName.{NodeName}
 use Rattle.dom_base.specs.declared.Refusal.TheVariants.{Hierarchy, NotFound}
-use Rattle.dom_model.specs.Changes.{Plan, Observing, observed, removing, adopting, inserting, pre_inserting, reference_for, replacing, setting_attribute, unsetting_attribute}
+use Rattle.dom_model.specs.Changes.{Plan, observed, removing, adopting, inserting, pre_inserting, reference_for, replacing, setting_attribute, unsetting_attribute}
 use Rattle.dom_model.specs.CommandRefusals.{of_range}
 use Rattle.dom_model.specs.Effects.{plan_of_range}
 use Rattle.dom_model.specs.Extract.{extracting}
@@ -16,9 +15,9 @@ use Rattle.dom_model.specs.Names.{Word, DomString, name_eq}
 use Rattle.dom_model.specs.Part.{Part, range_at}
 use Rattle.dom_model.specs.RangeOps.{deleting, insert_node_refusal, insertion_parent, start_reference, cannot_take_node, inserting_into_range}
 use Rattle.dom_model.specs.Ranges.{Range}
-use Rattle.dom_model.specs.Steps.{Step, make, set_document, set_range, part_step, after}
-use Rattle.dom_model.specs.TextChanges.{replacing_data, replacing_all_data, splitting, normalizing, setting_text}
-use Rattle.dom_model.specs.Tree.{Trees, Node, has_node, kind_of, has_data, is_text, is_shadow, child_nodes, is_inclusive_ancestor, length_of}
+use Rattle.dom_model.specs.Steps.{Step, make, set_document, set_range, after}
+use Rattle.dom_model.specs.TextChanges.{replacing_data, splitting, normalizing, setting_text}
+use Rattle.dom_model.specs.Tree.{Trees, Node, has_node, kind_of, has_data, is_text, is_shadow, child_nodes, is_inclusive_ancestor}
 use Rattle.dom_model.specs.Validity.{first_refusal, has_parent, may_be_parent, may_be_inserted, placing_tests, insertion_refusal, replacement_refusal}
 use Rattle.dom_isolation.specs.Bounds.{HasBounds, IsWithin}
 use Rattle.dom_isolation.specs.Tables.{EndsIn, HasEnds}
@@ -26,10 +25,10 @@ use Rattle.dom_isolation.specs.Worlds.{IsPart}
 use Rattle.dom_isolation.proofs.Acceptance.{next-test}
 use Rattle.dom_isolation.proofs.BoundLines.{under-at}
 use Rattle.dom_isolation.proofs.Bounds.{RangeUnder, reach, nowhere}
-use Rattle.dom_isolation.proofs.KeptOffsets.{room-of, make-keeps, set_document-keeps, set_range-keeps, removal-keeps, adoption-keeps, insertion-keeps, pre_insertion-keeps, replacement-keeps, attribute-keeps, attribute_removal-keeps, data-keeps, all_data-keeps, split-keeps, normalization-keeps, text_content-keeps, deletion-keeps, extraction-keeps, range_insertion-keeps}
+use Rattle.dom_isolation.proofs.KeptOffsets.{room-of, make-keeps, set_document-keeps, set_range-keeps, removal-keeps, adoption-keeps, insertion-keeps, replacement-keeps, attribute-keeps, attribute_removal-keeps, data-keeps, split-keeps, normalization-keeps, text_content-keeps, deletion-keeps, extraction-keeps, range_insertion-keeps}
 use Rattle.dom_isolation.proofs.Insides.{inside-no_ancestor, times-has_node}
 use Rattle.dom_isolation.proofs.KindCommands.{has_node-times}
-use Rattle.dom_isolation.proofs.Plans.{Keeps, keeps-removing, keeps-adopting, keeps-inserting, keeps-pre_inserting, keeps-replacing, keeps-setting_attribute, keeps-unsetting_attribute, keeps-replacing_data, keeps-replacing_all_data, keeps-splitting, keeps-normalizing, keeps-setting_text, keeps-extracting, keeps-deleting, keeps-inserting_into_range}
+use Rattle.dom_isolation.proofs.Plans.{Keeps, keeps-removing, keeps-adopting, keeps-inserting, keeps-replacing, keeps-setting_attribute, keeps-unsetting_attribute, keeps-replacing_data, keeps-splitting, keeps-normalizing, keeps-setting_text, keeps-extracting, keeps-deleting, keeps-inserting_into_range}
 use Rattle.dom_isolation.proofs.PlanContents.{leads-deleting, leads-extracting, leads-inserting_into_range}
 use Rattle.dom_isolation.proofs.PlanPlaces.{MayGo, leads-removing, leads-adopting, leads-inserting}
 use Rattle.dom_isolation.proofs.PlanRoots.{ends-at}
@@ -38,10 +37,9 @@ use Rattle.dom_isolation.proofs.Roots.{roots-equal}
 use Rattle.dom_isolation.proofs.ShadowRoots.{not_taken}
 use Rattle.dom_isolation.proofs.TableCommands.{parent-of_range}
 use Rattle.dom_isolation.proofs.TableSteps.{MadeIn}
-use Rattle.dom_isolation.proofs.Tests.{by_cases}
 use Rattle.dom_mutation.specs.Ready.{IsReadyPart}
 use Rattle.dom_mutation.proofs.ReadyEnds.{bare, bare-part, bare-bounds, bounds-bare, bare-tables, bare-after, made-bare, ends-after}
-use Rattle.dom_mutation.proofs.ReadyRoots.{LoneRoots, IsNoShadow, lone-rules, lone-before, lone-after}
+use Rattle.dom_mutation.proofs.ReadyRoots.{LoneRoots, lone-rules, lone-before, lone-after}
 use Rattle.dom_mutation.proofs.BarePlans.{bare-inserting_into_range}
 
 -- Steps that fit, and keep the bounds and the shadow roots.

@@ -1,6 +1,6 @@
 -- Steps that place no shadow root, and make none, leave each shadow root without a parent: which nodes are shadow roots is said by the
 -- part before them.
-use Rattle.std.proofs.Common.{◌≡◌, ◌≤◌, ℕ, true, false, List, [], ◌∷◌, drop, Option, Some, None, refl, sym, ap, ◌∙◌, arith, true≢false, subst}
+use Rattle.std.proofs.Common.{◌≡◌, ◌≤◌, true, false, List, drop, Option, Some, None, refl, sym, ap, ◌∙◌, arith, true≢false, subst}
 use Rattle.std.specs.Prelude.{if◌then◌else◌, ⊤}
 use Rattle.std.specs.List.{AllByRecursion}
 use Rattle.std.specs.Option.{option_map_or}
@@ -27,7 +27,7 @@ use Rattle.dom_isolation.proofs.ReachedFacts.{root-alone}
 use Rattle.dom_isolation.proofs.ShadowRoots.{kind-root, found-absent}
 use Rattle.dom_isolation.proofs.Tests.{by_cases}
 use Rattle.dom_isolation.proofs.TreeChangeLaws.{nodes-then, nodes-named, nodes-with_node, nodes-placed, nodes-taken_out, nodes-map_nodes, root-below_none}
-use Rattle.dom_isolation.proofs.Trees.{IsUnique, name_eq-true, by_times, nodes-there}
+use Rattle.dom_isolation.proofs.Trees.{name_eq-true, by_times}
 
 -- no shadow root has a parent
 abbrev pub LoneRoots : Trees → Type 0

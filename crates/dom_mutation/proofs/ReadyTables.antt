@@ -1,7 +1,7 @@
 -- Commands that change tables alone keep an owner's part ready: those on iterators, walkers and observers leave its trees and live ranges,
 -- and those on live ranges set ends within nodes of one tree.
-use Rattle.std.proofs.Common.{◌≡◌, ◌≤◌, ℕ, suc, zero, Bool, true, false, not, ◌&&◌, List, [], ◌∷◌, ◌++◌, Option, Some, None, option_map, refl, sym, ap, ◌∙◌, arith, true≢false, subst}
-use Rattle.std.specs.Prelude.{IsTrue, slice_get, slice_set, if◌then◌else◌}
+use Rattle.std.proofs.Common.{◌≡◌, ℕ, Bool, true, false, not, ◌&&◌, List, [], ◌∷◌, Option, Some, None, option_map, refl, sym, arith, subst}
+use Rattle.std.specs.Prelude.{IsTrue, slice_get}
 use Rattle.std.specs.List.{AllByRecursion}
 use Rattle.std.specs.Option.{option_map_or}
 use Rattle.std.proofs.lemmas.Bool.{and_parts, ltb-false}
@@ -17,10 +17,10 @@ use Rattle.dom_model.specs.Output.{Value, Said, nothing}
 use Rattle.dom_model.specs.Part.{Part, first_node, range_at}
 use Rattle.dom_model.specs.Place.{Boundary, same_root, is_before}
 use Rattle.dom_model.specs.Ranges.{Range, at, from_to, with_start, with_end}
-use Rattle.dom_model.specs.Traversal.{Iterator, Walker, iterator_next_node, iterator_previous_node, walker_move}
+use Rattle.dom_model.specs.Traversal.{Walker, iterator_next_node, iterator_previous_node, walker_move}
 use Rattle.dom_model.specs.Tree.{Trees, has_node}
 use Rattle.dom_model.specs.Turns.{notified}
-use Rattle.dom_model.specs.World.{World, part_of, with_part}
+use Rattle.dom_model.specs.World.{World, part_of}
 use Rattle.dom_model.proofs.PartLaws.{owner-part_of}
 use Rattle.dom_isolation.specs.Bounds.{IsWithin, EndsWithin}
 use Rattle.dom_isolation.specs.Tables.{IsNodeIn, HasEnds, EndsIn}

@@ -1,7 +1,6 @@
 -- What is ready stays so in the world: an owner's plan changes its own part as it does alone, and of other parts the node documents
 -- alone; and where an owner's part is written, the others stay.
-use Rattle.std.proofs.Common.{◌≡◌, ◌≢◌, Bool, true, false, List, [], ◌∷◌, fold, Option, Some, None, refl, sym, ap, ◌∙◌, subst}
-use Rattle.std.specs.List.{AllByRecursion}
+use Rattle.std.proofs.Common.{◌≡◌, ◌≢◌, Bool, true, false, List, [], ◌∷◌, fold, Option, Some, None, sym, ◌∙◌, subst}
 use Rattle.dom_base.specs.declared.NodeName.{NodeName}
 use Rattle.dom_base.specs.declared.Owner.{Owner}
 use Rattle.dom_model.specs.Changes.{Plan}
