@@ -4,7 +4,7 @@
 // and that each owner has its own notification. `run` runs a script that attaches components twice: the first time it lets the DOM
 // notify after every line, to see which line signals whose slots; the second time at the ends of turns, as the protocol has it.
 "use strict";
-(function (exports, { parse, linesOf, KINDS }, { COMMANDS, Refused, refuseWhere, quotedOrNull }, { plansFor }, { endTurn, Unrepresentable }) {
+(function (exports, { parse, linesOf, KINDS }, { COMMANDS, Refused, refuseWhere, refuseFull, quotedOrNull }, { plansFor }, { endTurn, Unrepresentable }) {
   const XHTML = "http://www.w3.org/1999/xhtml";
   const REFUSALS = {
     HierarchyRequestError: "hierarchy", NotFoundError: "not-found", NotSupportedError: "not-supported",
@@ -47,6 +47,7 @@
     // ---- names
 
     name(owner, node) {
+      refuseFull(owner, "nodes");
       this.names.set(node, { owner, number: owner.nodes.push(node) - 1 });
       if (node.localName === "slot" && !this.signals) node.addEventListener("slotchange", (event) => this.signalled(event));
       return this.show(owner, node);
@@ -71,6 +72,7 @@
     }
 
     add(owner, table, thing) {
+      refuseFull(owner, table);
       return table[0] + (owner[table].push(thing) - 1);
     }
 
@@ -203,6 +205,7 @@
 
     // The twin of an observer observes the same, and tells after each line which records there were.
     makeObserver(owner) {
+      refuseFull(owner, "observers");
       const number = owner.observers.length;
       const line = (record) => this.recordLine(owner, number, record);
       const observer = { line, kept: [], fresh: [], twin: new this.window.MutationObserver(() => {}) };
@@ -236,7 +239,10 @@
       return owner.listeners.get(key);
     }
 
+    // The event of a signalled slot is told and acted on where it comes at the end of a turn: not where a run looks for signals, lest a
+    // listener keep the event from `signalled`.
     visit(owner, label, listener, event) {
+      if (!this.signals && !this.atCommand) return;
       const show = (node) => this.show(owner, node);
       if (listener.once) listener.action = null;
       const line = `${owner.word} event ${label} ${event.type} phase=${event.eventPhase} target=${show(event.target)}`

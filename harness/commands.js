@@ -5,6 +5,8 @@
     parent: "parentNode", first: "firstChild", last: "lastChild", next: "nextNode", previous: "previousNode",
     "next-sibling": "nextSibling", "previous-sibling": "previousSibling",
   };
+  const MAX_COMPONENTS = 1000;
+  const MAX_OF_OWNER = 1000000;
   const isShadowRoot = (node) => node.nodeType === 11 && "host" in node;
 
   // A refusal of the protocol's own.
@@ -12,6 +14,17 @@
   const refuseWhere = (holds, name) => {
     if (holds) throw new Refused(name);
   };
+
+  // Own rule: how much an owner may have in a table.
+  const refuseFull = (owner, table) => refuseWhere(owner[table].length >= MAX_OF_OWNER, "limit");
+
+  // Own rule: how many components there may be. What the DOM refuses before, a copy of the element tells.
+  function refuseLast(run, element) {
+    if (run.owners.size <= MAX_COMPONENTS) return;
+    refuseWhere([...run.owners.values()].some(({ nodes: [root] }) => root.host === element), "not-supported");
+    element.cloneNode().attachShadow({ mode: "closed" });
+    throw new Refused("limit");
+  }
 
   // A string of the DOM as the protocol writes it.
   const quoted = (text) =>
@@ -32,6 +45,7 @@
   function attach(run, page, [element]) {
     const isOwn = element.localName.includes("-") && !/^[a-z][a-z0-9-]*$/.test(element.localName);
     refuseWhere(isOwn, "not-supported");
+    refuseLast(run, element);
     const root = element.attachShadow({ mode: "closed" });
     const owner = run.addOwner("c" + run.owners.size);
     run.name(owner, root);
@@ -199,5 +213,5 @@
     micro: (run, owner, [label]) => void run.tasks.push({ owner, label }),
   };
 
-  exports.commands = { COMMANDS, Refused, refuseWhere, quotedOrNull };
+  exports.commands = { COMMANDS, Refused, refuseWhere, refuseFull, quotedOrNull };
 })(typeof module === "object" ? module.exports : globalThis, typeof require === "function" ? require("./lines.js").protocol : globalThis.protocol);

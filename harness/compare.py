@@ -41,12 +41,12 @@ class Comparison:
         return found
 
     def explain(self, found, given, wanted, change):
-        """Puts the names of its differences in the place of each None, where the script, changed so, agrees after them."""
+        """Puts the names of its differences in the place of each None, where the script, changed so, agrees after one at least."""
         open_ones = [i for i, names in enumerate(found) if names is None]
         tried = [change(given[i], wanted[i]) for i in open_ones]
         again = engines.answers(self.engine, tried, known.FIXES)
         for i, script, want, (output, met) in zip(open_ones, tried, engines.run_programs(self.program, tried), again):
-            found[i] = judging.judge(self.engine.name, script, want, output, met)
+            found[i] = judging.judge(self.engine.name, script, want, output, met) or None
 
     def show(self, given):
         """For each script a text with it and its first difference, with the lines before that."""
@@ -54,10 +54,10 @@ class Comparison:
         plain, fixed = (engines.answers(self.engine, given, fixes) for fixes in ((), known.FIXES))
         return [shown(*outputs) for outputs in zip(given, wanted, (output for output, _ in plain), (output for output, _ in fixed))]
 
-    def stays(self, tried, wanted_lines):
-        """The scripts of these that stay unexplained."""
-        given = ["".join(line + "\n" for line in lines) for lines in tried]
-        return [lines for lines, names in zip(tried, self.judged(given)) if names is None and lines != wanted_lines]
+    def unexplained(self, tried):
+        """The scripts of these, each a list of lines, that are unexplained."""
+        judged = self.judged(["".join(line + "\n" for line in lines) for lines in tried])
+        return [lines for lines, names in zip(tried, judged) if names is None]
 
     def small(self, script):
         """The script without lines that it does without, while it stays unexplained: runs of lines go, long ones first."""
@@ -65,7 +65,8 @@ class Comparison:
         size = len(lines) // 2
         while size:
             made = names_made(self.program, lines)
-            kept = self.stays([without(made, lines, start, size) for start in range(0, len(lines), size)], lines)
+            shorter = [without(made, lines, start, size) for start in range(0, len(lines), size)]
+            kept = self.unexplained([tried for tried in shorter if tried != lines])
             if kept:
                 lines = min(kept, key=len)
                 size = min(size, max(1, len(lines) // 2))
@@ -152,31 +153,33 @@ def compare(comparison, batches, shown):
     return 1 if counts["unexplained"] else 0
 
 
-def random_batches(words):
+def random_batches(words, program):
     """Batches of random scripts, named by seed and number."""
     size = 500
     for first in range(words.first, words.first + words.random, size):
         count = min(size, words.first + words.random - first)
-        made = scripts.random_scripts(words.program, words.seed, count, words.lines, first)
+        made = scripts.random_scripts(program, words.seed, count, words.lines, first)
         yield [(f"seed {words.seed} number {first + i}", script) for i, script in enumerate(made)]
 
 
 def print_known(comparison):
-    """Prints each named difference, with the script that shows it and whether it does so in this engine. Gives the status."""
-    given = [difference.script for difference in known.KNOWN.values()]
-    judged, texts = comparison.judged(given), comparison.show(given)
-    for (name, difference), names, text in zip(known.KNOWN.items(), judged, texts):
-        says = "is not here" if names == set() else "is UNEXPLAINED here" if names is None else "is here: " + ", ".join(sorted(names))
-        print(f"== {name} ({difference.sort}): {difference.text}. It {says}.\n{text}", end="")
-    return 1 if None in judged else 0
+    """Prints each named difference, with the scripts that show it and whether they do so in this engine. Gives the status."""
+    named = [(name, script) for name, difference in known.KNOWN.items() for script in difference.scripts]
+    given = [script for _, script in named]
+    found = list(zip(named, comparison.judged(given), comparison.show(given)))
+    for name, difference in known.KNOWN.items():
+        print(f"== {name} ({difference.sort}): {difference.text}")
+        for (_, names, text) in (one for one in found if one[0][0] == name):
+            says = "not here" if names == set() else "UNEXPLAINED here" if names is None else "here: " + ", ".join(sorted(names))
+            print(f"-- this script is {says}\n{text}", end="")
+    return 1 if any(names is None for _, names, _ in found) else 0
 
 
 def print_examples(comparison):
     """Prints for each folder of examples how many agree, and which ones differ by what."""
     found = collections.defaultdict(list)
     for path in sorted(glob.glob(os.path.join(engines.HERE, "..", "examples", "*", "*.in"))):
-        with open(path, "rb") as file:
-            found[os.path.basename(os.path.dirname(path))].append((os.path.basename(path)[:-3], file.read().decode("latin-1")))
+        found[os.path.basename(os.path.dirname(path))].append((os.path.basename(path)[:-3], script_of(path)))
     status = 0
     for folder, named in found.items():
         judged = comparison.judged([script for _, script in named])
@@ -188,34 +191,53 @@ def print_examples(comparison):
     return status
 
 
-def main():
+def words_given():
+    """The words of the command line: one kind of scripts, and how they are run."""
     parser = argparse.ArgumentParser(description=__doc__.splitlines()[0])
     parser.add_argument("--engine", choices=engines.ENGINES, default="chromium")
-    parser.add_argument("--program", default=engines.PROGRAM)
-    parser.add_argument("--random", type=int, metavar="N")
-    parser.add_argument("--seed", default="1")
-    parser.add_argument("--lines", type=int, default=100)
-    parser.add_argument("--first", type=int, default=0)
+    parser.add_argument("--program", default=engines.PROGRAM, help="the built domrun")
+    parser.add_argument("--random", type=int, metavar="N", help="this many random scripts")
+    parser.add_argument("--seed", default="1", help="of the random scripts")
+    parser.add_argument("--lines", type=int, default=100, help="of each random script")
+    parser.add_argument("--first", type=int, default=0, help="number of the first random script")
     parser.add_argument("--shown", type=int, default=3, help="how many unexplained scripts are made small and printed")
-    parser.add_argument("--known", action="store_true")
-    parser.add_argument("--examples", action="store_true")
-    parser.add_argument("scripts", nargs="*")
+    parser.add_argument("--known", action="store_true", help="the scripts of the named differences")
+    parser.add_argument("--examples", action="store_true", help="the scripts in examples/")
+    parser.add_argument("scripts", nargs="*", metavar="SCRIPT", help="scripts of your own")
     words = parser.parse_args()
+    if [words.random is not None, words.known, words.examples, bool(words.scripts)].count(True) != 1:
+        parser.error("one of SCRIPT.., --random N, --known and --examples is wanted")
+    return words
+
+
+def script_of(path):
+    """The script in a file, one character for each byte."""
+    with open(path, "rb") as file:
+        return file.read().decode("latin-1")
+
+
+def run(words, comparison, given):
+    """Does what the words ask for. Gives the status."""
+    if words.known:
+        return print_known(comparison)
+    if words.examples:
+        return print_examples(comparison)
+    return compare(comparison, [given] if given else random_batches(words, comparison.program), words.shown)
+
+
+def main():
+    words = words_given()
     try:
+        given = [(path, script_of(path)) for path in words.scripts]
+        program = engines.find(words.program)
         engine = engines.ENGINES[words.engine]()
-    except engines.Missing as missing:
-        raise SystemExit(str(missing)) from None
-    comparison = Comparison(engine, words.program)
-    print(f"{engine.version}")
+    except engines.Missing as fault:
+        raise SystemExit(str(fault)) from None
+    except OSError as fault:
+        raise SystemExit(f"{fault.filename}: {fault.strerror}") from None
+    print(engine.version, flush=True)
     try:
-        if words.known:
-            return print_known(comparison)
-        if words.examples:
-            return print_examples(comparison)
-        if words.random:
-            return compare(comparison, random_batches(words), words.shown)
-        given = [(path, open(path, "rb").read().decode("latin-1")) for path in words.scripts]
-        return compare(comparison, [given], words.shown)
+        return run(words, Comparison(engine, program), given)
     finally:
         engine.close()
 

@@ -36,7 +36,10 @@ class Draft:
         self.process.stdin.write(line + "\n")
         before = []
         while True:
-            answer = self.process.stdout.readline().rstrip("\n")
+            answer = self.process.stdout.readline()
+            if not answer:
+                raise SystemExit(f"{self.process.args[0]} ended at `{line}`")
+            answer = answer.rstrip("\n")
             if answer.startswith((word + " ok", word + " !", "! owner")):
                 return answer[len(word) + 1:], before
             before.append(answer)

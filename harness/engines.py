@@ -14,12 +14,18 @@ import time
 from concurrent.futures import ThreadPoolExecutor
 
 HERE = os.path.dirname(os.path.abspath(__file__))
-PROGRAM = os.path.join(HERE, "..", "crates", "domrun", "out", "domrun")
+PROGRAM = os.path.normpath(os.path.join(HERE, "..", "crates", "domrun", "out", "domrun"))
+# Seconds after which an engine is taken to give no answer to a batch of scripts.
+PATIENCE = 600
 SOURCES = ("lines.js", "commands.js", "lasting.js", "fixes.js", "adapter.js")
 
 
 class Missing(Exception):
-    """An engine that is not on this machine, in one line."""
+    """A program that is not on this machine, in one line."""
+
+
+class NoAnswer(ConnectionError):
+    """An engine that ended, or gave no answer in its time, in one line."""
 
 
 def find(*names):
@@ -28,7 +34,20 @@ def find(*names):
         path = shutil.which(name)
         if path:
             return path
-    raise Missing(f"{names[0]} is not on this machine: harness/README.md says how it is installed")
+    raise Missing(f"{names[0]} is not on this machine: harness/README.md says how to get it")
+
+
+def run_within(words, **options):
+    """Runs an engine's process to its end; what it wrote comes as text."""
+    try:
+        return subprocess.run(words, capture_output=True, text=True, check=False, timeout=PATIENCE, **options)
+    except subprocess.TimeoutExpired:
+        raise NoAnswer(f"no answer in {PATIENCE} seconds") from None
+
+
+def end_of(text):
+    """The end of what a process told, in one line."""
+    return " ".join(text.split())[-300:]
 
 
 def run_program(program, script):
@@ -55,7 +74,8 @@ def page_of(scripts, fixes):
 
 
 def answers_of(text):
-    return [(answer["output"], set(answer["met"])) for answer in json.loads(base64.b64decode(text))]
+    """The answers in what `runAll` of adapter.js gave, as JSON."""
+    return [(answer["output"], set(answer["met"])) for answer in json.loads(text)]
 
 
 class Chromium:
@@ -76,11 +96,11 @@ class Chromium:
                 page.write(page_of(scripts, fixes))
             words = [self.path, "--headless=new", "--no-sandbox", "--disable-gpu", f"--user-data-dir={room}/profile",
                      "--dump-dom", f"file://{room}/page.html"]
-            done = subprocess.run(words, capture_output=True, text=True, check=False, timeout=600)
+            done = run_within(words)
         found = re.search(r'<pre id="out">([^<]+)</pre>', done.stdout)
         if not found:
-            raise SystemExit(f"chromium gave no answer: {done.stderr[-500:]}")
-        return answers_of(found[1])
+            raise NoAnswer(f"no answer: {end_of(done.stderr)}")
+        return answers_of(base64.b64decode(found[1]))
 
     def close(self):
         pass
@@ -97,6 +117,10 @@ class Firefox:
         self.path = find("firefox-esr", "firefox")
         version = subprocess.run([self.path, "--version"], capture_output=True, text=True, check=True).stdout
         self.version = version.strip().splitlines()[-1]
+        self.start()
+
+    def start(self):
+        """Starts a process with a profile of its own, and a session in it."""
         self.room = tempfile.mkdtemp()
         with socket.socket() as free:
             free.bind(("127.0.0.1", 0))
@@ -105,28 +129,37 @@ class Firefox:
             prefs.write(f'user_pref("marionette.port", {port});\nuser_pref("dom.max_script_run_time", 0);\n')
         self.process = subprocess.Popen([self.path, "--headless", "--no-remote", "--marionette", "--profile", self.room],
                                         stdout=subprocess.DEVNULL, stderr=subprocess.DEVNULL)
-        self.wire = self.connect(port)
-        self.last = 0
-        self.receive()
-        self.send("WebDriver:NewSession", {"timeouts": {"script": 600000, "pageLoad": 600000}})
+        try:
+            self.wire, self.last = self.connect(port), 0
+            self.receive()
+            self.send("WebDriver:NewSession", {"timeouts": {"script": None, "pageLoad": 1 << 30}})
+        except OSError as fault:
+            self.close()
+            raise SystemExit(f"firefox did not start: {fault}") from None
 
     def connect(self, port):
-        for _ in range(300):
+        end = time.monotonic() + PATIENCE
+        while time.monotonic() < end and self.process.poll() is None:
             try:
-                return socket.create_connection(("127.0.0.1", port))
+                return socket.create_connection(("127.0.0.1", port), PATIENCE)
             except ConnectionRefusedError:
                 time.sleep(0.2)
-        self.close()
-        raise SystemExit("firefox opened no port")
+        raise NoAnswer("it opened no port")
 
     def receive(self):
         size = b""
         while not size.endswith(b":"):
-            size += self.wire.recv(1)
+            size += self.read(1)
         text = b""
         while len(text) < int(size[:-1]):
-            text += self.wire.recv(1 << 20)
+            text += self.read(1 << 20)
         return json.loads(text)
+
+    def read(self, most):
+        found = self.wire.recv(most)
+        if not found:
+            raise NoAnswer("it ended")
+        return found
 
     def send(self, name, words):
         self.last += 1
@@ -134,25 +167,40 @@ class Firefox:
         self.wire.sendall(str(len(text)).encode() + b":" + text)
         _, _, error, value = self.receive()
         if error:
-            raise SystemExit(f"firefox: {error}")
+            raise NoAnswer(f"{error['error']}: {error['message']}")
         return value
 
     def run(self, scripts, fixes):
+        """Where there is no answer, another process is started for the scripts to come."""
         path = os.path.join(self.room, "page.html")
         with open(path, "w", encoding="ascii", errors="xmlcharrefreplace") as page:
             page.write(page_of(scripts, fixes))
+        try:
+            return answers_of(base64.b64decode(self.text_of(path)))
+        except OSError as fault:
+            self.close()
+            self.start()
+            raise NoAnswer(str(fault)) from fault
+
+    def text_of(self, path):
+        """The text that the page of this path leaves."""
+        end = time.monotonic() + PATIENCE
         self.send("WebDriver:Navigate", {"url": f"file://{path}"})
-        for _ in range(6000):
+        while time.monotonic() < end:
             words = {"script": 'return document.getElementById("out").textContent', "args": []}
             text = self.send("WebDriver:ExecuteScript", words)["value"]
             if text:
-                return answers_of(text)
+                return text
             time.sleep(0.1)
-        raise SystemExit("firefox gave no answer")
+        raise NoAnswer(f"no answer in {PATIENCE} seconds")
 
     def close(self):
         self.process.terminate()
-        self.process.wait()
+        try:
+            self.process.wait(20)
+        except subprocess.TimeoutExpired:
+            self.process.kill()
+            self.process.wait()
         shutil.rmtree(self.room, ignore_errors=True)
 
 
@@ -174,15 +222,12 @@ class Jsdom:
         self.version = done.stdout.strip()
 
     def run(self, scripts, fixes):
-        """Where node itself ends on a script, that one has this for its answer, and the others have theirs."""
         given = json.dumps({"scripts": scripts, "fixes": fixes})
         words = [self.path, "--stack-size=4000", f"--max-old-space-size={self.heap}", os.path.join(HERE, "run_in_jsdom.js")]
-        done = subprocess.run(words, input=given, capture_output=True, text=True, check=False, env=self.environment)
-        if done.returncode and len(scripts) > 1:
-            return [answer for script in scripts for answer in self.run([script], fixes)]
+        done = run_within(words, input=given, env=self.environment)
         if done.returncode:
-            return [(f"harness: node ended with status {done.returncode}: {done.stderr[-500:]}\n", set())]
-        return [(answer["output"], set(answer["met"])) for answer in json.loads(done.stdout)]
+            raise NoAnswer(f"node ended with status {done.returncode}: {end_of(done.stderr)}")
+        return answers_of(done.stdout)
 
     def close(self):
         pass
@@ -191,8 +236,20 @@ class Jsdom:
 ENGINES = {"chromium": Chromium, "firefox": Firefox, "jsdom": Jsdom}
 
 
+def answers_of_batch(engine, scripts, fixes):
+    """What the engine writes for each script of a batch. Where it gives no answer, each half is run as a batch; a script alone on which
+    it gives none has that for its answer."""
+    try:
+        return engine.run(scripts, fixes)
+    except NoAnswer as fault:
+        if len(scripts) == 1:
+            return [(f"harness: {engine.name}: {fault}\n", set())]
+    half = len(scripts) // 2
+    return [answer for part in (scripts[:half], scripts[half:]) for answer in answers_of_batch(engine, part, fixes)]
+
+
 def answers(engine, scripts, fixes=()):
     """What the engine writes for each script, and which of the fixes were met in it, batch by batch."""
     batches = [scripts[start:start + engine.batch] for start in range(0, len(scripts), engine.batch)]
     with ThreadPoolExecutor(engine.at_once) as pool:
-        return [answer for found in pool.map(lambda batch: engine.run(batch, list(fixes)), batches) for answer in found]
+        return [answer for found in pool.map(lambda batch: answers_of_batch(engine, batch, list(fixes)), batches) for answer in found]

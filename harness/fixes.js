@@ -223,11 +223,24 @@
     };
   }
 
-  // Each Text with Texts directly behind it gets all their data in one step, and what points into them or at them goes into the first.
-  function planNormalize(run, owner, top) {
+  // The Texts below a node, in tree order.
+  function textsBelow(top) {
     const texts = [];
     const collect = (node) => node.nodeType === 3 ? texts.push(node) : node.childNodes.forEach(collect);
     top.childNodes.forEach(collect);
+    return texts;
+  }
+
+  // The Texts directly behind a Text, or in front of it.
+  function textsBeside(text, side) {
+    const beside = [];
+    for (let next = text[side]; next && next.nodeType === 3; next = next[side]) beside.push(next);
+    return beside;
+  }
+
+  // Each Text with Texts directly behind it gets all their data in one step, and what points into them or at them goes into the first.
+  function planNormalize(run, owner, top) {
+    const texts = textsBelow(top);
     return { call: () => {
       for (const text of texts) if (text.parentNode) join(run, owner, text);
     } };
@@ -235,9 +248,8 @@
 
   function join(run, owner, text) {
     if (text.length === 0) return text.remove();
-    const behind = [];
-    for (let next = text.nextSibling; next && next.nodeType === 3; next = next.nextSibling) behind.push(next);
-    if (behind.length === 0) return undefined;
+    const behind = textsBeside(text, "nextSibling");
+    if (behind.length === 0) return tellsOfLoneTexts(run) ? text.replaceData(text.length, 0, "") : undefined;
     let length = text.length;
     text.replaceData(length, 0, behind.map((one) => one.data).join(""));
     const points = new Points(owner);
@@ -254,10 +266,30 @@
     return undefined;
   }
 
-  // A node whose only child is a Text with these data gets a new Text all the same.
+  // Own rule: a Text that has none to be joined with has no record. Where this DOM writes one, `join` does too, and it is left out here.
+  function planLoneTexts(top) {
+    const isLone = (text) => textsBeside(text, "nextSibling").length === 0 && textsBeside(text, "previousSibling").every(({ length }) => length === 0);
+    const lone = textsBelow(top).filter(isLone);
+    const isOfOne = (record) => record.type === "characterData" && lone.includes(record.target);
+    return (taken) => rewrite(taken, (records) => records.filter((record) => !isOfOne(record)));
+  }
+
+  // Whether this DOM writes a record of a Text that it joins with none, as the Standard's text does.
+  function tellsOfLoneTexts(run) {
+    const parent = run.first.createElement("p");
+    const observer = new run.window.MutationObserver(() => {});
+    parent.appendChild(run.first.createTextNode("a"));
+    observer.observe(parent, { characterData: true, childList: false, subtree: true });
+    parent.normalize();
+    return observer.takeRecords().length > 0;
+  }
+
+  // A node gets a new Text also where its only child is a Text of the same data.
   function planSameText(run, owner, [node, text]) {
-    const isSame = node.childNodes.length === 1 && node.firstChild.nodeType === 3 && node.firstChild.data === text && text !== "";
-    return isSame ? { call: () => {
+    const { firstChild } = node;
+    return firstChild && node.nodeType !== 9 ? { call: (set) => {
+      set();
+      if (node.firstChild !== firstChild) return;
       run.met.add("same-text");
       node.replaceChildren(node.ownerDocument.createTextNode(text));
       run.nameAll(owner, node);
@@ -265,11 +297,16 @@
   }
 
   // A document inside itself is refused as such, before the child is looked at.
-  function planDocument(run, name, [parent, node, child]) {
-    if (!["insert", "replace"].includes(name) || node.nodeType !== 9 || !node.contains(parent) || child.parentNode === parent) return null;
-    return { call: () => {
-      run.met.add("document-inside-itself");
-      throw new run.window.DOMException("a document inside itself", "HierarchyRequestError");
+  function planDocument(run, name, [parent, node]) {
+    if (!["insert", "replace"].includes(name) || node.nodeType !== 9 || !node.contains(parent)) return null;
+    return { call: (place) => {
+      try {
+        place();
+      } catch (error) {
+        if (error.name !== "NotFoundError") throw error;
+        run.met.add("document-inside-itself");
+        throw new run.window.DOMException("a document inside itself", "HierarchyRequestError");
+      }
     } };
   }
 
@@ -306,6 +343,7 @@
   const FIXES = {
     "insert-node-offset": (run, owner, name, values) => (name === "insert-node" ? planInsertNode(values) : null),
     "normalize-steps": (run, owner, name, values) => (name === "normalize" ? planNormalize(run, owner, values[0]) : null),
+    "lone-records": (run, owner, name, values) => (name === "normalize" ? after(planLoneTexts(values[0])) : null),
     "same-text": (run, owner, name, values) => (name === "text" ? planSameText(run, owner, values) : null),
     "document-inside-itself": (run, owner, name, values) => planDocument(run, name, values),
     "sibling-inserted": (run, owner, name, values) => (name === "append" || name === "insert" ? after(planInsertion(owner, values)) : null),

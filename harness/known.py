@@ -5,19 +5,17 @@ A difference is of one of three sorts:
   order    the output must agree when lines of one notification are put in one order on both sides;
   ends     the DOM cannot be brought to where the protocol is: the output must agree up to there, and the rest is not compared.
 """
-import dataclasses
-
-
-@dataclasses.dataclass
-class Known:
-    """A named difference: what it is, its sort, and a script that shows it."""
-    sort: str
-    text: str
-    script: str
 
 
 def lines(text):
     return "".join(line.strip() + "\n" for line in text.strip().split("\n"))
+
+
+class Known:
+    """A named difference: its sort, what it is, and scripts that show it, each in one browser at least."""
+
+    def __init__(self, sort, text, *scripts):
+        self.sort, self.text, self.scripts = sort, text, scripts
 
 
 KNOWN = {
@@ -89,6 +87,15 @@ KNOWN = {
         p observe o0 n1 childList characterData subtree
         p normalize n1
         p take o0""")),
+    "lone-records": Known("fixed", "a Text that normalize joins with none has a record of its data (own rule of the protocol: it has none; by the "
+                          "Standard's text there is one)", lines("""
+        p new element p
+        p new text "a"
+        p append n1 n2
+        p observer
+        p observe o0 n1 characterData subtree
+        p normalize n1
+        p take o0""")),
     "same-text": Known("fixed", "textContent of a node whose only child is a Text with these data already: Chromium does nothing", lines("""
         p new element p
         p text n1 "a"
@@ -152,8 +159,9 @@ KNOWN = {
         c1 .
         c1 remove m1
         c1 .""")),
-    "slot-signals": Known("order", "which slots one step signals (own rule of the protocol): Chromium tells no slot of a Comment below it, and tells "
-                          "the slots of a name that is set to what it is, and a slot that a child of its own takes the place of (by replaced)", lines("""
+    "slot-signals": Known("order", "which slots one step signals: Chromium tells no slot of a Comment that comes to it or goes, and tells a slot that "
+                          "a child of its own takes the place of (by replaced); Chromium and Firefox tell the slots of a name that is set to the "
+                          "empty string where there was none", lines("""
         p new element div
         p attach n1
         p .
@@ -163,6 +171,28 @@ KNOWN = {
         c1 .
         c1 new comment "x"
         c1 append m1 m2
+        c1 ."""), lines("""
+        p new element div
+        p attach n1
+        p .
+        c1 new element slot
+        c1 append m0 m1
+        c1 listen m1 slotchange a log
+        c1 new element i
+        c1 append m1 m2
+        c1 .
+        c1 replace m0 m2 m1
+        c1 ."""), lines("""
+        p new element div
+        p new element b
+        p attach n1
+        p append n1 n2
+        p .
+        c1 new element slot
+        c1 append m0 m1
+        c1 listen m1 slotchange a log
+        c1 .
+        c1 set m1 name ""
         c1 .""")),
     "document-inside-itself": Known("fixed", "a document is put into itself in front of a node that is no child of it: refused as hierarchy, and by "
                                     "Chromium as not-found", lines("""

@@ -336,7 +336,11 @@ def main():
     parser.add_argument("--count", type=int, default=1)
     parser.add_argument("--coverage", action="store_true")
     words = parser.parse_args()
-    makers = (made(words.program, words.seed, number, words.lines) for number in range(words.count))
+    try:
+        program = engines.find(words.program)
+    except engines.Missing as missing:
+        raise SystemExit(str(missing)) from None
+    makers = (made(program, words.seed, number, words.lines) for number in range(words.count))
     if words.coverage:
         print_coverage(makers)
         return
