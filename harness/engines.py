@@ -132,7 +132,7 @@ class Firefox:
         try:
             self.wire, self.last = self.connect(port), 0
             self.receive()
-            self.send("WebDriver:NewSession", {"timeouts": {"script": None, "pageLoad": 1 << 30}})
+            self.send("WebDriver:NewSession", {"timeouts": {"script": 1000 * PATIENCE, "pageLoad": 1000 * PATIENCE}})
         except OSError as fault:
             self.close()
             raise SystemExit(f"firefox did not start: {fault}") from None
