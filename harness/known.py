@@ -77,7 +77,8 @@ KNOWN = {
         p delete r0
         p take o0""")),
     "normalize-steps": Known("fixed", "Texts are joined: the Standard writes one record of all data that come, of none too, and then one for each Text "
-                             "that goes; browsers join them one by one, and let empty ones go first", lines("""
+                             "that goes; Chromium and Firefox join them one by one, and let empty ones go first; in jsdom a boundary in a Text that "
+                             "goes is not moved into the one that stays", lines("""
         p new element p
         p new text "a"
         p new text ""
@@ -86,7 +87,17 @@ KNOWN = {
         p observer
         p observe o0 n1 childList characterData subtree
         p normalize n1
-        p take o0""")),
+        p take o0"""), lines("""
+        p new element p
+        p new text "a"
+        p new text "b"
+        p append n1 n2
+        p append n1 n3
+        p range-new
+        p range-end r0 n3 1
+        p range-collapse r0 end
+        p normalize n1
+        p range-get r0""")),
     "lone-records": Known("fixed", "a Text that normalize joins with none has a record of its data (own rule of the protocol: it has none; by the "
                           "Standard's text there is one)", lines("""
         p new element p
@@ -160,8 +171,8 @@ KNOWN = {
         c1 remove m1
         c1 .""")),
     "slot-signals": Known("order", "which slots one step signals: Chromium tells no slot of a Comment that comes to it or goes, and tells a slot that "
-                          "a child of its own takes the place of (by replaced); Chromium and Firefox tell the slots of a name that is set to the "
-                          "empty string where there was none", lines("""
+                          "a child of its own takes the place of (by replaced), as jsdom does; Chromium and Firefox tell the slots of a name that is "
+                          "set to the empty string where there was none", lines("""
         p new element div
         p attach n1
         p .
