@@ -218,7 +218,7 @@ class Jsdom:
         words = [self.path, "-p", "'jsdom ' + require('jsdom/package.json').version + ', node ' + process.versions.node"]
         done = subprocess.run(words, capture_output=True, text=True, check=False, env=self.environment)
         if done.returncode:
-            raise Missing("jsdom is not on this machine: harness/README.md says how it is installed")
+            raise Missing("jsdom is not on this machine: harness/README.md says how to get it")
         self.version = done.stdout.strip()
 
     def run(self, scripts, fixes):
