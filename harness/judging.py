@@ -4,6 +4,15 @@ import re
 
 RECORD = re.compile(r"(\S+) record o(\d+) ")
 SLOT_EVENT = re.compile(r"(\S+) event \S+ slotchange .* path=\[m(\d+)")
+REPLY = re.compile(r"\S+ (ok|!)|! owner")
+# Where the comparison of a script ends under a name: by the engine, the command, and what the engine answers it.
+ENDS = [
+    ("jsdom", "filters", re.compile(r"\S+ (iter-next|iter-prev|walk) "), re.compile(r"\S+ ! type")),
+    ("jsdom", "ranges", re.compile(r"\S+ range-(get|text) "), REPLY),
+    ("jsdom", "selectors", re.compile(r'\S+ (query|matches) \S+ ".*[A-Z]'), REPLY),
+]
+# Engines whose ranges may be elsewhere long before a line tells it.
+PROBED = ("jsdom",)
 
 
 def in_order(output, pattern):
@@ -20,19 +29,6 @@ def in_order(output, pattern):
         else:
             ordered.append(line)
     return ordered[:-1]
-
-
-REPLY = re.compile(r"\S+ (ok|!)|! owner")
-# Where the comparison of a script ends under a name: by the engine, the command, and what the engine answers it.
-ENDS = [
-    ("jsdom", "filters", re.compile(r"\S+ (iter-next|iter-prev|walk) "), re.compile(r"\S+ ! type")),
-    ("jsdom", "ranges", re.compile(r"\S+ range-(get|text) "), REPLY),
-    ("jsdom", "selectors", re.compile(r'\S+ (query|matches) \S+ ".*[A-Z]'), REPLY),
-]
-
-
-# Engines whose ranges may be elsewhere long before a line tells it.
-PROBED = ("jsdom",)
 
 
 def probed(script, output):
