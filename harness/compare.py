@@ -61,7 +61,7 @@ class Comparison:
 
     def small(self, script):
         """The script without lines that it does without, while it stays unexplained: runs of lines go, long ones first."""
-        lines = script.splitlines()
+        lines = judging.lines_of(script)
         size = len(lines) // 2
         while size:
             made = names_made(self.program, lines)

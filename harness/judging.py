@@ -15,6 +15,12 @@ ENDS = [
 PROBED = ("jsdom",)
 
 
+def lines_of(script):
+    """The lines of a script, without their ends: byte 0x0A alone ends a line."""
+    lines = script.split("\n")
+    return lines if lines[-1] else lines[:-1]
+
+
 def in_order(output, pattern):
     """The lines of an output, where runs of lines of one owner that fit the pattern stand in the order of its number."""
     ordered, run, owner = [], [], None
@@ -34,7 +40,7 @@ def in_order(output, pattern):
 def probed(script, output):
     """A script with the ends of each range that its owner has made read behind each line which ends no turn; `output` is the script's."""
     made, left = {}, []
-    for line, reply in zip(script.splitlines(), (line for line in output.splitlines() if REPLY.match(line))):
+    for line, reply in zip(lines_of(script), (line for line in output.splitlines() if REPLY.match(line))):
         left.append(line)
         owner, _, command = line.partition(" ")
         found = re.fullmatch(r"\S+ ok r(\d+)", reply)
@@ -55,14 +61,14 @@ def first_difference(wanted, got):
 def line_of(script, output, at):
     """The line of the script that output line number `at` belongs to."""
     number = sum(1 for line in output[:at] if REPLY.match(line))
-    lines_there = script.splitlines()
-    return lines_there[number] if number < len(lines_there) else "(end of input)"
+    lines = lines_of(script)
+    return lines[number] if number < len(lines) else "(end of input)"
 
 
 def without_signals(script, output):
     """The lines of an output without those of events that signalled slots get at the ends of turns. A slot that is signalled also queues
     its owner's notification, so records and microtasks of one turn's end stand in the order of their words here."""
-    commands, number, left, run = script.splitlines(), 0, [], []
+    commands, number, left, run = lines_of(script), 0, [], []
     for line in [*output, ""]:
         if line and not REPLY.match(line):
             run.append(line)
