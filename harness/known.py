@@ -169,6 +169,20 @@ KNOWN = {
         c1 listen m2 slotchange b log
         c1 .
         c1 remove m1
+        c1 ."""), lines("""
+        p new element div
+        p new element b
+        p attach n1
+        p append n1 n2
+        p .
+        c1 new element slot
+        c1 new element slot
+        c1 append m0 m1
+        c1 append m0 m2
+        c1 listen m1 slotchange a log
+        c1 listen m2 slotchange b log
+        c1 .
+        c1 replace m0 m2 m1
         c1 .""")),
     "slot-signals": Known("order", "which slots one step signals: Chromium tells no slot of a Comment that comes to it or goes, and tells a slot that "
                           "a child of its own takes the place of (by replaced), as jsdom does; Chromium and Firefox tell the slots of a name that is "
