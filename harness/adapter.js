@@ -107,7 +107,7 @@
         this.turn = this.turn || word;
         this.put(`${word} ok` + (answer === undefined ? "" : " " + answer));
       } catch (error) {
-        const isOfDom = error instanceof this.window.DOMException || "result" in error;
+        const isOfDom = error instanceof this.window.DOMException || "result" in error || error.name === "RangeError";
         const name = error instanceof Refused ? error.message : REFUSALS[error.name] || (isOfDom && error.name);
         if (!name || error instanceof Unrepresentable) throw error;
         this.put(`${word} ! ${name}`);

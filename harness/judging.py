@@ -9,7 +9,8 @@ REPLY = re.compile(r"\S+ (ok|!)|! owner")
 ENDS = [
     ("jsdom", "filters", re.compile(r"\S+ (iter-next|iter-prev|walk) "), re.compile(r"\S+ ! type")),
     ("jsdom", "ranges", re.compile(r"\S+ range-(get|text) "), REPLY),
-    ("jsdom", "selectors", re.compile(r'\S+ (query|matches) \S+ ".*[A-Z]'), REPLY),
+    ("jsdom", "selectors", re.compile(r'\S+ (query|matches) \S+ ".*([A-Z]|\|=\s*(\'\'|\\"\\"))'), REPLY),
+    ("jsdom", "selectors", re.compile(r"\S+ (query|matches) "), re.compile(r"\S+ ! RangeError")),
 ]
 # Engines whose ranges may be elsewhere long before a line tells it.
 PROBED = ("jsdom",)

@@ -323,8 +323,14 @@ KNOWN = {
         p listen n1 e a log
         p remove n2
         p dispatch n2 e bubbles composed""")),
-    "selectors": Known("ends", "a name in a selector is looked for in lower case", lines("""
+    "selectors": Known("ends", "a name in a selector is looked for in lower case; `|=` with the empty string does not find what begins with a hyphen; "
+                       "and a selector of many thousand parts takes all stack", lines("""
         p new element DIV
-        p matches n1 "DIV\"""")),
+        p matches n1 "DIV\""""), lines("""
+        p new element a
+        p set n1 lang "-x"
+        p matches n1 "[lang|='']\""""), lines(f"""
+        p new element a
+        p matches n1 "{"a " * 30000}a\"""")),
 }
 FIXES = [name for name, difference in KNOWN.items() if difference.sort == "fixed" or name in ("contents-left", "root-left", "iterator-untold")]
