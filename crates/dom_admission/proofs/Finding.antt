@@ -25,10 +25,12 @@ pub counted : (ns : List Node) (x : NodeName) → count_by (λ n. name_eq n.name
 counted [] x e = absurd (omega (arith, e))
 counted (n ∷ ns) x e = cases (name_eq n.name x) refl (λ rest. counted ns x rest)
   where
-    cases : (t : Bool) → name_eq n.name x ≡ t → (count_by (λ n. name_eq n.name x) ns ≡ 1 → is_in name_eq x (names_of ns) ≡ true) → is_in name_eq x (names_of (n ∷ ns)) ≡ true
+    cases : (t : Bool) → name_eq n.name x ≡ t → (count_by (λ n. name_eq n.name x) ns ≡ 1 → is_in name_eq x (names_of ns) ≡ true) →
+        is_in name_eq x (names_of (n ∷ ns)) ≡ true
     cases true h more = rw (name_eq-turned x n.name, h) refl
     cases false h more =
-        let rest : count_by (λ n. name_eq n.name x) ns ≡ 1 = sym (zero-add (count_by (λ n. name_eq n.name x) ns)) ∙ (rw (sum_by-cons (λ (n : Node). cond (name_eq n.name x) 1 0) n ns, h) at e) in
+        let rest : count_by (λ n. name_eq n.name x) ns ≡ 1 =
+        sym (zero-add (count_by (λ n. name_eq n.name x) ns)) ∙ (rw (sum_by-cons (λ (n : Node). cond (name_eq n.name x) 1 0) n ns, h) at e) in
         rw (name_eq-turned x n.name, h) (more rest)
 
 -- what a forest says of its names
@@ -51,7 +53,8 @@ pub read_at : {A : Type 0} (f : Trees → NodeName → A) (names : List NodeName
 read_at f names ts w o s key here own_trees same = ap (f ts) here ∙ same ∙ ap (λ (us : Trees). f us (named (part_of w o) s)) (own_trees o)
 
 -- the node of a name, where the look-up found one
-pub found_node : (names : List NodeName) (x : NodeName) (r : Option ℕ) → ForSome r (λ k. slice_get names k ≡ Some x) → ForSome r (λ k. (k < length names) × (name_at names k ≡ x))
+pub found_node : (names : List NodeName) (x : NodeName) (r : Option ℕ) → ForSome r (λ k. slice_get names k ≡ Some x) →
+    ForSome r (λ k. (k < length names) × (name_at names k ≡ x))
 found_node names x r found k e = let is = found k e in (slice_get_within names k x is, get_or_from_slice_get names k x (node_of Page 0) is)
 
 -- the look-up finds the nodes that are there
@@ -59,7 +62,8 @@ pub is_found : (names : List NodeName) (ts : Trees) (x : NodeName) (r : Option �
     ForSome r (λ k. slice_get names k ≡ Some x) → ((k : ℕ) → slice_get names k ≡ Some x → r ≡ Some k) → is_some r ≡ has_node ts x
 is_found names ts x (Some k) finds found kept =
     let is = found_node names x (Some k) found k refl in
-    let once : count_by (λ n. name_eq n.name x) (nodes ts) ≡ 1 = ap (λ (y : NodeName). count_by (λ n. name_eq n.name y) (nodes ts)) (sym is.1) ∙ finds.once k is.0 in
+    let once : count_by (λ n. name_eq n.name x) (nodes ts) ≡ 1 =
+    ap (λ (y : NodeName). count_by (λ n. name_eq n.name y) (nodes ts)) (sym is.1) ∙ finds.once k is.0 in
     sym (counted (nodes ts) x once)
 is_found names ts x None finds found kept = cases (has_node ts x) refl
   where
@@ -68,13 +72,15 @@ is_found names ts x None finds found kept = cases (has_node ts x) refl
     cases false h = refl
 
 -- the same of an owner's own trees, for a node as a line of the owner spells it
-pub find_own : (names : List NodeName) (ts : Trees) (w : World) → FindsNames names ts → AreOwned ts → ((o : Owner) → trees_of_owner o ts ≡ (part_of w o).trees) →
+pub find_own : (names : List NodeName) (ts : Trees) (w : World) → FindsNames names ts → AreOwned ts →
+    ((o : Owner) → trees_of_owner o ts ≡ (part_of w o).trees) →
     (o : Owner) (s : Spelled) (n : ℕ) → n ≡ number_in s → (r : Option ℕ) → ForSome r (λ k. slice_get names k ≡ Some (node_of o n)) →
     ((k : ℕ) → slice_get names k ≡ Some (node_of o n) → r ≡ Some k) →
     ForSome r (λ k. (k < length names) × (name_at names k ≡ named (part_of w o) s)) × (is_some r ≡ has_node (part_of w o).trees (named (part_of w o) s))
 find_own names ts w finds owned own_trees o s n e r found kept =
     let x = node_of o n in
-    let spelled : named (part_of w o) s ≡ x = named-number_in (part_of w o) s ∙ ap (λ (p : Owner). node_of p (number_in s)) (owner-part_of w o) ∙ ap (node_of o) (sym e) in
+    let spelled : named (part_of w o) s ≡ x =
+    named-number_in (part_of w o) s ∙ ap (λ (p : Owner). node_of p (number_in s)) (owner-part_of w o) ∙ ap (node_of o) (sym e) in
     let here : has_node ts x ≡ has_node (part_of w o).trees x = (read_own ts owned o x refl).presence ∙ ap (λ (us : Trees). has_node us x) (own_trees o) in
     rw spelled (found_node names x r found, is_found names ts x r finds found kept ∙ here)
 
@@ -91,7 +97,8 @@ absent : (ns : List Node) (x : NodeName) → is_in name_eq x (names_of ns) ≡ f
 absent [] x h = refl
 absent (n ∷ ns) x h = cases (name_eq n.name x) refl (rw (name_eq-turned x n.name) at h) (λ more. absent ns x more)
   where
-    cases : (t : Bool) → name_eq n.name x ≡ t → (name_eq n.name x || is_in name_eq x (names_of ns)) ≡ false → (is_in name_eq x (names_of ns) ≡ false → find (λ n. name_eq n.name x) ns ≡ None)
+    cases : (t : Bool) → name_eq n.name x ≡ t → (name_eq n.name x || is_in name_eq x (names_of ns)) ≡ false →
+        (is_in name_eq x (names_of ns) ≡ false → find (λ n. name_eq n.name x) ns ≡ None)
         → find (λ n. name_eq n.name x) (n ∷ ns) ≡ None
     cases true e h more = let no : true ≡ false = rw e at h in absurd cc
     cases false e h more = rw e (more (rw e at h))
@@ -106,7 +113,8 @@ found-document ts x (Some k) e h = refl
 found-document ts x None e h = let no : false ≡ true = ap (λ (n : Node). is_document n.kind) (no_node-absent ts x (sym e)) ∙ h in absurd cc
 
 -- the name of a key that was found
-pub name-found : (names : List NodeName) (x : NodeName) (r : Option ℕ) → ForSome r (λ k. (k < length names) × (name_at names k ≡ x)) → is_some r ≡ true → option_map (name_at names) r ≡ Some x
+pub name-found : (names : List NodeName) (x : NodeName) (r : Option ℕ) → ForSome r (λ k. (k < length names) × (name_at names k ≡ x)) →
+    is_some r ≡ true → option_map (name_at names) r ≡ Some x
 name-found names x (Some k) found e = ap Some (found k refl).1
 name-found names x None found e = absurd cc
 

@@ -1,5 +1,6 @@
 -- How a command is handled: it passes the tests that all commands share, then it makes a plan and answers, or only answers.
-use Rattle.std.proofs.Common.{◌≡◌, ℕ, Bool, true, false, not, ◌&&◌, unwrap_or, List, [], ◌∷◌, ◌++◌, map, Option, Some, None, Result, Ok, Err, refl, sym, ap, subst, ◌∙◌, append_assoc}
+use Rattle.std.proofs.Common.{◌≡◌, ℕ, Bool, true, false, not, ◌&&◌, unwrap_or, List, [], ◌∷◌, ◌++◌, map, Option, Some, None, Result, Ok, Err, refl}
+use Rattle.std.proofs.Common.{sym, ap, subst, ◌∙◌, append_assoc}
 use Rattle.std.specs.Prelude.{is_some, if◌then◌else◌}
 use Rattle.std.proofs.lemmas.List.{append-nil}
 use Rattle.std.specs.Option.{option_or}
@@ -40,9 +41,12 @@ passed (Some r) h = absurd cc
 
 -- the one node that a line names is of the kind that is asked for
 pub fitting : (w : World) (o : Owner) (n : Operand) → let_pass (early_refusal w o (n ∷ [])) ≡ Ok tt → is_fit (part_of w o) n ≡ true
-fitting w o n e = cases (is_busy w o) (has_foreign (n ∷ [])) (is_there w o) (are_there (part_of w o) (n ∷ [])) (is_fit (part_of w o) n) (passed (early_refusal w o (n ∷ [])) e)
+fitting w o n e = cases (is_busy w o) (has_foreign (n ∷ [])) (is_there w o) (are_there (part_of w o) (n ∷ [])) (is_fit (part_of w o) n)
+    (passed (early_refusal w o (n ∷ [])) e)
   where
-    cases : (busy foreign there present fits : Bool) → first_refusal ((busy, Busy) ∷ (foreign, Foreign) ∷ (not there, Unknown) ∷ (not present, Unknown) ∷ (not (fits && true), WrongKind) ∷ []) ≡ None → fits ≡ true
+    cases : (busy foreign there present fits : Bool) →
+        first_refusal ((busy, Busy) ∷ (foreign, Foreign) ∷ (not there, Unknown) ∷ (not present, Unknown) ∷ (not (fits && true), WrongKind) ∷ []) ≡
+        None → fits ≡ true
     cases true foreign there present fits h = absurd cc
     cases false true there present fits h = absurd cc
     cases false false false present fits h = absurd cc
@@ -54,7 +58,9 @@ fitting w o n e = cases (is_busy w o) (has_foreign (n ∷ [])) (is_there w o) (a
 pub all_there : (w : World) (o : Owner) (ns : List Operand) → let_pass (early_refusal w o ns) ≡ Ok tt → are_there (part_of w o) ns ≡ true
 all_there w o ns e = cases (is_busy w o) (has_foreign ns) (is_there w o) (are_there (part_of w o) ns) (passed (early_refusal w o ns) e)
   where
-    cases : (busy foreign there present : Bool) → first_refusal ((busy, Busy) ∷ (foreign, Foreign) ∷ (not there, Unknown) ∷ (not present, Unknown) ∷ (not (are_fitting (part_of w o) ns), WrongKind) ∷ []) ≡ None → present ≡ true
+    cases : (busy foreign there present : Bool) →
+        first_refusal ((busy, Busy) ∷ (foreign, Foreign) ∷ (not there, Unknown) ∷ (not present, Unknown) ∷
+        (not (are_fitting (part_of w o) ns), WrongKind) ∷ []) ≡ None → present ≡ true
     cases true foreign there present h = absurd cc
     cases false true there present h = absurd cc
     cases false false false present h = absurd cc
@@ -66,26 +72,31 @@ pub one_there : (w : World) (o : Owner) (n : Operand) → let_pass (early_refusa
 one_there w o n e = sym (and_true (is_there_as (part_of w o) n)) ∙ all_there w o (n ∷ []) e
 
 -- a line that doesn't pass is refused, and nothing is changed
-pub refused_own : (w : World) (o : Owner) (c : Command) (names : List Operand) (text : List ℕ) (f : Fault) → IsNamingOf o c names → let_pass (early_refusal w o names) ≡ Err f →
+pub refused_own : (w : World) (o : Owner) (c : Command) (names : List Operand) (text : List ℕ) (f : Fault) → IsNamingOf o c names →
+    let_pass (early_refusal w o names) ≡ Err f →
     IsHandled o c w w text text (Err f)
 refused_own w o c names text f is h = by (early_refusal w o names) (refusal-of_own w o c names is) f h
   where
-    by : (e : Option Refusal) → refusal w o c ≡ option_or e (own_refusal (part_of w o) c) → (f : Fault) → let_pass e ≡ Err f → IsHandled o c w w text text (Err f)
+    by : (e : Option Refusal) → refusal w o c ≡ option_or e (own_refusal (part_of w o) c) → (f : Fault) → let_pass e ≡ Err f →
+        IsHandled o c w w text text (Err f)
     by None is f h = absurd cc
     by (Some r) is (Refused q) h =
         let same : r ≡ q = cc in
         (is ∙ ap Some same, refl, refl)
     by (Some r) is Memory h = tt
 
-pub refused : (w : World) (o : Owner) (c : Command) (names : List Operand) (text : List ℕ) (f : Fault) → IsNaming c names → let_pass (early_refusal w o names) ≡ Err f →
+pub refused : (w : World) (o : Owner) (c : Command) (names : List Operand) (text : List ℕ) (f : Fault) → IsNaming c names →
+    let_pass (early_refusal w o names) ≡ Err f →
     IsHandled o c w w text text (Err f)
 refused w o c names text f is h = refused_own w o c names text f (naming_of o c names is) h
 
 -- what is done by a command that passes is its own refusal, or its run
-pub handled_own : (w new : World) (o : Owner) (c : Command) (names : List Operand) (before after : List ℕ) (r : Result (Unit {0}) Fault) → IsNamingOf o c names →
+pub handled_own : (w new : World) (o : Owner) (c : Command) (names : List Operand) (before after : List ℕ) (r : Result (Unit {0}) Fault) →
+    IsNamingOf o c names →
     let_pass (early_refusal w o names) ≡ Ok tt → IsDone (own_refusal (part_of w o) c) (accepted w o c) w new before after r → IsHandled o c w new before after r
 handled_own w new o c names before after r is pass done =
-    let own : refusal w o c ≡ own_refusal (part_of w o) c = refusal-of_own w o c names is ∙ ap (λ e. option_or e (own_refusal (part_of w o) c)) (passed (early_refusal w o names) pass) in
+    let own : refusal w o c ≡ own_refusal (part_of w o) c =
+    refusal-of_own w o c names is ∙ ap (λ e. option_or e (own_refusal (part_of w o) c)) (passed (early_refusal w o names) pass) in
     subst (λ e. IsDone e (accepted w o c) w new before after r) (sym own) done
 
 pub handled : (w new : World) (o : Owner) (c : Command) (names : List Operand) (before after : List ℕ) (r : Result (Unit {0}) Fault) → IsNaming c names →
@@ -95,23 +106,31 @@ handled w new o c names before after r is pass done = handled_own w new o c name
 -- ---- the end of a command
 
 -- a refusal of a command's own, which changed nothing, or want of memory
-pub faulted : (own : Option Refusal) (run : Run World) (old new : World) (text : List ℕ) (f : Fault) → ((r : Refusal) → f ≡ Refused r → (own ≡ Some r) × (new ≡ old)) →
+pub faulted : (own : Option Refusal) (run : Run World) (old new : World) (text : List ℕ) (f : Fault) →
+    ((r : Refusal) → f ≡ Refused r → (own ≡ Some r) × (new ≡ old)) →
     IsDone own run old new text text (Err f)
 faulted own run old new text (Refused r) h = let e = h r refl in (e.0, e.1, refl)
 faulted own run old new text Memory h = tt
 
 -- a command without a refusal of its own does what its ending does
-pub finished : (own : Option Refusal) (run goal : Run World) (old mid new : World) (before after : List ℕ) (r : Result (Unit {0}) Fault) → own ≡ None → run ≡ goal →
+pub finished : (own : Option Refusal) (run goal : Run World) (old mid new : World) (before after : List ℕ) (r : Result (Unit {0}) Fault) →
+    own ≡ None → run ≡ goal →
     IsDone None run mid new before after r → IsDone own goal old new before after r
-finished own run goal old mid new before after (Ok x) none e h = (none, h.1 ∙ ap (λ (q : Run World). q.0) e, h.2 ∙ ap (λ (q : Run World). before ++ output_text q.1) e)
+finished own run goal old mid new before after (Ok x) none e h =
+    (none, h.1 ∙ ap (λ (q : Run World). q.0) e, h.2 ∙ ap (λ (q : Run World). before ++ output_text q.1) e)
 finished own run goal old mid new before after (Err (Refused q)) none e h = let no : None ≡ Some q = h.0 in absurd cc
 finished own run goal old mid new before after (Err Memory) none e h = tt
 
 -- lines that were put before an ending are said with it
-said_before : (lines more : List Output) (end old new : World) (before between after : List ℕ) (r : Result (Unit {0}) Fault) → between ≡ before ++ output_text lines →
+said_before : (lines more : List Output) (end old new : World) (before between after : List ℕ) (r : Result (Unit {0}) Fault) →
+    between ≡ before ++ output_text lines →
     IsDone None (end, more) old new between after r → IsDone None (end, lines ++ more) old new before after r
-said_before lines more end old new before between after (Ok x) put h =
-    (h.0, h.1, h.2 ∙ ap (λ text. text ++ output_text more) put ∙ append_assoc before (output_text lines) (output_text more) ∙ ap (λ text. before ++ text) (sym (output_text-append lines more)))
+said_before lines more end old new before between after (Ok x) put h = (
+  h.0,
+  h.1,
+  h.2 ∙ ap (λ text. text ++ output_text more) put ∙ append_assoc before (output_text lines) (output_text more) ∙
+      ap (λ text. before ++ text) (sym (output_text-append lines more)),
+)
 said_before lines more end old new before between after (Err (Refused q)) put h = let no : None ≡ Some q = h.0 in absurd cc
 said_before lines more end old new before between after (Err Memory) put h = tt
 
@@ -140,7 +159,8 @@ pub changed : (t : Option Owner) (w new : World) (o : Owner) (plan : Plan) (v : 
     (opening_turn (with_turn t new) o, says o (replied reply) ∷ []) ≡ planning (with_turn t w) o plan v
 changed t w new o plan v reply e is =
     let run : World → List Output → Run World = λ u lines. (u, lines) in
-    rw (opened t w o) (ap (λ (u : World). run u (says o (replied reply) ∷ [])) (opened t new o ∙ ap (with_turn (opened_turn t o)) e ∙ sym (after_turned (opened_turn t o) o w (plan (part_of w o))))
+    rw (opened t w o) (ap (λ (u : World). run u (says o (replied reply) ∷ []))
+    (opened t new o ∙ ap (with_turn (opened_turn t o)) e ∙ sym (after_turned (opened_turn t o) o w (plan (part_of w o))))
     ∙ ap (λ (a : Value). run (made o plan (with_turn (opened_turn t o) w)) (says o (replied a) ∷ [])) is)
 
 -- what an accepted command of one part does
@@ -160,7 +180,8 @@ module _ (t : Option Owner) (d s : DocState) (seen : turned t d ≡ s) (o : Owne
     (pass : let_pass (early_refusal s.world o names) ≡ Ok tt) where
   -- what is done in the world of its documents is done in its world
   pub in_state : (new : World) (before after : List ℕ) (r : Result (Unit {0}) Fault) →
-      IsDone (own_refusal (part_of d.world o) c) (accepted (with_turn t d.world) o c) (with_turn t d.world) new before after r → IsHandled o c s.world new before after r
+      IsDone (own_refusal (part_of d.world o) c) (accepted (with_turn t d.world) o c) (with_turn t d.world) new before after r →
+      IsHandled o c s.world new before after r
   in_state new before after r h =
       let Done : DocState → Type 0 = λ u. IsDone (own_refusal (part_of u.world o) c) (accepted u.world o c) u.world new before after r in
       handled s.world new o c names before after r is pass (subst Done seen h)
@@ -168,29 +189,37 @@ module _ (t : Option Owner) (d s : DocState) (seen : turned t d ≡ s) (o : Owne
   -- the command makes a plan
   pub plans : (mid new : World) (plan : Plan) (v : Part → Value) (reply : Value) (before after : List ℕ) (r : Result (Unit {0}) Fault) →
       accepted (with_turn t d.world) o c ≡ planning (with_turn t d.world) o plan v → own_refusal (part_of d.world o) c ≡ None → mid ≡ made o plan d.world →
-      reply ≡ v (part_of d.world o) → IsDone None (opening_turn (with_turn t mid) o, says o (replied reply) ∷ []) (with_turn t mid) new before after r → IsHandled o c s.world new before after r
+      reply ≡ v (part_of d.world o) → IsDone None (opening_turn (with_turn t mid) o, says o (replied reply) ∷ []) (with_turn t mid) new before
+      after r → IsHandled o c s.world new before after r
   plans mid new plan v reply before after r runs none e value ending =
       in_state new before after r
-      (finished (own_refusal (part_of d.world o) c) (opening_turn (with_turn t mid) o, says o (replied reply) ∷ []) (accepted (with_turn t d.world) o c) (with_turn t d.world) (with_turn t mid) new before after r none
+      (finished (own_refusal (part_of d.world o) c) (opening_turn (with_turn t mid) o, says o (replied reply) ∷ [])
+      (accepted (with_turn t d.world) o c) (with_turn t d.world) (with_turn t mid) new before after r none
       (changed t d.world mid o plan v reply e value ∙ sym runs) ending)
 
   -- the command changes its owner's tables alone, and says lines
   pub tabled_saying : (mid new : World) (lines : List Said) (v reply : Value) (before between after : List ℕ) (r : Result (Unit {0}) Fault) →
-      accepted (with_turn t d.world) o c ≡ effecting (with_turn t d.world) o c → own_refusal (part_of d.world o) c ≡ None → MakesSaying o c lines v d.world mid →
-      reply ≡ v → between ≡ before ++ output_text (map (says o) lines) → IsDone None (opening_turn (with_turn t mid) o, says o (replied reply) ∷ []) (with_turn t mid) new between after r →
+      accepted (with_turn t d.world) o c ≡ effecting (with_turn t d.world) o c → own_refusal (part_of d.world o) c ≡ None →
+      MakesSaying o c lines v d.world mid →
+      reply ≡ v → between ≡ before ++ output_text (map (says o) lines) →
+      IsDone None (opening_turn (with_turn t mid) o, says o (replied reply) ∷ []) (with_turn t mid) new between after r →
       IsHandled o c s.world new before after r
   tabled_saying mid new lines v reply before between after r runs none makes value put ending =
       let run : Value → Run World = λ a. (opening_turn (with_turn t mid) o, map (says o) lines ++ says o (replied a) ∷ []) in
       in_state new before after r
-      (finished (own_refusal (part_of d.world o) c) (run reply) (accepted (with_turn t d.world) o c) (with_turn t d.world) (with_turn t mid) new before after r none
+      (finished (own_refusal (part_of d.world o) c) (run reply) (accepted (with_turn t d.world) o c) (with_turn t d.world) (with_turn t mid) new
+      before after r none
       (ap run value ∙ tables_changed t d.world mid o c lines v makes ∙ sym runs)
-      (said_before (map (says o) lines) (says o (replied reply) ∷ []) (opening_turn (with_turn t mid) o) (with_turn t mid) new before between after r put ending))
+      (said_before (map (says o) lines) (says o (replied reply) ∷ []) (opening_turn (with_turn t mid) o) (with_turn t mid) new before between
+      after r put ending))
 
   -- it says none
   pub tabled : (mid new : World) (v reply : Value) (before after : List ℕ) (r : Result (Unit {0}) Fault) →
       accepted (with_turn t d.world) o c ≡ effecting (with_turn t d.world) o c → own_refusal (part_of d.world o) c ≡ None → Makes o c v d.world mid →
-      reply ≡ v → IsDone None (opening_turn (with_turn t mid) o, says o (replied reply) ∷ []) (with_turn t mid) new before after r → IsHandled o c s.world new before after r
-  tabled mid new v reply before after r runs none makes value ending = tabled_saying mid new [] v reply before before after r runs none makes value (sym (append-nil before)) ending
+      reply ≡ v → IsDone None (opening_turn (with_turn t mid) o, says o (replied reply) ∷ []) (with_turn t mid) new before after r →
+      IsHandled o c s.world new before after r
+  tabled mid new v reply before after r runs none makes value ending =
+      tabled_saying mid new [] v reply before before after r runs none makes value (sym (append-nil before)) ending
 
   -- the command answers what its owner's tables say, and changes nothing
   pub told : (new : World) (v reply : Value) (before after : List ℕ) (r : Result (Unit {0}) Fault) →
@@ -205,7 +234,8 @@ module _ (t : Option Owner) (d s : DocState) (seen : turned t d ≡ s) (o : Owne
       IsHandled o c s.world (with_turn t mid) text text (Err f)
   faults mid text f h =
       in_state (with_turn t mid) text text (Err f)
-      (faulted (own_refusal (part_of d.world o) c) (accepted (with_turn t d.world) o c) (with_turn t d.world) (with_turn t mid) text f (λ r e. ((h r e).0, ap (with_turn t) (h r e).1)))
+      (faulted (own_refusal (part_of d.world o) c) (accepted (with_turn t d.world) o c) (with_turn t d.world) (with_turn t mid) text f
+      (λ r e. ((h r e).0, ap (with_turn t) (h r e).1)))
 
 -- ---- commands that only answer
 
@@ -213,7 +243,8 @@ module _ (t : Option Owner) (d s : DocState) (seen : turned t d ≡ s) (o : Owne
 pub admitted : (w : World) (o : Owner) (names : List Operand) → let_pass (early_refusal w o names) ≡ Ok tt → is_there w o ≡ true
 admitted w o names e = cases (is_busy w o) (has_foreign names) (is_there w o) (passed (early_refusal w o names) e)
   where
-    cases : (busy foreign there : Bool) → first_refusal ((busy, Busy) ∷ (foreign, Foreign) ∷ (not there, Unknown) ∷ (not (are_there (part_of w o) names), Unknown)
+    cases : (busy foreign there : Bool) →
+        first_refusal ((busy, Busy) ∷ (foreign, Foreign) ∷ (not there, Unknown) ∷ (not (are_there (part_of w o) names), Unknown)
         ∷ (not (are_fitting (part_of w o) names), WrongKind) ∷ []) ≡ None → there ≡ true
     cases true foreign there h = absurd cc
     cases false true there h = absurd cc
@@ -225,7 +256,8 @@ owner-found : (ps : List Part) (o : Owner) (d : Part) → is_some (find_part ps 
 owner-found [] o d h = absurd cc
 owner-found (q ∷ qs) o d h = cases (owner_eq q.owner o) refl (λ g. owner-found qs o d g)
   where
-    cases : (b : Bool) → owner_eq q.owner o ≡ b → (is_some (find_part qs o) ≡ true → (unwrap_or (find_part qs o) d).owner ≡ o) → (unwrap_or (find_part (q ∷ qs) o) d).owner ≡ o
+    cases : (b : Bool) → owner_eq q.owner o ≡ b → (is_some (find_part qs o) ≡ true → (unwrap_or (find_part qs o) d).owner ≡ o) →
+        (unwrap_or (find_part (q ∷ qs) o) d).owner ≡ o
     cases true e more = rw e (owner_eq-true q.owner o e)
     cases false e more = rw e (more (rw e at h))
 
@@ -234,14 +266,16 @@ put_same : (ps : List Part) (o : Owner) (d : Part) → is_some (find_part ps o) 
 put_same [] o d h = absurd cc
 put_same (q ∷ qs) o d h = cases (owner_eq q.owner o) refl (λ g. put_same qs o d g)
   where
-    cases : (b : Bool) → owner_eq q.owner o ≡ b → (is_some (find_part qs o) ≡ true → put_part qs (unwrap_or (find_part qs o) d) ≡ qs) → put_part (q ∷ qs) (unwrap_or (find_part (q ∷ qs) o) d) ≡ q ∷ qs
+    cases : (b : Bool) → owner_eq q.owner o ≡ b → (is_some (find_part qs o) ≡ true → put_part qs (unwrap_or (find_part qs o) d) ≡ qs) →
+        put_part (q ∷ qs) (unwrap_or (find_part (q ∷ qs) o) d) ≡ q ∷ qs
     cases true e more = rw (e, owner_eq-same q.owner) refl
     cases false e more =
         let rest : is_some (find_part qs o) ≡ true = rw e at h in
         rw (e, owner-found qs o d rest, e) (ap (λ (ps : List Part). q ∷ ps) (more rest))
 
 pub with_part-same : (w : World) (o : Owner) → is_there w o ≡ true → with_part w (part_of w o) ≡ w
-with_part-same w o h = ap (λ (ps : List Part). record { parts = ps; signalled = w.signalled; tasks = w.tasks; turn = w.turn }) (put_same w.parts o (empty_part o) h)
+with_part-same w o h = ap (λ (ps : List Part). record { parts = ps; signalled = w.signalled; tasks = w.tasks; turn = w.turn })
+    (put_same w.parts o (empty_part o) h)
 
 -- so it is when its turn is open
 pub opened-there : (w : World) (o : Owner) → is_there w o ≡ true → is_there (opening_turn w o) o ≡ true
@@ -272,8 +306,10 @@ answered w o v reply there is =
     ∙ ap (run (with_part (opening_turn w o) (part_of (opening_turn w o) o))) (is ∙ ap v (opened-part w o))
 
 -- a command that only answers
-pub reads : (w new : World) (o : Owner) (c : Command) (names : List Operand) (v : Part → Value) (reply : Value) (before after : List ℕ) (r : Result (Unit {0}) Fault) →
-    IsNaming c names → accepted w o c ≡ answering_only w o v → let_pass (early_refusal w o names) ≡ Ok tt → own_refusal (part_of w o) c ≡ None → reply ≡ v (part_of w o) →
+pub reads : (w new : World) (o : Owner) (c : Command) (names : List Operand) (v : Part → Value) (reply : Value) (before after : List ℕ)
+    (r : Result (Unit {0}) Fault) →
+    IsNaming c names → accepted w o c ≡ answering_only w o v → let_pass (early_refusal w o names) ≡ Ok tt → own_refusal (part_of w o) c ≡ None →
+    reply ≡ v (part_of w o) →
     IsDone None (opening_turn w o, says o (replied reply) ∷ []) w new before after r → IsHandled o c w new before after r
 reads w new o c names v reply before after r is runs pass none value ending =
     handled w new o c names before after r is pass
@@ -281,20 +317,27 @@ reads w new o c names v reply before after r is runs pass none value ending =
     (answered w o v reply (admitted w o names pass) value ∙ sym runs) ending)
 
 -- a command that only answers, and reads more than its owner's part
-pub asks_own : (w new : World) (o : Owner) (c : Command) (names : List Operand) (v : World → Value) (reply : Value) (before after : List ℕ) (r : Result (Unit {0}) Fault) →
-    IsNamingOf o c names → accepted w o c ≡ (opening_turn w o, says o (replied (v (opening_turn w o))) ∷ []) → let_pass (early_refusal w o names) ≡ Ok tt → own_refusal (part_of w o) c ≡ None →
+pub asks_own : (w new : World) (o : Owner) (c : Command) (names : List Operand) (v : World → Value) (reply : Value) (before after : List ℕ)
+    (r : Result (Unit {0}) Fault) →
+    IsNamingOf o c names → accepted w o c ≡ (opening_turn w o, says o (replied (v (opening_turn w o))) ∷ []) →
+    let_pass (early_refusal w o names) ≡ Ok tt → own_refusal (part_of w o) c ≡ None →
     reply ≡ v (opening_turn w o) → IsDone None (opening_turn w o, says o (replied reply) ∷ []) w new before after r → IsHandled o c w new before after r
 asks_own w new o c names v reply before after r is runs pass none value ending =
     let run : Value → Run World = λ a. (opening_turn w o, says o (replied a) ∷ []) in
     handled_own w new o c names before after r is pass
     (finished (own_refusal (part_of w o) c) (run reply) (accepted w o c) w w new before after r none (ap run value ∙ sym runs) ending)
 
-pub asks : (w new : World) (o : Owner) (c : Command) (names : List Operand) (v : World → Value) (reply : Value) (before after : List ℕ) (r : Result (Unit {0}) Fault) →
-    IsNaming c names → accepted w o c ≡ (opening_turn w o, says o (replied (v (opening_turn w o))) ∷ []) → let_pass (early_refusal w o names) ≡ Ok tt → own_refusal (part_of w o) c ≡ None →
+pub asks : (w new : World) (o : Owner) (c : Command) (names : List Operand) (v : World → Value) (reply : Value) (before after : List ℕ)
+    (r : Result (Unit {0}) Fault) →
+    IsNaming c names → accepted w o c ≡ (opening_turn w o, says o (replied (v (opening_turn w o))) ∷ []) →
+    let_pass (early_refusal w o names) ≡ Ok tt → own_refusal (part_of w o) c ≡ None →
     reply ≡ v (opening_turn w o) → IsDone None (opening_turn w o, says o (replied reply) ∷ []) w new before after r → IsHandled o c w new before after r
-asks w new o c names v reply before after r is runs pass none value ending = asks_own w new o c names v reply before after r (naming_of o c names is) runs pass none value ending
+asks w new o c names v reply before after r is runs pass none value ending =
+    asks_own w new o c names v reply before after r (naming_of o c names is) runs pass none value ending
 
 -- a command that only answers, and is refused by tests of its own, or memory was refused
-pub unanswered : (w : World) (o : Owner) (c : Command) (names : List Operand) (text : List ℕ) (f : Fault) → IsNaming c names → let_pass (early_refusal w o names) ≡ Ok tt →
+pub unanswered : (w : World) (o : Owner) (c : Command) (names : List Operand) (text : List ℕ) (f : Fault) → IsNaming c names →
+    let_pass (early_refusal w o names) ≡ Ok tt →
     ((r : Refusal) → f ≡ Refused r → own_refusal (part_of w o) c ≡ Some r) → IsHandled o c w w text text (Err f)
-unanswered w o c names text f is pass own = handled w w o c names text text (Err f) is pass (faulted (own_refusal (part_of w o) c) (accepted w o c) w w text f (λ r e. (own r e, refl)))
+unanswered w o c names text f is pass own =
+    handled w w o c names text text (Err f) is pass (faulted (own_refusal (part_of w o) c) (accepted w o c) w w text f (λ r e. (own r e, refl)))

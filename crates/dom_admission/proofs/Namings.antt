@@ -8,7 +8,8 @@ use Rattle.dom_model.specs.Command.{Command, EventWords, Filter, ListenerWords, 
 use Rattle.dom_model.specs.Trace.{is_page}
 use Rattle.dom_reader.specs.declared.line.Spelled.{Spelled}
 use Rattle.dom_reader.specs.Views.{spelled_view}
-use Rattle.dom_admission.specs.declared.admission.Operand.TheVariants.{Any, Element, Text, Document, Data, Child, Parent, Slottable, Slot, Range, Iterator, Walker, Observer}
+use Rattle.dom_admission.specs.declared.admission.Operand.TheVariants.{Any, Element, Text, Document, Data, Child, Parent, Slottable, Slot, Range}
+use Rattle.dom_admission.specs.declared.admission.Operand.TheVariants.{Iterator, Walker, Observer}
 use Rattle.dom_admission.proofs.Refusing.{IsNaming, IsNamingOf, by_owner, and_true, and_last}
 
 pub naming-new_element : (a : Word) → IsNaming (Command.new_element a) []

@@ -61,11 +61,14 @@ and_last true b = sym (and_true b)
 and_last false b = refl
 
 -- for a command that names these
-pub refusal-of_own : (w : World) (o : Owner) (c : Command) (names : List Operand) → IsNamingOf o c names → refusal w o c ≡ option_or (early_refusal w o names) (own_refusal (part_of w o) c)
+pub refusal-of_own : (w : World) (o : Owner) (c : Command) (names : List Operand) → IsNamingOf o c names →
+    refusal w o c ≡ option_or (early_refusal w o names) (own_refusal (part_of w o) c)
 refusal-of_own w o c names is =
     rw (is.mine, is.foreign, is.exist (part_of w o), is.fit (part_of w o))
-    (joined (is_busy w o) (has_foreign names) (not (is_there w o)) (not (are_there (part_of w o) names)) (not (are_fitting (part_of w o) names)) (own_refusal (part_of w o) c))
+    (joined (is_busy w o) (has_foreign names) (not (is_there w o)) (not (are_there (part_of w o) names)) (not (are_fitting (part_of w o) names))
+    (own_refusal (part_of w o) c))
 
 -- for one of all owners
-pub refusal-of_names : (w : World) (o : Owner) (c : Command) (names : List Operand) → IsNaming c names → refusal w o c ≡ option_or (early_refusal w o names) (own_refusal (part_of w o) c)
+pub refusal-of_names : (w : World) (o : Owner) (c : Command) (names : List Operand) → IsNaming c names →
+    refusal w o c ≡ option_or (early_refusal w o names) (own_refusal (part_of w o) c)
 refusal-of_names w o c names is = refusal-of_own w o c names (naming_of o c names is)

@@ -4,7 +4,8 @@ use Rattle.dom_base.specs.declared.Owner.{Owner}
 use Rattle.dom_base.specs.declared.NodeName.{NodeName}
 use Rattle.dom_model.specs.Names.{max_depth}
 use Rattle.dom_model.specs.Tree.{parent_of, inclusive_descendants}
-use Rattle.dom_model.specs.Steps.{Step, make, make_room, place, take_out, set_document, set_attribute, replace_data, split_at, join_at, set_range, queue_record, is_taken}
+use Rattle.dom_model.specs.Steps.{Step, make, make_room, place, take_out, set_document, set_attribute, replace_data, split_at, join_at, set_range}
+use Rattle.dom_model.specs.Steps.{queue_record, is_taken}
 use Rattle.dom_model.specs.Slots.{signals, with_signal}
 use Rattle.dom_model.specs.World.{World, part_of, component_at, components_below, shadow_root_of, trees_with}
 use Rattle.dom_model.specs.WorldSteps.{world_step, world_after, stepped, with_removal_signals, with_notify_if, with_shadow_document}
@@ -17,7 +18,8 @@ module _ (t : Option Owner) where
   signals_turned w [] = refl
   signals_turned w (s ∷ ss) = signals_turned (with_signal w s) ss
 
-  documents_turned : (d : NodeName) (w : World) (cs : List Owner) → fold (with_shadow_document d) (with_turn t w) cs ≡ with_turn t (fold (with_shadow_document d) w cs)
+  documents_turned : (d : NodeName) (w : World) (cs : List Owner) →
+      fold (with_shadow_document d) (with_turn t w) cs ≡ with_turn t (fold (with_shadow_document d) w cs)
   documents_turned d w [] = refl
   documents_turned d w (c ∷ cs) = documents_turned d (with_shadow_document d w c) cs
 

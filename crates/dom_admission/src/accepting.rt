@@ -17,7 +17,8 @@ impl State {
         value: &Value<'_>,
         out: &mut Vec<u8>,
     ) -> Result<(), Fault>
-        ensures done { IsDone None (opening_turn self.old.world owner, says owner (replied (value_view value.now)) ∷ []) self.old.world self.new.world out.old.items out.new.items result }
+        ensures done { IsDone None (opening_turn self.old.world owner, says owner (replied (value_view value.now)) ∷ []) self.old.world
+            self.new.world out.old.items out.new.items result }
         ensures names { self.new.names ≡ self.old.names }
     {
         self.open_turn(owner);

@@ -114,7 +114,8 @@ impl State {
 
     /// The node that an owner's line names, if it is there.
     pub fn find(&self, owner: Owner, node: Spelled) -> Option<Key>
-        ensures found { ForSome result (λ key. (key < length self.now.names) × (name_at self.now.names key ≡ named (part_of self.now.world owner) (spelled_view node))) }
+        ensures found { ForSome result (λ key. (key < length self.now.names) ×
+            (name_at self.now.names key ≡ named (part_of self.now.world owner) (spelled_view node))) }
         ensures presence { is_some result ≡ has_node (part_of self.now.world owner).trees (named (part_of self.now.world owner) (spelled_view node)) }
     {
         let number = number_in(node);
@@ -152,7 +153,8 @@ impl State {
 
     /// The node document of the node that an owner's line names, if it has one.
     pub fn document(&self, owner: Owner, node: Spelled) -> Option<Key>
-        ensures value { option_map (name_at self.now.names) result ≡ (node_in (part_of self.now.world owner).trees (named (part_of self.now.world owner) (spelled_view node))).document }
+        ensures value { option_map (name_at self.now.names)
+            result ≡ (node_in (part_of self.now.world owner).trees (named (part_of self.now.world owner) (spelled_view node))).document }
         ensures node { ForSome result (λ d. d < length self.now.names) }
     {
         match self.find(owner, node) {

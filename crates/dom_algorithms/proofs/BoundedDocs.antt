@@ -28,7 +28,8 @@ use Rattle.dom_parts.proofs.OwnPlans.{plans_then, plans_each, plans_removing, pl
 
 module _ (o : Owner) (d : DocState) (alone : IsAlone d.world o) (part : IsPart (part_of d.world o)) (bounds : HasBounds (part_of d.world o)) where
   -- after a plan that keeps the bounds in the owner's part
-  pub bounds_after : (f : Plan) → PlansOwn o f → HasBounds (after (part_of d.world o) (f (part_of d.world o))) → (e : DocState) → e ≡ planned o f d → HasBounds (part_of e.world o)
+  pub bounds_after : (f : Plan) → PlansOwn o f → HasBounds (after (part_of d.world o) (f (part_of d.world o))) → (e : DocState) →
+      e ≡ planned o f d → HasBounds (part_of e.world o)
   bounds_after f own h e is = subst (λ (s : DocState). HasBounds (part_of s.world o)) (sym is) (subst HasBounds (sym (plan_alone o f d.world alone own)) h)
 
   -- before the node that takes the place of a child is inserted
@@ -37,12 +38,15 @@ module _ (o : Owner) (d : DocState) (alone : IsAlone d.world o) (part : IsPart (
 
   -- before the Text that takes the place of children is inserted
   pub bounds_cleared : (how : Observing) (xs : List NodeName) (e : DocState) → e ≡ planned o (in_turn (removing how) xs) d → HasBounds (part_of e.world o)
-  bounds_cleared how xs = bounds_after (in_turn (removing how) xs) (plans_each o (removing how) (plans_removing o how) xs) (removals-keep how xs (part_of d.world o) part bounds)
+  bounds_cleared how xs = bounds_after (in_turn (removing how) xs) (plans_each o (removing how) (plans_removing o how) xs)
+      (removals-keep how xs (part_of d.world o) part bounds)
 
   -- before room is made for a fragment's children
   pub bounds_emptied : (node : NodeName) (moved : List NodeName) (e : DocState) → e ≡ planned o (emptying node moved) d → HasBounds (part_of e.world o)
   bounds_emptied node moved =
-      bounds_after (emptying node moved) (plans_then o (in_turn (removing suppressed) moved) (doing (queue_record (child_list node [] moved None None))) (plans_each o (removing suppressed) (plans_removing o suppressed) moved) (λ p own. (tt, tt)))
+      bounds_after (emptying node moved)
+      (plans_then o (in_turn (removing suppressed) moved) (doing (queue_record (child_list node [] moved None None)))
+      (plans_each o (removing suppressed) (plans_removing o suppressed) moved) (λ p own. (tt, tt)))
       (emptying-keeps node moved (part_of d.world o) part bounds)
 
   -- before a new node is inserted
@@ -54,8 +58,10 @@ module _ (o : Owner) (d : DocState) (alone : IsAlone d.world o) (part : IsPart (
   bounds_told c = bounds_after (doing (queue_record c)) (λ p own. (tt, tt)) (queue_record-keeps (part_of d.world o) c part bounds)
 
   -- before Texts are joined
-  pub bounds_grown : (x : NodeName) (offset count : ℕ) (new : DomString) → has_data (kind_of (part_of d.world o).trees x) ≡ true → (e : DocState) → e ≡ planned o (replacing_data x offset count new) d → HasBounds (part_of e.world o)
-  bounds_grown x offset count new has = bounds_after (replacing_data x offset count new) (plans_data o x offset count new) (data-keeps x offset count new (part_of d.world o) part has bounds)
+  pub bounds_grown : (x : NodeName) (offset count : ℕ) (new : DomString) → has_data (kind_of (part_of d.world o).trees x) ≡ true →
+      (e : DocState) → e ≡ planned o (replacing_data x offset count new) d → HasBounds (part_of e.world o)
+  bounds_grown x offset count new has = bounds_after (replacing_data x offset count new) (plans_data o x offset count new)
+      (data-keeps x offset count new (part_of d.world o) part has bounds)
 
 -- ---- for a node's owner
 
@@ -64,12 +70,15 @@ pub bounds_at : (d e : DocState) (k : ℕ) → e.names ≡ d.names → HasBounds
 bounds_at d e k names h = subst (λ (ns : List NodeName). HasBounds (part_of e.world (name_at ns k).owner)) (sym names) h
 
 -- where a node was made
-pub bounds_added : (d e : DocState) (k : ℕ) (y : NodeName) (n : Node) → k < length d.names → IsAlone d.world (owner_in d k) → IsPart (part_of d.world (owner_in d k)) → HasBounds (part_of d.world (owner_in d k))
+pub bounds_added : (d e : DocState) (k : ℕ) (y : NodeName) (n : Node) → k < length d.names → IsAlone d.world (owner_in d k) →
+    IsPart (part_of d.world (owner_in d k)) → HasBounds (part_of d.world (owner_in d k))
     → e.names ≡ d.names ++ y ∷ [] → e.world ≡ made (owner_in d k) (doing (make n)) d.world → HasBounds (part_of e.world (owner_in e k))
 bounds_added d e k y n here alone part bounds names world =
     let o = owner_in d k in
-    let same : owner_in e k ≡ o = ap (λ (ns : List NodeName). (name_at ns k).owner) names ∙ ap (λ (x : NodeName). x.owner) (get_or-append d.names (y ∷ []) (node_of Page 0) k here) in
-    subst (λ (p : Owner). HasBounds (part_of e.world p)) (sym same) (subst (λ (w : World). HasBounds (part_of w o)) (sym world) (bounds_made o d alone part bounds n (planned o (doing (make n)) d) refl))
+    let same : owner_in e k ≡ o = ap (λ (ns : List NodeName). (name_at ns k).owner) names ∙
+    ap (λ (x : NodeName). x.owner) (get_or-append d.names (y ∷ []) (node_of Page 0) k here) in
+    subst (λ (p : Owner). HasBounds (part_of e.world p)) (sym same)
+    (subst (λ (w : World). HasBounds (part_of w o)) (sym world) (bounds_made o d alone part bounds n (planned o (doing (make n)) d) refl))
 
 -- ---- how many nodes there are
 
@@ -78,5 +87,6 @@ pub children_limited : (p : Part) → IsPart p → past_limit p.node_count 0 ≡
 children_limited p part limited x = let few = children_few p part x in let most = ltb-false 1000000 (p.node_count + 0) limited in omega arith
 
 -- so a child's index is below that
-pub index_limited : (p : Part) → IsPart p → past_limit p.node_count 0 ≡ false → (x parent : NodeName) → parent_of p.trees x ≡ Some parent → index_of p.trees x < 1000000
+pub index_limited : (p : Part) → IsPart p → past_limit p.node_count 0 ≡ false → (x parent : NodeName) → parent_of p.trees x ≡ Some parent →
+    index_of p.trees x < 1000000
 index_limited p part limited x parent up = let few = index_few p part x parent up in let most = ltb-false 1000000 (p.node_count + 0) limited in omega arith

@@ -26,10 +26,13 @@ use Rattle.dom_algorithms.proofs.Replaced.{child_below}
 use Rattle.dom_algorithms.proofs.Grown.{same_name, new_name, same_children, alone_new}
 
 -- a node's children are not above it
-pub none_above_parent : (d : DocState) → Counted d → (node : ℕ) (ks : List ℕ) → map (name_in d) ks ≡ children_of (trees_in d node) (name_in d node) → NoneAbove d node (name_in d node) ks
+pub none_above_parent : (d : DocState) → Counted d → (node : ℕ) (ks : List ℕ) →
+    map (name_in d) ks ≡ children_of (trees_in d node) (name_in d node) → NoneAbove d node (name_in d node) ks
 none_above_parent d counted node ks e =
     keys ks (subst (Each Off) (sym e)
-    (each_all (λ z. parent_of ts z ≡ Some (name_in d node)) Off (λ z up. lacks_to z (inclusive_ancestors ts (name_in d node)) (child_below ts (once_in d counted (owner_in d node)) z (name_in d node) up)) (children_of ts (name_in d node))
+    (each_all (λ z. parent_of ts z ≡ Some (name_in d node)) Off
+    (λ z up. lacks_to z (inclusive_ancestors ts (name_in d node))
+    (child_below ts (once_in d counted (owner_in d node)) z (name_in d node) up)) (children_of ts (name_in d node))
     (children_parent ts (once_in d counted (owner_in d node)) (name_in d node))))
   where
     ts : Trees
@@ -46,7 +49,8 @@ none_above_parent d counted node ks e =
 pub text_may : (d e : DocState) → Counted d → (node text : ℕ) (ks : List ℕ) → map (name_in d) ks ≡ children_of (trees_in d node) (name_in d node)
     → e ≡ planned (owner_in d node) (in_turn (removing suppressed) (map (name_in d) ks)) d
     → ((y : NodeName) → NoneAbove d node y ks → inclusive_ancestors (trees_in e node) y ≡ inclusive_ancestors (trees_in d node) y)
-    → text < length d.names → owner_in d text ≡ owner_in d node → is_inclusive_ancestor (trees_in d node) (name_in d text) (name_in d node) ≡ false → MayMove e node None text
+    → text < length d.names → owner_in d text ≡ owner_in d node →
+    is_inclusive_ancestor (trees_in d node) (name_in d text) (name_in d node) ≡ false → MayMove e node None text
 text_may d e counted node text ks listed taken paths there owner off =
     let names = ap (λ (s : DocState). s.names) taken in
     record {
@@ -58,7 +62,8 @@ text_may d e counted node text ks listed taken paths there owner off =
     }
 
 -- the whole, where there is a Text
-pub put_whole : (d e f g : DocState) (node text : ℕ) (ks : List ℕ) → IsAlone d.world (owner_in d node) → owner_in d text ≡ owner_in d node → map (name_in d) ks ≡ children_of (trees_in d node) (name_in d node)
+pub put_whole : (d e f g : DocState) (node text : ℕ) (ks : List ℕ) → IsAlone d.world (owner_in d node) → owner_in d text ≡ owner_in d node →
+    map (name_in d) ks ≡ children_of (trees_in d node) (name_in d node)
     → e ≡ planned (owner_in d node) (in_turn (removing suppressed) (map (name_in d) ks)) d
     → f ≡ planned (owner_in e node) (inserting suppressed (name_in e text) (name_in e node) None) e
     → g ≡ stepped (owner_in f node) (queue_record (child_list (name_in f node) (name_in f text ∷ []) (map (name_in f) ks) None None)) f
@@ -67,7 +72,8 @@ put_whole d e f g node text ks alone text_owner listed taken inserted told =
     let o = owner_in d node in
     let x = name_in d node in
     let y = name_in d text in
-    let tell : DocState → DocState = λ s. stepped (owner_in s node) (queue_record (child_list (name_in s node) (name_in s text ∷ []) (map (name_in s) ks) None None)) s in
+    let tell : DocState → DocState = λ s. stepped (owner_in s node)
+    (queue_record (child_list (name_in s node) (name_in s text ∷ []) (map (name_in s) ks) None None)) s in
     let put : DocState → DocState = λ s. planned (owner_in s node) (inserting suppressed (name_in s text) (name_in s node) None) s in
     let clear : List NodeName → Plan = in_turn (removing suppressed) in
     let record_of : List NodeName → Plan = λ zs. doing (queue_record (child_list x (y ∷ []) zs None None)) in
@@ -100,23 +106,29 @@ module _ (d : DocState) (node : ℕ) (alone : IsAlone d.world (owner_in d node))
       let taken = plans_then o (steps_of []) out none (plans_each o (removing suppressed) (plans_removing o suppressed) old) in
       ap (planned o (steps_of told)) (planned_then o (steps_of []) out d alone none)
       ∙ ap (planned o (steps_of told)) (planned_then o (steps_of [] and_then out) (in_turn put_none []) d alone taken)
-      ∙ planned_then o (steps_of [] and_then out and_then in_turn put_none []) (steps_of told) d alone (plans_then o (steps_of [] and_then out) (in_turn put_none []) taken none_put)
+      ∙ planned_then o (steps_of [] and_then out and_then in_turn put_none []) (steps_of told) d alone
+      (plans_then o (steps_of [] and_then out) (in_turn put_none []) taken none_put)
 
   abbrev told_of : List NodeName → List Step
   told_of old = only_if (not (is_empty old && true)) (queue_record (child_list x [] old None None))
 
   -- without children, and with some
-  pub cleared_none : (e : DocState) (ks : List ℕ) → ks ≡ [] → map (name_in d) ks ≡ children_of (trees_in d node) x → e ≡ planned o (in_turn (removing suppressed) (map (name_in d) ks)) d
+  pub cleared_none : (e : DocState) (ks : List ℕ) → ks ≡ [] → map (name_in d) ks ≡ children_of (trees_in d node) x →
+      e ≡ planned o (in_turn (removing suppressed) (map (name_in d) ks)) d
       → e ≡ planned o (replacing_children x []) d
   cleared_none e ks nil listed taken =
-      taken ∙ ap (λ js. planned o (in_turn (removing suppressed) (map (name_in d) js)) d) nil ∙ cleared [] [] ∙ ap (λ old. all old (told_of old)) (ap (map (name_in d)) (sym nil) ∙ listed)
+      taken ∙ ap (λ js. planned o (in_turn (removing suppressed) (map (name_in d) js)) d) nil ∙ cleared [] [] ∙
+      ap (λ old. all old (told_of old)) (ap (map (name_in d)) (sym nil) ∙ listed)
 
-  pub cleared_some : (e g : DocState) (ks : List ℕ) → is_empty ks ≡ false → map (name_in d) ks ≡ children_of (trees_in d node) x → e ≡ planned o (in_turn (removing suppressed) (map (name_in d) ks)) d
-      → g ≡ stepped (owner_in e node) (queue_record (child_list (name_in e node) [] (map (name_in e) ks) None None)) e → g ≡ planned o (replacing_children x []) d
+  pub cleared_some : (e g : DocState) (ks : List ℕ) → is_empty ks ≡ false → map (name_in d) ks ≡ children_of (trees_in d node) x →
+      e ≡ planned o (in_turn (removing suppressed) (map (name_in d) ks)) d
+      → g ≡ stepped (owner_in e node) (queue_record (child_list (name_in e node) [] (map (name_in e) ks) None None)) e →
+      g ≡ planned o (replacing_children x []) d
   cleared_some e g [] some listed taken told = cc
   cleared_some e g (k ∷ ks) some listed taken told =
       let tell : DocState → DocState = λ s. stepped (owner_in s node) (queue_record (child_list (name_in s node) [] (map (name_in s) (k ∷ ks)) None None)) s in
-      told ∙ ap tell taken ∙ cleared (map (name_in d) (k ∷ ks)) (queue_record (child_list x [] (map (name_in d) (k ∷ ks)) None None) ∷ []) ∙ ap (λ old. all old (told_of old)) listed
+      told ∙ ap tell taken ∙ cleared (map (name_in d) (k ∷ ks)) (queue_record (child_list x [] (map (name_in d) (k ∷ ks)) None None) ∷ []) ∙
+      ap (λ old. all old (told_of old)) listed
 
 -- a test of length, for emptiness
 pub none_left : (ks : List ℕ) → true ≡ (length ks == 0) → ks ≡ []
@@ -162,7 +174,8 @@ module _ (d e : DocState) (node new : ℕ) (doc : Option NodeName) (text : DomSt
       (steps_of made_ and_then clear_plan old and_then in_turn put_plan added and_then steps_of told) (part_of d.world p)
 
   -- what a change of text makes
-  pub text_whole : (g : DocState) → is_empty text ≡ false → doc ≡ Some (document_below (part_of d.world p).trees z) → g ≡ planned (owner_in e node) (putting_text (name_in e node) (name_in e new)) e
+  pub text_whole : (g : DocState) → is_empty text ≡ false → doc ≡ Some (document_below (part_of d.world p).trees z) →
+      g ≡ planned (owner_in e node) (putting_text (name_in e node) (name_in e new)) e
       → g.world ≡ made p (replacing_children z text) d.world
   text_whole g some documented is =
       let make_plan : Plan = doing (make (new_text_node y doc text)) in
@@ -174,15 +187,19 @@ module _ (d e : DocState) (node new : ℕ) (doc : Option NodeName) (text : DomSt
       ap (λ (s : DocState). s.world) is
       ∙ ap (λ (w : NodeName). made w.owner (putting_text w (name_in e new)) e.world) (same_name d e node new doc text names world key node_is alone)
       ∙ ap (λ (w : NodeName). made p (putting_text z w) e.world) (new_name d e node new doc text names world key node_is alone)
-      ∙ ap (λ zs. made p (clear_plan zs and_then put_plan y and_then record_plan zs) e.world) (same_children d e node new doc text names world key node_is alone distinct counted)
+      ∙ ap (λ zs. made p (clear_plan zs and_then put_plan y and_then record_plan zs) e.world)
+      (same_children d e node new doc text names world key node_is alone distinct counted)
       ∙ made_then p (clear_plan old and_then put_plan y) (record_plan old) e.world now (plans_then p (clear_plan old) (put_plan y) clear_own put_own)
       ∙ ap (made p (record_plan old)) (made_then p (clear_plan old) (put_plan y) e.world now clear_own)
       ∙ ap (λ (w : World). made p (record_plan old) (made p (put_plan y) (made p (clear_plan old) w))) world
       ∙ ap (λ (w : World). made p (record_plan old) (made p (put_plan y) w)) (sym (made_then p make_plan (clear_plan old) d.world alone made_own))
-      ∙ ap (made p (record_plan old)) (sym (made_turn p put_plan y [] (made p (make_plan and_then clear_plan old) d.world) (alone_made p (make_plan and_then clear_plan old) d.world alone cleared_own) put_own))
+      ∙ ap (made p (record_plan old)) (sym
+      (made_turn p put_plan y [] (made p (make_plan and_then clear_plan old) d.world)
+      (alone_made p (make_plan and_then clear_plan old) d.world alone cleared_own) put_own))
       ∙ ap (made p (record_plan old)) (sym (made_then p (make_plan and_then clear_plan old) (in_turn put_plan (y ∷ [])) d.world alone cleared_own))
       ∙ sym (made_then p (make_plan and_then clear_plan old and_then in_turn put_plan (y ∷ [])) (record_plan old) d.world alone
       (plans_then p (make_plan and_then clear_plan old) (in_turn put_plan (y ∷ [])) cleared_own (plans_turn p put_plan (y ∷ []) (put_own, tt))))
-      ∙ ap (λ b. made p (make_plan and_then clear_plan old and_then in_turn put_plan (y ∷ []) and_then steps_of (only_if (not b) (queue_record (child_list z (y ∷ []) old None None)))) d.world) (sym (and_false (is_empty old)))
+      ∙ ap (λ b. made p (make_plan and_then clear_plan old and_then in_turn put_plan (y ∷ []) and_then steps_of
+      (only_if (not b) (queue_record (child_list z (y ∷ []) old None None)))) d.world) (sym (and_false (is_empty old)))
       ∙ ap (λ a. world_after p d.world (steps_if a false)) documented
       ∙ ap (λ b. world_after p d.world (steps_if (Some (document_below (part_of d.world p).trees z)) b)) (sym some)

@@ -9,10 +9,11 @@ use Rattle.dom_model.specs.Names.{name_eq, first_of, items_before}
 use Rattle.dom_model.specs.Part.{Part}
 use Rattle.dom_model.specs.Steps.{join_at, after}
 use Rattle.dom_model.specs.TextChanges.{replacing_data, joins, texts_after}
-use Rattle.dom_model.specs.Tree.{Trees, none, tree, Node, node_in, has_node, is_text, kind_of, names_of, roots, subtree, trees_below, children_of, parent_of, index_of, length_of}
+use Rattle.dom_model.specs.Tree.{Trees, none, tree, Node, node_in, has_node, is_text, kind_of, names_of, roots, subtree, trees_below, children_of}
+use Rattle.dom_model.specs.Tree.{parent_of, index_of, length_of}
 use Rattle.dom_model.specs.TreeChanges.{map_nodes, change_node, with_data_replaced}
 use Rattle.dom_isolation.specs.Worlds.{IsPart}
-use Rattle.dom_isolation.proofs.KindCommands.{has_node-times}
+use Rattle.dom_isolation.proofs.KindLines.{has_node-times}
 use Rattle.dom_isolation.proofs.TextBounds.{text-data, joining-fits}
 use Rattle.dom_tree_laws.proofs.Covering.{subtree_mapped}
 use Rattle.dom_tree_laws.proofs.Near.{path_mapped}
@@ -41,7 +42,8 @@ module _ (f : Node → Node) (keeps : (n : Node) → (f n).name ≡ n.name) wher
       by (Some p) = children_mapped ts p
 
 -- of one node
-pub index_changed : (f : Node → Node) → ((n : Node) → (f n).name ≡ n.name) → (x : NodeName) (ts : Trees) (y : NodeName) → index_of (change_node f x ts) y ≡ index_of ts y
+pub index_changed : (f : Node → Node) → ((n : Node) → (f n).name ≡ n.name) → (x : NodeName) (ts : Trees) (y : NodeName) →
+    index_of (change_node f x ts) y ≡ index_of ts y
 index_changed f keeps x ts y = index_mapped (λ n. cond (name_eq n.name x) (f n) n) (λ n. by (name_eq n.name x) n) ts y
   where
     by : (t : Bool) (n : Node) → (cond t (f n) n).name ≡ n.name
@@ -51,7 +53,8 @@ index_changed f keeps x ts y = index_mapped (λ n. cond (name_eq n.name x) (f n)
 -- ---- joins
 
 -- the same indices and lengths, the same joins
-pub joins_same : (ts us : Trees) (x parent : NodeName) (size : ℕ) (ys : List NodeName) → ((y : NodeName) → index_of us y ≡ index_of ts y) → AllByRecursion (λ y. length_of us y ≡ length_of ts y) ys
+pub joins_same : (ts us : Trees) (x parent : NodeName) (size : ℕ) (ys : List NodeName) → ((y : NodeName) → index_of us y ≡ index_of ts y) →
+    AllByRecursion (λ y. length_of us y ≡ length_of ts y) ys
     → joins us x parent size ys ≡ joins ts x parent size ys
 joins_same ts us x parent size [] index lengths = refl
 joins_same ts us x parent size (y ∷ ys) index lengths =
@@ -60,7 +63,8 @@ joins_same ts us x parent size (y ∷ ys) index lengths =
     ∙ ap (λ steps. join_at x size y parent (index_of ts y) ∷ steps) (joins_same ts us x parent (size + length_of ts y) ys index lengths.1))
 
 -- so those made after the data came are the plan's
-pub joins_after : (x parent q : NodeName) (p : Part) (size : ℕ) → IsPart p → IsTrue (has_node p.trees x) → is_text (kind_of p.trees x) ≡ true → parent_of p.trees x ≡ Some parent →
+pub joins_after : (x parent q : NodeName) (p : Part) (size : ℕ) → IsPart p → IsTrue (has_node p.trees x) → is_text (kind_of p.trees x) ≡ true →
+    parent_of p.trees x ≡ Some parent →
     let nexts = texts_after p.trees x in
     let all = flat_map (λ y. (node_in p.trees y).text) nexts in
     joins (after p (replacing_data x (length_of p.trees x) 0 all p)).trees x q size nexts ≡ joins p.trees x q size nexts
@@ -69,4 +73,6 @@ joins_after x parent q p size i there text up =
     let all = flat_map (λ y. (node_in p.trees y).text) nexts in
     let now = after p (replacing_data x (length_of p.trees x) 0 all p) in
     let fits = joining-fits x parent p i (has_node-times p.trees x there) (text-data (kind_of p.trees x) text) up in
-    joins_same p.trees now.trees x q size nexts (λ y. index_changed (with_data_replaced (length_of p.trees x) (min 0 (length (node_in p.trees x).text - length_of p.trees x)) all) (λ n. refl) x p.trees y) fits.1
+    joins_same p.trees now.trees x q size nexts
+    (λ y. index_changed (with_data_replaced (length_of p.trees x) (min 0 (length (node_in p.trees x).text - length_of p.trees x)) all)
+    (λ n. refl) x p.trees y) fits.1

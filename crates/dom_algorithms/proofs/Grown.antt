@@ -8,7 +8,8 @@ use Rattle.dom_base.specs.declared.NodeName.{NodeName}
 use Rattle.dom_base.specs.declared.Owner.{Owner}
 use Rattle.dom_base.specs.declared.Owner.TheVariants.{Page}
 use Rattle.dom_model.specs.Names.{DomString, name_eq, name_before, node_of, first_of, is_in}
-use Rattle.dom_model.specs.Tree.{Trees, none, tree, Node, subtree, or_else, names_of, roots, trees_below, node_in, parent_of, children_of, inclusive_ancestors, is_inclusive_ancestor}
+use Rattle.dom_model.specs.Tree.{Trees, none, tree, Node, subtree, or_else, names_of, roots, trees_below, node_in, parent_of, children_of}
+use Rattle.dom_model.specs.Tree.{inclusive_ancestors, is_inclusive_ancestor}
 use Rattle.dom_model.specs.TreeChanges.{with_node, put_root}
 use Rattle.dom_model.specs.Part.{Part, next_name}
 use Rattle.dom_model.specs.Steps.{make}
@@ -35,8 +36,10 @@ root_counted : (n : Node) (y : NodeName) (ts : Trees) → times_in (put_root y (
 root_counted n y none =
     let a = times_in-tree n none none n.name in let z = times_in-none n.name in let b = one-true (name_eq n.name n.name) (name_eq-same n.name) in omega arith
 root_counted n y (tree m d r) = elim (cases_Bool (name_before y m.name)) [
-  | inl h ↦ rw h (let a = times_in-tree n none (tree m d r) n.name in let z = times_in-none n.name in let b = one-true (name_eq n.name n.name) (name_eq-same n.name) in omega arith)
-  | inr h ↦ rw h (let a = times_in-tree m d (put_root y (tree n none none) r) n.name in let b = times_in-tree m d r n.name in let e = root_counted n y r in omega arith)
+  | inl h ↦ rw h (let a = times_in-tree n none (tree m d r) n.name in let z = times_in-none n.name in let b = one-true (name_eq n.name n.name)
+      (name_eq-same n.name) in omega arith)
+  | inr h ↦ rw h (let a = times_in-tree m d (put_root y (tree n none none) r) n.name in let b = times_in-tree m d r n.name in let e = root_counted
+      n y r in omega arith)
 ]
 
 -- the trees of other nodes stay
@@ -60,7 +63,8 @@ module _ (n : Node) (ts : Trees) where
   new_root once = ap (λ path. first_of (drop 1 path)) (path_root n.name n.name n none ts (name_eq-same n.name) (new_gone once))
 
   new_below_none : IsOnce (with_node n ts) → (y : NodeName) → name_eq n.name y ≡ false → is_inclusive_ancestor (with_node n ts) n.name y ≡ false
-  new_below_none once y h = ap (is_in name_eq n.name) (path_beside_new y h) ∙ lacks_to n.name (inclusive_ancestors ts y) (path_lacks ts y n.name (new_gone once))
+  new_below_none once y h = ap (is_in name_eq n.name) (path_beside_new y h) ∙ lacks_to n.name (inclusive_ancestors ts y)
+      (path_lacks ts y n.name (new_gone once))
 
 -- ---- in the state e, where a node of d's owner was made
 module _ (d e : DocState) (node new : ℕ) (doc : Option NodeName) (text : DomString)
@@ -122,7 +126,8 @@ module _ (d e : DocState) (node new : ℕ) (doc : Option NodeName) (text : DomSt
 
     pub new_not_above : is_inclusive_ancestor (trees_in e node) (name_in e new) (name_in e node) ≡ false
     new_not_above =
-        ap (λ t. is_inclusive_ancestor t (name_in e new) (name_in e node)) own_trees ∙ ap (λ z. is_inclusive_ancestor (with_node n ts) z (name_in e node)) new_name
+        ap (λ t. is_inclusive_ancestor t (name_in e new) (name_in e node)) own_trees ∙
+        ap (λ z. is_inclusive_ancestor (with_node n ts) z (name_in e node)) new_name
         ∙ ap (is_inclusive_ancestor (with_node n ts) y) same_name ∙ new_below_none n ts once x apart
 
     -- the other one's parent and children are the same
@@ -133,7 +138,8 @@ module _ (d e : DocState) (node new : ℕ) (doc : Option NodeName) (text : DomSt
     same_children = ap (λ t. children_of t x) grown_trees ∙ ap (λ t. names_of (roots (trees_below t))) (subtree_beside n y x ts apart)
 
     -- what a split makes
-    pub split_whole : (f : DocState) (offset count : ℕ) → count ≡ length (node_in ts x).text - offset → doc ≡ (node_in ts x).document → text ≡ drop offset (node_in ts x).text
+    pub split_whole : (f : DocState) (offset count : ℕ) → count ≡ length (node_in ts x).text - offset → doc ≡ (node_in ts x).document →
+        text ≡ drop offset (node_in ts x).text
         → f ≡ planned (owner_in e node) (cutting_tail (name_in e node) offset count (name_in e new)) e
         → f.world ≡ made o (splitting x offset) d.world
     split_whole f offset count counts documented tailed is =
@@ -141,11 +147,13 @@ module _ (d e : DocState) (node new : ℕ) (doc : Option NodeName) (text : DomSt
         let old = node_in ts x in
         let behind = λ (up : Option NodeName). made o (placing_tail x offset y up) in
         let rest = λ (k : ℕ). made o (replacing_data x offset k []) in
-        let whole = λ (up doc : Option NodeName) (units : DomString) (k : ℕ). made o (doing (make (new_text_node y doc units)) and_then placing_tail x offset y up and_then replacing_data x offset k []) d.world in
+        let whole = λ (up doc : Option NodeName) (units : DomString) (k : ℕ). made o
+        (doing (make (new_text_node y doc units)) and_then placing_tail x offset y up and_then replacing_data x offset k []) d.world in
         ap (λ (s : DocState). s.world) is
         ∙ ap (λ (z : NodeName). made z.owner (cutting_tail z offset count (name_in e new)) e.world) same_name
         ∙ ap (λ (z : NodeName). made o (cutting_tail x offset count z) e.world) new_name
-        ∙ made_then o (placing_tail x offset y (parent_of (part_of e.world o).trees x)) (replacing_data x offset count []) e.world alone_new (tail_own (parent_of (part_of e.world o).trees x))
+        ∙ made_then o (placing_tail x offset y (parent_of (part_of e.world o).trees x)) (replacing_data x offset count []) e.world alone_new
+        (tail_own (parent_of (part_of e.world o).trees x))
         ∙ ap (λ up. rest count (behind up e.world)) same_parent
         ∙ ap (λ (w : World). rest count (behind (parent_of ts x) w)) world
         ∙ ap (rest count) (sym (made_then o (doing (make n)) (placing_tail x offset y (parent_of ts x)) d.world alone (λ p own. (tt, tt))))

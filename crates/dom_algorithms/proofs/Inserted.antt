@@ -7,7 +7,8 @@ use Rattle.std.proofs.lemmas.Bool.{cond-false}
 use Rattle.dom_base.specs.declared.NodeName.{NodeName}
 use Rattle.dom_base.specs.declared.Owner.{Owner}
 use Rattle.dom_model.specs.Names.{is_empty}
-use Rattle.dom_model.specs.Tree.{Trees, none, tree, roots, names_of, trees_below, subtree, children_of, kind_of, is_fragment, inclusive_ancestors, is_inclusive_ancestor}
+use Rattle.dom_model.specs.Tree.{Trees, none, tree, roots, names_of, trees_below, subtree, children_of, kind_of, is_fragment, inclusive_ancestors}
+use Rattle.dom_model.specs.Tree.{is_inclusive_ancestor}
 use Rattle.dom_model.specs.Output.{child_list}
 use Rattle.dom_model.specs.Part.{Part}
 use Rattle.dom_model.specs.Steps.{Step}
@@ -30,9 +31,11 @@ module _ (o : Owner) (how : Observing) (node parent : NodeName) (before : Option
   -- what an insertion does with the nodes that it places
   abbrev placing_plan : List NodeName → Plan → Option NodeName → Plan
   placing_plan moved emptied prev =
-      emptied and_then making_room parent before (length moved) and_then in_turn (placing parent before) moved and_then steps_of (telling how (child_list parent moved [] prev before))
+      emptied and_then making_room parent before (length moved) and_then in_turn (placing parent before) moved and_then steps_of
+      (telling how (child_list parent moved [] prev before))
 
-  placed_plan : (moved : List NodeName) (emptied : Plan) (prev : Option NodeName) (d : DocState) → IsAlone d.world o → PlansOwn o emptied → AllByRecursion (λ (x : NodeName). x.owner ≡ o) moved
+  placed_plan : (moved : List NodeName) (emptied : Plan) (prev : Option NodeName) (d : DocState) → IsAlone d.world o → PlansOwn o emptied →
+      AllByRecursion (λ (x : NodeName). x.owner ≡ o) moved
       → placed_all how moved parent before prev o (planned o emptied d) ≡ planned o (placing_plan moved emptied prev) d
   placed_plan moved emptied prev d alone empties own =
       let told : Plan = steps_of (telling how (child_list parent moved [] prev before)) in
@@ -49,7 +52,8 @@ module _ (o : Owner) (how : Observing) (node parent : NodeName) (before : Option
   steps_if p b moved =
       if is_empty moved then [] else placing_plan moved (if b then emptying node moved else steps_of []) (sibling_before p.trees parent before) p
 
-  steps_as : (p : Part) (b : Bool) → is_fragment (kind_of p.trees node) ≡ b → inserting how node parent before p ≡ steps_if p b (if b then children_of p.trees node else node ∷ [])
+  steps_as : (p : Part) (b : Bool) → is_fragment (kind_of p.trees node) ≡ b →
+      inserting how node parent before p ≡ steps_if p b (if b then children_of p.trees node else node ∷ [])
   steps_as p b e = ap (λ t. steps_if p t (if t then children_of p.trees node else node ∷ [])) e
 
   abbrev with_steps : DocState → List Step → DocState
@@ -60,45 +64,57 @@ module _ (o : Owner) (how : Observing) (node parent : NodeName) (before : Option
     ts = (part_of d.world o).trees
 
     -- one node
-    pub inserted_one : is_fragment (kind_of ts node) ≡ false → placed_all how (node ∷ []) parent before (sibling_before ts parent before) o d ≡ planned o (inserting how node parent before) d
+    pub inserted_one : is_fragment (kind_of ts node) ≡ false →
+        placed_all how (node ∷ []) parent before (sibling_before ts parent before) o d ≡ planned o (inserting how node parent before) d
     inserted_one e =
-        placed_plan (node ∷ []) (steps_of []) (sibling_before ts parent before) d alone (λ p h. tt) (own, tt) ∙ ap (with_steps d) (sym (steps_as (part_of d.world o) false e))
+        placed_plan (node ∷ []) (steps_of []) (sibling_before ts parent before) d alone (λ p h. tt) (own, tt) ∙
+        ap (with_steps d) (sym (steps_as (part_of d.world o) false e))
 
     -- a fragment's children
     pub inserted_children : is_fragment (kind_of ts node) ≡ true → is_empty (children_of ts node) ≡ false
-        → placed_all how (children_of ts node) parent before (sibling_before ts parent before) o (planned o (emptying node (children_of ts node)) d) ≡ planned o (inserting how node parent before) d
+        → placed_all how (children_of ts node) parent before (sibling_before ts parent before) o
+        (planned o (emptying node (children_of ts node)) d) ≡ planned o (inserting how node parent before) d
     inserted_children e some =
         let moved = children_of ts node in
         placed_plan moved (emptying node moved) (sibling_before ts parent before) d alone (plans_emptying o node moved) (children_own o ts node alone.own)
-        ∙ ap (with_steps d) (sym (steps_as (part_of d.world o) true e ∙ cond-false (is_empty moved) [] (placing_plan moved (emptying node moved) (sibling_before ts parent before) (part_of d.world o)) some))
+        ∙ ap (with_steps d) (sym (steps_as (part_of d.world o) true e ∙
+        cond-false (is_empty moved) [] (placing_plan moved (emptying node moved) (sibling_before ts parent before) (part_of d.world o)) some))
 
 -- ---- a fragment's children may move where it may
 
 roots_stand : (ts : Trees) → Each (λ x. 1 ≤ times_in ts x) (names_of (roots ts))
 roots_stand none = tt
 roots_stand (tree n c r) =
-    let here = times_in-tree n c r n.name in let is = one-true _ (name_eq-same n.name) in
-    (omega arith, each_all (λ x. 1 ≤ times_in r x) (λ x. 1 ≤ times_in (tree n c r) x) (λ x h. let a = times_in-tree n c r x in omega arith) (names_of (roots r)) (roots_stand r))
+    let here = times_in-tree n c r n.name in let is = one-true _ (name_eq-same n.name) in (
+      omega arith,
+      each_all (λ x. 1 ≤ times_in r x) (λ x. 1 ≤ times_in (tree n c r) x) (λ x h. let a = times_in-tree n c r x in omega arith)
+          (names_of (roots r)) (roots_stand r),
+    )
 
 children_stand : (ts : Trees) (p : NodeName) → Each (λ x. 1 ≤ times_in (subtree ts p) x) (children_of ts p)
 children_stand ts p = below (subtree ts p)
   where
     below : (t : Trees) → Each (λ x. 1 ≤ times_in t x) (names_of (roots (trees_below t)))
     below none = tt
-    below (tree n c r) = each_all (λ x. 1 ≤ times_in c x) (λ x. 1 ≤ times_in (tree n c r) x) (λ x h. let a = times_in-tree n c r x in omega arith) (names_of (roots c)) (roots_stand c)
+    below (tree n c r) = each_all (λ x. 1 ≤ times_in c x) (λ x. 1 ≤ times_in (tree n c r) x) (λ x h. let a = times_in-tree n c r x in omega arith)
+        (names_of (roots c)) (roots_stand c)
 
-module _ (d : DocState) (counted : Counted d) (parent fragment : ℕ) (before : Option ℕ) (may : MayMove d parent before fragment) (child : ForSome before (IsChild d parent)) where
+module _ (d : DocState) (counted : Counted d) (parent fragment : ℕ) (before : Option ℕ) (may : MayMove d parent before fragment)
+    (child : ForSome before (IsChild d parent)) where
   abbrev all_trees : Trees
   all_trees = trees_in d parent
 
   -- what is in the tree of the fragment is not above the parent, nor above the child
   inside_lacks : (z : NodeName) → 1 ≤ times_in (subtree all_trees (name_in d fragment)) z → Lacks z (inclusive_ancestors all_trees (name_in d parent))
   inside_lacks z there =
-      below_lacks all_trees (once_in d counted (owner_in d parent)) (name_in d fragment) (name_in d parent) (lacks_from (name_in d fragment) (inclusive_ancestors all_trees (name_in d parent)) may.not_above) z there
+      below_lacks all_trees (once_in d counted (owner_in d parent)) (name_in d fragment) (name_in d parent)
+      (lacks_from (name_in d fragment) (inclusive_ancestors all_trees (name_in d parent)) may.not_above) z there
 
-  inside_child : (z : NodeName) → 1 ≤ times_in (subtree all_trees (name_in d fragment)) z → (b : ℕ) → before ≡ Some b → Lacks z (inclusive_ancestors all_trees (name_in d b))
+  inside_child : (z : NodeName) → 1 ≤ times_in (subtree all_trees (name_in d fragment)) z → (b : ℕ) → before ≡ Some b →
+      Lacks z (inclusive_ancestors all_trees (name_in d b))
   inside_child z there b is =
-      below_lacks all_trees (once_in d counted (owner_in d parent)) (name_in d fragment) (name_in d b) (before_lacks d counted parent fragment before may child b is) z there
+      below_lacks all_trees (once_in d counted (owner_in d parent)) (name_in d fragment) (name_in d b)
+      (before_lacks d counted parent fragment before may child b is) z there
 
   own_trees : trees_in d fragment ≡ all_trees
   own_trees = ap (λ o. (part_of d.world o).trees) may.owner
@@ -108,25 +124,36 @@ module _ (d : DocState) (counted : Counted d) (parent fragment : ℕ) (before : 
   AreInside ks = AllByRecursion (λ k. 1 ≤ times_in (subtree all_trees (name_in d fragment)) (name_in d k)) ks
 
   pub are_inside : (ks : List ℕ) → map (name_in d) ks ≡ children_of (trees_in d fragment) (name_in d fragment) → AreInside ks
-  are_inside ks e = keys ks (subst (Each (λ x. 1 ≤ times_in (subtree all_trees (name_in d fragment)) x)) (sym (e ∙ ap (λ t. children_of t (name_in d fragment)) own_trees)) (children_stand all_trees (name_in d fragment)))
+  are_inside ks e = keys ks (subst (Each (λ x. 1 ≤ times_in (subtree all_trees (name_in d fragment)) x))
+      (sym (e ∙ ap (λ t. children_of t (name_in d fragment)) own_trees)) (children_stand all_trees (name_in d fragment)))
     where
       keys : (ks : List ℕ) → Each (λ x. 1 ≤ times_in (subtree all_trees (name_in d fragment)) x) (map (name_in d) ks) → AreInside ks
       keys [] h = tt
       keys (k ∷ ks) h = (h.0, keys ks h.1)
 
-  pub none_above : (ks : List ℕ) → AreInside ks → (y : NodeName) → ((z : NodeName) → 1 ≤ times_in (subtree all_trees (name_in d fragment)) z → Lacks z (inclusive_ancestors all_trees y)) → NoneAbove d fragment y ks
+  pub none_above : (ks : List ℕ) → AreInside ks → (y : NodeName) →
+      ((z : NodeName) → 1 ≤ times_in (subtree all_trees (name_in d fragment)) z → Lacks z (inclusive_ancestors all_trees y)) →
+      NoneAbove d fragment y ks
   none_above [] h y off = tt
-  none_above (k ∷ ks) h y off =
-      (ap (λ t. is_inclusive_ancestor t (name_in d k) y) own_trees ∙ lacks_to (name_in d k) (inclusive_ancestors all_trees y) (off (name_in d k) h.0), none_above ks h.1 y off)
+  none_above (k ∷ ks) h y off = (
+    ap (λ t. is_inclusive_ancestor t (name_in d k) y) own_trees ∙ lacks_to (name_in d k) (inclusive_ancestors all_trees y)
+        (off (name_in d k) h.0),
+    none_above ks h.1 y off,
+  )
 
   -- after the fragment is emptied
-  pub stays_emptied : (ks : List ℕ) → AreInside ks → (e : DocState) (children : List NodeName) → e ≡ planned (owner_in d fragment) (emptying (name_in d fragment) children) d
-      → ((y : NodeName) → NoneAbove d fragment y ks → inclusive_ancestors (trees_in e fragment) y ≡ inclusive_ancestors (trees_in d fragment) y) → Stays parent before d e
+  pub stays_emptied : (ks : List ℕ) → AreInside ks → (e : DocState) (children : List NodeName) →
+      e ≡ planned (owner_in d fragment) (emptying (name_in d fragment) children) d
+      → ((y : NodeName) → NoneAbove d fragment y ks → inclusive_ancestors (trees_in e fragment) y ≡ inclusive_ancestors (trees_in d fragment) y) →
+      Stays parent before d e
   stays_emptied ks inside e children is paths =
       let names : e.names ≡ d.names = ap (λ (s : DocState). s.names) is in
       let own : trees_in e parent ≡ trees_in e fragment =
-      ap (λ o. (part_of e.world o).trees) (ap (λ (ns : List NodeName). (Rattle.dom_tree.specs.Forest.name_at ns parent).owner) names ∙ sym may.owner ∙ ap (λ (ns : List NodeName). (Rattle.dom_tree.specs.Forest.name_at ns fragment).owner) (sym names)) in
-      let kept = λ (y : NodeName) (off : NoneAbove d fragment y ks). ap (λ t. inclusive_ancestors t y) own ∙ paths y off ∙ ap (λ t. inclusive_ancestors t y) own_trees in
+      ap (λ o. (part_of e.world o).trees)
+      (ap (λ (ns : List NodeName). (Rattle.dom_tree.specs.Forest.name_at ns parent).owner) names ∙ sym may.owner ∙
+      ap (λ (ns : List NodeName). (Rattle.dom_tree.specs.Forest.name_at ns fragment).owner) (sym names)) in
+      let kept = λ (y : NodeName) (off : NoneAbove d fragment y ks). ap (λ t. inclusive_ancestors t y) own ∙ paths y off ∙
+      ap (λ t. inclusive_ancestors t y) own_trees in
       record {
         names = names;
         parent_path = kept (name_in d parent) (none_above ks inside (name_in d parent) inside_lacks);
@@ -134,14 +161,17 @@ module _ (d : DocState) (counted : Counted d) (parent fragment : ℕ) (before : 
       }
 
   -- they may move
-  pub all_may : (ks : List ℕ) → AreInside ks → AllByRecursion (λ k. (k < length d.names) × (owner_in d k ≡ owner_in d fragment)) ks → AllByRecursion (MayMove d parent before) ks
+  pub all_may : (ks : List ℕ) → AreInside ks → AllByRecursion (λ k. (k < length d.names) × (owner_in d k ≡ owner_in d fragment)) ks →
+      AllByRecursion (MayMove d parent before) ks
   all_may [] inside nodes = tt
   all_may (k ∷ ks) inside nodes = (
     record {
       node = nodes.0.0;
       owner = nodes.0.1 ∙ may.owner;
       not_above = lacks_to (name_in d k) (inclusive_ancestors all_trees (name_in d parent)) (inside_lacks (name_in d k) inside.0);
-      apart = λ b at. (subst (Lacks (name_in d k)) (parent_path all_trees (once_in d counted (owner_in d parent)) (name_in d b) (name_in d parent) (child b at).child) (inside_child (name_in d k) inside.0 b at)).0;
+      apart = λ b at. (subst (Lacks (name_in d k))
+          (parent_path all_trees (once_in d counted (owner_in d parent)) (name_in d b) (name_in d parent) (child b at).child)
+          (inside_child (name_in d k) inside.0 b at)).0;
     },
     all_may ks inside.1 nodes.1,
   )
@@ -149,7 +179,8 @@ module _ (d : DocState) (counted : Counted d) (parent fragment : ℕ) (before : 
 -- ---- what the calls say of it
 
 -- of one node
-pub inserted_single : (d f : DocState) (alone : (k : ℕ) → k < length d.names → IsAlone d.world (owner_in d k)) (how : Observing) (parent node : ℕ) (before : Option ℕ) (prev : Option NodeName) → parent < length d.names
+pub inserted_single : (d f : DocState) (alone : (k : ℕ) → k < length d.names → IsAlone d.world (owner_in d k)) (how : Observing) (parent node : ℕ)
+    (before : Option ℕ) (prev : Option NodeName) → parent < length d.names
     → MayMove d parent before node → is_fragment (kind_of (trees_in d node) (name_in d node)) ≡ false
     → prev ≡ sibling_before (trees_in d parent) (name_in d parent) (option_map (name_in d) before)
     → f ≡ placed_all how (name_in d node ∷ []) (name_in d parent) (option_map (name_in d) before) prev (owner_in d parent) d
@@ -160,7 +191,8 @@ inserted_single d f alone how parent node before prev parent_is may kind was is 
     (ap (λ o. is_fragment (kind_of (part_of d.world o).trees (name_in d node))) (sym may.owner) ∙ kind)
 
 -- of a fragment
-pub inserted_fragment : (d e f : DocState) (alone : (k : ℕ) → k < length d.names → IsAlone d.world (owner_in d k)) (how : Observing) (parent fragment : ℕ) (before : Option ℕ) (prev : Option ℕ) (ks : List ℕ) → parent < length d.names
+pub inserted_fragment : (d e f : DocState) (alone : (k : ℕ) → k < length d.names → IsAlone d.world (owner_in d k)) (how : Observing)
+    (parent fragment : ℕ) (before : Option ℕ) (prev : Option ℕ) (ks : List ℕ) → parent < length d.names
     → MayMove d parent before fragment → is_fragment (kind_of (trees_in d fragment) (name_in d fragment)) ≡ true
     → option_map (name_in d) prev ≡ sibling_before (trees_in d parent) (name_in d parent) (option_map (name_in d) before)
     → map (name_in d) ks ≡ children_of (trees_in d fragment) (name_in d fragment) → is_empty ks ≡ false
@@ -173,11 +205,13 @@ inserted_fragment d e f alone how parent fragment before prev ks parent_is may k
     let ref = option_map (name_in d) before in
     let own : trees_in d fragment ≡ trees_in d parent = ap (λ p. (part_of d.world p).trees) may.owner in
     let children : map (name_in d) ks ≡ children_of (trees_in d parent) (name_in d fragment) = listed ∙ ap (λ t. children_of t (name_in d fragment)) own in
-    placed ∙ ap (λ (s : DocState). placed_all how (map (name_in s) ks) (name_in s parent) (option_map (name_in s) before) (option_map (name_in s) prev) (owner_in s parent) s)
+    placed ∙ ap (λ (s : DocState). placed_all how (map (name_in s) ks) (name_in s parent) (option_map (name_in s) before)
+    (option_map (name_in s) prev) (owner_in s parent) s)
     (emptied ∙ ap (λ p. planned p (emptying (name_in d fragment) (map (name_in d) ks)) d) may.owner)
     ∙ ap (λ q. placed_all how (map (name_in d) ks) here ref q o (planned o (emptying (name_in d fragment) (map (name_in d) ks)) d)) was
     ∙ ap (λ xs. placed_all how xs here ref (sibling_before (trees_in d parent) here ref) o (planned o (emptying (name_in d fragment) xs) d)) children
-    ∙ inserted_children o how (name_in d fragment) here ref d (alone parent parent_is) may.owner (ap (λ t. is_fragment (kind_of t (name_in d fragment))) (sym own) ∙ kind) (ap is_empty (sym children) ∙ mapped ks some)
+    ∙ inserted_children o how (name_in d fragment) here ref d (alone parent parent_is) may.owner
+    (ap (λ t. is_fragment (kind_of t (name_in d fragment))) (sym own) ∙ kind) (ap is_empty (sym children) ∙ mapped ks some)
   where
     mapped : (ks : List ℕ) → is_empty ks ≡ false → is_empty (map (name_in d) ks) ≡ false
     mapped [] h = cc

@@ -1,5 +1,6 @@
 -- Normalization: the Texts directly after a Text, their data, and the Texts below a node.
-use Rattle.std.proofs.Common.{◌≡◌, ℕ, suc, ◌<◌, ◌≤◌, inl, inr, Bool, true, false, List, [], ◌∷◌, ◌++◌, drop, length, map, Option, Some, None, option_map, refl, sym, ap, subst, ◌∙◌, arith}
+use Rattle.std.proofs.Common.{◌≡◌, ℕ, suc, ◌<◌, ◌≤◌, inl, inr, Bool, true, false, List, [], ◌∷◌, ◌++◌, drop, length, map, Option, Some, None}
+use Rattle.std.proofs.Common.{option_map, refl, sym, ap, subst, ◌∙◌, arith}
 use Rattle.std.specs.Prelude.{◌==◌, filter, flat_map, take_while, if◌then◌else◌}
 use Rattle.std.specs.List.{AllByRecursion}
 use Rattle.std.specs.Option.{ForSome, option_map_or}
@@ -10,7 +11,8 @@ use Rattle.std.proofs.lemmas.List.Sums.{take_while-cons}
 use Rattle.dom_base.specs.declared.NodeName.{NodeName}
 use Rattle.dom_base.specs.declared.Owner.{Owner}
 use Rattle.dom_model.specs.Names.{DomString, name_eq, first_of, is_empty, is_in, items_before, items_after}
-use Rattle.dom_model.specs.Tree.{Trees, kind_of, is_text, node_in, length_of, siblings, children_of, parent_of, next_sibling, inclusive_ancestors, is_inclusive_ancestor, subtree, inclusive_descendants}
+use Rattle.dom_model.specs.Tree.{Trees, kind_of, is_text, node_in, length_of, siblings, children_of, parent_of, next_sibling, inclusive_ancestors}
+use Rattle.dom_model.specs.Tree.{is_inclusive_ancestor, subtree, inclusive_descendants}
 use Rattle.dom_model.specs.Steps.{Step}
 use Rattle.dom_model.specs.World.{part_of}
 use Rattle.dom_model.specs.WorldSteps.{world_after}
@@ -72,17 +74,23 @@ rest_some ts zs y e = subst (λ ys. IsRest ts ys (first_of ys)) (sym e) (record 
 after_rest : (ts : Trees) → IsOnce ts → (x : NodeName) → IsRest ts (texts_after ts x) (first_of (texts_after ts x))
 after_rest ts once x = by_parent (parent_of ts x) refl
   where
-    by_items : (q : NodeName) (zs : List NodeName) → parent_of ts x ≡ Some q → items_after name_eq x (children_of ts q) ≡ zs → texts_after ts x ≡ take_while (λ y. is_text (kind_of ts y)) zs → IsRest ts (texts_after ts x) (first_of (texts_after ts x))
+    by_items : (q : NodeName) (zs : List NodeName) → parent_of ts x ≡ Some q → items_after name_eq x (children_of ts q) ≡ zs →
+        texts_after ts x ≡ take_while (λ y. is_text (kind_of ts y)) zs → IsRest ts (texts_after ts x) (first_of (texts_after ts x))
     by_items q [] up items e = rest_none ts (texts_after ts x) e
     by_items q (y ∷ rest) up items e = elim (cases_Bool (is_text (kind_of ts y))) [
       | inl h ↦
-          let next : next_sibling ts x ≡ Some y = ap (λ o. first_of (items_after name_eq x (option_map_or (children_of ts) o (x ∷ [])))) up ∙ ap first_of items in
+          let next : next_sibling ts x ≡ Some y =
+          ap (λ o. first_of (items_after name_eq x (option_map_or (children_of ts) o (x ∷ [])))) up ∙ ap first_of items in
           let beside = (next_child ts once x q y up next).0 in
           let behind : texts_after ts y ≡ take_while (λ y. is_text (kind_of ts y)) rest =
           ap (λ o. take_while (λ y. is_text (kind_of ts y)) (items_after name_eq y (option_map_or (children_of ts) o (y ∷ [])))) beside
           ∙ ap (λ zs. take_while (λ y. is_text (kind_of ts y)) zs) (after_first x y (children_of ts q) rest (children_once ts q once) items) in
-          rest_some ts (texts_after ts x) y (e ∙ take_while-cons (λ y. is_text (kind_of ts y)) y rest ∙ cond-true (is_text (kind_of ts y)) (y ∷ take_while (λ y. is_text (kind_of ts y)) rest) [] h ∙ ap (λ zs. y ∷ zs) (sym behind))
-      | inr h ↦ rest_none ts (texts_after ts x) (e ∙ take_while-cons (λ y. is_text (kind_of ts y)) y rest ∙ cond-false (is_text (kind_of ts y)) (y ∷ take_while (λ y. is_text (kind_of ts y)) rest) [] h)
+          rest_some ts (texts_after ts x) y
+          (e ∙ take_while-cons (λ y. is_text (kind_of ts y)) y rest ∙
+          cond-true (is_text (kind_of ts y)) (y ∷ take_while (λ y. is_text (kind_of ts y)) rest) [] h ∙ ap (λ zs. y ∷ zs) (sym behind))
+      | inr h ↦ rest_none ts (texts_after ts x)
+          (e ∙ take_while-cons (λ y. is_text (kind_of ts y)) y rest ∙
+          cond-false (is_text (kind_of ts y)) (y ∷ take_while (λ y. is_text (kind_of ts y)) rest) [] h)
     ]
 
     by_parent : (o : Option NodeName) → parent_of ts x ≡ o → IsRest ts (texts_after ts x) (first_of (texts_after ts x))
@@ -91,7 +99,8 @@ after_rest ts once x = by_parent (parent_of ts x) refl
         (ap (λ o. take_while (λ y. is_text (kind_of ts y)) (items_after name_eq x (option_map_or (children_of ts) o (x ∷ [])))) up
         ∙ ap (λ zs. take_while (λ y. is_text (kind_of ts y)) zs) (cond-true (name_eq x x) [] [] (name_eq-same x)))
     by_parent (Some q) up =
-        by_items q (items_after name_eq x (children_of ts q)) up refl (ap (λ o. take_while (λ y. is_text (kind_of ts y)) (items_after name_eq x (option_map_or (children_of ts) o (x ∷ [])))) up)
+        by_items q (items_after name_eq x (children_of ts q)) up refl
+        (ap (λ o. take_while (λ y. is_text (kind_of ts y)) (items_after name_eq x (option_map_or (children_of ts) o (x ∷ [])))) up)
 
 -- the first of them
 first_while : (p : NodeName → Bool) (zs : List NodeName) (y : NodeName) → first_of zs ≡ Some y → first_of (take_while p zs) ≡ (if p y then Some y else None)
@@ -103,12 +112,15 @@ first_while p (z ∷ zs) y e = by (p z) refl
 
     by : (b : Bool) → p z ≡ b → first_of (take_while p (z ∷ zs)) ≡ (if p y then Some y else None)
     by true h =
-        ap first_of (take_while-cons p z zs ∙ cond-true (p z) (z ∷ take_while p zs) [] h) ∙ ap (λ w. Some w) same ∙ sym (cond-true (p y) (Some y) None (ap p (sym same) ∙ h))
+        ap first_of (take_while-cons p z zs ∙ cond-true (p z) (z ∷ take_while p zs) [] h) ∙ ap (λ w. Some w) same ∙
+        sym (cond-true (p y) (Some y) None (ap p (sym same) ∙ h))
     by false h = ap first_of (take_while-cons p z zs ∙ cond-false (p z) (z ∷ take_while p zs) [] h) ∙ sym (cond-false (p y) (Some y) None (ap p (sym same) ∙ h))
 
 -- that is the next sibling, where it is a Text
-pub text_next : (ts : Trees) (x y : NodeName) (b : Bool) → next_sibling ts x ≡ Some y → is_text (kind_of ts y) ≡ b → (if b then Some y else None) ≡ first_of (texts_after ts x)
-text_next ts x y b next kind = sym (first_while (λ y. is_text (kind_of ts y)) (items_after name_eq x (siblings ts x)) y next ∙ ap (λ t. if t then Some y else None) kind)
+pub text_next : (ts : Trees) (x y : NodeName) (b : Bool) → next_sibling ts x ≡ Some y → is_text (kind_of ts y) ≡ b →
+    (if b then Some y else None) ≡ first_of (texts_after ts x)
+text_next ts x y b next kind = sym (first_while (λ y. is_text (kind_of ts y)) (items_after name_eq x (siblings ts x)) y next ∙
+    ap (λ t. if t then Some y else None) kind)
 
 -- how far the loop has come that lists them
 pub record Follows (d : DocState) (node : ℕ) (keys : List ℕ) (at : Option ℕ) : Type 0 where
@@ -116,7 +128,8 @@ pub record Follows (d : DocState) (node : ℕ) (keys : List ℕ) (at : Option �
   pub nodes : AllByRecursion (IsOwnNode d node) keys
   pub here : ForSome at (IsOwnNode d node)
 
-pub follows_first : (d : DocState) → Counted d → (node : ℕ) (at : Option ℕ) → option_map (name_in d) at ≡ first_of (texts_after (trees_in d node) (name_in d node)) → ForSome at (IsOwnNode d node) → Follows d node [] at
+pub follows_first : (d : DocState) → Counted d → (node : ℕ) (at : Option ℕ) →
+    option_map (name_in d) at ≡ first_of (texts_after (trees_in d node) (name_in d node)) → ForSome at (IsOwnNode d node) → Follows d node [] at
 follows_first d counted node at found near = record {
   listed = ap (with_rest (trees_in d node) []) found ∙ (after_rest (trees_in d node) (once_in d counted (owner_in d node)) (name_in d node)).all [];
   nodes = tt;
@@ -126,7 +139,8 @@ follows_first d counted node at found near = record {
 -- a step of it
 pub follows_next : (d : DocState) → Counted d → (node : ℕ) (keys : List ℕ) (at next : Option ℕ) (k : ℕ) → at ≡ Some k → Follows d node keys at
     → option_map (name_in d) next ≡ first_of (texts_after (trees_in d k) (name_in d k)) → ForSome next (IsOwnNode d k)
-    → Follows d node (keys ++ k ∷ []) next × (rest_length (trees_in d node) (option_map (name_in d) next) < rest_length (trees_in d node) (option_map (name_in d) at))
+    → Follows d node (keys ++ k ∷ []) next ×
+    (rest_length (trees_in d node) (option_map (name_in d) next) < rest_length (trees_in d node) (option_map (name_in d) at))
 follows_next d counted node keys at next k is follows found near =
     let ts = trees_in d node in
     let y = name_in d k in
@@ -136,7 +150,8 @@ follows_next d counted node keys at next k is follows found near =
     let listed = subst (λ (o : Option ℕ). with_rest ts (map (name_in d) keys) (option_map (name_in d) o) ≡ texts_after ts (name_in d node)) is follows.listed in
     let size = rest.size in (
       record {
-        listed = rest.all (map (name_in d) (keys ++ k ∷ [])) ∙ ap (λ xs. xs ++ texts_after ts y) (map-append (name_in d) keys (k ∷ [])) ∙ append_assoc (map (name_in d) keys) (y ∷ []) (texts_after ts y) ∙ listed;
+        listed = rest.all (map (name_in d) (keys ++ k ∷ [])) ∙ ap (λ xs. xs ++ texts_after ts y) (map-append (name_in d) keys (k ∷ [])) ∙
+            append_assoc (map (name_in d) keys) (y ∷ []) (texts_after ts y) ∙ listed;
         nodes = all_push (IsOwnNode d node) keys k follows.nodes here;
         here = λ j e. let h = near j e in (h.0, h.1 ∙ here.1);
       },
@@ -155,13 +170,15 @@ pub record Collects (d : DocState) (top : ℕ) (all : List ℕ) (units : DomStri
 
 -- nodes stay nodes where the names are the same
 pub own_nodes : (d e : DocState) (top : ℕ) (ks : List ℕ) → e.names ≡ d.names → AllByRecursion (IsOwnNode d top) ks → AllByRecursion (IsOwnNode e top) ks
-own_nodes d e top ks names h = subst (λ (ns : List NodeName). AllByRecursion (λ k. (k < length ns) × ((name_at ns k).owner ≡ (name_at ns top).owner)) ks) (sym names) h
+own_nodes d e top ks names h = subst (λ (ns : List NodeName). AllByRecursion
+    (λ k. (k < length ns) × ((name_at ns k).owner ≡ (name_at ns top).owner)) ks) (sym names) h
 
 -- the steps of a joining are its plan
 pub joined_whole : (d e f g : DocState) (node parent size : ℕ) (units : DomString) (ks : List ℕ) → IsAlone d.world (owner_in d node)
     → size ≡ length_of (trees_in d node) (name_in d node) → units ≡ flat_map (λ y. (node_in (trees_in d node) y).text) (map (name_in d) ks)
     → e ≡ planned (owner_in d node) (replacing_data (name_in d node) size 0 units) d
-    → joins (trees_in e node) (name_in e node) (name_in e parent) size (map (name_in e) ks) ≡ joins (trees_in d node) (name_in e node) (name_in e parent) size (map (name_in e) ks)
+    → joins (trees_in e node) (name_in e node) (name_in e parent) size (map (name_in e) ks) ≡ joins (trees_in d node) (name_in e node)
+    (name_in e parent) size (map (name_in e) ks)
     → f ≡ planned (owner_in e node) (steps_of (joins (trees_in e node) (name_in e node) (name_in e parent) size (map (name_in e) ks))) e
     → g ≡ planned (owner_in f node) (in_turn (removing observed) (map (name_in f) ks)) f
     → g ≡ planned (owner_in d node) (joining (name_in d node) (name_in d parent) (map (name_in d) ks)) d
@@ -173,9 +190,11 @@ joined_whole d e f g node parent size units ks alone sized collected replaced ex
     let ys = map (name_in d) ks in
     let carry : DocState → DocState = λ s. planned (owner_in s node) (steps_of (joins ts (name_in s node) (name_in s parent) size (map (name_in s) ks))) s in
     let leave : DocState → DocState = λ s. planned (owner_in s node) (in_turn (removing observed) (map (name_in s) ks)) s in
-    let all : ℕ → DomString → DocState = λ n u. planned o (replacing_data x n 0 u and_then steps_of (joins ts x q n ys) and_then in_turn (removing observed) ys) d in
+    let all : ℕ → DomString → DocState =
+    λ n u. planned o (replacing_data x n 0 u and_then steps_of (joins ts x q n ys) and_then in_turn (removing observed) ys) d in
     left_ ∙ ap leave (carried ∙ ap (λ steps. planned (owner_in e node) (steps_of steps) e) exact) ∙ ap (λ s. leave (carry s)) replaced
-    ∙ ap (planned o (in_turn (removing observed) ys)) (planned_then o (replacing_data x size 0 units) (steps_of (joins ts x q size ys)) d alone (plans_data o x size 0 units))
+    ∙ ap (planned o (in_turn (removing observed) ys))
+    (planned_then o (replacing_data x size 0 units) (steps_of (joins ts x q size ys)) d alone (plans_data o x size 0 units))
     ∙ planned_then o (replacing_data x size 0 units and_then steps_of (joins ts x q size ys)) (in_turn (removing observed) ys) d alone
     (plans_then o (replacing_data x size 0 units) (steps_of (joins ts x q size ys)) (plans_data o x size 0 units) (λ p own. plans_joins o ts x q size ys))
     ∙ ap (λ n. all n units) sized ∙ ap (all (length_of ts x)) collected
@@ -206,17 +225,21 @@ module _ (d : DocState) (node : ℕ) where
   normal_empty e h is = is ∙ ap (λ b. after_steps (steps_if b (parent_of ts x) (texts_after ts x))) (sym h)
 
   pub normal_root : (length_of ts x == 0) ≡ false → parent_of ts x ≡ None → d ≡ planned o (normalizing_text x) d
-  normal_root h up = ap (λ a. after_steps (steps_if false a (texts_after ts x))) (sym up) ∙ ap (λ b. after_steps (steps_if b (parent_of ts x) (texts_after ts x))) (sym h)
+  normal_root h up = ap (λ a. after_steps (steps_if false a (texts_after ts x))) (sym up) ∙
+      ap (λ b. after_steps (steps_if b (parent_of ts x) (texts_after ts x))) (sym h)
 
   pub normal_lone : (q : NodeName) → (length_of ts x == 0) ≡ false → parent_of ts x ≡ Some q → texts_after ts x ≡ [] → d ≡ planned o (normalizing_text x) d
   normal_lone q h up lone =
-      ap (λ ys. after_steps (steps_if false (Some q) ys)) (sym lone) ∙ ap (λ a. after_steps (steps_if false a (texts_after ts x))) (sym up) ∙ ap (λ b. after_steps (steps_if b (parent_of ts x) (texts_after ts x))) (sym h)
+      ap (λ ys. after_steps (steps_if false (Some q) ys)) (sym lone) ∙ ap (λ a. after_steps (steps_if false a (texts_after ts x))) (sym up) ∙
+      ap (λ b. after_steps (steps_if b (parent_of ts x) (texts_after ts x))) (sym h)
 
-  pub normal_joined : (e : DocState) (q : NodeName) (ks : List ℕ) → (length_of ts x == 0) ≡ false → parent_of ts x ≡ Some q → map (name_in d) ks ≡ texts_after ts x → is_empty ks ≡ false
+  pub normal_joined : (e : DocState) (q : NodeName) (ks : List ℕ) → (length_of ts x == 0) ≡ false → parent_of ts x ≡ Some q →
+      map (name_in d) ks ≡ texts_after ts x → is_empty ks ≡ false
       → e ≡ planned o (joining x q (map (name_in d) ks)) d → e ≡ planned o (normalizing_text x) d
   normal_joined e q [] h up listed some is = cc
   normal_joined e q (k ∷ ks) h up listed some is =
-      is ∙ ap (λ ys. after_steps (steps_if false (Some q) ys)) listed ∙ ap (λ a. after_steps (steps_if false a (texts_after ts x))) (sym up) ∙ ap (λ b. after_steps (steps_if b (parent_of ts x) (texts_after ts x))) (sym h)
+      is ∙ ap (λ ys. after_steps (steps_if false (Some q) ys)) listed ∙ ap (λ a. after_steps (steps_if false a (texts_after ts x))) (sym up) ∙
+      ap (λ b. after_steps (steps_if b (parent_of ts x) (texts_after ts x))) (sym h)
 
 -- ---- the Texts below a node
 
@@ -252,7 +275,8 @@ pub record Gathers (d : DocState) (top : ℕ) (keys : List ℕ) (at : Option ℕ
 
 -- each stands once in tree order
 below_once : (d : DocState) → Counted d → (top : ℕ) → NoTwice (below_of d top)
-below_once d counted top = names_once (subtree (trees_in d top) (name_in d top)) (once_subtree (trees_in d top) (name_in d top) (once_in d counted (owner_in d top)))
+below_once d counted top = names_once (subtree (trees_in d top) (name_in d top))
+    (once_subtree (trees_in d top) (name_in d top) (once_in d counted (owner_in d top)))
 
 -- at the first one
 pub gathers_first : (d : DocState) → Counted d → (top : ℕ) (at : Option ℕ) → is_inclusive_ancestor (trees_in d top) (name_in d top) (name_in d top) ≡ true
@@ -264,7 +288,8 @@ gathers_first d counted top at there found near inside =
     let first = first_own (trees_in d top) x there in
     let in_it : is_in name_eq x xs ≡ true = ap (is_in name_eq x) first.1 ∙ or_left (name_eq x x) (is_in name_eq x first.0) (name_eq-same x) in
     let w = subst (λ o. Walks xs x o) (sym found) (walks xs (below_once d counted top) x in_it) in
-    let none : items_before name_eq x xs ≡ [] = ap (items_before name_eq x) first.1 ∙ cond-true (name_eq x x) [] (x ∷ items_before name_eq x first.0) (name_eq-same x) in
+    let none : items_before name_eq x xs ≡ [] =
+    ap (items_before name_eq x) first.1 ∙ cond-true (name_eq x x) [] (x ∷ items_before name_eq x first.0) (name_eq-same x) in
     let start : walked xs (option_map (name_in d) at) ≡ x ∷ [] = w.more ∙ ap (λ zs. zs ++ x ∷ []) none in
     record {
       listed = sym (ap (λ zs. texts_in d top (drop 1 zs)) start);
@@ -286,7 +311,8 @@ module _ (d : DocState) (counted : Counted d) (top : ℕ) (keys : List ℕ) (at 
   y = name_in d k
 
   walk : Walks xs y (option_map (name_in d) next)
-  walk = subst (λ o. Walks xs y o) (sym found) (walks xs (below_once d counted top) y (subst (λ (o : Option ℕ). StandsIn xs (option_map (name_in d) o)) is gathers.stands))
+  walk = subst (λ o. Walks xs y o) (sym found)
+      (walks xs (below_once d counted top) y (subst (λ (o : Option ℕ). StandsIn xs (option_map (name_in d) o)) is gathers.stands))
 
   before : map (name_in d) keys ≡ texts_in d top (drop 1 (items_before name_eq y xs))
   before = subst (λ (o : Option ℕ). map (name_in d) keys ≡ texts_in d top (drop 1 (walked xs (option_map (name_in d) o)))) is gathers.listed
@@ -297,7 +323,8 @@ module _ (d : DocState) (counted : Counted d) (top : ℕ) (keys : List ℕ) (at 
   more : texts_in d top (drop 1 (walked xs (option_map (name_in d) next))) ≡ map (name_in d) keys ++ texts_in d top (y ∷ [])
   more =
       ap (λ zs. texts_in d top (drop 1 zs)) walk.more ∙ ap (texts_in d top) (drop-append-le 1 (items_before name_eq y xs) (y ∷ []) some_before)
-      ∙ filter-append (λ y. is_text (kind_of (trees_in d top) y)) (drop 1 (items_before name_eq y xs)) (y ∷ []) ∙ ap (λ zs. zs ++ texts_in d top (y ∷ [])) (sym before)
+      ∙ filter-append (λ y. is_text (kind_of (trees_in d top) y)) (drop 1 (items_before name_eq y xs)) (y ∷ []) ∙
+      ap (λ zs. zs ++ texts_in d top (y ∷ [])) (sym before)
 
   longer : 1 ≤ length (walked xs (option_map (name_in d) next))
   longer =
@@ -309,7 +336,9 @@ module _ (d : DocState) (counted : Counted d) (top : ℕ) (keys : List ℕ) (at 
 
   pub gathers_text : true ≡ is_text (kind_of (trees_in d k) y) → Gathers d top (keys ++ k ∷ []) next
   gathers_text text = record {
-    listed = map-append (name_in d) keys (k ∷ []) ∙ ap (λ zs. map (name_in d) keys ++ zs) (sym (cond-true (is_text (kind_of (trees_in d top) y)) (y ∷ []) [] (ap is_text (sym own_kind) ∙ sym text))) ∙ sym more;
+    listed = map-append (name_in d) keys (k ∷ []) ∙
+        ap (λ zs. map (name_in d) keys ++ zs)
+        (sym (cond-true (is_text (kind_of (trees_in d top) y)) (y ∷ []) [] (ap is_text (sym own_kind) ∙ sym text))) ∙ sym more;
     stands = walk.stands;
     some = longer;
     nodes = all_push (IsOwnNode d top) keys k gathers.nodes (gathers.here k is);
@@ -319,7 +348,8 @@ module _ (d : DocState) (counted : Counted d) (top : ℕ) (keys : List ℕ) (at 
 
   pub gathers_other : false ≡ is_text (kind_of (trees_in d k) y) → Gathers d top keys next
   gathers_other text = record {
-    listed = sym (more ∙ ap (λ zs. map (name_in d) keys ++ zs) (cond-false (is_text (kind_of (trees_in d top) y)) (y ∷ []) [] (ap is_text (sym own_kind) ∙ sym text)) ∙ append-nil (map (name_in d) keys));
+    listed = sym (more ∙ ap (λ zs. map (name_in d) keys ++ zs)
+        (cond-false (is_text (kind_of (trees_in d top) y)) (y ∷ []) [] (ap is_text (sym own_kind) ∙ sym text)) ∙ append-nil (map (name_in d) keys));
     stands = walk.stands;
     some = longer;
     nodes = gathers.nodes;

@@ -27,8 +27,11 @@ first_walked [] (Some y) e = cc
 first_walked (x ∷ xs) None e = cc
 first_walked (x ∷ xs) (Some y) e =
     let same : y ≡ x = cc in
-    let here : name_eq y x ≡ true = subst (λ z. name_eq z x ≡ true) (sym same) (name_eq-same x) in
-    (sym (Rattle.std.proofs.lemmas.Bool.cond-true (name_eq y x) [] (x ∷ items_before name_eq y xs) here), Rattle.std.proofs.lemmas.Bool.or_left (name_eq y x) (is_in name_eq y xs) here)
+    let here : name_eq y x ≡ true = subst (λ z. name_eq z x ≡ true) (sym same) (name_eq-same x) in (
+      sym (Rattle.std.proofs.lemmas.Bool.cond-true (name_eq y x) [] (x ∷ items_before name_eq y xs) here),
+      Rattle.std.proofs.lemmas.Bool.or_left
+          (name_eq y x) (is_in name_eq y xs) here,
+    )
 
 pub lists_first : (d : DocState) (node : ℕ) (at : Option ℕ) → option_map (name_in d) at ≡ first_of (children_of (trees_in d node) (name_in d node))
     → ForSome at (λ k. k < length d.names) → ForSome at (λ k. owner_in d k ≡ owner_in d node) → Lists d node [] at
@@ -48,8 +51,11 @@ each_in P (x ∷ xs) h y e = elim (Rattle.std.proofs.lemmas.Bool.cases_Bool (nam
 ]
 
 pub lists_next : (d : DocState) → Counted d → (node : ℕ) (keys : List ℕ) (at next : Option ℕ) (k : ℕ) → at ≡ Some k → Lists d node keys at
-    → option_map (name_in d) next ≡ next_sibling (trees_in d k) (name_in d k) → ForSome next (λ j. j < length d.names) → ForSome next (λ j. owner_in d j ≡ owner_in d k)
-    → Lists d node (keys ++ k ∷ []) next × (left (children_of (trees_in d node) (name_in d node)) (option_map (name_in d) next) < left (children_of (trees_in d node) (name_in d node)) (option_map (name_in d) at))
+    → option_map (name_in d) next ≡ next_sibling (trees_in d k) (name_in d k) → ForSome next (λ j. j < length d.names) →
+    ForSome next (λ j. owner_in d j ≡ owner_in d k)
+    → Lists d node (keys ++ k ∷ []) next ×
+    (left (children_of (trees_in d node) (name_in d node)) (option_map (name_in d) next) < left
+    (children_of (trees_in d node) (name_in d node)) (option_map (name_in d) at))
 lists_next d counted node keys at next k is lists found near own =
     let ts = trees_in d node in
     let once = once_in d counted (owner_in d node) in

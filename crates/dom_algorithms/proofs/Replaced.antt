@@ -36,7 +36,8 @@ path_once (tree n c r) once x =
       | inr h ↦ by_path (inclusive_ancestors c x) refl h (path_once c parts.below x) (path_once r parts.after x) (path_lacks c x n.name parts.root_below)
     ]
   where
-    by_path : (path : List NodeName) → inclusive_ancestors c x ≡ path → name_eq n.name x ≡ false → NoTwice (inclusive_ancestors c x) → NoTwice (inclusive_ancestors r x) → Lacks n.name (inclusive_ancestors c x)
+    by_path : (path : List NodeName) → inclusive_ancestors c x ≡ path → name_eq n.name x ≡ false → NoTwice (inclusive_ancestors c x) →
+        NoTwice (inclusive_ancestors r x) → Lacks n.name (inclusive_ancestors c x)
         → NoTwice (inclusive_ancestors (tree n c r) x)
     by_path [] is h below rest lacks = subst NoTwice (sym (path_after n c r x h is)) rest
     by_path (a ∷ path) is h below rest lacks =
@@ -57,7 +58,8 @@ lacks_after x z (y ∷ ys) h = elim (cases_Bool (name_eq z y)) [
 ]
 
 -- what comes after the next one is another one
-after_next : (x z y : NodeName) (xs : List NodeName) → NoTwice xs → first_of (items_after name_eq x xs) ≡ Some z → first_of (items_after name_eq z xs) ≡ Some y → name_eq x y ≡ false
+after_next : (x z y : NodeName) (xs : List NodeName) → NoTwice xs → first_of (items_after name_eq x xs) ≡ Some z →
+    first_of (items_after name_eq z xs) ≡ Some y → name_eq x y ≡ false
 after_next x z y [] once e f = cc
 after_next x z y (w ∷ ws) once e f = elim (cases_Bool (name_eq x w)) [
   | inl h ↦
@@ -74,14 +76,16 @@ after_next x z y (w ∷ ws) once e f = elim (cases_Bool (name_eq x w)) [
 ]
 
 -- the reference of a replacement is not the child that gives way
-pub reference_apart : (ts : Trees) → IsOnce ts → (x p node y : NodeName) → parent_of ts x ≡ Some p → reference_for ts node (next_sibling ts x) ≡ Some y → name_eq x y ≡ false
+pub reference_apart : (ts : Trees) → IsOnce ts → (x p node y : NodeName) → parent_of ts x ≡ Some p →
+    reference_for ts node (next_sibling ts x) ≡ Some y → name_eq x y ≡ false
 reference_apart ts once x p node y up e = by_next (next_sibling ts x) refl e
   where
     by_next : (o : Option NodeName) → next_sibling ts x ≡ o → reference_for ts node o ≡ Some y → name_eq x y ≡ false
     by_next None is e = cc
     by_next (Some z) is e = elim (cases_Bool (name_eq z node)) [
       | inl h ↦
-          let found : next_sibling ts z ≡ Some y = ap (next_sibling ts) (name_eq-true z node h) ∙ sym (cond-true (name_eq z node) (next_sibling ts node) (Some z) h) ∙ e in
+          let found : next_sibling ts z ≡ Some y =
+          ap (next_sibling ts) (name_eq-true z node h) ∙ sym (cond-true (name_eq z node) (next_sibling ts node) (Some z) h) ∙ e in
           let both = next_child ts once x p z up is in
           after_next x z y (children_of ts p) (children_once ts p once) (sym (next_walked ts once x p up) ∙ is) (sym (next_walked ts once z p both.0) ∙ found)
       | inr h ↦
@@ -92,20 +96,25 @@ reference_apart ts once x p node y up e = by_next (next_sibling ts x) refl e
 
 -- the next sibling of a child is a child
 pub next_is_near : (d : DocState) → Counted d → (parent child : ℕ) (next : Option ℕ) → IsChild d parent child
-    → option_map (name_in d) next ≡ next_sibling (trees_in d child) (name_in d child) → ForSome next (λ k. k < length d.names) → ForSome next (λ k. owner_in d k ≡ owner_in d child)
+    → option_map (name_in d) next ≡ next_sibling (trees_in d child) (name_in d child) → ForSome next (λ k. k < length d.names) →
+    ForSome next (λ k. owner_in d k ≡ owner_in d child)
     → ForSome next (IsChild d parent)
 next_is_near d counted parent child next child_is found near own b is =
     (Rattle.dom_algorithms.proofs.Placed.next_is_child d counted parent child child next child_is refl found near own b is).0
 
 -- the state e after the child is taken out
-module _ (d e : DocState) (counted : Counted d) (alone : (k : ℕ) → k < length d.names → IsAlone d.world (owner_in d k)) (parent node child : ℕ) (next reference : Option ℕ) (child_is : IsChild d parent child)
+module _ (d e : DocState) (counted : Counted d) (alone : (k : ℕ) → k < length d.names → IsAlone d.world (owner_in d k)) (parent node child : ℕ)
+    (next reference : Option ℕ) (child_is : IsChild d parent child)
     (found : option_map (name_in d) next ≡ next_sibling (trees_in d child) (name_in d child))
     (referred : option_map (name_in d) reference ≡ reference_for (trees_in d parent) (name_in d node) (option_map (name_in d) next))
     (removed : e ≡ planned (owner_in d child) (removing suppressed (name_in d child)) d) where
   off : (b : ℕ) → reference ≡ Some b → name_eq (name_in d child) (name_in d b) ≡ false
   off b is =
-      reference_apart (trees_in d parent) (once_in d counted (owner_in d parent)) (name_in d child) (name_in d parent) (name_in d node) (name_in d b) child_is.child
-      (ap (reference_for (trees_in d parent) (name_in d node)) (ap (λ o. next_sibling (part_of d.world o).trees (name_in d child)) (sym child_is.owner) ∙ sym found) ∙ sym referred ∙ ap (option_map (name_in d)) is)
+      reference_apart (trees_in d parent) (once_in d counted (owner_in d parent)) (name_in d child) (name_in d parent) (name_in d node)
+      (name_in d b) child_is.child
+      (ap (reference_for (trees_in d parent) (name_in d node))
+      (ap (λ o. next_sibling (part_of d.world o).trees (name_in d child)) (sym child_is.owner) ∙ sym found) ∙ sym referred ∙
+      ap (option_map (name_in d)) is)
 
   same_names : e.names ≡ d.names
   same_names = ap (λ (s : DocState). s.names) removed
@@ -113,13 +122,17 @@ module _ (d e : DocState) (counted : Counted d) (alone : (k : ℕ) → k < lengt
   below : Lacks (name_in d child) (inclusive_ancestors (trees_in d parent) (name_in d parent))
   below = child_below (trees_in d parent) (once_in d counted (owner_in d parent)) (name_in d child) (name_in d parent) child_is.child
 
-  kept : (y : NodeName) → Lacks (name_in d child) (inclusive_ancestors (trees_in d parent) y) → inclusive_ancestors (trees_in e parent) y ≡ inclusive_ancestors (trees_in d parent) y
+  kept : (y : NodeName) → Lacks (name_in d child) (inclusive_ancestors (trees_in d parent) y) →
+      inclusive_ancestors (trees_in e parent) y ≡ inclusive_ancestors (trees_in d parent) y
   kept y lacks =
       let own : trees_in d child ≡ trees_in d parent = ap (λ o. (part_of d.world o).trees) child_is.owner in
       let owned : trees_in e parent ≡ trees_in e child =
-      ap (λ (ns : List NodeName). (part_of e.world (name_at ns parent).owner).trees) same_names ∙ ap (λ o. (part_of e.world o).trees) (sym child_is.owner) ∙ ap (λ (ns : List NodeName). (part_of e.world (name_at ns child).owner).trees) (sym same_names) in
+      ap (λ (ns : List NodeName). (part_of e.world (name_at ns parent).owner).trees) same_names ∙
+      ap (λ o. (part_of e.world o).trees) (sym child_is.owner) ∙ ap (λ (ns : List NodeName). (part_of e.world (name_at ns child).owner).trees)
+      (sym same_names) in
       ap (λ t. inclusive_ancestors t y) owned
-      ∙ removal_keeps d e counted child (alone child child_is.node) suppressed removed y (ap (λ t. is_inclusive_ancestor t (name_in d child) y) own ∙ lacks_to (name_in d child) (inclusive_ancestors (trees_in d parent) y) lacks)
+      ∙ removal_keeps d e counted child (alone child child_is.node) suppressed removed y
+      (ap (λ t. is_inclusive_ancestor t (name_in d child) y) own ∙ lacks_to (name_in d child) (inclusive_ancestors (trees_in d parent) y) lacks)
       ∙ ap (λ t. inclusive_ancestors t y) own
 
   -- what was asked of the parent and the reference still holds
@@ -128,20 +141,25 @@ module _ (d e : DocState) (counted : Counted d) (alone : (k : ℕ) → k < lengt
     names = same_names;
     parent_path = kept (name_in d parent) below;
     before_path = λ b is.
-        kept (name_in d b) (subst (Lacks (name_in d child)) (sym (parent_path (trees_in d parent) (once_in d counted (owner_in d parent)) (name_in d b) (name_in d parent) (children b is).child)) (off b is, below));
+        kept (name_in d b) (subst (Lacks (name_in d child))
+        (sym (parent_path (trees_in d parent) (once_in d counted (owner_in d parent)) (name_in d b) (name_in d parent) (children b is).child))
+        (off b is, below));
   }
 
 -- ---- the whole
 
 -- the steps of a replacement are its plan
-pub replaced_whole : (d e f g : DocState) → (parent node child : ℕ) (added : List ℕ) (prev next reference : Option ℕ) → IsAlone d.world (owner_in d parent) → owner_in d node ≡ owner_in d parent → owner_in d child ≡ owner_in d parent
+pub replaced_whole : (d e f g : DocState) → (parent node child : ℕ) (added : List ℕ) (prev next reference : Option ℕ) →
+    IsAlone d.world (owner_in d parent) → owner_in d node ≡ owner_in d parent → owner_in d child ≡ owner_in d parent
     → map (name_in d) added ≡ placed_nodes (trees_in d node) (name_in d node)
     → option_map (name_in d) prev ≡ previous_sibling (trees_in d child) (name_in d child)
     → option_map (name_in d) next ≡ next_sibling (trees_in d child) (name_in d child)
     → option_map (name_in d) reference ≡ reference_for (trees_in d parent) (name_in d node) (option_map (name_in d) next)
     → e ≡ planned (owner_in d child) (removing suppressed (name_in d child)) d
     → f ≡ planned (owner_in e parent) (inserting suppressed (name_in e node) (name_in e parent) (option_map (name_in e) reference)) e
-    → g ≡ stepped (owner_in f parent) (queue_record (child_list (name_in f parent) (map (name_in f) added) (name_in f child ∷ []) (option_map (name_in f) prev) (option_map (name_in f) reference))) f
+    → g ≡ stepped (owner_in f parent) (queue_record
+    (child_list (name_in f parent) (map (name_in f) added) (name_in f child ∷ []) (option_map (name_in f) prev)
+    (option_map (name_in f) reference))) f
     → g ≡ planned (owner_in d parent) (replacing (name_in d parent) (name_in d node) (name_in d child)) d
 replaced_whole d e f g parent node child added prev next reference alone node_owner child_owner placed was behind referred removed inserted told =
     let o = owner_in d parent in
@@ -150,14 +168,21 @@ replaced_whole d e f g parent node child added prev next reference alone node_ow
     let c = name_in d child in
     let ts = trees_in d parent in
     let ref = option_map (name_in d) reference in
-    let tell : DocState → DocState = λ s. stepped (owner_in s parent) (queue_record (child_list (name_in s parent) (map (name_in s) added) (name_in s child ∷ []) (option_map (name_in s) prev) (option_map (name_in s) reference))) s in
-    let put : DocState → DocState = λ s. planned (owner_in s parent) (inserting suppressed (name_in s node) (name_in s parent) (option_map (name_in s) reference)) s in
-    let record_of : List NodeName → Option NodeName → Option NodeName → Rattle.dom_model.specs.Changes.Plan = λ xs a b. doing (queue_record (child_list p xs (c ∷ []) a b)) in
-    let all : List NodeName → Option NodeName → Option NodeName → DocState = λ xs a b. planned o (removing suppressed c and_then inserting suppressed x p b and_then record_of xs a b) d in
+    let tell : DocState → DocState = λ s. stepped (owner_in s parent)
+    (queue_record (child_list (name_in s parent) (map (name_in s) added) (name_in s child ∷ []) (option_map (name_in s) prev)
+    (option_map (name_in s) reference))) s in
+    let put : DocState → DocState = λ s. planned (owner_in s parent)
+    (inserting suppressed (name_in s node) (name_in s parent) (option_map (name_in s) reference)) s in
+    let record_of : List NodeName → Option NodeName → Option NodeName → Rattle.dom_model.specs.Changes.Plan =
+    λ xs a b. doing (queue_record (child_list p xs (c ∷ []) a b)) in
+    let all : List NodeName → Option NodeName → Option NodeName → DocState =
+    λ xs a b. planned o (removing suppressed c and_then inserting suppressed x p b and_then record_of xs a b) d in
     told ∙ ap tell inserted ∙ ap (λ s. tell (put s)) (removed ∙ ap (λ w. planned w (removing suppressed c) d) child_owner)
-    ∙ ap (planned o (record_of (map (name_in d) added) (option_map (name_in d) prev) ref)) (planned_then o (removing suppressed c) (inserting suppressed x p ref) d alone (plans_removing o suppressed c))
+    ∙ ap (planned o (record_of (map (name_in d) added) (option_map (name_in d) prev) ref))
+    (planned_then o (removing suppressed c) (inserting suppressed x p ref) d alone (plans_removing o suppressed c))
     ∙ planned_then o (removing suppressed c and_then inserting suppressed x p ref) (record_of (map (name_in d) added) (option_map (name_in d) prev) ref) d alone
     (plans_then o (removing suppressed c) (inserting suppressed x p ref) (plans_removing o suppressed c) (plans_inserting o suppressed x p ref node_owner))
     ∙ ap (λ xs. all xs (option_map (name_in d) prev) ref) (placed ∙ ap (λ w. placed_nodes (part_of d.world w).trees x) node_owner)
     ∙ ap (λ a. all (placed_nodes ts x) a ref) (was ∙ ap (λ w. previous_sibling (part_of d.world w).trees c) child_owner)
-    ∙ ap (λ b. all (placed_nodes ts x) (previous_sibling ts c) b) (referred ∙ ap (reference_for ts x) (behind ∙ ap (λ w. next_sibling (part_of d.world w).trees c) child_owner))
+    ∙ ap (λ b. all (placed_nodes ts x) (previous_sibling ts c) b)
+    (referred ∙ ap (reference_for ts x) (behind ∙ ap (λ w. next_sibling (part_of d.world w).trees c) child_owner))

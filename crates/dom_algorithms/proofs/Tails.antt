@@ -17,14 +17,17 @@ use Rattle.dom_parts.proofs.OwnPlans.{plans_inserting}
 use Rattle.dom_algorithms.proofs.Placed.{Counted, once_in}
 
 -- the new Text, which stands alone, may be placed there
-pub tail_may : (d : DocState) → Counted d → (parent node new : ℕ) (next : Option ℕ) → IsChild d parent node → new < length d.names → owner_in d new ≡ owner_in d parent
-    → parent_of (trees_in d node) (name_in d new) ≡ None → is_inclusive_ancestor (trees_in d node) (name_in d new) (name_in d node) ≡ false → ForSome next (IsChild d parent) → MayMove d parent next new
+pub tail_may : (d : DocState) → Counted d → (parent node new : ℕ) (next : Option ℕ) → IsChild d parent node → new < length d.names →
+    owner_in d new ≡ owner_in d parent
+    → parent_of (trees_in d node) (name_in d new) ≡ None → is_inclusive_ancestor (trees_in d node) (name_in d new) (name_in d node) ≡ false →
+    ForSome next (IsChild d parent) → MayMove d parent next new
 tail_may d counted parent node new next child there owner unlinked off children =
     let ts = trees_in d parent in
     let x = name_in d node in
     let y = name_in d new in
     let own : trees_in d node ≡ ts = ap (λ o. (part_of d.world o).trees) child.owner in
-    let lacks = subst (Lacks y) (parent_path ts (once_in d counted (owner_in d parent)) x (name_in d parent) child.child) (lacks_from y (inclusive_ancestors ts x) (ap (λ t. is_inclusive_ancestor t y x) (sym own) ∙ off)) in
+    let lacks = subst (Lacks y) (parent_path ts (once_in d counted (owner_in d parent)) x (name_in d parent) child.child)
+    (lacks_from y (inclusive_ancestors ts x) (ap (λ t. is_inclusive_ancestor t y x) (sym own) ∙ off)) in
     let root : parent_of ts y ≡ None = ap (λ t. parent_of t y) (sym own) ∙ unlinked in
     record {
       node = there;
@@ -36,10 +39,12 @@ tail_may d counted parent node new next child there owner unlinked off children 
     }
 
 -- and is
-pub tail_placed : (d f g : DocState) (parent node new : ℕ) (offset : ℕ) (next : Option ℕ) → IsAlone d.world (owner_in d node) → owner_in d node ≡ owner_in d parent → owner_in d new ≡ owner_in d parent
+pub tail_placed : (d f g : DocState) (parent node new : ℕ) (offset : ℕ) (next : Option ℕ) → IsAlone d.world (owner_in d node) →
+    owner_in d node ≡ owner_in d parent → owner_in d new ≡ owner_in d parent
     → option_map (name_in d) next ≡ next_sibling (trees_in d node) (name_in d node)
     → f ≡ planned (owner_in d parent) (inserting observed (name_in d new) (name_in d parent) (option_map (name_in d) next)) d
-    → (index : ℕ) → index ≡ index_of (trees_in d node) (name_in d node) → g ≡ stepped (owner_in f node) (split_at (name_in f node) offset (name_in f new) (name_in f parent) index) f
+    → (index : ℕ) → index ≡ index_of (trees_in d node) (name_in d node) →
+    g ≡ stepped (owner_in f node) (split_at (name_in f node) offset (name_in f new) (name_in f parent) index) f
     → g ≡ planned (owner_in d node) (placing_tail (name_in d node) offset (name_in d new) (Some (name_in d parent))) d
 tail_placed d f g parent node new offset next alone owner new_owner found inserted index stood told =
     let o = owner_in d node in
@@ -49,6 +54,8 @@ tail_placed d f g parent node new offset next alone owner new_owner found insert
     let at = index_of (trees_in d node) x in
     let tell : DocState → DocState = λ s. stepped (owner_in s node) (split_at (name_in s node) offset (name_in s new) (name_in s parent) at) s in
     let split : Plan = doing (split_at x offset y p at) in
-    told ∙ ap (λ i. stepped (owner_in f node) (split_at (name_in f node) offset (name_in f new) (name_in f parent) i) f) stood ∙ ap tell (inserted ∙ ap (λ w. planned w (inserting observed y p (option_map (name_in d) next)) d) (sym owner))
-    ∙ planned_then o (inserting observed y p (option_map (name_in d) next)) split d alone (plans_inserting o observed y p (option_map (name_in d) next) (new_owner ∙ sym owner))
+    told ∙ ap (λ i. stepped (owner_in f node) (split_at (name_in f node) offset (name_in f new) (name_in f parent) i) f) stood ∙
+    ap tell (inserted ∙ ap (λ w. planned w (inserting observed y p (option_map (name_in d) next)) d) (sym owner))
+    ∙ planned_then o (inserting observed y p (option_map (name_in d) next)) split d alone
+    (plans_inserting o observed y p (option_map (name_in d) next) (new_owner ∙ sym owner))
     ∙ ap (λ r. planned o (inserting observed y p r and_then split) d) found

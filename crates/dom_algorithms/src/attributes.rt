@@ -20,7 +20,8 @@ pub fn set_attr(parts: &mut Parts, node: Key, name: &str, value: DomStr) -> Resu
     ensures other { IfErr result (λ fault. (fault ≡ Fault.Refused InvalidCharacter) ⊎ (fault ≡ Fault.Memory)) }
     ensures unchanged { is_name name.now ≡ false → parts.new ≡ parts.old }
     ensures names { OnOk result (parts.new.names ≡ parts.old.names) }
-    ensures world { OnOk result (parts.new.world ≡ made (owner_in parts.old node) (setting_attribute (name_in parts.old node) name.now value.items) parts.old.world) }
+    ensures world { OnOk result (parts.new.world ≡ made (owner_in parts.old node)
+        (setting_attribute (name_in parts.old node) name.now value.items) parts.old.world) }
 {
     if !is_name(name.as_bytes()) {
         return Err(Fault::Refused(Refusal::InvalidCharacter));

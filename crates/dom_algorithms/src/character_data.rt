@@ -26,11 +26,13 @@ pub fn replace_data(
     requires node_is_node { node < length parts.old.names }
     requires has_data { has_data (kind_of (trees_in parts.old node) (name_in parts.old node)) ≡ true }
     requires bounds { HasBounds (part_of parts.old.world (owner_in parts.old node)) }
-    ensures refused { (result ≡ Err (Fault.Refused IndexSize)) ↔ (past_end (part_of parts.old.world (owner_in parts.old node)) (name_in parts.old node) offset ≡ true) }
+    ensures refused { (result ≡ Err (Fault.Refused IndexSize)) ↔
+        (past_end (part_of parts.old.world (owner_in parts.old node)) (name_in parts.old node) offset ≡ true) }
     ensures other { IfErr result (λ fault. (fault ≡ Fault.Refused IndexSize) ⊎ (fault ≡ Fault.Memory)) }
     ensures unchanged { past_end (part_of parts.old.world (owner_in parts.old node)) (name_in parts.old node) offset ≡ true → parts.new ≡ parts.old }
     ensures names { OnOk result (parts.new.names ≡ parts.old.names) }
-    ensures world { OnOk result (parts.new.world ≡ made (owner_in parts.old node) (replacing_data (name_in parts.old node) offset count «data».items) parts.old.world) }
+    ensures world { OnOk result (parts.new.world ≡ made (owner_in parts.old node)
+        (replacing_data (name_in parts.old node) offset count «data».items) parts.old.world) }
 {
     if offset > parts.length(node) {
         return Err(Fault::Refused(Refusal::IndexSize));

@@ -5,7 +5,8 @@ ghost use Rattle.dom_base.specs.declared.NodeName.{NodeName as Name};
 ghost use Rattle.std.specs.Option.{option_map, ForSome};
 ghost use Rattle.dom_model.specs.Names.{name_eq};
 ghost use Rattle.dom_model.specs.Tree.{kind_of, is_fragment, children_of, inclusive_ancestors};
-ghost use Rattle.dom_model.specs.Changes.{pre_inserting, reference_for, inserting, observed, sibling_before, in_turn, making_room, steps_of, telling, placing, emptying, removing};
+ghost use Rattle.dom_model.specs.Changes.{pre_inserting, reference_for, inserting, observed, sibling_before, in_turn, making_room, steps_of, telling};
+ghost use Rattle.dom_model.specs.Changes.{placing, emptying, removing};
 ghost use Rattle.dom_base.specs.declared.Refusal.{Refusal as RefusalOf};
 ghost use Rattle.dom_model.specs.Validity.{insertion_refusal};
 ghost use Rattle.dom_model.specs.World.{part_of};
@@ -37,10 +38,13 @@ pub fn pre_insert(
     requires child_owner { ForSome child (λ c. owner_in parts.old c ≡ owner_in parts.old parent) }
     requires bounds { HasBounds (part_of parts.old.world (owner_in parts.old parent)) }
     ensures names { OnOk result (parts.new.names ≡ parts.old.names) }
-    ensures world { OnOk result (parts.new.world ≡ made (owner_in parts.old parent) (pre_inserting (name_in parts.old node) (name_in parts.old parent) (option_map (name_in parts.old) child)) parts.old.world) }
+    ensures world { OnOk result (parts.new.world ≡ made (owner_in parts.old parent)
+        (pre_inserting (name_in parts.old node) (name_in parts.old parent) (option_map (name_in parts.old) child)) parts.old.world) }
 
     // A refusal is the Standard's, and changes nothing; nothing else but memory stops an insertion.
-    ensures refused { (r : RefusalOf) → (result ≡ Err (Fault.Refused r)) ↔ (insertion_refusal (trees_in parts.old parent) (name_in parts.old parent) (name_in parts.old node) (option_map (name_in parts.old) child) ≡ Some r) }
+    ensures refused { (r : RefusalOf) → (result ≡ Err (Fault.Refused r)) ↔
+        (insertion_refusal (trees_in parts.old parent) (name_in parts.old parent) (name_in parts.old node)
+        (option_map (name_in parts.old) child) ≡ Some r) }
     ensures unchanged { (r : RefusalOf) → result ≡ Err (Fault.Refused r) → parts.new ≡ parts.old }
 {
     let at = child;
@@ -66,7 +70,8 @@ pub fn insert(
     requires may_move { MayMove parts.old parent child node }
     requires child_is_child { ForSome child (IsChild parts.old parent) }
     requires bounds { HasBounds (part_of parts.old.world (owner_in parts.old parent)) }
-    ensures { OnOk result (parts.new ≡ planned (owner_in parts.old parent) (inserting observed (name_in parts.old node) (name_in parts.old parent) (option_map (name_in parts.old) child)) parts.old) }
+    ensures { OnOk result (parts.new ≡ planned (owner_in parts.old parent)
+        (inserting observed (name_in parts.old node) (name_in parts.old parent) (option_map (name_in parts.old) child)) parts.old) }
 {
     inserting(parts, Telling::Observed, node, parent, child)
 }
@@ -77,7 +82,8 @@ pub fn reference_for(parts: &Parts, parent: Key, node: Key, child: Option<Key>) 
     requires parent_is_node { parent < length parts.now.names }
     requires node_is_node { node < length parts.now.names }
     requires child_is_child { ForSome child (IsChild parts.now parent) }
-    ensures value { option_map (name_in parts.now) result ≡ reference_for (trees_in parts.now parent) (name_in parts.now node) (option_map (name_in parts.now) child) }
+    ensures value { option_map (name_in parts.now) result ≡ reference_for (trees_in parts.now parent) (name_in parts.now node)
+        (option_map (name_in parts.now) child) }
     ensures child { ForSome result (IsChild parts.now parent) }
     ensures apart { ForSome result (λ b. name_eq (name_in parts.now node) (name_in parts.now b) ≡ false) }
 {
@@ -101,7 +107,8 @@ pub(crate) fn inserting(
     requires may_move { MayMove parts.old parent before node }
     requires before_is_child { ForSome before (IsChild parts.old parent) }
     requires bounds { HasBounds (part_of parts.old.world (owner_in parts.old parent)) }
-    ensures { OnOk result (parts.new ≡ planned (owner_in parts.old parent) (inserting (observing_of how) (name_in parts.old node) (name_in parts.old parent) (option_map (name_in parts.old) before)) parts.old) }
+    ensures { OnOk result (parts.new ≡ planned (owner_in parts.old parent)
+        (inserting (observing_of how) (name_in parts.old node) (name_in parts.old parent) (option_map (name_in parts.old) before)) parts.old) }
 {
     let child = before;
     let prev = sibling_before(parts, parent, child);
@@ -135,12 +142,14 @@ fn insert_children(
     requires may_move { MayMove parts.old parent before fragment }
     requires before_is_child { ForSome before (IsChild parts.old parent) }
     requires is_fragment { is_fragment (kind_of (trees_in parts.old fragment) (name_in parts.old fragment)) ≡ true }
-    requires prev_is_before { option_map (name_in parts.old) prev ≡ sibling_before (trees_in parts.old parent) (name_in parts.old parent) (option_map (name_in parts.old) before) }
+    requires prev_is_before { option_map (name_in parts.old) prev ≡ sibling_before (trees_in parts.old parent) (name_in parts.old parent)
+        (option_map (name_in parts.old) before) }
     requires are_children { map (name_in parts.old) children.now ≡ children_of (trees_in parts.old fragment) (name_in parts.old fragment) }
     requires are_nodes { AllByRecursion (λ k. (k < length parts.old.names) × (owner_in parts.old k ≡ owner_in parts.old fragment)) children.now }
     requires prev_is_node { IsNodeIf parts.old prev }
     requires bounds { HasBounds (part_of parts.old.world (owner_in parts.old parent)) }
-    ensures { OnOk result (parts.new ≡ planned (owner_in parts.old parent) (inserting (observing_of how) (name_in parts.old fragment) (name_in parts.old parent) (option_map (name_in parts.old) before)) parts.old) }
+    ensures { OnOk result (parts.new ≡ planned (owner_in parts.old parent)
+        (inserting (observing_of how) (name_in parts.old fragment) (name_in parts.old parent) (option_map (name_in parts.old) before)) parts.old) }
 {
     parts.laws();
     if children.is_empty() {
@@ -154,7 +163,8 @@ fn insert_children(
 fn sibling_before(parts: &Parts, parent: Key, before: Option<Key>) -> Option<Key>
     requires parent_is_node { parent < length parts.now.names }
     requires before_is_child { ForSome before (IsChild parts.now parent) }
-    ensures value { option_map (name_in parts.now) result ≡ sibling_before (trees_in parts.now parent) (name_in parts.now parent) (option_map (name_in parts.now) before) }
+    ensures value { option_map (name_in parts.now) result ≡ sibling_before (trees_in parts.now parent) (name_in parts.now parent)
+        (option_map (name_in parts.now) before) }
     ensures node { IsNodeIf parts.now result }
 {
     match before {
@@ -195,7 +205,8 @@ fn place_all(
     requires prev_is_node { IsNodeIf parts.old prev }
     requires bounds { HasBounds (part_of parts.old.world (owner_in parts.old parent)) }
     requires few { length moved.now ≤ 1000000 }
-    ensures { OnOk result (parts.new ≡ placed_all (observing_of how) (map (name_in parts.old) moved.now) (name_in parts.old parent) (option_map (name_in parts.old) before) (option_map (name_in parts.old) prev) (owner_in parts.old parent) parts.old) }
+    ensures { OnOk result (parts.new ≡ placed_all (observing_of how) (map (name_in parts.old) moved.now) (name_in parts.old parent)
+        (option_map (name_in parts.old) before) (option_map (name_in parts.old) prev) (owner_in parts.old parent) parts.old) }
 {
     let child = before;
     let next = before;
@@ -210,7 +221,8 @@ fn room_before(parts: &mut Parts, parent: Key, before: Option<Key>, count: usize
     requires before_is_child { ForSome before (IsChild parts.old parent) }
     requires bounds { HasBounds (part_of parts.old.world (owner_in parts.old parent)) }
     requires few { count ≤ 1000000 }
-    ensures state { parts.new ≡ planned (owner_in parts.old parent) (making_room (name_in parts.old parent) (option_map (name_in parts.old) before) count) parts.old }
+    ensures state { parts.new ≡ planned (owner_in parts.old parent)
+        (making_room (name_in parts.old parent) (option_map (name_in parts.old) before) count) parts.old }
     ensures trees { trees_in parts.new parent ≡ trees_in parts.old parent }
 {
     parts.laws();
@@ -232,7 +244,10 @@ fn tell_placed(
     requires moved_are_nodes { AreNodes parts.old moved.now }
     requires prev_is_node { IsNodeIf parts.old prev }
     requires next_is_node { IsNodeIf parts.old next }
-    ensures { OnOk result (parts.new ≡ planned (owner_in parts.old parent) (steps_of (telling (observing_of how) (child_list (name_in parts.old parent) (map (name_in parts.old) moved.now) [] (option_map (name_in parts.old) prev) (option_map (name_in parts.old) next)))) parts.old) }
+    ensures { OnOk result (parts.new ≡ planned (owner_in parts.old parent)
+        (steps_of (telling (observing_of how)
+        (child_list (name_in parts.old parent) (map (name_in parts.old) moved.now) [] (option_map (name_in parts.old) prev)
+        (option_map (name_in parts.old) next)))) parts.old) }
 {
     if matches!(how, Telling::Observed) {
         parts.tell_children(parent, moved, &[], prev, next)?;
@@ -250,7 +265,8 @@ fn place_each(
     requires parent_is_node { parent < length parts.old.names }
     requires may_move { AllByRecursion (MayMove parts.old parent before) moved.now }
     requires before_is_child { ForSome before (IsChild parts.old parent) }
-    ensures { OnOk result (parts.new ≡ planned (owner_in parts.old parent) (in_turn (placing (name_in parts.old parent) (option_map (name_in parts.old) before)) (map (name_in parts.old) moved.now)) parts.old) }
+    ensures { OnOk result (parts.new ≡ planned (owner_in parts.old parent)
+        (in_turn (placing (name_in parts.old parent) (option_map (name_in parts.old) before)) (map (name_in parts.old) moved.now)) parts.old) }
 {
     parts.laws();
     for node in moved {
@@ -264,8 +280,10 @@ fn place_each(
 fn empty(parts: &mut Parts, fragment: Key, children: &[Key]) -> Result<(), AllocError>
     requires fragment_is_node { fragment < length parts.old.names }
     requires children_are_nodes { AllByRecursion (λ k. (k < length parts.old.names) × (owner_in parts.old k ≡ owner_in parts.old fragment)) children.now }
-    ensures state { OnOk result (parts.new ≡ planned (owner_in parts.old fragment) (emptying (name_in parts.old fragment) (map (name_in parts.old) children.now)) parts.old) }
-    ensures paths { OnOk result ((y : Name) → NoneAbove parts.old fragment y children.now → inclusive_ancestors (trees_in parts.new fragment) y ≡ inclusive_ancestors (trees_in parts.old fragment) y) }
+    ensures state { OnOk result (parts.new ≡ planned (owner_in parts.old fragment)
+        (emptying (name_in parts.old fragment) (map (name_in parts.old) children.now)) parts.old) }
+    ensures paths { OnOk result ((y : Name) → NoneAbove parts.old fragment y children.now →
+        inclusive_ancestors (trees_in parts.new fragment) y ≡ inclusive_ancestors (trees_in parts.old fragment) y) }
 {
     parts.laws();
     take_each(parts, Telling::Suppressed, fragment, children)?;
@@ -281,8 +299,10 @@ pub(crate) fn take_each(
 ) -> Result<(), AllocError>
     requires top_is_node { top < length parts.old.names }
     requires children_are_nodes { AllByRecursion (λ k. (k < length parts.old.names) × (owner_in parts.old k ≡ owner_in parts.old top)) children.now }
-    ensures state { OnOk result (parts.new ≡ planned (owner_in parts.old top) (in_turn (removing (observing_of how)) (map (name_in parts.old) children.now)) parts.old) }
-    ensures paths { OnOk result ((y : Name) → NoneAbove parts.old top y children.now → inclusive_ancestors (trees_in parts.new top) y ≡ inclusive_ancestors (trees_in parts.old top) y) }
+    ensures state { OnOk result (parts.new ≡ planned (owner_in parts.old top)
+        (in_turn (removing (observing_of how)) (map (name_in parts.old) children.now)) parts.old) }
+    ensures paths { OnOk result ((y : Name) → NoneAbove parts.old top y children.now →
+        inclusive_ancestors (trees_in parts.new top) y ≡ inclusive_ancestors (trees_in parts.old top) y) }
 {
     parts.laws();
     for child in children {
@@ -297,7 +317,8 @@ fn placing(parts: &mut Parts, parent: Key, before: Option<Key>, node: Key) -> Re
     requires parent_is_node { parent < length parts.old.names }
     requires may_move { MayMove parts.old parent before node }
     requires before_is_child { ForSome before (IsChild parts.old parent) }
-    ensures state { OnOk result (parts.new ≡ planned (owner_in parts.old parent) (placing (name_in parts.old parent) (option_map (name_in parts.old) before) (name_in parts.old node)) parts.old) }
+    ensures state { OnOk result (parts.new ≡ planned (owner_in parts.old parent)
+        (placing (name_in parts.old parent) (option_map (name_in parts.old) before) (name_in parts.old node)) parts.old) }
     ensures paths { OnOk result (KeepsPaths parent (name_in parts.old node) parts.old parts.new) }
 {
     parts.laws();

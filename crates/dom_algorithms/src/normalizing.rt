@@ -76,7 +76,8 @@ fn joining(parts: &mut Parts, node: Key, parent: Key, nexts: &[Key]) -> Result<(
     requires parent_owner { owner_in parts.old parent ≡ owner_in parts.old node }
     requires are_nexts { map (name_in parts.old) nexts.now ≡ texts_after (trees_in parts.old node) (name_in parts.old node) }
     requires bounds { HasBounds (part_of parts.old.world (owner_in parts.old node)) }
-    ensures { OnOk result (parts.new ≡ planned (owner_in parts.old node) (joining (name_in parts.old node) (name_in parts.old parent) (map (name_in parts.old) nexts.now)) parts.old) }
+    ensures { OnOk result (parts.new ≡ planned (owner_in parts.old node)
+        (joining (name_in parts.old node) (name_in parts.old parent) (map (name_in parts.old) nexts.now)) parts.old) }
 {
     parts.laws();
     let size = parts.length(node);
@@ -138,7 +139,8 @@ fn is_text(parts: &Parts, node: Key) -> bool
 /// The Texts below a node, in tree order.
 fn texts_below(parts: &Parts, top: Key) -> Result<Vec<Key>, AllocError>
     requires { top < length parts.now.names }
-    ensures names { IfOk result (λ keys. map (name_in parts.now) keys.items ≡ filter (λ y. is_text (kind_of (trees_in parts.now top) y)) (descendants (trees_in parts.now top) (name_in parts.now top))) }
+    ensures names { IfOk result (λ keys. map (name_in parts.now) keys.items ≡ filter (λ y. is_text (kind_of (trees_in parts.now top) y))
+        (descendants (trees_in parts.now top) (name_in parts.now top))) }
     ensures nodes { IfOk result (λ keys. AllByRecursion (IsOwnNode parts.now top) keys.items) }
 {
     parts.laws();

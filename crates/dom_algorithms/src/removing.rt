@@ -37,11 +37,13 @@ pub fn adopt(parts: &mut Parts, document: Key, node: Key) -> Result<(), Fault>
     requires document_is_node { document < length parts.old.names }
     requires node_is_node { node < length parts.old.names }
     requires one_owner { owner_in parts.old document ≡ owner_in parts.old node }
-    ensures refused { (r : RefusalOf) → (result ≡ Err (Fault.Refused r)) ↔ (adoption_refusal (kind_of (trees_in parts.old node) (name_in parts.old node)) ≡ Some r) }
+    ensures refused { (r : RefusalOf) → (result ≡ Err (Fault.Refused r)) ↔
+        (adoption_refusal (kind_of (trees_in parts.old node) (name_in parts.old node)) ≡ Some r) }
     ensures other { IfErr result (λ fault. (fault ≡ Fault.Refused NotSupported) ⊎ ((fault ≡ Fault.Refused Hierarchy) ⊎ (fault ≡ Fault.Memory))) }
     ensures unchanged { (r : RefusalOf) → result ≡ Err (Fault.Refused r) → parts.new ≡ parts.old }
     ensures names { OnOk result (parts.new.names ≡ parts.old.names) }
-    ensures world { OnOk result (parts.new.world ≡ made (owner_in parts.old node) (adopting (name_in parts.old document) (name_in parts.old node)) parts.old.world) }
+    ensures world { OnOk result (parts.new.world ≡ made (owner_in parts.old node) (adopting (name_in parts.old document) (name_in parts.old node))
+        parts.old.world) }
 {
     match parts.kind(node) {
         Kind::Document => Err(Fault::Refused(Refusal::NotSupported)),

@@ -26,10 +26,12 @@ pub fn replace(parts: &mut Parts, parent: Key, node: Key, child: Key) -> Result<
     requires child_owner { owner_in parts.old child ≡ owner_in parts.old parent }
     requires bounds { HasBounds (part_of parts.old.world (owner_in parts.old parent)) }
     ensures names { OnOk result (parts.new.names ≡ parts.old.names) }
-    ensures world { OnOk result (parts.new.world ≡ made (owner_in parts.old parent) (replacing (name_in parts.old parent) (name_in parts.old node) (name_in parts.old child)) parts.old.world) }
+    ensures world { OnOk result (parts.new.world ≡ made (owner_in parts.old parent)
+        (replacing (name_in parts.old parent) (name_in parts.old node) (name_in parts.old child)) parts.old.world) }
 
     // A refusal is the Standard's, and changes nothing; nothing else but memory stops a replacement.
-    ensures refused { (r : RefusalOf) → (result ≡ Err (Fault.Refused r)) ↔ (replacement_refusal (trees_in parts.old parent) (name_in parts.old parent) (name_in parts.old node) (name_in parts.old child) ≡ Some r) }
+    ensures refused { (r : RefusalOf) → (result ≡ Err (Fault.Refused r)) ↔
+        (replacement_refusal (trees_in parts.old parent) (name_in parts.old parent) (name_in parts.old node) (name_in parts.old child) ≡ Some r) }
     ensures unchanged { (r : RefusalOf) → result ≡ Err (Fault.Refused r) → parts.new ≡ parts.old }
 {
     if let Err(refusal) = parts.check_replace(parent, node, child) {
@@ -49,7 +51,8 @@ fn replacing(parts: &mut Parts, parent: Key, node: Key, child: Key) -> Result<()
     requires child_is_child { IsChild parts.old parent child }
     requires bounds { HasBounds (part_of parts.old.world (owner_in parts.old parent)) }
     ensures names { OnOk result (parts.new.names ≡ parts.old.names) }
-    ensures world { OnOk result (parts.new ≡ planned (owner_in parts.old parent) (replacing (name_in parts.old parent) (name_in parts.old node) (name_in parts.old child)) parts.old) }
+    ensures world { OnOk result (parts.new ≡ planned (owner_in parts.old parent)
+        (replacing (name_in parts.old parent) (name_in parts.old node) (name_in parts.old child)) parts.old) }
 {
     parts.laws();
     let next = parts.next(child);

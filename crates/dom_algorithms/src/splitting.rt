@@ -34,9 +34,12 @@ pub fn split(parts: &mut Parts, node: Key, offset: usize) -> Result<Key, Fault>
     ensures world { OnOk result (parts.new.world ≡ made (owner_in parts.old node) (splitting (name_in parts.old node) offset) parts.old.world) }
 
     // A refusal is one of these, in their order, and changes nothing; nothing else but memory stops a split.
-    ensures index { (result ≡ Err (Fault.Refused IndexSize)) ↔ (past_end (part_of parts.old.world (owner_in parts.old node)) (name_in parts.old node) offset ≡ true) }
-    ensures refused { (r : RefusalOf) → result ≡ Err (Fault.Refused r) → splitting_refusal (part_of parts.old.world (owner_in parts.old node)) (name_in parts.old node) offset ≡ Some r }
-    ensures stopped { (r : RefusalOf) → splitting_refusal (part_of parts.old.world (owner_in parts.old node)) (name_in parts.old node) offset ≡ Some r → (result ≡ Err (Fault.Refused r)) ⊎ (result ≡ Err Fault.Memory) }
+    ensures index { (result ≡ Err (Fault.Refused IndexSize)) ↔
+        (past_end (part_of parts.old.world (owner_in parts.old node)) (name_in parts.old node) offset ≡ true) }
+    ensures refused { (r : RefusalOf) → result ≡ Err (Fault.Refused r) →
+        splitting_refusal (part_of parts.old.world (owner_in parts.old node)) (name_in parts.old node) offset ≡ Some r }
+    ensures stopped { (r : RefusalOf) → splitting_refusal (part_of parts.old.world (owner_in parts.old node)) (name_in parts.old node)
+        offset ≡ Some r → (result ≡ Err (Fault.Refused r)) ⊎ (result ≡ Err Fault.Memory) }
     ensures unchanged { (r : RefusalOf) → result ≡ Err (Fault.Refused r) → parts.new ≡ parts.old }
 {
     if offset > parts.length(node) {
@@ -73,7 +76,9 @@ pub(crate) fn make_text(
     requires document_is_node { ForSome document (λ d. d < length parts.old.names) }
     ensures key { IfOk result (λ key. key ≡ length parts.old.names) }
     ensures names { OnOk result (parts.new.names ≡ parts.old.names ++ next_name (part_of parts.old.world (owner_in parts.old like)) ∷ []) }
-    ensures world { OnOk result (parts.new.world ≡ made (owner_in parts.old like) (doing (make (new_text_node (next_name (part_of parts.old.world (owner_in parts.old like))) (option_map (name_in parts.old) document) units.items))) parts.old.world) }
+    ensures world { OnOk result (parts.new.world ≡ made (owner_in parts.old like)
+        (doing (make (new_text_node (next_name (part_of parts.old.world (owner_in parts.old like))) (option_map (name_in parts.old) document)
+        units.items))) parts.old.world) }
     ensures limit { (result ≡ Err (Fault.Refused Limit)) ↔ (past_limit (part_of parts.old.world (owner_in parts.old like)).node_count 1 ≡ true) }
     ensures other { IfErr result (λ fault. (fault ≡ Fault.Refused Limit) ⊎ (fault ≡ Fault.Memory)) }
     ensures err { OnErr result (parts.new ≡ parts.old) }
@@ -104,7 +109,8 @@ fn cut_tail(
     requires unlinked { parent_of (trees_in parts.old node) (name_in parts.old new) ≡ None }
     requires not_above { is_inclusive_ancestor (trees_in parts.old node) (name_in parts.old new) (name_in parts.old node) ≡ false }
     requires bounds { HasBounds (part_of parts.old.world (owner_in parts.old node)) }
-    ensures { OnOk result (parts.new ≡ planned (owner_in parts.old node) (cutting_tail (name_in parts.old node) offset count (name_in parts.old new)) parts.old) }
+    ensures { OnOk result (parts.new ≡ planned (owner_in parts.old node)
+        (cutting_tail (name_in parts.old node) offset count (name_in parts.old new)) parts.old) }
 {
     parts.laws();
     if let Some(parent) = parts.parent(node) {
@@ -129,7 +135,8 @@ fn placing_tail(
     requires unlinked { parent_of (trees_in parts.old node) (name_in parts.old new) ≡ None }
     requires not_above { is_inclusive_ancestor (trees_in parts.old node) (name_in parts.old new) (name_in parts.old node) ≡ false }
     requires bounds { HasBounds (part_of parts.old.world (owner_in parts.old node)) }
-    ensures { OnOk result (parts.new ≡ planned (owner_in parts.old node) (placing_tail (name_in parts.old node) offset (name_in parts.old new) (Some (name_in parts.old parent))) parts.old) }
+    ensures { OnOk result (parts.new ≡ planned (owner_in parts.old node)
+        (placing_tail (name_in parts.old node) offset (name_in parts.old new) (Some (name_in parts.old parent))) parts.old) }
 {
     parts.laws();
     let index = parts.index(node);

@@ -25,11 +25,14 @@ use std::alloc::AllocError;
 pub fn set_text(parts: &mut Parts, node: Key, data: DomStr) -> Result<(), Fault>
     requires node_is_node { node < length parts.old.names }
     requires bounds { HasBounds (part_of parts.old.world (owner_in parts.old node)) }
-    ensures names { OnOk result (parts.new.names ≡ parts.old.names ++ texts_made (part_of parts.old.world (owner_in parts.old node)) (name_in parts.old node) «data».items) }
+    ensures names { OnOk result (parts.new.names ≡ parts.old.names ++ texts_made (part_of parts.old.world (owner_in parts.old node))
+        (name_in parts.old node) «data».items) }
     ensures world { OnOk result (parts.new.world ≡ made (owner_in parts.old node) (setting_text (name_in parts.old node) «data».items) parts.old.world) }
 
     // A refusal changes nothing; nothing else but memory stops a change of text.
-    ensures refused { (result ≡ Err (Fault.Refused Limit)) ↔ (past_limit (part_of parts.old.world (owner_in parts.old node)).node_count (made_by_text (part_of parts.old.world (owner_in parts.old node)) (name_in parts.old node) «data».items) ≡ true) }
+    ensures refused { (result ≡ Err (Fault.Refused Limit)) ↔
+        (past_limit (part_of parts.old.world (owner_in parts.old node)).node_count
+        (made_by_text (part_of parts.old.world (owner_in parts.old node)) (name_in parts.old node) «data».items) ≡ true) }
     ensures other { IfErr result (λ fault. (fault ≡ Fault.Refused Limit) ⊎ (fault ≡ Fault.Memory)) }
     ensures unchanged { result ≡ Err (Fault.Refused Limit) → parts.new ≡ parts.old }
 {
@@ -50,7 +53,8 @@ fn replace_children(parts: &mut Parts, node: Key, units: DomStr) -> Result<(), F
     requires bounds { HasBounds (part_of parts.old.world (owner_in parts.old node)) }
     ensures names { OnOk result (parts.new.names ≡ parts.old.names ++ children_texts (part_of parts.old.world (owner_in parts.old node)) units.items) }
     ensures world { OnOk result (parts.new.world ≡ made (owner_in parts.old node) (replacing_children (name_in parts.old node) units.items) parts.old.world) }
-    ensures limit { (result ≡ Err (Fault.Refused Limit)) ↔ (past_limit (part_of parts.old.world (owner_in parts.old node)).node_count (if is_empty units.items then 0 else 1) ≡ true) }
+    ensures limit { (result ≡ Err (Fault.Refused Limit)) ↔
+        (past_limit (part_of parts.old.world (owner_in parts.old node)).node_count (if is_empty units.items then 0 else 1) ≡ true) }
     ensures other { IfErr result (λ fault. (fault ≡ Fault.Refused Limit) ⊎ (fault ≡ Fault.Memory)) }
     ensures unchanged { result ≡ Err (Fault.Refused Limit) → parts.new ≡ parts.old }
 {

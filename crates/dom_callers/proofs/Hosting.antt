@@ -28,6 +28,7 @@ widgets-attached f hosts order w =
     }
 
 -- a path has an item for each of its nodes
-pub items-long : (s : ShadowTrees) (depth : ℕ) (target : NodeName) (related before : Option NodeName) (nodes : List NodeName) → length (items_at s depth target related before nodes) ≡ length nodes
+pub items-long : (s : ShadowTrees) (depth : ℕ) (target : NodeName) (related before : Option NodeName) (nodes : List NodeName) →
+    length (items_at s depth target related before nodes) ≡ length nodes
 items-long s depth target related before [] = refl
 items-long s depth target related before (x ∷ xs) = ap suc (items-long s depth target related (Some x) xs)

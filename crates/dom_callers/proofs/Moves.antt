@@ -1,7 +1,8 @@
 -- What `move_to_front` asks of an arena whose node was taken out of its list.
 use Rattle.std.proofs.Common.{◌≡◌, inl, inr, ℕ, zero, suc, ◌<◌, true, eqb, List, [], ◌∷◌, map, length, Some, None, refl, sym, arith, true≢false}
 use Rattle.std.proofs.lemmas.Bool.{eq-eqb, or_cases, eqb-true}
-use Rattle.node_arena.specs.Nodes.{children_of, contains, parent_of, ancestors_within, ancestors_of, head_of, insert_before, without, IsForest, IsInclusiveAncestor}
+use Rattle.node_arena.specs.Nodes.{children_of, contains, parent_of, ancestors_within, ancestors_of, head_of, insert_before, without, IsForest}
+use Rattle.node_arena.specs.Nodes.{IsInclusiveAncestor}
 use Rattle.node_arena.proofs.Lists.{contains-without, contains-without_same}
 use Rattle.node_arena.proofs.Forests.{cases_Option, contains-parent, parent_of_none, children_of-without, IsRanked, ranks-from_forest}
 
@@ -10,7 +11,8 @@ pub unlinked-without : (lists : List (List ℕ)) (k : ℕ) → parent_of (map (w
 unlinked-without lists k = parent_of_none (map (without k) lists) k (λ p. rw (children_of-without lists k p) (contains-without_same k (children_of lists p)))
 
 -- on the way up ranks fall, also where a node was taken out
-falls : (lists : List (List ℕ)) (ranked : IsRanked lists) (c n k a : ℕ) → contains (ancestors_within n (map (without c) lists) k) a ≡ true → ranked.rank a < ranked.rank k
+falls : (lists : List (List ℕ)) (ranked : IsRanked lists) (c n k a : ℕ) → contains (ancestors_within n (map (without c) lists) k) a ≡ true →
+    ranked.rank a < ranked.rank k
 falls lists ranked c zero k a found = absurd (true≢false (sym found))
 falls lists ranked c (suc n) k a found = elim (cases_Option (parent_of (map (without c) lists) k)) [
   | inl e ↦ absurd (true≢false (sym (rw e at found)))

@@ -21,7 +21,8 @@ end-behind f node n =
     let behind : ltb n 0 ≡ false = false_from_ne_true (ltb n 0) (λ e. omega (arith, ltb-true n 0 e)) in
     rw (name_eq-same (root_of f.trees x), before-same f.trees x x n 0 refl, behind) refl
 
-module _ (t mid : RangeLists) (owner : Owner) (node : ℕ) (made : (o : Owner) → ranges_of mid o ≡ with_ranges t owner (ranges_of t owner ++ Some (from_to (at node 0) (at node 0)) ∷ []) o) where
+module _ (t mid : RangeLists) (owner : Owner) (node : ℕ)
+    (made : (o : Owner) → ranges_of mid o ≡ with_ranges t owner (ranges_of t owner ++ Some (from_to (at node 0) (at node 0)) ∷ []) o) where
   -- the owner's ranges, with the one that was made
   pub ranges-made : ranges_of mid owner ≡ ranges_of t owner ++ Some (from_to (at node 0) (at node 0)) ∷ []
   ranges-made = rw (owner_eq-same owner) at (made owner)
@@ -31,12 +32,20 @@ module _ (t mid : RangeLists) (owner : Owner) (node : ℕ) (made : (o : Owner) �
   range-made = rw (ranges-made, append-last (ranges_of t owner) (Some (from_to (at node 0) (at node 0)))) refl
 
   -- the owner's ranges, with the one that was made and then ended
-  pub ranges-ended : (f : NamedTrees) (n : ℕ) → slice_set (ranges_of mid owner) (length (ranges_of t owner)) (option_map (end_set f (at node n)) (range_in (ranges_of mid owner) (length (ranges_of t owner)))) ≡ ranges_of t owner ++ Some (from_to (at node 0) (at node n)) ∷ []
+  pub ranges-ended : (f : NamedTrees) (n : ℕ) →
+      slice_set (ranges_of mid owner) (length (ranges_of t owner))
+      (option_map (end_set f (at node n)) (range_in (ranges_of mid owner) (length (ranges_of t owner)))) ≡ ranges_of t owner ++
+      Some (from_to (at node 0) (at node n)) ∷ []
   ranges-ended f n =
-      rw (range-made, end-behind f node n, ranges-made) (set_at (ranges_of t owner) (Some (from_to (at node 0) (at node 0))) [] (Some (from_to (at node 0) (at node n))) (length (ranges_of t owner)) refl)
+      rw (range-made, end-behind f node n, ranges-made)
+      (set_at (ranges_of t owner) (Some (from_to (at node 0) (at node 0))) [] (Some (from_to (at node 0) (at node n)))
+      (length (ranges_of t owner)) refl)
 
   -- each owner's ranges
-  pub all-ended : (f : NamedTrees) (n : ℕ) (o : Owner) → with_ranges mid owner (slice_set (ranges_of mid owner) (length (ranges_of t owner)) (option_map (end_set f (at node n)) (range_in (ranges_of mid owner) (length (ranges_of t owner))))) o ≡ with_ranges t owner (ranges_of t owner ++ Some (from_to (at node 0) (at node n)) ∷ []) o
+  pub all-ended : (f : NamedTrees) (n : ℕ) (o : Owner) →
+      with_ranges mid owner (slice_set (ranges_of mid owner) (length (ranges_of t owner))
+      (option_map (end_set f (at node n)) (range_in (ranges_of mid owner) (length (ranges_of t owner))))) o ≡ with_ranges t owner
+      (ranges_of t owner ++ Some (from_to (at node 0) (at node n)) ∷ []) o
   all-ended f n o = elim (cases_Bool (owner_eq owner o)) [
     | inl e ↦ rw e (ranges-ended f n)
     | inr e ↦ rw e (rw e at (made o))

@@ -29,7 +29,8 @@ pub record AreWidgets (f : NamedTrees) (hosts : List ShadowHost) : Type 0 where
   pub three_alone : parent_of f.trees (name_at f.names three) ≡ None
 
 -- an event is answered as its listeners do, called with what it shows along its path through the widgets
-pub record IsAnswered (f : NamedTrees) (hosts : List ShadowHost) (listeners : List (Listener ℕ)) (target : ℕ) (related : Option ℕ) (e : EventWords) (answer : Bool) : Type 0 where
+pub record IsAnswered (f : NamedTrees) (hosts : List ShadowHost) (listeners : List (Listener ℕ)) (target : ℕ) (related : Option ℕ)
+    (e : EventWords) (answer : Bool) : Type 0 where
   pub shown : List (View ℕ)
   pub views : AreViews (shadows f hosts) 1 (name_at f.names target) (option_map (name_at f.names) related) e.composed (map (view_named f.names) shown)
   pub answer_is : answer ≡ not (dispatch_along listeners e shown).cancelled

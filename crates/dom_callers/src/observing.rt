@@ -14,11 +14,13 @@ use node_arena::Key;
 /// refused with `Memory` where memory is refused; then nothing is observed, but the observer may have been made.
 pub fn watch_attributes(observers: &mut Observers, owner: Owner, node: Key) -> Result<u32, Fault>
     ensures number { IfOk result (λ k. k ≡ length (tables_of observers.old owner).record_queues) }
-    ensures tables { IfOk result (λ k. ChangesTables owner (observing nat_eq k node attribute_words (with_observer (tables_of observers.old owner))) observers.old observers.new) }
+    ensures tables { IfOk result (λ k. ChangesTables owner
+        (observing nat_eq k node attribute_words (with_observer (tables_of observers.old owner))) observers.old observers.new) }
     ensures limit { (result ≡ Err (Fault.Refused Refusal.Limit)) ↔ (past_limit (length (tables_of observers.old owner).record_queues) 1 ≡ true) }
     ensures other { IfErr result (λ fault. (fault ≡ Fault.Refused Refusal.Limit) ⊎ (fault ≡ Fault.Memory)) }
     ensures kept { result ≡ Err (Fault.Refused Refusal.Limit) → KeepsTables observers.old observers.new }
-    ensures err { OnErr result (KeepsTables observers.old observers.new ⊎ ChangesTables owner (with_observer (tables_of observers.old owner)) observers.old observers.new) }
+    ensures err { OnErr result (KeepsTables observers.old observers.new ⊎
+        ChangesTables owner (with_observer (tables_of observers.old owner)) observers.old observers.new) }
 {
     let observer = observers.make(owner)?;
     let options = Options {

@@ -24,7 +24,8 @@ pub fn count_visits(
     requires target_is_node { target < length forest.now.names }
     requires free { slots.now.begun ≡ None }
     requires slots { AreSlotsOf forest.now slots.now }
-    ensures { IfOk result (λ count. (w : World) → IsWorldOf forest.now slots.now.hosts w → count ≡ length (event_path w (name_at forest.now.names target) None composed)) }
+    ensures { IfOk result (λ count. (w : World) → IsWorldOf forest.now slots.now.hosts w →
+        count ≡ length (event_path w (name_at forest.now.names target) None composed)) }
 {
     let path = Path::build(alloc, forest, slots, target, None, composed)?;
     Ok(path.items().len())

@@ -25,7 +25,9 @@ pub fn select_contents(
     requires node_is_node { node < length forest.now.names }
     requires ends { EachRange (BothEnds (IsAtNode forest.now.names)) (ranges_of ranges.old owner) }
     ensures number { IfOk result (λ number. number ≡ length (ranges_of ranges.old owner)) }
-    ensures made { OnOk result ((o : Owners) → ranges_of ranges.new o ≡ with_ranges ranges.old owner (ranges_of ranges.old owner ++ Some (from_to (at node 0) (at node (length_of forest.now.trees (name_at forest.now.names node)))) ∷ []) o) }
+    ensures made { OnOk result ((o : Owners) →
+        ranges_of ranges.new o ≡ with_ranges ranges.old owner
+        (ranges_of ranges.old owner ++ Some (from_to (at node 0) (at node (length_of forest.now.trees (name_at forest.now.names node)))) ∷ []) o) }
     ensures limit { (result ≡ Err (Fault.Refused Refusal.Limit)) ↔ (past_limit (length (ranges_of ranges.old owner)) 1 ≡ true) }
     ensures other { IfErr result (λ fault. (fault ≡ Fault.Refused Refusal.Limit) ⊎ (fault ≡ Fault.Memory)) }
     ensures err { OnErr result ((o : Owners) → ranges_of ranges.new o ≡ ranges_of ranges.old o) }

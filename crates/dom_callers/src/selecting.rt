@@ -17,7 +17,8 @@ use std::alloc::Global;
 /// `Selector` where the text is none, and with `Memory` where memory is refused.
 pub fn has_match(alloc: Global, forest: &Forest, top: Key, text: &[u16]) -> Result<bool, Fault>
     requires { top < length forest.now.names }
-    ensures ok { IfOk result (λ found. option_map (λ selector. not (is_empty (query_all forest.now.trees selector (name_at forest.now.names top)))) (parse_selectors text.now) ≡ Some found) }
+    ensures ok { IfOk result (λ found. option_map
+        (λ selector. not (is_empty (query_all forest.now.trees selector (name_at forest.now.names top)))) (parse_selectors text.now) ≡ Some found) }
     ensures err { IfErr result (IsRefusalWhere (parse_selectors text.now ≡ None)) }
 {
     let selector = Selector::parse(alloc, text)?;

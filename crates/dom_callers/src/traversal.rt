@@ -14,7 +14,8 @@ use node_arena::Key;
 pub fn next_focus(forest: &Forest, root: Key, focused: Key, filter: Filter) -> Option<Key>
     requires root_is_node { root < length forest.now.names }
     requires focused_is_node { focused < length forest.now.names }
-    ensures value { option_map (name_at forest.now.names) result ≡ focus_behind forest.now.trees (filter_of filter) (name_at forest.now.names root) (name_at forest.now.names focused) }
+    ensures value { option_map (name_at forest.now.names) result ≡ focus_behind forest.now.trees (filter_of filter)
+        (name_at forest.now.names root) (name_at forest.now.names focused) }
     ensures node { ForSome result (λ k. k < length forest.now.names) }
 {
     let mut walker = Walker::new(root, filter);

@@ -13,7 +13,8 @@ use node_arena::Key;
 /// What stands on a button: the data of its first child, where that is a Text (own rule).
 pub fn label(forest: &Forest, button: Key) -> Option<&[u16]>
     requires { button < length forest.now.names }
-    ensures { option_map (λ text. text.now) result ≡ option_and_then (text_at forest.now.trees) (first_of (children_of forest.now.trees (name_at forest.now.names button))) }
+    ensures { option_map (λ text. text.now) result ≡ option_and_then (text_at forest.now.trees)
+        (first_of (children_of forest.now.trees (name_at forest.now.names button))) }
 {
     let child = forest.first(button)?;
     match forest.kind(child) {

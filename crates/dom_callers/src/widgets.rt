@@ -29,7 +29,8 @@ pub fn count_widget_visits(
     requires free { slots.now.begun ≡ None }
     requires slots { AreSlotsOf forest.now slots.now }
     requires widgets { AreWidgets forest.now slots.now.hosts }
-    ensures { IfOk result (λ count. (nodes : List Name) × IsPath (shadows forest.now slots.now.hosts) 1 (name_at forest.now.names target) None composed nodes × (count ≡ length nodes)) }
+    ensures { IfOk result (λ count. (nodes : List Name) ×
+        IsPath (shadows forest.now slots.now.hosts) 1 (name_at forest.now.names target) None composed nodes × (count ≡ length nodes)) }
 {
     forest.nodes_stand_once();
     hosts_nest();

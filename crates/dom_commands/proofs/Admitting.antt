@@ -27,13 +27,15 @@ use Rattle.dom_admission.proofs.Namings.{naming-dispatch, naming-dispatch_relate
 use Rattle.dom_admission.proofs.Refusing.{IsNaming, refusal-of_names}
 
 -- a command that passes is refused by its own tests alone
-pub passes : (w : World) (o : Owner) (c : Command) (names : List Operand) (q : Option Refusal) → IsNaming c names → let_pass (early_refusal w o names) ≡ Ok tt → q ≡ own_refusal (part_of w o) c →
+pub passes : (w : World) (o : Owner) (c : Command) (names : List Operand) (q : Option Refusal) → IsNaming c names →
+    let_pass (early_refusal w o names) ≡ Ok tt → q ≡ own_refusal (part_of w o) c →
     let_pass q ≡ let_pass (refusal w o c)
 passes w o c names q is pass own =
     ap let_pass (own ∙ sym (refusal-of_names w o c names is ∙ ap (λ e. option_or e (own_refusal (part_of w o) c)) (passed (early_refusal w o names) pass)))
 
 -- one that doesn't is refused before
-pub stops : (w : World) (o : Owner) (c : Command) (names : List Operand) (f : Fault) → IsNaming c names → let_pass (early_refusal w o names) ≡ Err f → Err f ≡ let_pass (refusal w o c)
+pub stops : (w : World) (o : Owner) (c : Command) (names : List Operand) (f : Fault) → IsNaming c names →
+    let_pass (early_refusal w o names) ≡ Err f → Err f ≡ let_pass (refusal w o c)
 stops w o c names f is h = by (early_refusal w o names) h ∙ sym (ap let_pass (refusal-of_names w o c names is))
   where
     by : (e : Option Refusal) → let_pass e ≡ Err f → Err f ≡ let_pass (option_or e (own_refusal (part_of w o) c))
@@ -51,14 +53,17 @@ or_none : (e : Option Refusal) → option_or e None ≡ e
 or_none None = refl
 or_none (Some r) = refl
 
-pub target_passes : (w : World) (o : Owner) (x : Spelled) (e : EventWords) → early_refusal w o (Any x ∷ []) ≡ refusal w o (Command.dispatch (spelled_view x) e None)
+pub target_passes : (w : World) (o : Owner) (x : Spelled) (e : EventWords) →
+    early_refusal w o (Any x ∷ []) ≡ refusal w o (Command.dispatch (spelled_view x) e None)
 target_passes w o x e =
     let early = early_refusal w o (Any x ∷ []) in
-    sym (refusal-of_names w o (Command.dispatch (spelled_view x) e None) (Any x ∷ []) (naming-dispatch x e) ∙ ap (option_or early) (no_related (part_of w o).owner (part_of w o) (named (part_of w o) (spelled_view x))) ∙ or_none early)
+    sym (refusal-of_names w o (Command.dispatch (spelled_view x) e None) (Any x ∷ []) (naming-dispatch x e) ∙
+    ap (option_or early) (no_related (part_of w o).owner (part_of w o) (named (part_of w o) (spelled_view x))) ∙ or_none early)
 
 -- with one
 pub related_passes : (w : World) (o : Owner) (x y : Spelled) (e : EventWords) (q : Option Refusal) → let_pass (early_refusal w o (Any x ∷ Any y ∷ [])) ≡ Ok tt →
-    q ≡ related_refusal o (part_of w o) (named (part_of w o) (spelled_view x)) (Some (spelled_view y)) → let_pass q ≡ let_pass (refusal w o (Command.dispatch (spelled_view x) e (Some (spelled_view y))))
+    q ≡ related_refusal o (part_of w o) (named (part_of w o) (spelled_view x)) (Some (spelled_view y)) →
+    let_pass q ≡ let_pass (refusal w o (Command.dispatch (spelled_view x) e (Some (spelled_view y))))
 related_passes w o x y e q pass is =
     passes w o (Command.dispatch (spelled_view x) e (Some (spelled_view y))) (Any x ∷ Any y ∷ []) q (naming-dispatch_related x y e) pass
     (is ∙ ap (λ (a : Owner). related_refusal a (part_of w o) (named (part_of w o) (spelled_view x)) (Some (spelled_view y))) (sym (owner-part_of w o)))
@@ -84,7 +89,9 @@ refused_line w o c text f h = by (refusal w o c) refl f h
 pub unrefused_there : (w : World) (o : Owner) (c : Command) → refusal w o c ≡ None → is_there w o ≡ true
 unrefused_there w o c e = cases (is_command_of o c) (is_busy w o) (names_foreign c) (is_there w o) e
   where
-    cases : (mine busy foreign there : Bool) → option_or (first_refusal ((not mine, Syntax) ∷ (busy, Busy) ∷ (foreign, Foreign) ∷ (not there, Unknown) ∷ [])) (part_refusal (part_of w o) c) ≡ None → there ≡ true
+    cases : (mine busy foreign there : Bool) →
+        option_or (first_refusal ((not mine, Syntax) ∷ (busy, Busy) ∷ (foreign, Foreign) ∷ (not there, Unknown) ∷ []))
+        (part_refusal (part_of w o) c) ≡ None → there ≡ true
     cases false busy foreign there h = absurd cc
     cases true true foreign there h = absurd cc
     cases true false true there h = absurd cc

@@ -26,7 +26,8 @@ bounded-with_part : (w : World) (p : Part) (o : Owner) → p.owner ≡ o → Has
 bounded-with_part w p o e h b = each-part (λ x q. HasBounds q) w p o e h b
 
 -- visits change listeners alone
-bounded-visits : (e : EventWords) (vs : List (Visit NodeName)) (w : World) (d : Dispatching NodeName) → IsBounded w → IsBounded (fold (world_visit e) (w, d) vs).0
+bounded-visits : (e : EventWords) (vs : List (Visit NodeName)) (w : World) (d : Dispatching NodeName) → IsBounded w →
+    IsBounded (fold (world_visit e) (w, d) vs).0
 bounded-visits e [] w d b = b
 bounded-visits e (v ∷ vs) w d b =
     let o = v.current.owner in
@@ -41,7 +42,8 @@ bounded-dispatch w x related e b = bounded-visits e (visits_of name_eq e.bubbles
 
 -- an owner's signals are taken, and its observers notified
 pub bounded-told : (w : World) (o : Owner) → IsBounded w → IsBounded (with_part (without_signals w o) (notified (part_of w o)))
-bounded-told w o b = bounded-with_part (without_signals w o) (notified (part_of w o)) o (owner-part_of w o) (record { ranges = (b o).ranges; leaves = (b o).leaves }) b
+bounded-told w o b = bounded-with_part (without_signals w o) (notified (part_of w o)) o (owner-part_of w o)
+    (record { ranges = (b o).ranges; leaves = (b o).leaves }) b
 
 -- a turn is opened
 pub bounded-opening : (w : World) (o : Owner) → IsBounded w → IsBounded (opening_turn w o)
@@ -49,7 +51,8 @@ bounded-opening w o b = either_way IsBounded (is_some w.turn) w (record w { turn
 
 -- the listeners are left out
 pub bounded-unheard : (of : Owner → List (Listener NodeName)) (w : World) → FitsIn of w → IsBounded (heard of w) → IsBounded w
-bounded-unheard of w fits b o = let h : HasBounds (hearing of (part_of w o)) = subst HasBounds (part-heard of w fits o) (b o) in record { ranges = h.ranges; leaves = h.leaves }
+bounded-unheard of w fits b o = let h : HasBounds (hearing of (part_of w o)) =
+    subst HasBounds (part-heard of w fits o) (b o) in record { ranges = h.ranges; leaves = h.leaves }
 
 pub first_nodes-unheard : (of : Owner → List (Listener NodeName)) (w : World) → FitsIn of w → HasFirstNodes (heard of w) → HasFirstNodes w
 first_nodes-unheard of w fits h o there = subst (λ (p : Part). IsNodeIn p.trees (first_node p)) (part-heard of w fits o) (h o (there-heard of w o ∙ there))

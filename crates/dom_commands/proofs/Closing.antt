@@ -1,7 +1,8 @@
 -- The end of a turn: the tasks run, one after another, and their lines are put.
 use Rattle.std.specs.Prelude.{OnOk}
 use Rattle.std.specs.List.{AllByRecursion}
-use Rattle.std.proofs.Common.{true, false, ◌≡◌, ℕ, ◌<◌, length, arith, List, [], ◌∷◌, ◌++◌, drop, map, filter, Some, None, Result, Ok, Err, append_assoc, append-nil, sym, ap, ◌∙◌, refl, subst}
+use Rattle.std.proofs.Common.{true, false, ◌≡◌, ℕ, ◌<◌, length, arith, List, [], ◌∷◌, ◌++◌, drop, map, filter, Some, None, Result, Ok, Err}
+use Rattle.std.proofs.Common.{append_assoc, append-nil, sym, ap, ◌∙◌, refl, subst}
 use Rattle.std.proofs.lemmas.Option.{none-some, same_Some}
 use Rattle.dom_base.specs.declared.Owner.{Owner}
 use Rattle.dom_base.specs.declared.NodeName.{NodeName}
@@ -16,7 +17,7 @@ use Rattle.dom_model.specs.Dispatch.{dispatch_in}
 use Rattle.dom_isolation.specs.Bounds.{IsBounded}
 use Rattle.dom_isolation.specs.Worlds.{IsThere, task_owner}
 use Rattle.dom_isolation.proofs.Lists.{all-then}
-use Rattle.dom_isolation.proofs.OwnerSteps.{stays-running}
+use Rattle.dom_isolation.proofs.OwnerDispatches.{stays-running}
 use Rattle.dom_isolation.proofs.TaskWorlds.{Stands, at_end-stands, told-stands, dispatch-stands}
 use Rattle.dom_text.specs.Text.{output_text}
 use Rattle.dom_tree.specs.Forest.{name_at}
@@ -42,7 +43,8 @@ module _ {A : Type 0} (f : World → A → Run World) where
   ran_none w all text = record { world = refl; text = refl }
 
   -- one more
-  pub ran_more : (was now then : World) (all rest : List A) (x : A) (before after next : List ℕ) → Ran was now all (x ∷ rest) before after → then ≡ (f now x).0 → next ≡ after ++ output_text (f now x).1 → Ran was then all rest before next
+  pub ran_more : (was now then : World) (all rest : List A) (x : A) (before after next : List ℕ) → Ran was now all (x ∷ rest) before after →
+      then ≡ (f now x).0 → next ≡ after ++ output_text (f now x).1 → Ran was then all rest before next
   ran_more was now then all rest x before after next ran world text =
       let r = f now x in
       record {
@@ -56,7 +58,8 @@ module _ {A : Type 0} (f : World → A → Run World) where
   pub ran_world : (was now : World) (all : List A) (before after : List ℕ) → Ran was now all [] before after → now ≡ (run_each f was all).0
   ran_world was now all before after ran = ran.world
 
-  pub ran_text : (was now : World) (all : List A) (before after : List ℕ) → Ran was now all [] before after → after ≡ before ++ output_text (run_each f was all).1
+  pub ran_text : (was now : World) (all : List A) (before after : List ℕ) → Ran was now all [] before after →
+      after ≡ before ++ output_text (run_each f was all).1
   ran_text was now all before after ran = sym (append-nil after) ∙ ran.text
 
 -- ---- the queue
@@ -77,7 +80,8 @@ tasks_less ts us t e = let same = ap (length {A = Task}) e in omega arith
 -- the owners of the other tasks stay
 pub there_after : (w v : World) (t : Task) (ts : List Task) → AreThere w (t ∷ ts) → v ≡ (running_task w t).0 → AreThere v ts
 there_after w v t ts h e =
-    subst (λ u. AreThere u ts) (sym e) (all-then (λ u. IsThere w (task_owner u)) (λ u. IsThere (running_task w t).0 (task_owner u)) (λ u k. stays-running w t (task_owner u) k) ts h.1)
+    subst (λ u. AreThere u ts) (sym e) (all-then (λ u. IsThere w (task_owner u)) (λ u. IsThere (running_task w t).0 (task_owner u))
+    (λ u k. stays-running w t (task_owner u) k) ts h.1)
 
 -- ---- machines on the way
 
@@ -85,15 +89,22 @@ stands : (m : MachineNow) → IsSound m → Stands m.world
 stands m s = record { reached = s.reached; whole = s.whole }
 
 sound_from : (n : MachineNow) (w : World) → n.world ≡ w → AreAtNodes n → Stands w → IsBounded w → IsSound n
-sound_from n w e at s b = record { listeners = at; reached = (subst Stands (sym e) s).reached; whole = (subst Stands (sym e) s).whole; bounds = subst IsBounded (sym e) b }
+sound_from n w e at s b = record {
+  listeners = at;
+  reached = (subst Stands (sym e) s).reached;
+  whole = (subst Stands (sym e) s).whole;
+  bounds = subst IsBounded (sym e) b;
+}
 
 -- with the tasks taken out
 pub taken_sound : (m n : MachineNow) → IsSound m → n.world ≡ record m.world { tasks = []; turn = None } → AreAtNodes n → IsSound n
 taken_sound m n s e at = sound_from n (record m.world { tasks = []; turn = None }) e at (at_end-stands m.world (stands m s)) s.bounds
 
 -- with an owner's observers told
-pub told_sound : (m n : MachineNow) (o : Owner) → IsThere m.world o → IsSound m → n.world ≡ with_part (without_signals m.world o) (notified (part_of m.world o)) → AreAtNodes n → IsSound n
-told_sound m n o there s e at = sound_from n (with_part (without_signals m.world o) (notified (part_of m.world o))) e at (told-stands m.world o there (stands m s)) (bounded-told m.world o s.bounds)
+pub told_sound : (m n : MachineNow) (o : Owner) → IsThere m.world o → IsSound m →
+    n.world ≡ with_part (without_signals m.world o) (notified (part_of m.world o)) → AreAtNodes n → IsSound n
+told_sound m n o there s e at = sound_from n (with_part (without_signals m.world o) (notified (part_of m.world o))) e at
+    (told-stands m.world o there (stands m s)) (bounded-told m.world o s.bounds)
 
 -- an event like `slotchange`, by another name
 abbrev pub named_event : Word → EventWords
@@ -101,7 +112,8 @@ named_event n = record { event = n; bubbles = true; cancelable = false; composed
 
 -- after an event
 pub fired_sound : (m n : MachineNow) (x : NodeName) → IsSound m → n.world ≡ (dispatch_in m.world x None slotchange).run.0 → AreAtNodes n → IsSound n
-fired_sound m n x s e at = sound_from n (dispatch_in m.world x None slotchange).run.0 e at (dispatch-stands m.world x None slotchange (stands m s)) (bounded-dispatch m.world x None slotchange s.bounds)
+fired_sound m n x s e at = sound_from n (dispatch_in m.world x None slotchange).run.0 e at
+    (dispatch-stands m.world x None slotchange (stands m s)) (bounded-dispatch m.world x None slotchange s.bounds)
 
 -- what holds however a call ends
 pub on_ok : {T E : Type 0} {P : Type 0} (r : Result T E) → P → OnOk r P
@@ -110,13 +122,16 @@ on_ok (Err e) p = tt
 
 -- ---- the tasks are taken out, in a world with listeners
 
-module _ (s t : DocState) (ls : List (Listener ℕ)) (m : MachineNow) (seen : machine_now s ls ≡ m) (sound : IsSound m) (names : t.names ≡ s.names) (world : t.world ≡ record s.world { tasks = []; turn = None }) where
+module _ (s t : DocState) (ls : List (Listener ℕ)) (m : MachineNow) (seen : machine_now s ls ≡ m) (sound : IsSound m) (names : t.names ≡ s.names)
+    (world : t.world ≡ record s.world { tasks = []; turn = None }) where
   pub closed_world : (machine_now t ls).world ≡ record m.world { tasks = []; turn = None }
   closed_world =
-      ap (λ (ns : List NodeName). heard (own_listeners ns ls) t.world) names ∙ ap (heard (own_listeners s.names ls)) world ∙ ap (λ (n : MachineNow). record n.world { tasks = []; turn = None }) seen
+      ap (λ (ns : List NodeName). heard (own_listeners ns ls) t.world) names ∙ ap (heard (own_listeners s.names ls)) world ∙
+      ap (λ (n : MachineNow). record n.world { tasks = []; turn = None }) seen
 
   pub closed_sound : IsSound (machine_now t ls)
-  closed_sound = taken_sound m (machine_now t ls) sound closed_world (subst (λ (ns : List NodeName). AllByRecursion (IsListenerAt ns) ls) (sym names) (seen_at s ls m seen sound))
+  closed_sound = taken_sound m (machine_now t ls) sound closed_world
+      (subst (λ (ns : List NodeName). AllByRecursion (IsListenerAt ns) ls) (sym names) (seen_at s ls m seen sound))
 
   -- those of them
   pub closed_there : (ts : List Task) → ts ≡ s.world.tasks → AreThere (machine_now t ls).world ts
@@ -127,14 +142,16 @@ module _ (s t : DocState) (ls : List (Listener ℕ)) (m : MachineNow) (seen : ma
   -- what they run to
   pub closed_run : (ts : List Task) → ts ≡ s.world.tasks → run_each running_task (machine_now t ls).world ts ≡ ending_turn m.world
   closed_run ts is =
-      ap (λ w. run_each running_task w ts) closed_world ∙ ap (run_each running_task (record m.world { tasks = []; turn = None })) (is ∙ ap (λ (n : MachineNow). n.world.tasks) seen)
+      ap (λ w. run_each running_task w ts) closed_world ∙ ap (run_each running_task (record m.world { tasks = []; turn = None }))
+      (is ∙ ap (λ (n : MachineNow). n.world.tasks) seen)
 
 -- however it ends
 pub ended_world : {T E : Type 0} (r : Result T E) (u : World) (q p : Run World) → q ≡ p → OnOk r (u ≡ q.0) → OnOk r (u ≡ p.0)
 ended_world (Ok x) u q p same e = e ∙ ap (λ (z : Run World). z.0) same
 ended_world (Err x) u q p same e = tt
 
-pub ended_text : {T E : Type 0} (r : Result T E) (before after : List ℕ) (q p : Run World) → q ≡ p → OnOk r (after ≡ before ++ output_text q.1) → OnOk r (after ≡ before ++ output_text p.1)
+pub ended_text : {T E : Type 0} (r : Result T E) (before after : List ℕ) (q p : Run World) → q ≡ p → OnOk r (after ≡ before ++ output_text q.1) →
+    OnOk r (after ≡ before ++ output_text p.1)
 ended_text (Ok x) before after q p same e = e ∙ ap (λ (z : Run World). before ++ output_text z.1) same
 ended_text (Err x) before after q p same e = tt
 
@@ -147,12 +164,14 @@ module _ (of : Owner → List (Listener NodeName)) (w : World) (fits : FitsIn of
   pub lines-heard : notified_lines (part_of w o) ≡ notified_lines (part_of (heard of w) o)
   lines-heard = ap notified_lines (sym (part-heard of w fits o))
 
-module _ (s t u : DocState) (ls : List (Listener ℕ)) (m : MachineNow) (seen : machine_now s ls ≡ m) (sound : IsSound m) (there : OwnersAreThere s.names s.world) (o : Owner) (here : IsThere m.world o)
+module _ (s t u : DocState) (ls : List (Listener ℕ)) (m : MachineNow) (seen : machine_now s ls ≡ m) (sound : IsSound m)
+    (there : OwnersAreThere s.names s.world) (o : Owner) (here : IsThere m.world o)
     (t_names : t.names ≡ s.names) (t_world : t.world ≡ without_signals s.world o) where
   -- the owner is there in the state behind
   pub told_there : IsThere t.world o
   told_there =
-      sym (ap (λ (w : World). is_there w o) (sym t_world)) ∙ sym (there-heard (own_listeners s.names ls) s.world o) ∙ ap (λ (n : MachineNow). is_there n.world o) seen ∙ here
+      sym (ap (λ (w : World). is_there w o) (sym t_world)) ∙ sym (there-heard (own_listeners s.names ls) s.world o) ∙
+      ap (λ (n : MachineNow). is_there n.world o) seen ∙ here
 
   -- the same lines
   pub told_lines : notified_lines (part_of t.world o) ≡ notified_lines (part_of m.world o)
@@ -174,23 +193,29 @@ module _ (s t u : DocState) (ls : List (Listener ℕ)) (m : MachineNow) (seen : 
 
     pub told_is_sound : IsSound (machine_now u ls)
     told_is_sound =
-        told_sound m (machine_now u ls) o here sound told_world (subst (λ (ns : List NodeName). AllByRecursion (IsListenerAt ns) ls) (sym (u_names ∙ t_names)) (seen_at s ls m seen sound))
+        told_sound m (machine_now u ls) o here sound told_world
+        (subst (λ (ns : List NodeName). AllByRecursion (IsListenerAt ns) ls) (sym (u_names ∙ t_names)) (seen_at s ls m seen sound))
 
     -- and the slots are those that were signalled
-    pub told_slots : (keys : List ℕ) → map (name_at s.names) keys ≡ filter (is_owned_by o) s.world.signalled → map (name_at u.names) keys ≡ filter (is_owned_by o) m.world.signalled
+    pub told_slots : (keys : List ℕ) → map (name_at s.names) keys ≡ filter (is_owned_by o) s.world.signalled →
+        map (name_at u.names) keys ≡ filter (is_owned_by o) m.world.signalled
     told_slots keys is =
         ap (λ (ns : List NodeName). map (name_at ns) keys) (u_names ∙ t_names) ∙ is ∙ ap (λ (n : MachineNow). filter (is_owned_by o) n.world.signalled) seen
 
 -- the events after it
-module _ (w v : World) (o : Owner) (told : v ≡ with_part (without_signals w o) (notified (part_of w o))) (slots : List NodeName) (are : slots ≡ filter (is_owned_by o) w.signalled) where
-  signalled_run : run_each firing_slotchange v slots ≡ run_each firing_slotchange (with_part (without_signals w o) (notified (part_of w o))) (filter (is_owned_by o) w.signalled)
-  signalled_run = ap (λ u. run_each firing_slotchange u slots) told ∙ ap (run_each firing_slotchange (with_part (without_signals w o) (notified (part_of w o)))) are
+module _ (w v : World) (o : Owner) (told : v ≡ with_part (without_signals w o) (notified (part_of w o))) (slots : List NodeName)
+    (are : slots ≡ filter (is_owned_by o) w.signalled) where
+  signalled_run : run_each firing_slotchange v slots ≡ run_each firing_slotchange (with_part (without_signals w o) (notified (part_of w o)))
+      (filter (is_owned_by o) w.signalled)
+  signalled_run = ap (λ u. run_each firing_slotchange u slots) told ∙
+      ap (run_each firing_slotchange (with_part (without_signals w o) (notified (part_of w o)))) are
 
   pub notify_world : {T E : Type 0} (u : World) (r : Result T E) → OnOk r (u ≡ (run_each firing_slotchange v slots).0) → OnOk r (u ≡ (notifying w o).0)
   notify_world u (Ok x) e = e ∙ ap (λ (q : Run World). q.0) signalled_run
   notify_world u (Err x) e = tt
 
-  pub notify_text : {T E : Type 0} (before mid after : List ℕ) → mid ≡ before ++ output_text (notified_lines (part_of w o)) → (r : Result T E) → OnOk r (after ≡ mid ++ output_text (run_each firing_slotchange v slots).1) → OnOk r (after ≡ before ++ output_text (notifying w o).1)
+  pub notify_text : {T E : Type 0} (before mid after : List ℕ) → mid ≡ before ++ output_text (notified_lines (part_of w o)) → (r : Result T E) →
+      OnOk r (after ≡ mid ++ output_text (run_each firing_slotchange v slots).1) → OnOk r (after ≡ before ++ output_text (notifying w o).1)
   notify_text before mid after first (Err x) e = tt
   notify_text before mid after first (Ok x) e =
       let lines = notified_lines (part_of w o) in

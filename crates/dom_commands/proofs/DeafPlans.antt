@@ -1,20 +1,27 @@
 -- Plans don't ask for listeners: they are the same in a part with other ones.
-use Rattle.std.proofs.Common.{◌≡◌, ℕ, ◌+◌, ◌-◌, Bool, true, false, not, ◌&&◌, List, [], ◌∷◌, ◌++◌, drop, filter, flat_map, length, map, Option, Some, None, refl, ap, ◌∙◌}
+use Rattle.std.proofs.Common.{◌≡◌, ℕ, ◌+◌, ◌-◌, Bool, true, false, not, ◌&&◌, List, [], ◌∷◌, ◌++◌, drop, filter, flat_map, length, map, Option, Some}
+use Rattle.std.proofs.Common.{None, refl, ap, ◌∙◌}
 use Rattle.std.specs.Prelude.{◌==◌, if◌then◌else◌}
 use Rattle.std.specs.Option.{option_map_or}
 use Rattle.dom_base.specs.declared.Owner.{Owner}
 use Rattle.dom_base.specs.declared.NodeName.{NodeName}
-use Rattle.dom_model.specs.Changes.{Plan, Observing, observed, suppressed, ◌and_then◌, in_turn, doing, steps_of, only_if, telling, removing, document_below, changing_document, adopting, placed_nodes, emptying, making_room, placing, sibling_before, inserting_nodes, inserting, reference_for, pre_inserting, replacing}
-use Rattle.dom_model.specs.Extract.{Pieces, nothing, whole, cut, clone, clone_part, making_below, taking, pieces_of, cut_start, cut_end, new_place, both_at, own_document, new_fragment_node, extracting, is_in_one_data}
+use Rattle.dom_model.specs.Changes.{Plan, Observing, observed, suppressed, ◌and_then◌, in_turn, doing, steps_of, only_if, telling, removing}
+use Rattle.dom_model.specs.Changes.{document_below, changing_document, adopting, placed_nodes, emptying, making_room, placing, sibling_before}
+use Rattle.dom_model.specs.Changes.{inserting_nodes, inserting, reference_for, pre_inserting, replacing}
+use Rattle.dom_model.specs.Extract.{Pieces, nothing, whole, cut, clone, clone_part, making_below, taking, pieces_of, cut_start, cut_end, new_place}
+use Rattle.dom_model.specs.Extract.{both_at, own_document, new_fragment_node, extracting, is_in_one_data}
 use Rattle.dom_model.specs.Listeners.{Listener}
 use Rattle.dom_model.specs.Names.{DomString, name_eq, is_empty}
 use Rattle.dom_model.specs.Output.{child_list}
 use Rattle.dom_model.specs.Part.{Part, next_name}
-use Rattle.dom_model.specs.RangeOps.{cutting_data, outermost_contained, deleting_contents, deleting, insertion_parent, start_reference, ending_at, inserting_before, inserting_at, inserting_into_range}
+use Rattle.dom_model.specs.RangeOps.{cutting_data, outermost_contained, deleting_contents, deleting, insertion_parent, start_reference, ending_at}
+use Rattle.dom_model.specs.RangeOps.{inserting_before, inserting_at, inserting_into_range}
 use Rattle.dom_model.specs.Ranges.{Range, at, is_collapsed}
 use Rattle.dom_model.specs.Steps.{Step, make, place, split_at, set_range, queue_record, part_step, after}
-use Rattle.dom_model.specs.TextChanges.{replacing_data, replacing_all_data, new_text_node, placing_tail, splitting, texts_after, joins, joining, normalizing_text, normalizing, replacing_children, setting_text}
-use Rattle.dom_model.specs.Tree.{Trees, node_in, kind_of, is_fragment, is_text, is_document, has_data, children_of, parent_of, next_sibling, previous_sibling, index_of, length_of, descendants}
+use Rattle.dom_model.specs.TextChanges.{replacing_data, replacing_all_data, new_text_node, placing_tail, splitting, texts_after, joins, joining}
+use Rattle.dom_model.specs.TextChanges.{normalizing_text, normalizing, replacing_children, setting_text}
+use Rattle.dom_model.specs.Tree.{Trees, node_in, kind_of, is_fragment, is_text, is_document, has_data, children_of, parent_of, next_sibling}
+use Rattle.dom_model.specs.Tree.{previous_sibling, index_of, length_of, descendants}
 use Rattle.dom_model.specs.TreeChanges.{with_name}
 use Rattle.dom_commands.specs.Heard.{hearing}
 use Rattle.dom_commands.proofs.Heard.{step-hearing}
@@ -53,13 +60,16 @@ module _ (of : Owner → List (Listener NodeName)) where
   deaf-adopting d x = deaf-then (removing observed x) (changing_document d x) (λ p. refl) (λ p. refl)
 
   deaf-placing : (parent : NodeName) (before : Option NodeName) (x : NodeName) → IsDeaf (placing parent before x)
-  deaf-placing parent before x p = deaf-then (adopting (document_below p.trees parent) x) (doing (place x parent before)) (deaf-adopting (document_below p.trees parent) x) (λ q. refl) p
+  deaf-placing parent before x p = deaf-then (adopting (document_below p.trees parent) x) (doing (place x parent before))
+      (deaf-adopting (document_below p.trees parent) x) (λ q. refl) p
 
   deaf-emptying : (node : NodeName) (children : List NodeName) → IsDeaf (emptying node children)
   deaf-emptying node children =
-      deaf-then (in_turn (removing suppressed) children) (doing (queue_record (child_list node [] children None None))) (deaf-turn (removing suppressed) (λ x p. refl) children) (λ p. refl)
+      deaf-then (in_turn (removing suppressed) children) (doing (queue_record (child_list node [] children None None)))
+      (deaf-turn (removing suppressed) (λ x p. refl) children) (λ p. refl)
 
-  deaf-inserting_nodes : (how : Observing) (node : NodeName) (moved : List NodeName) (parent : NodeName) (before : Option NodeName) → IsDeaf (inserting_nodes how node moved parent before)
+  deaf-inserting_nodes : (how : Observing) (node : NodeName) (moved : List NodeName) (parent : NodeName) (before : Option NodeName) →
+      IsDeaf (inserting_nodes how node moved parent before)
   deaf-inserting_nodes how node moved parent before p =
       let told = child_list parent moved [] (sibling_before p.trees parent before) before in
       let emptied : Plan = if is_fragment (kind_of p.trees node) then emptying node moved else steps_of [] in
@@ -67,7 +77,8 @@ module _ (of : Owner → List (Listener NodeName)) where
       let each = in_turn (placing parent before) moved in
       deaf-then (emptied and_then room and_then each) (steps_of (telling how told))
       (deaf-then (emptied and_then room) each
-      (deaf-then emptied room (deaf-if (is_fragment (kind_of p.trees node)) (emptying node moved) (steps_of []) (deaf-emptying node moved) (λ q. refl)) (λ q. refl))
+      (deaf-then emptied room (deaf-if (is_fragment (kind_of p.trees node)) (emptying node moved) (steps_of []) (deaf-emptying node moved)
+      (λ q. refl)) (λ q. refl))
       (deaf-turn (placing parent before) (deaf-placing parent before) moved)) (λ q. refl) p
 
   deaf-inserting : (how : Observing) (node parent : NodeName) (before : Option NodeName) → IsDeaf (inserting how node parent before)
@@ -83,14 +94,16 @@ module _ (of : Owner → List (Listener NodeName)) where
       let reference = reference_for p.trees node (next_sibling p.trees child) in
       let told = child_list parent (placed_nodes p.trees node) (child ∷ []) (previous_sibling p.trees child) reference in
       deaf-then (removing suppressed child and_then inserting suppressed node parent reference) (doing (queue_record told))
-      (deaf-then (removing suppressed child) (inserting suppressed node parent reference) (λ q. refl) (deaf-inserting suppressed node parent reference)) (λ q. refl) p
+      (deaf-then (removing suppressed child) (inserting suppressed node parent reference) (λ q. refl)
+      (deaf-inserting suppressed node parent reference)) (λ q. refl) p
 
   -- ---- of data and of text
 
   deaf-tail : (x : NodeName) (offset : ℕ) (new : NodeName) (parent : Option NodeName) → IsDeaf (placing_tail x offset new parent)
   deaf-tail x offset new None p = refl
   deaf-tail x offset new (Some parent) p =
-      deaf-then (inserting observed new parent (next_sibling p.trees x)) (doing (split_at x offset new parent (index_of p.trees x))) (deaf-inserting observed new parent (next_sibling p.trees x)) (λ q. refl) p
+      deaf-then (inserting observed new parent (next_sibling p.trees x)) (doing (split_at x offset new parent (index_of p.trees x)))
+      (deaf-inserting observed new parent (next_sibling p.trees x)) (λ q. refl) p
 
   pub deaf-splitting : (x : NodeName) (offset : ℕ) → IsDeaf (splitting x offset)
   deaf-splitting x offset p =
@@ -106,7 +119,8 @@ module _ (of : Owner → List (Listener NodeName)) where
       let size = length_of p.trees x in
       let all = flat_map (λ y. (node_in p.trees y).text) nexts in
       let carried = steps_of (joins p.trees x parent size nexts) in
-      deaf-then (replacing_data x size 0 all and_then carried) (in_turn (removing observed) nexts) (deaf-then (replacing_data x size 0 all) carried (λ q. refl) (λ q. refl))
+      deaf-then (replacing_data x size 0 all and_then carried) (in_turn (removing observed) nexts)
+      (deaf-then (replacing_data x size 0 all) carried (λ q. refl) (λ q. refl))
       (deaf-turn (removing observed) (λ y q. refl) nexts) p
 
   deaf-normalizing_text : (x : NodeName) → IsDeaf (normalizing_text x)
@@ -132,24 +146,29 @@ module _ (of : Owner → List (Listener NodeName)) where
 
   pub deaf-setting_text : (x : NodeName) (new : DomString) → IsDeaf (setting_text x new)
   deaf-setting_text x new p =
-      ap (λ (steps : List Step). if has_data (kind_of p.trees x) then replacing_all_data x new p else (if is_document (kind_of p.trees x) then [] else steps)) (deaf-children x new p)
+      ap (λ (steps : List Step). if has_data (kind_of p.trees x) then replacing_all_data x new p else
+      (if is_document (kind_of p.trees x) then [] else steps)) (deaf-children x new p)
 
   -- ---- of ranges
 
   deaf-cutting : (ts : Trees) (r : Range NodeName) (x : NodeName) → IsDeaf (cutting_data ts r x)
-  deaf-cutting ts r x = deaf-if (has_data (kind_of ts x)) (replacing_data x (cut_start r x) (cut_end ts r x - cut_start r x) []) (steps_of []) (λ p. refl) (λ p. refl)
+  deaf-cutting ts r x = deaf-if (has_data (kind_of ts x)) (replacing_data x (cut_start r x) (cut_end ts r x - cut_start r x) []) (steps_of [])
+      (λ p. refl) (λ p. refl)
 
   deaf-contents : (ts : Trees) (r : Range NodeName) → IsDeaf (deleting_contents ts r)
   deaf-contents ts r =
       let all = in_turn (removing observed) (outermost_contained ts r) in
-      deaf-if (is_in_one_data ts r) (cutting_data ts r r.start.node) (cutting_data ts r r.start.node and_then all and_then cutting_data ts r r.end.node) (deaf-cutting ts r r.start.node)
+      deaf-if (is_in_one_data ts r) (cutting_data ts r r.start.node)
+      (cutting_data ts r r.start.node and_then all and_then cutting_data ts r r.end.node) (deaf-cutting ts r r.start.node)
       (deaf-then (cutting_data ts r r.start.node and_then all) (cutting_data ts r r.end.node)
-      (deaf-then (cutting_data ts r r.start.node) all (deaf-cutting ts r r.start.node) (deaf-turn (removing observed) (λ x q. refl) (outermost_contained ts r))) (deaf-cutting ts r r.end.node))
+      (deaf-then (cutting_data ts r r.start.node) all (deaf-cutting ts r r.start.node)
+      (deaf-turn (removing observed) (λ x q. refl) (outermost_contained ts r))) (deaf-cutting ts r r.end.node))
 
   pub deaf-deleting : (k : ℕ) (r : Range NodeName) → IsDeaf (deleting k r)
   deaf-deleting k r p =
       let ends = doing (set_range k (both_at (new_place p.trees r))) in
-      ap (λ (steps : List Step). if is_collapsed name_eq r then [] else steps) (deaf-then (deleting_contents p.trees r) ends (deaf-contents p.trees r) (λ q. refl) p)
+      ap (λ (steps : List Step). if is_collapsed name_eq r then [] else steps)
+      (deaf-then (deleting_contents p.trees r) ends (deaf-contents p.trees r) (λ q. refl) p)
 
   deaf-inserting_before : (k : ℕ) (node parent : NodeName) (reference : Option NodeName) → IsDeaf (inserting_before k node parent reference)
   deaf-inserting_before k node parent reference p =
@@ -168,7 +187,8 @@ module _ (of : Owner → List (Listener NodeName)) where
       let parent = insertion_parent p.trees r in
       let split = splitting r.start.node r.start.offset in
       λ j. if is_text (kind_of p.trees r.start.node)
-      then deaf-then split (inserting_at k node parent (Some (next_name p))) (deaf-splitting r.start.node r.start.offset) (deaf-inserting_at k node parent (Some (next_name p))) p j
+      then deaf-then split (inserting_at k node parent (Some (next_name p))) (deaf-splitting r.start.node r.start.offset)
+      (deaf-inserting_at k node parent (Some (next_name p))) p j
       else deaf-inserting_at k node parent (start_reference p.trees r) p j
 
   deaf-below : (into : NodeName) (n : Rattle.dom_model.specs.Tree.Node) → IsDeaf (making_below into n)
@@ -176,17 +196,22 @@ module _ (of : Owner → List (Listener NodeName)) where
 
   deaf-taking : (pieces : Pieces) (into : NodeName) → IsDeaf (taking into pieces)
   deaf-taking nothing into p = refl
-  deaf-taking (whole x rest) into p = deaf-then (inserting observed x into None) (taking into rest) (deaf-inserting observed x into None) (deaf-taking rest into) p
+  deaf-taking (whole x rest) into p = deaf-then (inserting observed x into None) (taking into rest) (deaf-inserting observed x into None)
+      (deaf-taking rest into) p
   deaf-taking (cut x from to rest) into p =
       let n = clone_part (next_name p) from to (node_in p.trees x) in
-      deaf-then (making_below into n and_then replacing_data x from (to - from) []) (taking into rest) (deaf-then (making_below into n) (replacing_data x from (to - from) []) (deaf-below into n) (λ q. refl)) (deaf-taking rest into) p
+      deaf-then (making_below into n and_then replacing_data x from (to - from) []) (taking into rest)
+      (deaf-then (making_below into n) (replacing_data x from (to - from) []) (deaf-below into n) (λ q. refl)) (deaf-taking rest into) p
   deaf-taking (clone x inside rest) into p =
       let n = with_name (next_name p) (node_in p.trees x) in
-      deaf-then (making_below into n and_then taking (next_name p) inside) (taking into rest) (deaf-then (making_below into n) (taking (next_name p) inside) (deaf-below into n) (deaf-taking inside (next_name p))) (deaf-taking rest into) p
+      deaf-then (making_below into n and_then taking (next_name p) inside) (taking into rest)
+      (deaf-then (making_below into n) (taking (next_name p) inside) (deaf-below into n) (deaf-taking inside (next_name p)))
+      (deaf-taking rest into) p
 
   pub deaf-extracting : (k : ℕ) (r : Range NodeName) → IsDeaf (extracting k r)
   deaf-extracting k r p =
       let into = next_name p in
       let fragment = new_fragment_node into (own_document p.trees r.start.node) in
       let ends = doing (set_range k (both_at (new_place p.trees r))) in
-      deaf-then (doing (make fragment) and_then taking into (pieces_of p.trees r)) ends (deaf-then (doing (make fragment)) (taking into (pieces_of p.trees r)) (λ q. refl) (deaf-taking (pieces_of p.trees r) into)) (λ q. refl) p
+      deaf-then (doing (make fragment) and_then taking into (pieces_of p.trees r)) ends
+      (deaf-then (doing (make fragment)) (taking into (pieces_of p.trees r)) (λ q. refl) (deaf-taking (pieces_of p.trees r) into)) (λ q. refl) p

@@ -14,7 +14,7 @@ use Rattle.dom_model.proofs.OwnerLaws.{owner_eq-true, owner_eq-false}
 use Rattle.dom_model.proofs.PartLaws.{owner-part_of, part_of-with_part, part_of-with_part-other}
 use Rattle.dom_isolation.specs.Laws.{IsReached}
 use Rattle.dom_isolation.specs.Worlds.{owners_in}
-use Rattle.dom_isolation.proofs.OwnerSteps.{people-dispatch}
+use Rattle.dom_isolation.proofs.OwnerDispatches.{people-dispatch}
 use Rattle.dom_isolation.proofs.Owners.{AreOnce, owners-put, once-in}
 use Rattle.dom_isolation.proofs.Tests.{by_cases}
 use Rattle.dom_isolation.proofs.Visits.{rest-visits}
@@ -22,14 +22,17 @@ use Rattle.dom_commands.specs.Heard.{heard}
 use Rattle.dom_commands.proofs.Heard.{FitsIn, part-heard, there-heard, owners-heard}
 use Rattle.dom_commands.proofs.SameWorlds.{worlds-same}
 
-module _ (old new : Owner → List (Listener NodeName)) (w : World) (fits : FitsIn old w) (fits_now : FitsIn new w) (reached : IsReached false (heard old w)) where
+module _ (old new : Owner → List (Listener NodeName)) (w : World) (fits : FitsIn old w) (fits_now : FitsIn new w)
+    (reached : IsReached false (heard old w)) where
   -- the same owners, whose parts have other listeners alone
-  pub heard-same : (v : World) → owners_in v ≡ owners_in (heard old w) → ((o : Owner) → part_of v o ≡ record (part_of (heard old w) o) { listeners = new o }) → record v { parts = [] } ≡ record w { parts = [] } →
+  pub heard-same : (v : World) → owners_in v ≡ owners_in (heard old w) →
+      ((o : Owner) → part_of v o ≡ record (part_of (heard old w) o) { listeners = new o }) → record v { parts = [] } ≡ record w { parts = [] } →
       v ≡ heard new w
   heard-same v owners parts rest =
       worlds-same v (heard new w) (subst AreOnce (owners-heard old w ∙ sym (owners-heard new w))
       (once-in (heard old w) reached.world.makers reached.owners)) (owners ∙ owners-heard old w ∙ sym (owners-heard new w))
-      (λ o. parts o ∙ ap (λ (p : Part). record p { listeners = new o }) (part-heard old w fits o) ∙ ap (λ (a : Owner). record (part_of w o) { listeners = new a }) (sym (owner-part_of w o)) ∙ sym (part-heard new w fits_now o))
+      (λ o. parts o ∙ ap (λ (p : Part). record p { listeners = new o }) (part-heard old w fits o) ∙
+      ap (λ (a : Owner). record (part_of w o) { listeners = new a }) (sym (owner-part_of w o)) ∙ sym (part-heard new w fits_now o))
       rest
 
   -- one owner's part has other listeners
@@ -46,13 +49,15 @@ module _ (old new : Owner → List (Listener NodeName)) (w : World) (fits : Fits
       part_of-with_part all p q (mine ∙ same) ∙ (λ j. record (part_of all (same j)) { listeners = (sym is ∙ ap new same) j }))
       (λ e. let other = owner_eq-false o q e in
       part_of-with_part-other all p q (λ s. other (sym mine ∙ s))
-      ∙ part-heard old w fits q ∙ ap (λ (a : Owner). record (part_of w q) { listeners = old a }) (owner-part_of w q) ∙ ap (λ (l : List (Listener NodeName)). record (part_of w q) { listeners = l }) (sym (others q other))
+      ∙ part-heard old w fits q ∙ ap (λ (a : Owner). record (part_of w q) { listeners = old a }) (owner-part_of w q) ∙
+      ap (λ (l : List (Listener NodeName)). record (part_of w q) { listeners = l }) (sym (others q other))
       ∙ ap (λ (u : Part). record u { listeners = new q }) (sym (part-heard old w fits q))))
       refl
 
   -- a dispatch
   pub dispatched-heard : (x : NodeName) (related : Option NodeName) (e : EventWords) →
-      ((o : Owner) → part_of (dispatch_in (heard old w) x related e).run.0 o ≡ record (part_of (heard old w) o) { listeners = new o }) → (dispatch_in (heard old w) x related e).run.0 ≡ heard new w
+      ((o : Owner) → part_of (dispatch_in (heard old w) x related e).run.0 o ≡ record (part_of (heard old w) o) { listeners = new o }) →
+      (dispatch_in (heard old w) x related e).run.0 ≡ heard new w
   dispatched-heard x related e parts =
       let all = heard old w in
       let end = (dispatch_in all x related e).run.0 in

@@ -1,5 +1,6 @@
 -- The commands on listeners, in a world with listeners.
-use Rattle.std.proofs.Common.{◌≡◌, ◌≢◌, ℕ, ◌<◌, Bool, true, false, List, [], ◌∷◌, ◌++◌, length, Option, Some, None, Result, Ok, Err, refl, sym, ap, subst, ◌∙◌, true≢false}
+use Rattle.std.proofs.Common.{◌≡◌, ◌≢◌, ℕ, ◌<◌, Bool, true, false, List, [], ◌∷◌, ◌++◌, length, Option, Some, None, Result, Ok, Err, refl, sym, ap}
+use Rattle.std.proofs.Common.{subst, ◌∙◌, true≢false}
 use Rattle.std.specs.Prelude.{nat_eq, is_some}
 use Rattle.std.specs.List.{AllByRecursion}
 use Rattle.std.specs.Option.{option_or}
@@ -35,7 +36,8 @@ use Rattle.dom_admission.proofs.Finding.{owner-named}
 use Rattle.dom_admission.proofs.Handling.{passed, admitted, opened-there}
 use Rattle.dom_commands.proofs.Heard.{FitsIn, part-heard, there-heard}
 use Rattle.dom_commands.proofs.HeardCommands.{refusal-heard, opening-heard, fits-opening}
-use Rattle.dom_commands.proofs.Listening.{OwnersAreThere, fits-own, own-listened, others-listened, own-unlistened, others-unlistened, at-listened, at-unlistened}
+use Rattle.dom_commands.proofs.Listening.{OwnersAreThere, fits-own, own-listened, others-listened, own-unlistened, others-unlistened, at-listened}
+use Rattle.dom_commands.proofs.Listening.{at-unlistened}
 use Rattle.dom_admission.proofs.Refusing.{IsNaming, refusal-of_names}
 
 -- ---- the turn that a command opens
@@ -71,27 +73,33 @@ reached-opening w o there r =
 
 -- and its tables whole
 pub whole-opening : (w : World) (o : Owner) → IsWhole w → IsWhole (opening_turn w o)
-whole-opening w o h = either_way IsWhole (is_some w.turn) w (record w { turn = Some o }) h (record { tables = h.tables; records = h.records; first = h.first; signalled = h.signalled })
+whole-opening w o h = either_way IsWhole (is_some w.turn) w (record w { turn = Some o }) h
+    (record { tables = h.tables; records = h.records; first = h.first; signalled = h.signalled })
 
 -- ---- refusals
 
 -- a command that is refused before it begins
-pub stopped-heard : (of : Owner → List (Listener NodeName)) (w : World) → FitsIn of w → (o : Owner) (c : Command) (text : List ℕ) (f : Fault) → IsHandled o c w w text text (Err f) → IsHandled o c (heard of w) (heard of w) text text (Err f)
+pub stopped-heard : (of : Owner → List (Listener NodeName)) (w : World) → FitsIn of w → (o : Owner) (c : Command) (text : List ℕ) (f : Fault) →
+    IsHandled o c w w text text (Err f) → IsHandled o c (heard of w) (heard of w) text text (Err f)
 stopped-heard of w fits o c text (Refused r) h = (refusal-heard of w fits o c ∙ h.0, refl, refl)
 stopped-heard of w fits o c text Memory h = tt
 
 -- one that passes, and has no refusal of its own
-pub passed-heard : (of : Owner → List (Listener NodeName)) (w : World) → FitsIn of w → (o : Owner) (c : Command) (names : List Operand) → IsNaming c names → let_pass (early_refusal w o names) ≡ Ok tt → own_refusal (part_of w o) c ≡ None →
+pub passed-heard : (of : Owner → List (Listener NodeName)) (w : World) → FitsIn of w → (o : Owner) (c : Command) (names : List Operand) →
+    IsNaming c names → let_pass (early_refusal w o names) ≡ Ok tt → own_refusal (part_of w o) c ≡ None →
     refusal (heard of w) o c ≡ None
 passed-heard of w fits o c names is pass none =
-    refusal-heard of w fits o c ∙ refusal-of_names w o c names is ∙ ap (λ e. option_or e (own_refusal (part_of w o) c)) (passed (early_refusal w o names) pass) ∙ none
+    refusal-heard of w fits o c ∙ refusal-of_names w o c names is ∙ ap (λ e. option_or e (own_refusal (part_of w o) c))
+    (passed (early_refusal w o names) pass) ∙ none
 
 -- ---- listeners
 
-module _ (names : List NodeName) (ls now : List (Listener ℕ)) (w : World) (there : OwnersAreThere names w) (at : AllByRecursion (IsListenerAt names) ls) (at_now : AllByRecursion (IsListenerAt names) now)
+module _ (names : List NodeName) (ls now : List (Listener ℕ)) (w : World) (there : OwnersAreThere names w)
+    (at : AllByRecursion (IsListenerAt names) ls) (at_now : AllByRecursion (IsListenerAt names) now)
     (reached : IsReached false (heard (own_listeners names ls) w)) where
   -- A command that passes, and then changes its owner's listeners alone.
-  pub listens : (o : Owner) (c : Command) (nodes : List Operand) (f : List (Listener NodeName) → List (Listener NodeName)) → IsNaming c nodes → let_pass (early_refusal w o nodes) ≡ Ok tt → own_refusal (part_of w o) c ≡ None →
+  pub listens : (o : Owner) (c : Command) (nodes : List Operand) (f : List (Listener NodeName) → List (Listener NodeName)) → IsNaming c nodes →
+      let_pass (early_refusal w o nodes) ≡ Ok tt → own_refusal (part_of w o) c ≡ None →
       ((v : World) → accepted v o c ≡ effect_in (opening_turn v o) o (effect (part_of (opening_turn v o) o) c)) →
       ((p : Part) → p.owner ≡ o → effect p c ≡ keeps (record p { listeners = f p.listeners }) nothing) →
       own_listeners names now o ≡ f (own_listeners names ls o) → ((q : Owner) → o ≢ q → own_listeners names now q ≡ own_listeners names ls q) →
@@ -107,12 +115,15 @@ module _ (names : List NodeName) (ls now : List (Listener ℕ)) (w : World) (the
       let fits : FitsIn of w = fits-own names w there ls at in
       let fits_v : FitsIn of v = fits-opening of w o fits in
       let fits_to : FitsIn to v = fits-opening to w o (fits-own names w there now at_now) in
-      let reached_v : IsReached false (heard of v) = subst (IsReached false) (opening-heard of w o) (reached-opening (heard of w) o (there-heard of w o ∙ here) reached) in
+      let reached_v : IsReached false (heard of v) =
+      subst (IsReached false) (opening-heard of w o) (reached-opening (heard of w) o (there-heard of w o ∙ here) reached) in
       let p = part_of (heard of v) o in
       let hears : p.listeners ≡ of o = ap (λ (q : Part). q.listeners) (part-heard of v fits_v o) ∙ ap of (owner-part_of v o) in
       let run : accepted (heard of w) o c ≡ (heard to v, says o (replied nothing) ∷ []) =
-      runs (heard of w) ∙ ap (λ (u : World). effect_in u o (effect (part_of u o) c)) (opening-heard of w o) ∙ ap (effect_in (heard of v) o) (does p (owner-part_of (heard of v) o))
-      ∙ ap (λ (u : World). (u, says o (replied nothing) ∷ [])) (written-heard of to v fits_v fits_to reached_v o (opened-there w o here) (f p.listeners) (mine ∙ ap f (sym hears)) others) in (
+      runs (heard of w) ∙ ap (λ (u : World). effect_in u o (effect (part_of u o) c)) (opening-heard of w o) ∙
+      ap (effect_in (heard of v) o) (does p (owner-part_of (heard of v) o))
+      ∙ ap (λ (u : World). (u, says o (replied nothing) ∷ []))
+      (written-heard of to v fits_v fits_to reached_v o (opened-there w o here) (f p.listeners) (mine ∙ ap f (sym hears)) others) in (
         passed-heard of w fits o c nodes is pass none,
         ap (heard to) done.1 ∙ sym (ap (λ (q : Run World). q.0) run),
         done.2 ∙ sym (ap (λ (q : Run World). before ++ output_text q.1) run),
@@ -124,8 +135,10 @@ named_alike p q (own k) e = ap (λ (o : Owner). node_of o k) e
 named_alike p q foreign e = ap (λ (o : Owner). node_of o 0) e
 
 -- The node of a key, in a state with listeners.
-module _ (names : List NodeName) (ls : List (Listener ℕ)) (w : World) (apart : TellApart names) (there : OwnersAreThere names w) (at : AllByRecursion (IsListenerAt names) ls)
-    (reached : IsReached false (heard (own_listeners names ls) w)) (o : Owner) (x : Spelled) (k : ℕ) (within : k < length names) (name : name_at names k ≡ named (part_of w o) x)
+module _ (names : List NodeName) (ls : List (Listener ℕ)) (w : World) (apart : TellApart names) (there : OwnersAreThere names w)
+    (at : AllByRecursion (IsListenerAt names) ls)
+    (reached : IsReached false (heard (own_listeners names ls) w)) (o : Owner) (x : Spelled) (k : ℕ) (within : k < length names)
+    (name : name_at names k ≡ named (part_of w o) x)
     (nodes : List Operand) (pass : let_pass (early_refusal w o nodes) ≡ Ok tt) where
   its_owner : (name_at names k).owner ≡ o
   its_owner = ap (λ (y : NodeName). y.owner) name ∙ owner-named w o x
@@ -139,19 +152,25 @@ module _ (names : List NodeName) (ls : List (Listener ℕ)) (w : World) (apart :
       IsHandled o (Command.listen x words) (heard (own_listeners names ls) w) (heard (own_listeners names (listened nat_eq k words ls)) end) before after r
   listen_handled words is end before after r done =
       let y = name_at names k in
-      listens names ls (listened nat_eq k words ls) w there at (at-listened names apart ls at k within words) reached o (Command.listen x words) nodes (listened name_eq y words) is pass refl (λ v. refl)
+      listens names ls (listened nat_eq k words ls) w there at (at-listened names apart ls at k within words) reached o (Command.listen x words)
+      nodes (listened name_eq y words) is pass refl (λ v. refl)
       (λ p e. ap (λ (z : NodeName). keeps (record p { listeners = listened name_eq z words p.listeners }) nothing) (its_name p e))
-      (subst (λ (a : Owner). own_listeners names (listened nat_eq k words ls) a ≡ listened name_eq y words (own_listeners names ls a)) its_owner (own-listened names apart ls at k within words))
+      (subst (λ (a : Owner). own_listeners names (listened nat_eq k words ls) a ≡ listened name_eq y words (own_listeners names ls a)) its_owner
+      (own-listened names apart ls at k within words))
       (λ q other. others-listened names apart ls at k within words q (λ e. other (sym its_owner ∙ e))) end before after r done
 
   -- `unlisten`
-  pub unlisten_handled : (event label : Word) (capture : Bool) → IsNaming (Command.unlisten x event label capture) nodes → (end : World) (before after : List ℕ) (r : Result (Unit {0}) Fault) →
+  pub unlisten_handled : (event label : Word) (capture : Bool) → IsNaming (Command.unlisten x event label capture) nodes →
+      (end : World) (before after : List ℕ) (r : Result (Unit {0}) Fault) →
       IsDone None (opening_turn w o, says o (replied nothing) ∷ []) w end before after r →
-      IsHandled o (Command.unlisten x event label capture) (heard (own_listeners names ls) w) (heard (own_listeners names (unlistened nat_eq k event label capture ls)) end) before after r
+      IsHandled o (Command.unlisten x event label capture) (heard (own_listeners names ls) w)
+      (heard (own_listeners names (unlistened nat_eq k event label capture ls)) end) before after r
   unlisten_handled event label capture is end before after r done =
       let y = name_at names k in
       let less = unlistened nat_eq k event label capture ls in
-      listens names ls less w there at (at-unlistened names apart ls at k within event label capture) reached o (Command.unlisten x event label capture) nodes (unlistened name_eq y event label capture) is pass refl (λ v. refl)
+      listens names ls less w there at (at-unlistened names apart ls at k within event label capture) reached o
+      (Command.unlisten x event label capture) nodes (unlistened name_eq y event label capture) is pass refl (λ v. refl)
       (λ p e. ap (λ (z : NodeName). keeps (record p { listeners = unlistened name_eq z event label capture p.listeners }) nothing) (its_name p e))
-      (subst (λ (a : Owner). own_listeners names less a ≡ unlistened name_eq y event label capture (own_listeners names ls a)) its_owner (own-unlistened names apart ls at k within event label capture))
+      (subst (λ (a : Owner). own_listeners names less a ≡ unlistened name_eq y event label capture (own_listeners names ls a)) its_owner
+      (own-unlistened names apart ls at k within event label capture))
       (λ q other. others-unlistened names apart ls at k within event label capture q (λ e. other (sym its_owner ∙ e))) end before after r done

@@ -38,47 +38,58 @@ shown-heard of s w fits is =
     }
 
 -- The dispatch, and what it leaves.
-module _ (f : NamedTrees) (hosts : List ShadowHost) (ls now : List (Listener ℕ)) (w : World) (there : OwnersAreThere f.names w) (at : AllByRecursion (IsListenerAt f.names) ls)
-    (shown : IsShownBy (shadows f hosts) w) (reached : IsReached false (heard (own_listeners f.names ls) w)) (whole : IsWhole (heard (own_listeners f.names ls) w))
+module _ (f : NamedTrees) (hosts : List ShadowHost) (ls now : List (Listener ℕ)) (w : World) (there : OwnersAreThere f.names w)
+    (at : AllByRecursion (IsListenerAt f.names) ls)
+    (shown : IsShownBy (shadows f hosts) w) (reached : IsReached false (heard (own_listeners f.names ls) w))
+    (whole : IsWhole (heard (own_listeners f.names ls) w))
     (target : ℕ) (related : Option ℕ) (e : EventWords) (outcome : Outcome) (keys : IsDispatched f hosts ls now target related e outcome) where
   -- listeners stay at nodes
   pub fired_at : AllByRecursion (IsListenerAt f.names) now
-  fired_at = subst (AllByRecursion (IsListenerAt f.names)) (sym keys.listeners) (after-visits nat_eq (IsListenerAt f.names) e (visits_of nat_eq e.bubbles keys.shown) (begun ls) at)
+  fired_at = subst (AllByRecursion (IsListenerAt f.names)) (sym keys.listeners)
+      (after-visits nat_eq (IsListenerAt f.names) e (visits_of nat_eq e.bubbles keys.shown) (begun ls) at)
 
   -- and the world is the dispatch's
   pub fired_world : (IsDispatchedIn f hosts ls now target related e outcome) →
-      heard (own_listeners f.names now) w ≡ (dispatch_in (heard (own_listeners f.names ls) w) (name_at f.names target) (option_map (name_at f.names) related) e).run.0
+      heard (own_listeners f.names now) w ≡
+      (dispatch_in (heard (own_listeners f.names ls) w) (name_at f.names target) (option_map (name_at f.names) related) e).run.0
   fired_world done =
       let of = own_listeners f.names ls in
       let fits : FitsIn of w = fits-own f.names w there ls at in
       let is : IsWorldOf f hosts (heard of w) = record { shown = shown-heard of (shadows f hosts) w fits shown; reached = reached; whole = whole } in
-      sym (dispatched-heard of (own_listeners f.names now) w fits (fits-own f.names w there now fired_at) reached (name_at f.names target) (option_map (name_at f.names) related) e (done (heard of w) is (has-own f.names w ls fits)).0)
+      sym (dispatched-heard of (own_listeners f.names now) w fits (fits-own f.names w there now fired_at) reached (name_at f.names target)
+      (option_map (name_at f.names) related) e (done (heard of w) is (has-own f.names w ls fits)).0)
 
 -- what a dispatch is to have done: the listeners, the world, the lines and the answer
 abbrev Fires : List NodeName → DocState → MachineNow → List (Listener ℕ) → ℕ → Option ℕ → EventWords → Outcome → Type 0
 Fires names t m now target related e outcome =
     let d = dispatch_in m.world (name_at m.names target) (option_map (name_at m.names) related) e in
-    AllByRecursion (IsListenerAt t.names) now × ((machine_now t now).world ≡ d.run.0) × (map (line_shown names) outcome.lines.items ≡ d.run.1) × (outcome.answer ≡ d.answer)
+    AllByRecursion (IsListenerAt t.names) now × ((machine_now t now).world ≡ d.run.0) × (map (line_shown names) outcome.lines.items ≡ d.run.1) ×
+    (outcome.answer ≡ d.answer)
 
 -- in a machine that is seen so
-pub fired : (s : DocState) (ls now : List (Listener ℕ)) (m : MachineNow) → machine_now s ls ≡ m → IsSound m → (f : NamedTrees) (hosts : List ShadowHost) → f.names ≡ s.names → OwnersAreThere s.names s.world →
-    IsShownBy (shadows f hosts) s.world → (target : ℕ) (related : Option ℕ) (e : EventWords) (outcome : Outcome) → IsDispatched f hosts ls now target related e outcome →
+pub fired : (s : DocState) (ls now : List (Listener ℕ)) (m : MachineNow) → machine_now s ls ≡ m → IsSound m →
+    (f : NamedTrees) (hosts : List ShadowHost) → f.names ≡ s.names → OwnersAreThere s.names s.world →
+    IsShownBy (shadows f hosts) s.world → (target : ℕ) (related : Option ℕ) (e : EventWords) (outcome : Outcome) →
+    IsDispatched f hosts ls now target related e outcome →
     (AllByRecursion (IsListenerAt f.names) ls → IsDispatchedIn f hosts ls now target related e outcome) → Fires f.names s m now target related e outcome
 fired s ls now m seen sound f hosts ns there shown target related e outcome keys names =
     subst (λ (n : MachineNow). Fires f.names s n now target related e outcome) seen
-    (subst (λ (t : DocState). IsSound (machine_now t ls) → OwnersAreThere t.names t.world → IsShownBy (shadows f hosts) t.world → Fires f.names t (machine_now t ls) now target related e outcome)
+    (subst (λ (t : DocState). IsSound (machine_now t ls) → OwnersAreThere t.names t.world → IsShownBy (shadows f hosts) t.world →
+    Fires f.names t (machine_now t ls) now target related e outcome)
     (ap (λ (xs : List NodeName). state xs) ns) from (subst IsSound (sym seen) sound) there shown)
   where
     state : List NodeName → DocState
     state xs = record { names = xs; world = s.world }
 
-    from : IsSound (machine_now (state f.names) ls) → OwnersAreThere f.names s.world → IsShownBy (shadows f hosts) s.world → Fires f.names (state f.names) (machine_now (state f.names) ls) now target related e outcome
+    from : IsSound (machine_now (state f.names) ls) → OwnersAreThere f.names s.world → IsShownBy (shadows f hosts) s.world →
+        Fires f.names (state f.names) (machine_now (state f.names) ls) now target related e outcome
     from sound there shown =
         let at = sound.listeners in
         let done = names at in
         let of = own_listeners f.names ls in
         let fits : FitsIn of s.world = fits-own f.names s.world there ls at in
-        let is : IsWorldOf f hosts (heard of s.world) = record { shown = shown-heard of (shadows f hosts) s.world fits shown; reached = sound.reached; whole = sound.whole } in
+        let is : IsWorldOf f hosts (heard of s.world) =
+        record { shown = shown-heard of (shadows f hosts) s.world fits shown; reached = sound.reached; whole = sound.whole } in
         let end = done (heard of s.world) is (has-own f.names s.world ls fits) in (
           fired_at f hosts ls now s.world there at shown sound.reached sound.whole target related e outcome keys,
           fired_world f hosts ls now s.world there at shown sound.reached sound.whole target related e outcome keys done,

@@ -1,5 +1,6 @@
 -- What is read and what is done in a world is read and done in it with listeners, but by what goes to them.
-use Rattle.std.proofs.Common.{◌≡◌, ℕ, zero, suc, Bool, true, false, not, ◌&&◌, List, [], ◌∷◌, ◌++◌, filter, filter_map, flat_map, fold, map, position, Option, Some, None, refl, sym, ap, ◌∙◌, true≢false}
+use Rattle.std.proofs.Common.{◌≡◌, ℕ, zero, suc, Bool, true, false, not, ◌&&◌, List, [], ◌∷◌, ◌++◌, filter, filter_map, flat_map, fold, map, position}
+use Rattle.std.proofs.Common.{Option, Some, None, refl, sym, ap, ◌∙◌, true≢false}
 use Rattle.std.specs.Prelude.{is_some, option_map, option_to_list, unwrap_or, slice_get, if◌then◌else◌}
 use Rattle.std.specs.Option.{option_and_then, option_map_or}
 use Rattle.dom_base.specs.declared.Owner.{Owner}
@@ -8,9 +9,11 @@ use Rattle.dom_model.specs.Listeners.{Listener}
 use Rattle.dom_model.specs.Names.{owner_eq, name_eq, max_depth, owner_depth, is_in, is_empty, distinct, list_eq, last_of}
 use Rattle.dom_model.specs.Part.{Part, empty_part}
 use Rattle.dom_model.specs.Slots.{is_slot_element, slot_in, slots_among, slot_of, assigned, signals, with_signal}
-use Rattle.dom_model.specs.Steps.{Step, make, make_room, place, take_out, set_document, set_attribute, replace_data, split_at, join_at, set_range, queue_record, part_step, leave, is_taken}
+use Rattle.dom_model.specs.Steps.{Step, make, make_room, place, take_out, set_document, set_attribute, replace_data, split_at, join_at, set_range}
+use Rattle.dom_model.specs.Steps.{queue_record, part_step, leave, is_taken}
 use Rattle.dom_model.specs.Tree.{Trees, node_in, parent_of, root_of, children_of, subtree, inclusive_ancestors, inclusive_descendants, is_document}
-use Rattle.dom_model.specs.World.{World, find_part, put_part, part_of, with_part, is_there, component_at, component_made, made_by, shadow_root_of, some_if, host_above, hosts_from, ancestors_at, kind_at, is_connected, components_below}
+use Rattle.dom_model.specs.World.{World, find_part, put_part, part_of, with_part, is_there, component_at, component_made, made_by, shadow_root_of}
+use Rattle.dom_model.specs.World.{some_if, host_above, hosts_from, ancestors_at, kind_at, is_connected, components_below}
 use Rattle.dom_model.specs.WorldSteps.{world_step, world_after, stepped, with_signals, with_removal_signals, with_notify_if, with_shadow_document}
 use Rattle.dom_isolation.specs.Worlds.{owners_in}
 use Rattle.dom_isolation.proofs.Alike.{there-with_part}
@@ -26,7 +29,8 @@ module _ (T : Owner → Trees) (A : Owner → List NodeName) where
 
   -- the slot of a node
   abbrev slot_from : NodeName → Option NodeName
-  slot_from x = option_and_then (λ c. slot_in (subtree (T c) (shadow_root_of c)) (node_in (T x.owner) x)) (option_and_then component_from (parent_of (T x.owner) x))
+  slot_from x = option_and_then (λ c. slot_in (subtree (T c) (shadow_root_of c)) (node_in (T x.owner) x))
+      (option_and_then component_from (parent_of (T x.owner) x))
 
   -- the host of a component, and that above a node
   abbrev host_from : Owner → Option NodeName
@@ -37,7 +41,8 @@ module _ (T : Owner → Trees) (A : Owner → List NodeName) where
 
   -- the nodes assigned to a slot
   abbrev assigned_from : NodeName → List NodeName
-  assigned_from s = option_map_or (λ host. filter (λ x. is_in name_eq s (option_to_list (slot_from x))) (children_of (T host.owner) host)) (host_above_from s) []
+  assigned_from s = option_map_or (λ host. filter (λ x. is_in name_eq s (option_to_list (slot_from x))) (children_of (T host.owner) host))
+      (host_above_from s) []
 
   -- the chain of hosts
   abbrev hosts_up : ℕ → NodeName → List NodeName
@@ -81,7 +86,8 @@ slot-read w x = refl
 assigned-read : (w : World) (x : NodeName) → assigned w x ≡ assigned_from (trees_in w) (hosts_in w) x
 assigned-read w x = refl
 
-signals-read : (was now : World) (x around : NodeName) (is_move : Bool) → signals was now x around is_move ≡ signals_from (trees_in was) (hosts_in was) (trees_in now) (hosts_in now) x around is_move
+signals-read : (was now : World) (x around : NodeName) (is_move : Bool) →
+    signals was now x around is_move ≡ signals_from (trees_in was) (hosts_in was) (trees_in now) (hosts_in now) x around is_move
 signals-read was now x around is_move = refl
 
 hosts_up-read : (w : World) (depth : ℕ) (x : NodeName) → hosts_from depth w x ≡ hosts_up (trees_in w) (hosts_in w) depth x
@@ -91,7 +97,8 @@ hosts_up-read w (suc depth) x = ap (λ (f : NodeName → List NodeName). x ∷ f
 components-read : (w : World) (depth : ℕ) (x : NodeName) → components_below depth w x ≡ components_from (trees_in w) (hosts_in w) depth x
 components-read w zero x = refl
 components-read w (suc depth) x =
-    ap (λ (f : NodeName → List Owner). flat_map (λ c. c ∷ f (shadow_root_of c)) (filter_map (component_at w) (inclusive_descendants (part_of w x.owner).trees x))) (λ j y. components-read w depth y j)
+    ap (λ (f : NodeName → List Owner). flat_map (λ c. c ∷ f (shadow_root_of c))
+    (filter_map (component_at w) (inclusive_descendants (part_of w x.owner).trees x))) (λ j y. components-read w depth y j)
 
 connected-read : (w : World) (x : NodeName) → is_connected w x ≡ connected_from (trees_in w) (hosts_in w) x
 connected-read w x =
@@ -141,7 +148,8 @@ module _ (of : Owner → List (Listener NodeName)) where
   put-heard (q ∷ qs) p = cases (owner_eq q.owner p.owner) (put-heard qs p)
     where
       cases : (b : Bool) → put_part (map (hearing of) qs) (hearing of p) ≡ map (hearing of) (put_part qs p)
-          → (if b then hearing of p ∷ map (hearing of) qs else hearing of q ∷ put_part (map (hearing of) qs) (hearing of p)) ≡ map (hearing of) (if b then p ∷ qs else q ∷ put_part qs p)
+          → (if b then hearing of p ∷ map (hearing of) qs else hearing of q ∷ put_part (map (hearing of) qs) (hearing of p)) ≡ map (hearing of)
+          (if b then p ∷ qs else q ∷ put_part qs p)
       cases true more = refl
       cases false more = ap (λ (ps : List Part). hearing of q ∷ ps) more
 
@@ -175,12 +183,15 @@ module _ (of : Owner → List (Listener NodeName)) where
     connected-heard x = connected-read (heard of w) x ∙ (λ j. connected_from (trees-same j) (hosts-same j) x) ∙ sym (connected-read w x)
 
     pub components-heard : (depth : ℕ) (x : NodeName) → components_below depth (heard of w) x ≡ components_below depth w x
-    components-heard depth x = components-read (heard of w) depth x ∙ (λ j. components_from (trees-same j) (hosts-same j) depth x) ∙ sym (components-read w depth x)
+    components-heard depth x = components-read (heard of w) depth x ∙ (λ j. components_from (trees-same j) (hosts-same j) depth x) ∙
+        sym (components-read w depth x)
 
   -- ---- steps
 
-  signals-heard : (was now : World) → FitsIn was → FitsIn now → (x around : NodeName) (is_move : Bool) → signals (heard of was) (heard of now) x around is_move ≡ signals was now x around is_move
-  signals-heard was now before after x around is_move = λ j. signals_from (trees-same was before j) (hosts-same was before j) (trees-same now after j) (hosts-same now after j) x around is_move
+  signals-heard : (was now : World) → FitsIn was → FitsIn now → (x around : NodeName) (is_move : Bool) →
+      signals (heard of was) (heard of now) x around is_move ≡ signals was now x around is_move
+  signals-heard was now before after x around is_move =
+      λ j. signals_from (trees-same was before j) (hosts-same was before j) (trees-same now after j) (hosts-same now after j) x around is_move
 
   -- a step in a part
   pub step-hearing : (p : Part) (s : Step) → part_step (hearing of p) s ≡ hearing of (part_step p s)
@@ -202,7 +213,8 @@ module _ (of : Owner → List (Listener NodeName)) where
 
   stepped-heard : (o : Owner) (w : World) (s : Step) → FitsIn w → stepped o (heard of w) s ≡ heard of (stepped o w s)
   stepped-heard o w s fits =
-      ap (λ (p : Part). with_part (heard of w) (part_step p s)) (part-heard w fits o) ∙ ap (with_part (heard of w)) (step-hearing (part_of w o) s) ∙ with_part-heard w (part_step (part_of w o) s)
+      ap (λ (p : Part). with_part (heard of w) (part_step p s)) (part-heard w fits o) ∙
+      ap (with_part (heard of w)) (step-hearing (part_of w o) s) ∙ with_part-heard w (part_step (part_of w o) s)
 
   signal-heard : (w : World) (ss : List NodeName) → fold with_signal (heard of w) ss ≡ heard of (fold with_signal w ss)
   signal-heard w [] = refl
@@ -212,15 +224,18 @@ module _ (of : Owner → List (Listener NodeName)) where
   fits-signals w [] fits = fits
   fits-signals w (s ∷ ss) fits = fits-signals (with_signal w s) ss fits
 
-  documents-heard : (d : NodeName) (w : World) (cs : List Owner) → FitsIn w → fold (with_shadow_document d) (heard of w) cs ≡ heard of (fold (with_shadow_document d) w cs)
+  documents-heard : (d : NodeName) (w : World) (cs : List Owner) → FitsIn w →
+      fold (with_shadow_document d) (heard of w) cs ≡ heard of (fold (with_shadow_document d) w cs)
   documents-heard d w [] fits = refl
   documents-heard d w (c ∷ cs) fits =
       let s = set_document (shadow_root_of c) d in
-      ap (λ (v : World). fold (with_shadow_document d) v cs) (stepped-heard c w s fits) ∙ documents-heard d (stepped c w s) cs (fits-with_part w (part_step (part_of w c) s) fits)
+      ap (λ (v : World). fold (with_shadow_document d) v cs) (stepped-heard c w s fits) ∙
+      documents-heard d (stepped c w s) cs (fits-with_part w (part_step (part_of w c) s) fits)
 
   fits-documents : (d : NodeName) (w : World) (cs : List Owner) → FitsIn w → FitsIn (fold (with_shadow_document d) w cs)
   fits-documents d w [] fits = fits
-  fits-documents d w (c ∷ cs) fits = fits-documents d (with_shadow_document d w c) cs (fits-with_part w (part_step (part_of w c) (set_document (shadow_root_of c) d)) fits)
+  fits-documents d w (c ∷ cs) fits = fits-documents d (with_shadow_document d w c) cs
+      (fits-with_part w (part_step (part_of w c) (set_document (shadow_root_of c) d)) fits)
 
   -- the signals behind a step
   with_signals-heard : (o : Owner) (w : World) (s : Step) → FitsIn w → (x around : NodeName) (is_move : Bool) →
@@ -245,7 +260,8 @@ module _ (of : Owner → List (Listener NodeName)) where
   step-heard o w (make_room parent index count) fits = stepped-heard o w (make_room parent index count) fits
   step-heard o w (place x parent before) fits = with_signals-heard o w (place x parent before) fits x parent true
   step-heard o w (take_out x) fits =
-      ap (λ (p : Part). with_removal_signals (heard of w) (stepped o (heard of w) (take_out x)) x (parent_of p.trees x)) (part-heard w fits o) ∙ removal-heard o w (take_out x) fits x (parent_of (part_of w o).trees x)
+      ap (λ (p : Part). with_removal_signals (heard of w) (stepped o (heard of w) (take_out x)) x (parent_of p.trees x)) (part-heard w fits o) ∙
+      removal-heard o w (take_out x) fits x (parent_of (part_of w o).trees x)
   step-heard o w (set_document x d) fits =
       let s = set_document x d in
       ap (fold (with_shadow_document d) (stepped o (heard of w) s)) (components-heard w fits max_depth x)
@@ -283,4 +299,5 @@ module _ (of : Owner → List (Listener NodeName)) where
   -- the steps of an owner
   pub after-heard : (o : Owner) (steps : List Step) (w : World) → FitsIn w → world_after o (heard of w) steps ≡ heard of (world_after o w steps)
   after-heard o [] w fits = refl
-  after-heard o (s ∷ steps) w fits = ap (λ (v : World). world_after o v steps) (step-heard o w s fits) ∙ after-heard o steps (world_step o w s) (fits-step o w s fits)
+  after-heard o (s ∷ steps) w fits = ap (λ (v : World). world_after o v steps) (step-heard o w s fits) ∙
+      after-heard o steps (world_step o w s) (fits-step o w s fits)

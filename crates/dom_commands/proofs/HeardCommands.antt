@@ -34,7 +34,8 @@ use Rattle.dom_text.specs.Text.{output_text}
 use Rattle.dom_admission.specs.Handled.{IsHandled}
 use Rattle.dom_commands.specs.Heard.{hearing, heard}
 use Rattle.dom_commands.specs.CommandGroups.{is_plain}
-use Rattle.dom_commands.proofs.DeafPlans.{deaf-pre_inserting, deaf-replacing, deaf-adopting, deaf-splitting, deaf-normalizing, deaf-setting_text, deaf-deleting, deaf-into_range, deaf-extracting}
+use Rattle.dom_commands.proofs.DeafPlans.{deaf-pre_inserting, deaf-replacing, deaf-adopting, deaf-splitting, deaf-normalizing, deaf-setting_text}
+use Rattle.dom_commands.proofs.DeafPlans.{deaf-deleting, deaf-into_range, deaf-extracting}
 use Rattle.dom_commands.proofs.Heard.{FitsIn, there-heard, part-heard, with_part-heard, assigned-heard, connected-heard, after-heard}
 
 -- an effect with listeners
@@ -46,7 +47,8 @@ module _ (of : Owner → List (Listener NodeName)) where
   -- ---- in a part
 
   -- its refusals
-  related-hearing : (o : Owner) (p : Part) (x : NodeName) (related : Option Spelled) → related_refusal o (hearing of p) x related ≡ related_refusal o p x related
+  related-hearing : (o : Owner) (p : Part) (x : NodeName) (related : Option Spelled) →
+      related_refusal o (hearing of p) x related ≡ related_refusal o p x related
   related-hearing Page p x related = refl
   related-hearing (Component k) p x related = refl
 
@@ -103,7 +105,8 @@ module _ (of : Owner → List (Listener NodeName)) where
   refusal-hearing p (Command.unlisten x e l c) = refl
   refusal-hearing p (Command.dispatch x e related) =
       let c = Command.dispatch x e related in
-      ap (option_or (first_refusal ((not (nodes_exist p c && thing_exists p c), Unknown) ∷ (not (nodes_fit p c), WrongKind) ∷ []))) (related-hearing p.owner p (named p x) related)
+      ap (option_or (first_refusal ((not (nodes_exist p c && thing_exists p c), Unknown) ∷ (not (nodes_fit p c), WrongKind) ∷ [])))
+      (related-hearing p.owner p (named p x) related)
   refusal-hearing p Command.observer = refl
   refusal-hearing p (Command.observe i x words) = refl
   refusal-hearing p (Command.disconnect i) = refl
@@ -112,31 +115,38 @@ module _ (of : Owner → List (Listener NodeName)) where
   refusal-hearing p Command.end_turn = refl
 
   -- of a range, an iterator or a walker
-  of_range-hearing : (p : Part) (k : ℕ) (f : Range NodeName → Plan) → ((r : Range NodeName) → f r (hearing of p) ≡ f r p) → plan_of_range (hearing of p) k f ≡ plan_of_range p k f
+  of_range-hearing : (p : Part) (k : ℕ) (f : Range NodeName → Plan) → ((r : Range NodeName) → f r (hearing of p) ≡ f r p) →
+      plan_of_range (hearing of p) k f ≡ plan_of_range p k f
   of_range-hearing p k f same = λ j. of_range p k [] (λ r. same r j)
 
-  range-hearing : (p : Part) (k : ℕ) (f : Range NodeName → Effect) → of_range (hearing of p) k (answers (hearing of p) nothing) (λ r. hearing_effect of (f r)) ≡ hearing_effect of (of_range p k (answers p nothing) f)
+  range-hearing : (p : Part) (k : ℕ) (f : Range NodeName → Effect) →
+      of_range (hearing of p) k (answers (hearing of p) nothing) (λ r. hearing_effect of (f r)) ≡ hearing_effect of
+      (of_range p k (answers p nothing) f)
   range-hearing p k f = by (range_at p k)
     where
-      by : (r : Option (Range NodeName)) → option_map_or (λ r. hearing_effect of (f r)) r (answers (hearing of p) nothing) ≡ hearing_effect of (option_map_or f r (answers p nothing))
+      by : (r : Option (Range NodeName)) →
+          option_map_or (λ r. hearing_effect of (f r)) r (answers (hearing of p) nothing) ≡ hearing_effect of (option_map_or f r (answers p nothing))
       by None = refl
       by (Some r) = refl
 
-  iterator-hearing : (p : Part) (k : ℕ) (f g : Iterator → Effect) → ((i : Iterator) → f i ≡ hearing_effect of (g i)) → of_iterator (hearing of p) k f ≡ hearing_effect of (of_iterator p k g)
+  iterator-hearing : (p : Part) (k : ℕ) (f g : Iterator → Effect) → ((i : Iterator) → f i ≡ hearing_effect of (g i)) →
+      of_iterator (hearing of p) k f ≡ hearing_effect of (of_iterator p k g)
   iterator-hearing p k f g same = by (slice_get p.iterators k)
     where
       by : (i : Option Iterator) → option_map_or f i (answers (hearing of p) nothing) ≡ hearing_effect of (option_map_or g i (answers p nothing))
       by None = refl
       by (Some i) = same i
 
-  walker-hearing : (p : Part) (k : ℕ) (f g : Walker → Effect) → ((w : Walker) → f w ≡ hearing_effect of (g w)) → of_walker (hearing of p) k f ≡ hearing_effect of (of_walker p k g)
+  walker-hearing : (p : Part) (k : ℕ) (f g : Walker → Effect) → ((w : Walker) → f w ≡ hearing_effect of (g w)) →
+      of_walker (hearing of p) k f ≡ hearing_effect of (of_walker p k g)
   walker-hearing p k f g same = by (slice_get p.walkers k)
     where
       by : (w : Option Walker) → option_map_or f w (answers (hearing of p) nothing) ≡ hearing_effect of (option_map_or g w (answers p nothing))
       by None = refl
       by (Some w) = same w
 
-  set-hearing : (p : Part) (k : ℕ) (w : Walker) (x : Option NodeName) (v : Value) → sets_walker (hearing of p) k w x v ≡ hearing_effect of (sets_walker p k w x v)
+  set-hearing : (p : Part) (k : ℕ) (w : Walker) (x : Option NodeName) (v : Value) →
+      sets_walker (hearing of p) k w x v ≡ hearing_effect of (sets_walker p k w x v)
   set-hearing p k w None v = refl
   set-hearing p k w (Some x) v = refl
 
@@ -149,7 +159,8 @@ module _ (of : Owner → List (Listener NodeName)) where
   effect-hearing p Command.new_document plain = refl
   effect-hearing p (Command.attach x) plain = refl
   effect-hearing p (Command.append a x) plain = ap (λ (steps : List Step). changes steps nothing) (deaf-pre_inserting of (named p x) (named p a) None p)
-  effect-hearing p (Command.insert a x c) plain = ap (λ (steps : List Step). changes steps nothing) (deaf-pre_inserting of (named p x) (named p a) (Some (named p c)) p)
+  effect-hearing p (Command.insert a x c) plain =
+      ap (λ (steps : List Step). changes steps nothing) (deaf-pre_inserting of (named p x) (named p a) (Some (named p c)) p)
   effect-hearing p (Command.replace a x c) plain = ap (λ (steps : List Step). changes steps nothing) (deaf-replacing of (named p a) (named p x) (named p c) p)
   effect-hearing p (Command.remove x) plain = refl
   effect-hearing p (Command.adopt d x) plain = ap (λ (steps : List Step). changes steps nothing) (deaf-adopting of (named p d) (named p x) p)
@@ -177,17 +188,33 @@ module _ (of : Owner → List (Listener NodeName)) where
   effect-hearing p (Command.range_drop r) plain = refl
   effect-hearing p (Command.range_get r) plain = range-hearing p r (λ range. answers p (boundaries range.start range.end))
   effect-hearing p (Command.range_text r) plain = range-hearing p r (λ range. answers p (a_string (range_text_of p.trees range)))
-  effect-hearing p (Command.extract r) plain = ap (λ (steps : List Step). changes steps (a_node (next_name p))) (of_range-hearing p r (extracting r) (λ range. deaf-extracting of r range p))
-  effect-hearing p (Command.delete r) plain = ap (λ (steps : List Step). changes steps nothing) (of_range-hearing p r (deleting r) (λ range. deaf-deleting of r range p))
-  effect-hearing p (Command.insert_node r x) plain = ap (λ (steps : List Step). changes steps nothing) (of_range-hearing p r (λ range. inserting_into_range r range (named p x)) (λ range. deaf-into_range of r range (named p x) p))
+  effect-hearing p (Command.extract r) plain =
+      ap (λ (steps : List Step). changes steps (a_node (next_name p))) (of_range-hearing p r (extracting r) (λ range. deaf-extracting of r range p))
+  effect-hearing p (Command.delete r) plain =
+      ap (λ (steps : List Step). changes steps nothing) (of_range-hearing p r (deleting r) (λ range. deaf-deleting of r range p))
+  effect-hearing p (Command.insert_node r x) plain =
+      ap (λ (steps : List Step). changes steps nothing)
+      (of_range-hearing p r (λ range. inserting_into_range r range (named p x)) (λ range. deaf-into_range of r range (named p x) p))
   effect-hearing p (Command.iterator_new x f) plain = refl
   effect-hearing p (Command.walker_new x f) plain = refl
-  effect-hearing p (Command.iterator_next i) plain = iterator-hearing p i (λ it. moves_iterator (hearing of p) i false it (iterator_next_node p.trees it)) (λ it. moves_iterator p i false it (iterator_next_node p.trees it)) (λ it. refl)
-  effect-hearing p (Command.iterator_previous i) plain = iterator-hearing p i (λ it. moves_iterator (hearing of p) i true it (iterator_previous_node p.trees it)) (λ it. moves_iterator p i true it (iterator_previous_node p.trees it)) (λ it. refl)
-  effect-hearing p (Command.iterator_at i) plain = iterator-hearing p i (λ it. answers (hearing of p) (reference it.reference it.before)) (λ it. answers p (reference it.reference it.before)) (λ it. refl)
-  effect-hearing p (Command.walk i m) plain = walker-hearing p i (λ w. sets_walker (hearing of p) i w (walker_move p.trees w m) (node_or_null (walker_move p.trees w m))) (λ w. sets_walker p i w (walker_move p.trees w m) (node_or_null (walker_move p.trees w m))) (λ w. set-hearing p i w (walker_move p.trees w m) (node_or_null (walker_move p.trees w m)))
-  effect-hearing p (Command.walker_at i) plain = walker-hearing p i (λ w. answers (hearing of p) (a_node w.current)) (λ w. answers p (a_node w.current)) (λ w. refl)
-  effect-hearing p (Command.walker_set i x) plain = walker-hearing p i (λ w. sets_walker (hearing of p) i w (Some (named p x)) nothing) (λ w. sets_walker p i w (Some (named p x)) nothing) (λ w. refl)
+  effect-hearing p (Command.iterator_next i) plain =
+      iterator-hearing p i (λ it. moves_iterator (hearing of p) i false it (iterator_next_node p.trees it))
+      (λ it. moves_iterator p i false it (iterator_next_node p.trees it)) (λ it. refl)
+  effect-hearing p (Command.iterator_previous i) plain =
+      iterator-hearing p i (λ it. moves_iterator (hearing of p) i true it (iterator_previous_node p.trees it))
+      (λ it. moves_iterator p i true it (iterator_previous_node p.trees it)) (λ it. refl)
+  effect-hearing p (Command.iterator_at i) plain =
+      iterator-hearing p i (λ it. answers (hearing of p) (reference it.reference it.before)) (λ it. answers p (reference it.reference it.before))
+      (λ it. refl)
+  effect-hearing p (Command.walk i m) plain =
+      walker-hearing p i (λ w. sets_walker (hearing of p) i w (walker_move p.trees w m) (node_or_null (walker_move p.trees w m)))
+      (λ w. sets_walker p i w (walker_move p.trees w m) (node_or_null (walker_move p.trees w m)))
+      (λ w. set-hearing p i w (walker_move p.trees w m) (node_or_null (walker_move p.trees w m)))
+  effect-hearing p (Command.walker_at i) plain =
+      walker-hearing p i (λ w. answers (hearing of p) (a_node w.current)) (λ w. answers p (a_node w.current)) (λ w. refl)
+  effect-hearing p (Command.walker_set i x) plain =
+      walker-hearing p i (λ w. sets_walker (hearing of p) i w (Some (named p x)) nothing) (λ w. sets_walker p i w (Some (named p x)) nothing)
+      (λ w. refl)
   effect-hearing p (Command.query x s) plain = refl
   effect-hearing p (Command.matches x s) plain = refl
   effect-hearing p (Command.listen x words) plain = absurd cc
@@ -205,7 +232,9 @@ module _ (of : Owner → List (Listener NodeName)) where
   -- a refusal
   pub refusal-heard : (w : World) → FitsIn of w → (o : Owner) (c : Command) → refusal (heard of w) o c ≡ refusal w o c
   refusal-heard w fits o c =
-      let rest : Bool → Option Refusal → Option Refusal = λ there own. option_or (first_refusal ((not (is_command_of o c), Syntax) ∷ (is_busy w o, Busy) ∷ (names_foreign c, Foreign) ∷ (not there, Unknown) ∷ [])) own in
+      let rest : Bool → Option Refusal → Option Refusal =
+      λ there own. option_or (first_refusal
+      ((not (is_command_of o c), Syntax) ∷ (is_busy w o, Busy) ∷ (names_foreign c, Foreign) ∷ (not there, Unknown) ∷ [])) own in
       ap (λ (b : Bool). rest b (part_refusal (part_of (heard of w) o) c)) (there-heard of w o)
       ∙ ap (λ (p : Part). rest (is_there w o) (part_refusal p c)) (part-heard of w fits o)
       ∙ ap (rest (is_there w o)) (refusal-hearing (part_of w o) c)
@@ -239,11 +268,14 @@ module _ (of : Owner → List (Listener NodeName)) where
   IsNew w o _ = Unit {0}
 
   -- what an accepted command of one part does
-  effected-heard : (w : World) → FitsIn of w → (o : Owner) (c : Command) → is_plain c ≡ true → effect_in (heard of w) o (effect (part_of (heard of w) o) c) ≡ heard_run (effect_in w o (effect (part_of w o) c))
+  effected-heard : (w : World) → FitsIn of w → (o : Owner) (c : Command) → is_plain c ≡ true →
+      effect_in (heard of w) o (effect (part_of (heard of w) o) c) ≡ heard_run (effect_in w o (effect (part_of w o) c))
   effected-heard w fits o c plain =
-      ap (λ (p : Part). effect_in (heard of w) o (effect p c)) (part-heard of w fits o) ∙ ap (effect_in (heard of w) o) (effect-hearing (part_of w o) c plain) ∙ effect_in-heard w fits o (effect (part_of w o) c)
+      ap (λ (p : Part). effect_in (heard of w) o (effect p c)) (part-heard of w fits o) ∙
+      ap (effect_in (heard of w) o) (effect-hearing (part_of w o) c plain) ∙ effect_in-heard w fits o (effect (part_of w o) c)
 
-  pub perform-heard : (w : World) → FitsIn of w → (o : Owner) (c : Command) → is_plain c ≡ true → IsNew w o c → perform (heard of w) o c ≡ heard_run (perform w o c)
+  pub perform-heard : (w : World) → FitsIn of w → (o : Owner) (c : Command) → is_plain c ≡ true → IsNew w o c →
+      perform (heard of w) o c ≡ heard_run (perform w o c)
   perform-heard w fits o (Command.new_element a) plain new = effected-heard w fits o (Command.new_element a) plain
   perform-heard w fits o (Command.new_text s) plain new = effected-heard w fits o (Command.new_text s) plain
   perform-heard w fits o (Command.new_comment s) plain new = effected-heard w fits o (Command.new_comment s) plain
@@ -255,9 +287,12 @@ module _ (of : Owner → List (Listener NodeName)) where
       let y = named p x in
       let d = (node_in p.trees y).document in
       let marked = record p { attached = p.attached ++ y ∷ [] } in
-      ap (λ (q : Part). answering o (a_component (component_made o (length q.attached))) (with_part (with_part (heard of w) (record q { attached = q.attached ++ named q x ∷ [] })) (part_with_root (component_made o (length q.attached)) Shadow (node_in q.trees (named q x)).document))) (part-heard of w fits o)
+      ap (λ (q : Part). answering o (a_component (component_made o (length q.attached)))
+      (with_part (with_part (heard of w) (record q { attached = q.attached ++ named q x ∷ [] }))
+      (part_with_root (component_made o (length q.attached)) Shadow (node_in q.trees (named q x)).document))) (part-heard of w fits o)
       ∙ ap (λ (u : World). answering o (a_component c) (with_part u (part_with_root c Shadow d))) (with_part-heard of w marked)
-      ∙ ap (λ (ls : List (Listener NodeName)). answering o (a_component c) (with_part (heard of (with_part w marked)) (record (part_with_root c Shadow d) { listeners = ls }))) (sym new)
+      ∙ ap (λ (ls : List (Listener NodeName)). answering o (a_component c)
+      (with_part (heard of (with_part w marked)) (record (part_with_root c Shadow d) { listeners = ls }))) (sym new)
       ∙ ap (answering o (a_component c)) (with_part-heard of (with_part w marked) (part_with_root c Shadow d))
   perform-heard w fits o (Command.append a x) plain new = effected-heard w fits o (Command.append a x) plain
   perform-heard w fits o (Command.insert a x c) plain new = effected-heard w fits o (Command.insert a x c) plain
@@ -316,11 +351,13 @@ module _ (of : Owner → List (Listener NodeName)) where
   perform-heard w fits o Command.end_turn plain new = absurd cc
 
   -- accepted commands
-  pub accepted-heard : (w : World) → FitsIn of w → (o : Owner) (c : Command) → is_plain c ≡ true → IsNew (opening_turn w o) o c → accepted (heard of w) o c ≡ heard_run (accepted w o c)
+  pub accepted-heard : (w : World) → FitsIn of w → (o : Owner) (c : Command) → is_plain c ≡ true → IsNew (opening_turn w o) o c →
+      accepted (heard of w) o c ≡ heard_run (accepted w o c)
   accepted-heard w fits o Command.end_turn plain new = absurd cc
   accepted-heard w fits o c plain new = by c plain new
     where
-      through : (c : Command) → is_plain c ≡ true → IsNew (opening_turn w o) o c → perform (opening_turn (heard of w) o) o c ≡ heard_run (perform (opening_turn w o) o c)
+      through : (c : Command) → is_plain c ≡ true → IsNew (opening_turn w o) o c →
+          perform (opening_turn (heard of w) o) o c ≡ heard_run (perform (opening_turn w o) o c)
       through c plain new = ap (λ (u : World). perform u o c) (opening-heard w o) ∙ perform-heard (opening_turn w o) (fits-opening w o fits) o c plain new
 
       by : (c : Command) → is_plain c ≡ true → IsNew (opening_turn w o) o c → accepted (heard of w) o c ≡ heard_run (accepted w o c)
@@ -328,10 +365,15 @@ module _ (of : Owner → List (Listener NodeName)) where
       by c plain new = through c plain new
 
   -- what is handled in a world is handled in it with listeners
-  pub handled-heard : (w v : World) → FitsIn of w → (o : Owner) (c : Command) → is_plain c ≡ true → (refusal w o c ≡ None → IsNew (opening_turn w o) o c) → (before after : List ℕ) (r : Result (Unit {0}) Fault) →
+  pub handled-heard : (w v : World) → FitsIn of w → (o : Owner) (c : Command) → is_plain c ≡ true →
+      (refusal w o c ≡ None → IsNew (opening_turn w o) o c) → (before after : List ℕ) (r : Result (Unit {0}) Fault) →
       IsHandled o c w v before after r → IsHandled o c (heard of w) (heard of v) before after r
   handled-heard w v fits o c plain new before after (Ok x) h =
-      let same = accepted-heard w fits o c plain (new h.0) in
-      (refusal-heard w fits o c ∙ h.0, ap (heard of) h.1 ∙ sym (ap (λ (q : Run World). q.0) same), h.2 ∙ sym (ap (λ (q : Run World). before ++ output_text q.1) same))
+      let same = accepted-heard w fits o c plain (new h.0) in (
+        refusal-heard w fits o c ∙ h.0,
+        ap (heard of) h.1 ∙ sym (ap (λ (q : Run World). q.0) same),
+        h.2 ∙
+            sym (ap (λ (q : Run World). before ++ output_text q.1) same),
+      )
   handled-heard w v fits o c plain new before after (Err (Refused r)) h = (refusal-heard w fits o c ∙ h.0, ap (heard of) h.1, h.2)
   handled-heard w v fits o c plain new before after (Err Memory) h = tt

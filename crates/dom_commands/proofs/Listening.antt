@@ -1,5 +1,6 @@
 -- Each owner's listeners in one list of all: what is done to the list, by keys, is done to its owner's.
-use Rattle.std.proofs.Common.{◌≡◌, ◌≢◌, ℕ, ◌<◌, ◌≤◌, Bool, true, false, not, ◌&&◌, List, [], ◌∷◌, ◌++◌, filter, fold, length, map, append-nil, arith, refl, sym, ap, ◌∙◌, true≢false}
+use Rattle.std.proofs.Common.{◌≡◌, ◌≢◌, ℕ, ◌<◌, ◌≤◌, Bool, true, false, not, ◌&&◌, List, [], ◌∷◌, ◌++◌, filter, fold, length, map, append-nil, arith}
+use Rattle.std.proofs.Common.{refl, sym, ap, ◌∙◌, true≢false}
 use Rattle.std.specs.Prelude.{nat_eq, if◌then◌else◌}
 use Rattle.std.specs.Bool.{beq}
 use Rattle.std.specs.List.{AllByRecursion, list_any}
@@ -14,7 +15,8 @@ use Rattle.dom_base.specs.declared.NodeName.{NodeName}
 use Rattle.dom_base.specs.declared.Owner.{Owner}
 use Rattle.dom_base.specs.declared.Owner.TheVariants.{Page}
 use Rattle.dom_model.specs.Command.{EventWords, ListenerWords}
-use Rattle.dom_model.specs.Listeners.{Listener, Visit, Dispatching, after_action, may_cancel, line_of, is_listener, unlistened, listened, kept_after, called, hears, visited}
+use Rattle.dom_model.specs.Listeners.{Listener, Visit, Dispatching, after_action, may_cancel, line_of, is_listener, unlistened, listened, kept_after}
+use Rattle.dom_model.specs.Listeners.{called, hears, visited}
 use Rattle.dom_model.specs.Names.{Word, owner_eq, name_eq, text_eq, node_of}
 use Rattle.dom_model.specs.World.{World, is_there}
 use Rattle.dom_model.proofs.OwnerLaws.{owner_eq-true, owner_eq-same, ne-owner_eq}
@@ -48,7 +50,8 @@ module _ (names : List NodeName) where
       ∙ rest
 
   -- each owner has its own
-  pub has-own : (w : World) (ls : List (Listener ℕ)) → FitsIn (own_listeners names ls) w → HasListeners (heard (own_listeners names ls) w) (map (listener_named names) ls)
+  pub has-own : (w : World) (ls : List (Listener ℕ)) → FitsIn (own_listeners names ls) w →
+      HasListeners (heard (own_listeners names ls) w) (map (listener_named names) ls)
   has-own w ls fits o = ap (λ p. p.listeners) (part-heard (own_listeners names ls) w fits o) ∙ ap (own_listeners names ls) (owner-part_of w o)
 
 -- ---- names that are kept
@@ -61,16 +64,19 @@ length-kept : (names more : List NodeName) → BeginsWith names more → length 
 length-kept names more kept = let same : length names ≡ min (length names) (length more) = sym (ap length kept) ∙ length-take (length names) more in omega arith
 
 -- listeners stay at their nodes
-pub at-kept : (names more : List NodeName) → BeginsWith names more → (ls : List (Listener ℕ)) → AllByRecursion (IsListenerAt names) ls → AllByRecursion (IsListenerAt more) ls
+pub at-kept : (names more : List NodeName) → BeginsWith names more → (ls : List (Listener ℕ)) → AllByRecursion (IsListenerAt names) ls →
+    AllByRecursion (IsListenerAt more) ls
 at-kept names more kept [] at = tt
 at-kept names more kept (l ∷ ls) at = ((let room = length-kept names more kept in let here = at.0 in omega arith), at-kept names more kept ls at.1)
 
-named-kept : (names more : List NodeName) → BeginsWith names more → (ls : List (Listener ℕ)) → AllByRecursion (IsListenerAt names) ls → map (listener_named more) ls ≡ map (listener_named names) ls
+named-kept : (names more : List NodeName) → BeginsWith names more → (ls : List (Listener ℕ)) → AllByRecursion (IsListenerAt names) ls →
+    map (listener_named more) ls ≡ map (listener_named names) ls
 named-kept names more kept [] at = refl
 named-kept names more kept (l ∷ ls) at = λ j. record { node = name-kept names more kept l.node at.0 j; words = l.words } ∷ named-kept names more kept ls at.1 j
 
 -- and are their owners'
-pub own-kept : (names more : List NodeName) → BeginsWith names more → (ls : List (Listener ℕ)) → AllByRecursion (IsListenerAt names) ls → own_listeners more ls ≡ own_listeners names ls
+pub own-kept : (names more : List NodeName) → BeginsWith names more → (ls : List (Listener ℕ)) → AllByRecursion (IsListenerAt names) ls →
+    own_listeners more ls ≡ own_listeners names ls
 own-kept names more kept ls at = λ j o. filter (is_of_owner o) (named-kept names more kept ls at j)
 
 -- ---- one more, and one less
@@ -79,18 +85,23 @@ module _ (x : NodeName) where
   -- a listener of x is of its owner
   listener-owned : (event label : Word) (capture : Bool) (l : Listener NodeName) → is_listener name_eq x event label capture l ≡ true → l.node.owner ≡ x.owner
   listener-owned event label capture l h =
-      ap (λ (y : NodeName). y.owner) (name_eq-true l.node x (and_parts (name_eq l.node x) (text_eq l.words.event event && (text_eq l.words.label label && beq l.words.capture capture)) h).0)
+      ap (λ (y : NodeName). y.owner) (name_eq-true l.node x
+      (and_parts (name_eq l.node x) (text_eq l.words.event event && (text_eq l.words.label label && beq l.words.capture capture)) h).0)
 
   -- of its owner
-  listened-own : (words : ListenerWords) (ms : List (Listener NodeName)) → filter (is_of_owner x.owner) (listened name_eq x words ms) ≡ listened name_eq x words (filter (is_of_owner x.owner) ms)
+  listened-own : (words : ListenerWords) (ms : List (Listener NodeName)) →
+      filter (is_of_owner x.owner) (listened name_eq x words ms) ≡ listened name_eq x words (filter (is_of_owner x.owner) ms)
   listened-own words ms =
       let test = is_listener name_eq x words.event words.label words.capture in
       let own = is_of_owner x.owner in
       let l : Listener NodeName = record { node = x; words = words } in
-      let same : list_any test (filter own ms) ≡ list_any test ms = any-filter_same test own true (λ m h. ap (λ o. owner_eq o x.owner) (listener-owned words.event words.label words.capture m h) ∙ owner_eq-same x.owner) ms in
+      let same : list_any test (filter own ms) ≡ list_any test ms =
+      any-filter_same test own true
+      (λ m h. ap (λ o. owner_eq o x.owner) (listener-owned words.event words.label words.capture m h) ∙ owner_eq-same x.owner) ms in
       by_if (list_any test ms) (λ (ls : List (Listener NodeName)). filter own ls) ms (ms ++ l ∷ [])
       ∙ ap (λ (ls : List (Listener NodeName)). if list_any test ms then filter own ms else ls)
-      (filter-append own ms (l ∷ []) ∙ ap (λ (ls : List (Listener NodeName)). filter own ms ++ ls) (cond-true (owner_eq x.owner x.owner) (l ∷ []) [] (owner_eq-same x.owner)))
+      (filter-append own ms (l ∷ []) ∙ ap (λ (ls : List (Listener NodeName)). filter own ms ++ ls)
+      (cond-true (owner_eq x.owner x.owner) (l ∷ []) [] (owner_eq-same x.owner)))
       ∙ ap (λ (b : Bool). if b then filter own ms else filter own ms ++ l ∷ []) (sym same)
     where
       by_if : {A B : Type 0} (b : Bool) (f : A → B) (u v : A) → f (if b then u else v) ≡ (if b then f u else f v)
@@ -98,45 +109,63 @@ module _ (x : NodeName) where
       by_if false f u v = refl
 
   -- of others
-  listened-other : (words : ListenerWords) (o : Owner) → x.owner ≢ o → (ms : List (Listener NodeName)) → filter (is_of_owner o) (listened name_eq x words ms) ≡ filter (is_of_owner o) ms
+  listened-other : (words : ListenerWords) (o : Owner) → x.owner ≢ o → (ms : List (Listener NodeName)) →
+      filter (is_of_owner o) (listened name_eq x words ms) ≡ filter (is_of_owner o) ms
   listened-other words o other ms = by (list_any (is_listener name_eq x words.event words.label words.capture) ms)
     where
       by : (b : Bool) → filter (is_of_owner o) (if b then ms else ms ++ record { node = x; words = words } ∷ []) ≡ filter (is_of_owner o) ms
       by true = refl
       by false =
           filter-append (is_of_owner o) ms (record { node = x; words = words } ∷ [])
-          ∙ ap (λ (ls : List (Listener NodeName)). filter (is_of_owner o) ms ++ ls) (cond-false (owner_eq x.owner o) (record { node = x; words = words } ∷ []) [] (ne-owner_eq x.owner o other))
+          ∙ ap (λ (ls : List (Listener NodeName)). filter (is_of_owner o) ms ++ ls)
+          (cond-false (owner_eq x.owner o) (record { node = x; words = words } ∷ []) [] (ne-owner_eq x.owner o other))
           ∙ append-nil (filter (is_of_owner o) ms)
 
-  unlistened-own : (event label : Word) (capture : Bool) (ms : List (Listener NodeName)) → filter (is_of_owner x.owner) (unlistened name_eq x event label capture ms) ≡ unlistened name_eq x event label capture (filter (is_of_owner x.owner) ms)
+  unlistened-own : (event label : Word) (capture : Bool) (ms : List (Listener NodeName)) →
+      filter (is_of_owner x.owner) (unlistened name_eq x event label capture ms) ≡ unlistened name_eq x event label capture
+      (filter (is_of_owner x.owner) ms)
   unlistened-own event label capture ms = filter-swap (is_of_owner x.owner) (λ m. not (is_listener name_eq x event label capture m)) ms
 
-  unlistened-other : (event label : Word) (capture : Bool) (o : Owner) → x.owner ≢ o → (ms : List (Listener NodeName)) → filter (is_of_owner o) (unlistened name_eq x event label capture ms) ≡ filter (is_of_owner o) ms
+  unlistened-other : (event label : Word) (capture : Bool) (o : Owner) → x.owner ≢ o → (ms : List (Listener NodeName)) →
+      filter (is_of_owner o) (unlistened name_eq x event label capture ms) ≡ filter (is_of_owner o) ms
   unlistened-other event label capture o other ms =
       filter-wider (is_of_owner o) (λ m. not (is_listener name_eq x event label capture m))
-      (λ m h. by_cases (is_listener name_eq x event label capture m) (λ is. absurd (other (sym (listener-owned event label capture m is) ∙ owner_eq-true m.node.owner o h))) (λ e. ap not e)) ms
+      (λ m h. by_cases (is_listener name_eq x event label capture m)
+      (λ is. absurd (other (sym (listener-owned event label capture m is) ∙ owner_eq-true m.node.owner o h))) (λ e. ap not e)) ms
 
 -- by keys
-module _ (names : List NodeName) (apart : TellApart names) (ls : List (Listener ℕ)) (at : AllByRecursion (IsListenerAt names) ls) (k : ℕ) (within : k < length names) where
-  pub own-listened : (words : ListenerWords) → own_listeners names (listened nat_eq k words ls) (name_at names k).owner ≡ listened name_eq (name_at names k) words (own_listeners names ls (name_at names k).owner)
+module _ (names : List NodeName) (apart : TellApart names) (ls : List (Listener ℕ)) (at : AllByRecursion (IsListenerAt names) ls) (k : ℕ)
+    (within : k < length names) where
+  pub own-listened : (words : ListenerWords) →
+      own_listeners names (listened nat_eq k words ls) (name_at names k).owner ≡ listened name_eq (name_at names k) words
+      (own_listeners names ls (name_at names k).owner)
   own-listened words =
-      ap (filter (is_of_owner (name_at names k).owner)) (listened-named names apart ls at k within words) ∙ listened-own (name_at names k) words (map (listener_named names) ls)
+      ap (filter (is_of_owner (name_at names k).owner)) (listened-named names apart ls at k within words) ∙
+      listened-own (name_at names k) words (map (listener_named names) ls)
 
-  pub others-listened : (words : ListenerWords) (o : Owner) → (name_at names k).owner ≢ o → own_listeners names (listened nat_eq k words ls) o ≡ own_listeners names ls o
-  others-listened words o other = ap (filter (is_of_owner o)) (listened-named names apart ls at k within words) ∙ listened-other (name_at names k) words o other (map (listener_named names) ls)
+  pub others-listened : (words : ListenerWords) (o : Owner) → (name_at names k).owner ≢ o →
+      own_listeners names (listened nat_eq k words ls) o ≡ own_listeners names ls o
+  others-listened words o other = ap (filter (is_of_owner o)) (listened-named names apart ls at k within words) ∙
+      listened-other (name_at names k) words o other (map (listener_named names) ls)
 
-  pub own-unlistened : (event label : Word) (capture : Bool) → own_listeners names (unlistened nat_eq k event label capture ls) (name_at names k).owner ≡ unlistened name_eq (name_at names k) event label capture (own_listeners names ls (name_at names k).owner)
+  pub own-unlistened : (event label : Word) (capture : Bool) →
+      own_listeners names (unlistened nat_eq k event label capture ls) (name_at names k).owner ≡ unlistened name_eq (name_at names k) event label
+      capture (own_listeners names ls (name_at names k).owner)
   own-unlistened event label capture =
-      ap (filter (is_of_owner (name_at names k).owner)) (unlistened-named names apart ls at k within event label capture) ∙ unlistened-own (name_at names k) event label capture (map (listener_named names) ls)
+      ap (filter (is_of_owner (name_at names k).owner)) (unlistened-named names apart ls at k within event label capture) ∙
+      unlistened-own (name_at names k) event label capture (map (listener_named names) ls)
 
-  pub others-unlistened : (event label : Word) (capture : Bool) (o : Owner) → (name_at names k).owner ≢ o → own_listeners names (unlistened nat_eq k event label capture ls) o ≡ own_listeners names ls o
+  pub others-unlistened : (event label : Word) (capture : Bool) (o : Owner) → (name_at names k).owner ≢ o →
+      own_listeners names (unlistened nat_eq k event label capture ls) o ≡ own_listeners names ls o
   others-unlistened event label capture o other =
-      ap (filter (is_of_owner o)) (unlistened-named names apart ls at k within event label capture) ∙ unlistened-other (name_at names k) event label capture o other (map (listener_named names) ls)
+      ap (filter (is_of_owner o)) (unlistened-named names apart ls at k within event label capture) ∙ unlistened-other (name_at names k) event
+      label capture o other (map (listener_named names) ls)
 
   -- they stay at nodes
   pub at-listened : (words : ListenerWords) → AllByRecursion (IsListenerAt names) (listened nat_eq k words ls)
   at-listened words =
-      either_way (AllByRecursion (IsListenerAt names)) (list_any (is_listener nat_eq k words.event words.label words.capture) ls) ls (ls ++ record { node = k; words = words } ∷ []) at
+      either_way (AllByRecursion (IsListenerAt names)) (list_any (is_listener nat_eq k words.event words.label words.capture) ls) ls
+      (ls ++ record { node = k; words = words } ∷ []) at
       (all-append (IsListenerAt names) ls (record { node = k; words = words } ∷ []) at (within, tt))
 
   pub at-unlistened : (event label : Word) (capture : Bool) → AllByRecursion (IsListenerAt names) (unlistened nat_eq k event label capture ls)
@@ -156,10 +185,14 @@ module _ {N : Type 0} (same : N → N → Bool) (P : Listener N → Type 0) (e :
       let left = kept_after same l d.listeners in
       let next : Dispatching N = record d { listeners = left; lines = d.lines ++ line_of v l.words ∷ [] } in
       let gone = unlistened same l.node l.words.event l.words.label l.words.capture d.listeners in
-      let kept : AllByRecursion P left = either_way (AllByRecursion P) l.words.once gone d.listeners (all-filter P (λ k. not (is_listener same l.node l.words.event l.words.label l.words.capture k)) d.listeners h) h in
-      either_way (λ (s : Dispatching N). AllByRecursion P s.listeners) d.stopped_now d (after_action l.words.action (may_cancel e l.words) next) h (after-action l.words.action (may_cancel e l.words) next kept)
+      let kept : AllByRecursion P left =
+      either_way (AllByRecursion P) l.words.once gone d.listeners
+      (all-filter P (λ k. not (is_listener same l.node l.words.event l.words.label l.words.capture k)) d.listeners h) h in
+      either_way (λ (s : Dispatching N). AllByRecursion P s.listeners) d.stopped_now d (after_action l.words.action (may_cancel e l.words) next) h
+      (after-action l.words.action (may_cancel e l.words) next kept)
 
-  after-calls : (v : Visit N) (ls : List (Listener N)) (d : Dispatching N) → AllByRecursion P d.listeners → AllByRecursion P (fold (called same e v) d ls).listeners
+  after-calls : (v : Visit N) (ls : List (Listener N)) (d : Dispatching N) → AllByRecursion P d.listeners →
+      AllByRecursion P (fold (called same e v) d ls).listeners
   after-calls v [] d h = h
   after-calls v (l ∷ ls) d h = after-calls v ls (called same e v d l) (after-called v d l h)
 
@@ -167,4 +200,6 @@ module _ {N : Type 0} (same : N → N → Bool) (P : Listener N → Type 0) (e :
   after-visits [] d h = h
   after-visits (v ∷ vs) d h =
       let hearing = filter (hears same e v) d.listeners in
-      after-visits vs (visited same e d v) (either_way (λ (s : Dispatching N). AllByRecursion P s.listeners) d.stopped d (fold (called same e v) d hearing) h (after-calls v hearing d h))
+      after-visits vs (visited same e d v)
+      (either_way (λ (s : Dispatching N). AllByRecursion P s.listeners) d.stopped d (fold (called same e v) d hearing) h
+      (after-calls v hearing d h))

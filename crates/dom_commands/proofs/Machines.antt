@@ -44,17 +44,21 @@ pub begins_same : (names : List NodeName) → BeginsWith names names
 begins_same names = take-length names
 
 -- The component that the page's next attach makes was not there.
-next_absent : (of : Owner → List (Listener NodeName)) (w : World) → FitsIn of w → IsReached false (heard of w) → is_there w (component_made Page (length (part_of w Page).attached)) ≡ false
+next_absent : (of : Owner → List (Listener NodeName)) (w : World) → FitsIn of w → IsReached false (heard of w) →
+    is_there w (component_made Page (length (part_of w Page).attached)) ≡ false
 next_absent of w fits reached =
     let hosts = (part_of w Page).attached in
     let c = component_made Page (length hosts) in
     sym (there-heard of w c) ∙ attached-are_there false (heard of w) reached c (Component-IsNoPage (suc (length hosts)))
-    ∙ ap (λ (p : Part). is_some (slice_get p.attached (length hosts))) (part-heard of w fits Page) ∙ ap is_some (slice_get_past hosts (length hosts) (omega arith))
+    ∙ ap (λ (p : Part). is_some (slice_get p.attached (length hosts))) (part-heard of w fits Page) ∙
+    ap is_some (slice_get_past hosts (length hosts) (omega arith))
 
 -- so the component that a command makes has no listeners
-made_new : (of : Owner → List (Listener NodeName)) (w : World) → FitsIn of w → IsReached false (heard of w) → (o : Owner) (c : Command) → refusal w o c ≡ None → IsNew of (opening_turn w o) o c
+made_new : (of : Owner → List (Listener NodeName)) (w : World) → FitsIn of w → IsReached false (heard of w) → (o : Owner) (c : Command) →
+    refusal w o c ≡ None → IsNew of (opening_turn w o) o c
 made_new of w fits reached Page (Command.attach x) passes =
-    ap (λ (p : Part). of (component_made Page (length p.attached))) (sym (opened-part w Page)) ∙ fits (component_made Page (length (part_of w Page).attached)) (next_absent of w fits reached)
+    ap (λ (p : Part). of (component_made Page (length p.attached))) (sym (opened-part w Page)) ∙
+    fits (component_made Page (length (part_of w Page).attached)) (next_absent of w fits reached)
 made_new of w fits reached (Component k) (Command.attach x) passes = absurd cc
 made_new of w fits reached o c passes = tt
 
@@ -64,9 +68,11 @@ module _ (s t : DocState) (ls : List (Listener ℕ)) (there : OwnersAreThere s.n
   heard_kept kept = ap (λ of. heard of t.world) (sym (own-kept s.names t.names kept ls at))
 
   -- such a command
-  pub plain_handled : IsReached false (machine_now s ls).world → (o : Owner) (c : Command) → is_plain c ≡ true → (before after : List ℕ) (r : Result (Unit {0}) Fault) → KeepsNames s.names t.names r → IsHandled o c s.world t.world before after r →
+  pub plain_handled : IsReached false (machine_now s ls).world → (o : Owner) (c : Command) → is_plain c ≡ true →
+      (before after : List ℕ) (r : Result (Unit {0}) Fault) → KeepsNames s.names t.names r → IsHandled o c s.world t.world before after r →
       IsHandled o c (machine_now s ls).world (machine_now t ls).world before after r
-  plain_handled reached o c plain before after r kept h = by r kept (handled-heard of s.world t.world fits o c plain (λ e. made_new of s.world fits reached o c e) before after r h)
+  plain_handled reached o c plain before after r kept h =
+      by r kept (handled-heard of s.world t.world fits o c plain (λ e. made_new of s.world fits reached o c e) before after r h)
     where
       of : Owner → List (Listener NodeName)
       of = own_listeners s.names ls
@@ -74,7 +80,8 @@ module _ (s t : DocState) (ls : List (Listener ℕ)) (there : OwnersAreThere s.n
       fits : FitsIn of s.world
       fits = fits-own s.names s.world there ls at
 
-      by : (r : Result (Unit {0}) Fault) → KeepsNames s.names t.names r → IsHandled o c (heard of s.world) (heard of t.world) before after r → IsHandled o c (machine_now s ls).world (machine_now t ls).world before after r
+      by : (r : Result (Unit {0}) Fault) → KeepsNames s.names t.names r → IsHandled o c (heard of s.world) (heard of t.world) before after r →
+          IsHandled o c (machine_now s ls).world (machine_now t ls).world before after r
       by (Ok x) kept h = subst (λ (w : World). IsHandled o c (heard of s.world) w before after (Ok x)) (heard_kept kept) h
       by (Err (Refused q)) kept h = subst (λ (w : World). IsHandled o c (heard of s.world) w before after (Err (Refused q))) (heard_kept kept) h
       by (Err Memory) kept h = tt
@@ -94,22 +101,28 @@ pub seen_reached : (s : DocState) (ls : List (Listener ℕ)) (m : MachineNow) �
 seen_reached s ls m seen sound = (subst IsSound (sym seen) sound).reached
 
 -- the ends of ranges are within their nodes in the world of its documents
-pub seen_bounds : (s : DocState) (ls : List (Listener ℕ)) (m : MachineNow) → machine_now s ls ≡ m → IsSound m → OwnersAreThere s.names s.world → IsBounded s.world
+pub seen_bounds : (s : DocState) (ls : List (Listener ℕ)) (m : MachineNow) → machine_now s ls ≡ m → IsSound m → OwnersAreThere s.names s.world →
+    IsBounded s.world
 seen_bounds s ls m seen sound there =
     bounded-unheard (own_listeners s.names ls) s.world (fits-own s.names s.world there ls (seen_at s ls m seen sound)) (subst IsSound (sym seen) sound).bounds
 
 -- and each owner that is there has its first node
-pub seen_first_nodes : (s : DocState) (ls : List (Listener ℕ)) (m : MachineNow) → machine_now s ls ≡ m → IsSound m → OwnersAreThere s.names s.world → HasFirstNodes s.world
+pub seen_first_nodes : (s : DocState) (ls : List (Listener ℕ)) (m : MachineNow) → machine_now s ls ≡ m → IsSound m →
+    OwnersAreThere s.names s.world → HasFirstNodes s.world
 seen_first_nodes s ls m seen sound there =
-    first_nodes-unheard (own_listeners s.names ls) s.world (fits-own s.names s.world there ls (seen_at s ls m seen sound)) (subst IsSound (sym seen) sound).whole.first
+    first_nodes-unheard (own_listeners s.names ls) s.world (fits-own s.names s.world there ls (seen_at s ls m seen sound))
+    (subst IsSound (sym seen) sound).whole.first
 
 -- and the ends of ranges are at nodes, both of a range in one tree
-pub seen_range_ends : (s : DocState) (ls : List (Listener ℕ)) (m : MachineNow) → machine_now s ls ≡ m → IsSound m → OwnersAreThere s.names s.world → HasRangeEnds s.world
+pub seen_range_ends : (s : DocState) (ls : List (Listener ℕ)) (m : MachineNow) → machine_now s ls ≡ m → IsSound m →
+    OwnersAreThere s.names s.world → HasRangeEnds s.world
 seen_range_ends s ls m seen sound there =
-    range_ends-unheard (own_listeners s.names ls) s.world (fits-own s.names s.world there ls (seen_at s ls m seen sound)) (λ o. ((subst IsSound (sym seen) sound).whole.tables o).ranges)
+    range_ends-unheard (own_listeners s.names ls) s.world (fits-own s.names s.world there ls (seen_at s ls m seen sound))
+    (λ o. ((subst IsSound (sym seen) sound).whole.tables o).ranges)
 
 -- and no shadow root has a parent
-pub seen_shadow_roots : (s : DocState) (ls : List (Listener ℕ)) (m : MachineNow) → machine_now s ls ≡ m → IsSound m → OwnersAreThere s.names s.world → HasLoneShadowRoots s.world
+pub seen_shadow_roots : (s : DocState) (ls : List (Listener ℕ)) (m : MachineNow) → machine_now s ls ≡ m → IsSound m →
+    OwnersAreThere s.names s.world → HasLoneShadowRoots s.world
 seen_shadow_roots s ls m seen sound there =
     shadow_roots-unheard (own_listeners s.names ls) s.world (fits-own s.names s.world there ls (seen_at s ls m seen sound)) (seen_reached s ls m seen sound)
 
@@ -127,7 +140,8 @@ line_sound m n l sound is at =
 
 -- the first machine
 pub first_sound : (s : DocState) → s ≡ record { names = node_of Page 0 ∷ []; world = first_world } → IsSound (machine_now s [])
-first_sound s is = subst (λ (t : DocState). IsSound (machine_now t [])) (sym is) (record { listeners = tt; reached = first-is_reached false; whole = first-is_whole; bounds = first-is_bounded })
+first_sound s is = subst (λ (t : DocState). IsSound (machine_now t [])) (sym is)
+    (record { listeners = tt; reached = first-is_reached false; whole = first-is_whole; bounds = first-is_bounded })
 
 -- listeners that are at nodes are so however a command ends
 pub always_at : (m : MachineNow) (r : Result (Unit {0}) Fault) → AreAtNodes m → KeepsListeners m r

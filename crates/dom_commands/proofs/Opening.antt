@@ -30,7 +30,8 @@ use Rattle.dom_commands.proofs.HeardCommands.{opening-heard}
 use Rattle.dom_text.proofs.OutputLaws.{output_text-append}
 
 -- a machine stays sound when a turn is opened
-pub opened_sound : (s t : DocState) (ls : List (Listener ℕ)) (o : Owner) → t.names ≡ s.names → t.world ≡ opening_turn s.world o → is_there (machine_now s ls).world o ≡ true → IsSound (machine_now s ls) → IsSound (machine_now t ls)
+pub opened_sound : (s t : DocState) (ls : List (Listener ℕ)) (o : Owner) → t.names ≡ s.names → t.world ≡ opening_turn s.world o →
+    is_there (machine_now s ls).world o ≡ true → IsSound (machine_now s ls) → IsSound (machine_now t ls)
 opened_sound s t ls o names world there sound =
     let of = own_listeners s.names ls in
     let is : opening_turn (heard of s.world) o ≡ (machine_now t ls).world =
@@ -46,13 +47,16 @@ opened_sound s t ls o names world there sound =
 pub opened_name : (w v : World) (o : Owner) (x : Spelled) → named (part_of w o) x ≡ named (part_of (opening_turn v o) o) x
 opened_name w v o x = named_alike (part_of w o) (part_of (opening_turn v o) o) x (owner-part_of w o ∙ sym (owner-part_of (opening_turn v o) o))
 
-pub opened_names : (w v : World) (o : Owner) (r : Option line.Spelled) → option_map (λ x. named (part_of w o) (spelled_view x)) r ≡ option_map (named (part_of (opening_turn v o) o)) (option_map spelled_view r)
+pub opened_names : (w v : World) (o : Owner) (r : Option line.Spelled) →
+    option_map (λ x. named (part_of w o) (spelled_view x)) r ≡ option_map (named (part_of (opening_turn v o) o)) (option_map spelled_view r)
 opened_names w v o None = refl
 opened_names w v o (Some x) = ap Some (opened_name w v o (spelled_view x))
 
 -- what a dispatch does: its world, its lines, and then its answer
-pub dispatch_handled : (w : World) (o : Owner) (x : Spelled) (e : EventWords) (related : Option Spelled) (d : Dispatched World) → refusal w o (Command.dispatch x e related) ≡ None →
-    d ≡ dispatch_in (opening_turn w o) (named (part_of (opening_turn w o) o) x) (option_map (named (part_of (opening_turn w o) o)) related) e → (end : World) (before middle after : List ℕ) (answer : Bool) →
+pub dispatch_handled : (w : World) (o : Owner) (x : Spelled) (e : EventWords) (related : Option Spelled) (d : Dispatched World) →
+    refusal w o (Command.dispatch x e related) ≡ None →
+    d ≡ dispatch_in (opening_turn w o) (named (part_of (opening_turn w o) o) x) (option_map (named (part_of (opening_turn w o) o)) related) e →
+    (end : World) (before middle after : List ℕ) (answer : Bool) →
     end ≡ d.run.0 → middle ≡ before ++ output_text d.run.1 → answer ≡ d.answer → after ≡ middle ++ output_text (says o (replied (a_truth answer)) ∷ []) →
     IsHandled o (Command.dispatch x e related) w end before after (Ok tt)
 dispatch_handled w o x e related d none same end before middle after answer world text truth ending =

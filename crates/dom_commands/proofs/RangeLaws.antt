@@ -13,7 +13,7 @@ use Rattle.dom_model.proofs.StepLaws.{Component-IsNoPage}
 use Rattle.dom_isolation.specs.Laws.{IsReached}
 use Rattle.dom_isolation.specs.Worlds.{times_in, MayBeShadow}
 use Rattle.dom_isolation.proofs.FollowPaths.{shadow-kind}
-use Rattle.dom_isolation.proofs.Insides.{child-there}
+use Rattle.dom_isolation.proofs.InsideAncestors.{child-there}
 use Rattle.dom_isolation.proofs.Owners.{node-there, there-hosted}
 use Rattle.dom_isolation.proofs.ReachedFacts.{no_other_shadow_roots, shadow_roots-are_roots}
 use Rattle.dom_isolation.specs.Tables.{EndsIn}
@@ -35,7 +35,8 @@ lone-shadow_roots w r o x h = from (parent_of ts x) refl
 
     from : (m : Option NodeName) → parent_of ts x ≡ m → parent_of ts x ≡ None
     from None e = e
-    from (Some z) e = by x.owner refl (no_other_shadow_roots false w r x (shadow-kind (kind_at w x) (subst (λ (q : Owner). is_shadow (kind_of (part_of w q).trees x) ≡ true) (sym own) h)))
+    from (Some z) e = by x.owner refl (no_other_shadow_roots false w r x
+        (shadow-kind (kind_at w x) (subst (λ (q : Owner). is_shadow (kind_of (part_of w q).trees x) ≡ true) (sym own) h)))
       where
         there : 1 ≤ times_in ts x
         there = child-there ts x z e
@@ -49,7 +50,8 @@ lone-shadow_roots w r o x h = from (parent_of ts x) refl
             let same : o ≡ Component k = sym own ∙ is in
             let hosted = there-hosted w r.world.makers r.owners (Component k) (Component-IsNoPage k)
             (node-there w (Component k) x (subst (λ (q : Owner). 1 ≤ times_in (part_of w q).trees x) same there)) in
-            ap (λ (q : Owner). parent_of (part_of w q).trees x) same ∙ ap (parent_of (part_of w (Component k)).trees) may ∙ (shadow_roots-are_roots false w r (Component k) hosted).2
+            ap (λ (q : Owner). parent_of (part_of w q).trees x) same ∙ ap (parent_of (part_of w (Component k)).trees) may ∙
+            (shadow_roots-are_roots false w r (Component k) hosted).2
 
 -- no shadow root has a parent, also where the listeners are left out
 pub shadow_roots-unheard : (of : Owner → List (Listener NodeName)) (w : World) → FitsIn of w → IsReached false (heard of w) → HasLoneShadowRoots w

@@ -17,7 +17,8 @@ abbrev part_in : List Part → Owner → Part
 part_in ps o = unwrap_or (find_part ps o) (empty_part o)
 
 first-found : (p : Part) (ps : List Part) → part_in (p ∷ ps) p.owner ≡ p
-first-found p ps = ap (λ (f : Option Part). unwrap_or f (empty_part p.owner)) (cond-true (owner_eq p.owner p.owner) (Some p) (find_part ps p.owner) (owner_eq-same p.owner))
+first-found p ps = ap (λ (f : Option Part). unwrap_or f (empty_part p.owner))
+    (cond-true (owner_eq p.owner p.owner) (Some p) (find_part ps p.owner) (owner_eq-same p.owner))
 
 other-found : (p : Part) (ps : List Part) (o : Owner) → owner_eq p.owner o ≡ false → part_in (p ∷ ps) o ≡ part_in ps o
 other-found p ps o e = ap (λ (f : Option Part). unwrap_or f (empty_part o)) (cond-false (owner_eq p.owner o) (Some p) (find_part ps o) e)
@@ -29,7 +30,8 @@ absent-found ps o off = by (find_part ps o) (there-listed ps o ∙ off)
     by None h = refl
     by (Some p) h = absurd (true≢false h)
 
-parts-same : (ps qs : List Part) → map (λ (p : Part). p.owner) ps ≡ map (λ (p : Part). p.owner) qs → AreOnce (map (λ (p : Part). p.owner) ps) → ((o : Owner) → part_in ps o ≡ part_in qs o) → ps ≡ qs
+parts-same : (ps qs : List Part) → map (λ (p : Part). p.owner) ps ≡ map (λ (p : Part). p.owner) qs → AreOnce (map (λ (p : Part). p.owner) ps) →
+    ((o : Owner) → part_in ps o ≡ part_in qs o) → ps ≡ qs
 parts-same [] [] e once same = refl
 parts-same [] (q ∷ qs) e once same = absurd cc
 parts-same (p ∷ ps) [] e once same = absurd cc
@@ -46,6 +48,12 @@ parts-same (p ∷ ps) (q ∷ qs) e once same =
     λ j. here j ∷ parts-same ps qs rest once.1 deeper j
 
 -- two worlds with the same owners' parts, and the same beside them
-pub worlds-same : (v u : World) → AreOnce (owners_in u) → owners_in v ≡ owners_in u → ((o : Owner) → part_of v o ≡ part_of u o) → record v { parts = [] } ≡ record u { parts = [] } → v ≡ u
+pub worlds-same : (v u : World) → AreOnce (owners_in u) → owners_in v ≡ owners_in u → ((o : Owner) → part_of v o ≡ part_of u o) →
+    record v { parts = [] } ≡ record u { parts = [] } → v ≡ u
 worlds-same v u once owners same rest =
-    λ j. record { parts = parts-same v.parts u.parts owners (subst AreOnce (sym owners) once) same j; signalled = (rest j).signalled; tasks = (rest j).tasks; turn = (rest j).turn }
+    λ j. record {
+      parts = parts-same v.parts u.parts owners (subst AreOnce (sym owners) once) same j;
+      signalled = (rest j).signalled;
+      tasks = (rest j).tasks;
+      turn = (rest j).turn;
+    }

@@ -27,9 +27,15 @@ impl Machine {
         requires sound { IsSound self.old }
         requires target_is_node { target < length self.old.names }
         requires related_is_node { ForSome event.related (λ k. k < length self.old.names) }
-        ensures world { OnOk result (self.new.world ≡ (dispatch_in self.old.world (name_at self.old.names target) (option_map (name_at self.old.names) event.related) (event_words event)).run.0) }
-        ensures text { OnOk result (out.new.items ≡ out.old.items ++ output_text (dispatch_in self.old.world (name_at self.old.names target) (option_map (name_at self.old.names) event.related) (event_words event)).run.1) }
-        ensures answer { IfOk result (λ answer. answer ≡ (dispatch_in self.old.world (name_at self.old.names target) (option_map (name_at self.old.names) event.related) (event_words event)).answer) }
+        ensures world { OnOk result (self.new.world ≡
+            (dispatch_in self.old.world (name_at self.old.names target) (option_map (name_at self.old.names) event.related)
+            (event_words event)).run.0) }
+        ensures text { OnOk result (out.new.items ≡ out.old.items ++
+            output_text (dispatch_in self.old.world (name_at self.old.names target) (option_map (name_at self.old.names) event.related)
+            (event_words event)).run.1) }
+        ensures answer { IfOk result (λ answer.
+            answer ≡ (dispatch_in self.old.world (name_at self.old.names target) (option_map (name_at self.old.names) event.related)
+            (event_words event)).answer) }
         ensures names { OnOk result (self.new.names ≡ self.old.names) }
         ensures listeners { OnOk result (AreAtNodes self.new) }
     {

@@ -56,7 +56,8 @@ impl Machine {
         out: &mut Vec<u8>,
     ) -> Result<(), Fault>
         requires { IsSound self.old }
-        ensures handled { IsHandled owner (unlisten (spelled_view node) event.now label.now capture) self.old.world self.new.world out.old.items out.new.items result }
+        ensures handled { IsHandled owner (unlisten (spelled_view node) event.now label.now capture) self.old.world self.new.world out.old.items
+            out.new.items result }
         ensures listeners { KeepsListeners self.new result }
     {
         self.state.names_tell_nodes();
@@ -78,7 +79,8 @@ impl Machine {
         out: &mut Vec<u8>,
     ) -> Result<(), Fault>
         requires { IsSound self.old }
-        ensures handled { IsHandled owner (dispatch (spelled_view target) (event_view event) (option_map spelled_view related)) self.old.world self.new.world out.old.items out.new.items result }
+        ensures handled { IsHandled owner (dispatch (spelled_view target) (event_view event) (option_map spelled_view related)) self.old.world
+            self.new.world out.old.items out.new.items result }
         ensures listeners { KeepsListeners self.new result }
     {
         self.state.names_tell_nodes();
@@ -112,7 +114,8 @@ fn admit_event(
 ) -> Result<(), Fault>
     ensures refusal { (e : EventOf) → result ≡ let_pass (refusal state.now.world owner (dispatch (spelled_view target) e (option_map spelled_view related))) }
     ensures target { OnOk result (has_node (part_of state.now.world owner).trees (named (part_of state.now.world owner) (spelled_view target)) ≡ true) }
-    ensures related { OnOk result (ForSome related (λ r. has_node (part_of state.now.world owner).trees (named (part_of state.now.world owner) (spelled_view r)) ≡ true)) }
+    ensures related { OnOk result (ForSome related
+        (λ r. has_node (part_of state.now.world owner).trees (named (part_of state.now.world owner) (spelled_view r)) ≡ true)) }
 {
     match related {
         None => state.admit(owner, &[Operand::Any(target)]),
@@ -147,7 +150,8 @@ fn related_refusal(
 ) -> Option<Refusal>
     requires target_is_there { has_node (part_of state.now.world owner).trees (named (part_of state.now.world owner) (spelled_view target)) ≡ true }
     requires related_is_there { has_node (part_of state.now.world owner).trees (named (part_of state.now.world owner) (spelled_view related)) ≡ true }
-    ensures { result ≡ related_refusal owner (part_of state.now.world owner) (named (part_of state.now.world owner) (spelled_view target)) (Some (spelled_view related)) }
+    ensures { result ≡ related_refusal owner (part_of state.now.world owner) (named (part_of state.now.world owner) (spelled_view target))
+        (Some (spelled_view related)) }
 {
     match owner {
         Owner::Page => None,
@@ -165,7 +169,8 @@ fn related_refusal(
 fn has_other_root(state: &State, owner: Owner, node: Spelled, other: Spelled) -> bool
     requires node_is_there { has_node (part_of state.now.world owner).trees (named (part_of state.now.world owner) (spelled_view node)) ≡ true }
     requires other_is_there { has_node (part_of state.now.world owner).trees (named (part_of state.now.world owner) (spelled_view other)) ≡ true }
-    ensures { result ≡ not (name_eq (root_of (part_of state.now.world owner).trees (named (part_of state.now.world owner) (spelled_view node))) (root_of (part_of state.now.world owner).trees (named (part_of state.now.world owner) (spelled_view other)))) }
+    ensures { result ≡ not (name_eq (root_of (part_of state.now.world owner).trees (named (part_of state.now.world owner) (spelled_view node)))
+        (root_of (part_of state.now.world owner).trees (named (part_of state.now.world owner) (spelled_view other)))) }
 {
     let (node, other) = (state.key(owner, node), state.key(owner, other));
     let forest = state.doc.forest();

@@ -69,7 +69,8 @@ impl Machine {
     fn signal_slots(&mut self, slots: &[Key], out: &mut Vec<u8>) -> Result<(), AllocError>
         requires sound { IsSound self.old }
         requires nodes { All (λ k. k < length self.old.names) slots.now }
-        ensures text { OnOk result (out.new.items ≡ out.old.items ++ output_text (run_each firing_slotchange self.old.world (map (name_at self.old.names) slots.now)).1) }
+        ensures text { OnOk result (out.new.items ≡ out.old.items ++
+            output_text (run_each firing_slotchange self.old.world (map (name_at self.old.names) slots.now)).1) }
         ensures world { OnOk result (self.new.world ≡ (run_each firing_slotchange self.old.world (map (name_at self.old.names) slots.now)).0) }
         ensures sound { OnOk result (IsSound self.new) }
     {

@@ -13,12 +13,14 @@ pub record HaveLeft (f : NamedTrees) (node : ℕ) (was now : List KeyedIterator)
   pub done : (k : ℕ) → k < at → IsLeftIf f node (slice_get was k) (slice_get now k)
   pub rest : (k : ℕ) → at ≤ k → slice_get now k ≡ slice_get was k
 
-pub left_more : (f : NamedTrees) (node : ℕ) (was now : List KeyedIterator) (at : ℕ) (i j : KeyedIterator) → HaveLeft f node was now at → slice_get now at ≡ Some i → IsLeft f node i j
+pub left_more : (f : NamedTrees) (node : ℕ) (was now : List KeyedIterator) (at : ℕ) (i j : KeyedIterator) → HaveLeft f node was now at →
+    slice_get now at ≡ Some i → IsLeft f node i j
     → HaveLeft f node was (slice_set now at j) (at + 1)
 left_more f node was now at i j h here left = record {
   done = λ k less. elim (eq-or-lt_of_le (let within : k ≤ at = omega arith in within)) [
     | inl same ↦ subst (λ n. IsLeftIf f node (slice_get was n) (slice_get (slice_set now at j) n)) (sym same)
-        (subst (λ o. IsLeftIf f node o (slice_get (slice_set now at j) at)) (sym here ∙ h.rest at (omega arith)) (subst (IsLeftIf f node (Some i)) (sym (get_set now at i j here)) left))
+        (subst (λ o. IsLeftIf f node o (slice_get (slice_set now at j) at)) (sym here ∙ h.rest at (omega arith))
+        (subst (IsLeftIf f node (Some i)) (sym (get_set now at i j here)) left))
     | inr before ↦ subst (IsLeftIf f node (slice_get was k)) (sym (get_set_other now at k j (λ e. omega arith))) (h.done k before)
   ];
   rest = λ k more. get_set_other now at k j (λ e. omega arith) ∙ h.rest k (omega arith);

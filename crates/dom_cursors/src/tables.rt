@@ -60,7 +60,8 @@ impl OwnTables {
     pub fn add_iter(&mut self, root: Key, filter: Filter) -> Result<u32, Fault>
         requires { length self.old.iterators ≤ 1000000 }
         ensures number { IfOk result (λ n. n ≡ length self.old.iterators) }
-        ensures added { OnOk result (self.new ≡ record self.old { iterators = self.old.iterators ++ record { root = root; reference = root; before = true; filter = filter_of filter } ∷ [] }) }
+        ensures added { OnOk result (self.new ≡ record self.old
+            { iterators = self.old.iterators ++ record { root = root; reference = root; before = true; filter = filter_of filter } ∷ [] }) }
         ensures limit { (result ≡ Err (Fault.Refused Limit)) ↔ (length self.old.iterators ≡ 1000000) }
         ensures other { IfErr result (λ fault. (fault ≡ Fault.Refused Limit) ⊎ (fault ≡ Fault.Memory)) }
         ensures err { OnErr result (self.new ≡ self.old) }
@@ -77,7 +78,8 @@ impl OwnTables {
     pub fn add_walker(&mut self, root: Key, filter: Filter) -> Result<u32, Fault>
         requires { length self.old.walkers ≤ 1000000 }
         ensures number { IfOk result (λ n. n ≡ length self.old.walkers) }
-        ensures added { OnOk result (self.new ≡ record self.old { walkers = self.old.walkers ++ record { root = root; current = root; filter = filter_of filter } ∷ [] }) }
+        ensures added { OnOk result (self.new ≡ record self.old
+            { walkers = self.old.walkers ++ record { root = root; current = root; filter = filter_of filter } ∷ [] }) }
         ensures limit { (result ≡ Err (Fault.Refused Limit)) ↔ (length self.old.walkers ≡ 1000000) }
         ensures other { IfErr result (λ fault. (fault ≡ Fault.Refused Limit) ⊎ (fault ≡ Fault.Memory)) }
         ensures err { OnErr result (self.new ≡ self.old) }
@@ -107,8 +109,10 @@ impl OwnTables {
     pub fn iter_next(&mut self, forest: &Forest, number: u32) -> Option<Key>
         requires there { is_some (slice_get self.old.iterators number) ≡ true }
         requires iterators { EachItem (IsIteratorOf forest.now) self.old.iterators }
-        ensures value { ForSome (slice_get self.old.iterators number) (λ i. option_map (name_at forest.now.names) result ≡ iterator_next_node forest.now.trees (iterator_view forest.now.names i)) }
-        ensures state { ForSome (slice_get self.old.iterators number) (λ i. self.new ≡ record self.old { iterators = slice_set self.old.iterators number (iterator_at i false result) }) }
+        ensures value { ForSome (slice_get self.old.iterators number)
+            (λ i. option_map (name_at forest.now.names) result ≡ iterator_next_node forest.now.trees (iterator_view forest.now.names i)) }
+        ensures state { ForSome (slice_get self.old.iterators number)
+            (λ i. self.new ≡ record self.old { iterators = slice_set self.old.iterators number (iterator_at i false result) }) }
         ensures kept { ForSome (slice_get self.old.iterators number) (λ i. IsIteratorOf forest.now (iterator_at i false result)) }
     {
         let iterator = &mut self.iterators[number as usize];
@@ -119,8 +123,10 @@ impl OwnTables {
     pub fn iter_previous(&mut self, forest: &Forest, number: u32) -> Option<Key>
         requires there { is_some (slice_get self.old.iterators number) ≡ true }
         requires iterators { EachItem (IsIteratorOf forest.now) self.old.iterators }
-        ensures value { ForSome (slice_get self.old.iterators number) (λ i. option_map (name_at forest.now.names) result ≡ iterator_previous_node forest.now.trees (iterator_view forest.now.names i)) }
-        ensures state { ForSome (slice_get self.old.iterators number) (λ i. self.new ≡ record self.old { iterators = slice_set self.old.iterators number (iterator_at i true result) }) }
+        ensures value { ForSome (slice_get self.old.iterators number)
+            (λ i. option_map (name_at forest.now.names) result ≡ iterator_previous_node forest.now.trees (iterator_view forest.now.names i)) }
+        ensures state { ForSome (slice_get self.old.iterators number)
+            (λ i. self.new ≡ record self.old { iterators = slice_set self.old.iterators number (iterator_at i true result) }) }
         ensures kept { ForSome (slice_get self.old.iterators number) (λ i. IsIteratorOf forest.now (iterator_at i true result)) }
     {
         let iterator = &mut self.iterators[number as usize];
@@ -139,8 +145,10 @@ impl OwnTables {
     pub fn walk(&mut self, forest: &Forest, number: u32, step: Move) -> Option<Key>
         requires there { is_some (slice_get self.old.walkers number) ≡ true }
         requires walkers { EachItem (IsWalkerOf forest.now) self.old.walkers }
-        ensures value { ForSome (slice_get self.old.walkers number) (λ w. option_map (name_at forest.now.names) result ≡ walker_move forest.now.trees (walker_view forest.now.names w) step) }
-        ensures state { ForSome (slice_get self.old.walkers number) (λ w. self.new ≡ record self.old { walkers = slice_set self.old.walkers number (walker_at w result) }) }
+        ensures value { ForSome (slice_get self.old.walkers number)
+            (λ w. option_map (name_at forest.now.names) result ≡ walker_move forest.now.trees (walker_view forest.now.names w) step) }
+        ensures state { ForSome (slice_get self.old.walkers number)
+            (λ w. self.new ≡ record self.old { walkers = slice_set self.old.walkers number (walker_at w result) }) }
         ensures kept { ForSome (slice_get self.old.walkers number) (λ w. IsWalkerOf forest.now (walker_at w result)) }
     {
         let walker = &mut self.walkers[number as usize];
@@ -158,7 +166,8 @@ impl OwnTables {
     /// Makes a node the current one of a walker.
     pub fn set_walker(&mut self, number: u32, current: Key)
         requires { is_some (slice_get self.old.walkers number) ≡ true }
-        ensures { ForSome (slice_get self.old.walkers number) (λ w. self.new ≡ record self.old { walkers = slice_set self.old.walkers number (record w { current = current }) }) }
+        ensures { ForSome (slice_get self.old.walkers number)
+            (λ w. self.new ≡ record self.old { walkers = slice_set self.old.walkers number (record w { current = current }) }) }
     {
         let walker = &mut self.walkers[number as usize];
         walker.set(current);

@@ -36,7 +36,8 @@ record IsAsFar (e : EventWords) (from w : World) (d s : Dispatching NodeName) : 
 module _ (e : EventWords) (from : World) where
   -- who hears is of the visit's owner
   hears-own : (v : Visit NodeName) (l : Listener NodeName) → hears name_eq e v l ≡ true → is_of_owner v.current.owner l ≡ true
-  hears-own v l h = and-first (owner_eq l.node.owner v.current.owner) (nat_eq l.node.number v.current.number) (and-first (name_eq l.node v.current) (text_eq l.words.event e.event && beq l.words.capture v.capturing) h)
+  hears-own v l h = and-first (owner_eq l.node.owner v.current.owner) (nat_eq l.node.number v.current.number)
+      (and-first (name_eq l.node v.current) (text_eq l.words.event e.event && beq l.words.capture v.capturing) h)
 
   -- and is none of another owner's
   hears-apart : (v : Visit NodeName) (o : Owner) → v.current.owner ≢ o → (l m : Listener NodeName) → hears name_eq e v l ≡ true → is_of_owner o m ≡ true
@@ -45,7 +46,8 @@ module _ (e : EventWords) (from : World) where
       let own : l.node.owner ≡ v.current.owner = owner_eq-true l.node.owner v.current.owner (hears-own v l h) in
       let its : m.node.owner ≡ o = owner_eq-true m.node.owner o k in
       and-none (name_eq m.node l.node) (text_eq m.words.event l.words.event && (text_eq m.words.label l.words.label && beq m.words.capture l.words.capture))
-      (and-none (owner_eq m.node.owner l.node.owner) (nat_eq m.node.number l.node.number) (ne-owner_eq m.node.owner l.node.owner (λ same. other (sym own ∙ sym same ∙ its))))
+      (and-none (owner_eq m.node.owner l.node.owner) (nat_eq m.node.number l.node.number)
+      (ne-owner_eq m.node.owner l.node.owner (λ same. other (sym own ∙ sym same ∙ its))))
 
   -- one visit
   visit-among : (w : World) (d s : Dispatching NodeName) (v : Visit NodeName) → IsAsFar e from w d s
@@ -62,10 +64,12 @@ module _ (e : EventWords) (from : World) where
       } in
       let heard = visited name_eq e (record d { listeners = p.listeners }) v in
       let next = visited name_eq e s v in
-      let is : heard ≡ narrowed name_eq e (is_of_owner o) next = ap (λ x. visited name_eq e x v) begins ∙ sym (visited-narrow name_eq e (is_of_owner o) v (hears-own v) s) in
+      let is : heard ≡ narrowed name_eq e (is_of_owner o) next =
+      ap (λ x. visited name_eq e x v) begins ∙ sym (visited-narrow name_eq e (is_of_owner o) v (hears-own v) s) in
       let new : Part = record p { listeners = heard.listeners } in
       let P : Owner → Type 0 = λ a. part_of (with_part w new) a ≡ record (part_of from a) { listeners = filter (is_of_owner a) next.listeners } in
-      let own : P o = part_of-with_part w new o (owner-part_of w o) ∙ (λ j. record (far.parts o j) { listeners = (ap (λ (x : Dispatching NodeName). x.listeners) is) j }) in
+      let own : P o = part_of-with_part w new o (owner-part_of w o) ∙
+      (λ j. record (far.parts o j) { listeners = (ap (λ (x : Dispatching NodeName). x.listeners) is) j }) in
       record {
         parts = λ a. by_cases (owner_eq o a)
             (λ t. subst P (owner_eq-true o a t) own)
@@ -104,7 +108,8 @@ pub dispatched-along : DispatchedAlong
 dispatched-along names apart ls at vs shown w has target related e path =
     let all = dispatch_along ls e vs in
     let same : dispatch_among w (map (listener_named names) ls) target related e ≡ dispatching_named names all =
-    ap (λ xs. fold (visited name_eq e) (begun (map (listener_named names) ls)) (visits_of name_eq e.bubbles xs)) (sym path) ∙ sym (dispatched-named names apart e ls at vs shown) in
+    ap (λ xs. fold (visited name_eq e) (begun (map (listener_named names) ls)) (visits_of name_eq e.bubbles xs)) (sym path) ∙
+    sym (dispatched-named names apart e ls at vs shown) in
     let far = dispatched-among w (map (listener_named names) ls) has target related e in (
       λ o. far.0 o ∙ ap (λ (d : Dispatching NodeName). record (part_of w o) { listeners = filter (is_of_owner o) d.listeners }) same,
       far.1 ∙ ap (λ (d : Dispatching NodeName). map event_output d.lines) same,

@@ -14,5 +14,7 @@ module _ {X Y : Type 0} (p : Y → Bool) (f : X → Y) where
   kept-mapped [] = refl
   kept-mapped (x ∷ xs) =
       by_cases (p (f x))
-      (λ e. ap (map f) (cond-true (p (f x)) (x ∷ filter (λ x. p (f x)) xs) (filter (λ x. p (f x)) xs) e) ∙ ap (λ ys. f x ∷ ys) (kept-mapped xs) ∙ sym (cond-true (p (f x)) (f x ∷ filter p (map f xs)) (filter p (map f xs)) e))
-      (λ e. ap (map f) (cond-false (p (f x)) (x ∷ filter (λ x. p (f x)) xs) (filter (λ x. p (f x)) xs) e) ∙ kept-mapped xs ∙ sym (cond-false (p (f x)) (f x ∷ filter p (map f xs)) (filter p (map f xs)) e))
+      (λ e. ap (map f) (cond-true (p (f x)) (x ∷ filter (λ x. p (f x)) xs) (filter (λ x. p (f x)) xs) e) ∙ ap (λ ys. f x ∷ ys) (kept-mapped xs) ∙
+      sym (cond-true (p (f x)) (f x ∷ filter p (map f xs)) (filter p (map f xs)) e))
+      (λ e. ap (map f) (cond-false (p (f x)) (x ∷ filter (λ x. p (f x)) xs) (filter (λ x. p (f x)) xs) e) ∙ kept-mapped xs ∙
+      sym (cond-false (p (f x)) (f x ∷ filter p (map f xs)) (filter p (map f xs)) e))

@@ -1,5 +1,6 @@
 -- What is done to listeners by keys is what is done by names.
-use Rattle.std.proofs.Common.{◌≡◌, ℕ, ◌<◌, Bool, true, false, not, ◌&&◌, ◌||◌, List, [], ◌∷◌, ◌++◌, length, map, filter, fold, reverse, option_map, refl, sym, ap, subst, ◌∙◌}
+use Rattle.std.proofs.Common.{◌≡◌, ℕ, ◌<◌, Bool, true, false, not, ◌&&◌, ◌||◌, List, [], ◌∷◌, ◌++◌, length, map, filter, fold, reverse, option_map}
+use Rattle.std.proofs.Common.{refl, sym, ap, subst, ◌∙◌}
 use Rattle.std.specs.Prelude.{nat_eq, if◌then◌else◌}
 use Rattle.std.specs.List.{AllByRecursion, list_any}
 use Rattle.std.specs.Bool.{beq}
@@ -10,7 +11,8 @@ use Rattle.dom_base.specs.declared.Action.TheVariants.{Log, Stop, StopNow, Cance
 use Rattle.dom_base.specs.declared.NodeName.{NodeName}
 use Rattle.dom_model.specs.Names.{Word, text_eq, name_eq}
 use Rattle.dom_model.specs.Command.{EventWords, ListenerWords}
-use Rattle.dom_model.specs.Listeners.{Listener, Visit, Dispatching, after_action, may_cancel, line_of, is_listener, unlistened, listened, kept_after, called, hears, visited, begun}
+use Rattle.dom_model.specs.Listeners.{Listener, Visit, Dispatching, after_action, may_cancel, line_of, is_listener, unlistened, listened, kept_after}
+use Rattle.dom_model.specs.Listeners.{called, hears, visited, begun}
 use Rattle.dom_model.specs.Paths.{View}
 use Rattle.dom_model.specs.Dispatch.{is_at_target, visit_of, visits_of}
 use Rattle.dom_isolation.proofs.Tests.{by_cases}
@@ -29,16 +31,20 @@ map-join f (x ∷ xs) ys = ap (λ zs. f x ∷ zs) (map-join f xs ys)
 reverse-mapped : {X Y : Type 0} (f : X → Y) (xs : List X) → map f (reverse xs) ≡ reverse (map f xs)
 reverse-mapped f [] = refl
 reverse-mapped f (x ∷ xs) =
-    ap (map f) (reverse-append (x ∷ []) xs) ∙ map-join f (reverse xs) (x ∷ []) ∙ ap (λ ys. ys ++ f x ∷ []) (reverse-mapped f xs) ∙ sym (reverse-append (f x ∷ []) (map f xs))
+    ap (map f) (reverse-append (x ∷ []) xs) ∙ map-join f (reverse xs) (x ∷ []) ∙ ap (λ ys. ys ++ f x ∷ []) (reverse-mapped f xs) ∙
+    sym (reverse-append (f x ∷ []) (map f xs))
 
 -- what is kept of a list, and then mapped, by a test that agrees
-filter-mapped : {X Y : Type 0} (f : X → Y) (P : X → Type 0) (p : X → Bool) (q : Y → Bool) → ((x : X) → P x → p x ≡ q (f x)) → (xs : List X) → AllByRecursion P xs → map f (filter p xs) ≡ filter q (map f xs)
+filter-mapped : {X Y : Type 0} (f : X → Y) (P : X → Type 0) (p : X → Bool) (q : Y → Bool) → ((x : X) → P x → p x ≡ q (f x)) → (xs : List X) →
+    AllByRecursion P xs → map f (filter p xs) ≡ filter q (map f xs)
 filter-mapped f P p q same [] h = refl
 filter-mapped f P p q same (x ∷ xs) h =
     let rest = filter-mapped f P p q same xs h.1 in
     by_cases (p x)
-    (λ e. ap (map f) (cond-true (p x) (x ∷ filter p xs) (filter p xs) e) ∙ ap (λ ys. f x ∷ ys) rest ∙ sym (cond-true (q (f x)) (f x ∷ filter q (map f xs)) (filter q (map f xs)) (sym (same x h.0) ∙ e)))
-    (λ e. ap (map f) (cond-false (p x) (x ∷ filter p xs) (filter p xs) e) ∙ rest ∙ sym (cond-false (q (f x)) (f x ∷ filter q (map f xs)) (filter q (map f xs)) (sym (same x h.0) ∙ e)))
+    (λ e. ap (map f) (cond-true (p x) (x ∷ filter p xs) (filter p xs) e) ∙ ap (λ ys. f x ∷ ys) rest ∙
+    sym (cond-true (q (f x)) (f x ∷ filter q (map f xs)) (filter q (map f xs)) (sym (same x h.0) ∙ e)))
+    (λ e. ap (map f) (cond-false (p x) (x ∷ filter p xs) (filter p xs) e) ∙ rest ∙
+    sym (cond-false (q (f x)) (f x ∷ filter q (map f xs)) (filter q (map f xs)) (sym (same x h.0) ∙ e)))
 
 -- what holds of all holds of those that are kept
 all-kept : {X : Type 0} (P : X → Type 0) (p : X → Bool) (xs : List X) → AllByRecursion P xs → AllByRecursion P (filter p xs)
@@ -56,13 +62,16 @@ module _ (names : List NodeName) (apart : TellApart names) where
   -- a listener that is known by its key is known by its name
   known : (x : ℕ) → x < length names → (event label : Word) (capture : Bool) (l : Listener ℕ) → IsListenerAt names l
       → is_listener nat_eq x event label capture l ≡ is_listener name_eq (name x) event label capture (listener_named names l)
-  known x at event label capture l h = ap (λ b. b && (text_eq l.words.event event && (text_eq l.words.label label && beq l.words.capture capture))) (key-test names apart l.node x h at)
+  known x at event label capture l h = ap
+      (λ b. b && (text_eq l.words.event event && (text_eq l.words.label label && beq l.words.capture capture))) (key-test names apart l.node x h at)
 
   -- one less
   pub unlistened-named : (ls : List (Listener ℕ)) → AllByRecursion (IsListenerAt names) ls → (x : ℕ) → x < length names → (event label : Word) (capture : Bool)
-      → map (listener_named names) (unlistened nat_eq x event label capture ls) ≡ unlistened name_eq (name x) event label capture (map (listener_named names) ls)
+      → map (listener_named names) (unlistened nat_eq x event label capture ls) ≡ unlistened name_eq (name x) event label capture
+      (map (listener_named names) ls)
   unlistened-named ls h x at event label capture =
-      filter-mapped (listener_named names) (IsListenerAt names) (λ l. not (is_listener nat_eq x event label capture l)) (λ l. not (is_listener name_eq (name x) event label capture l))
+      filter-mapped (listener_named names) (IsListenerAt names) (λ l. not (is_listener nat_eq x event label capture l))
+      (λ l. not (is_listener name_eq (name x) event label capture l))
       (λ l k. ap not (known x at event label capture l k)) ls h
 
   -- whether it is there
@@ -76,9 +85,12 @@ module _ (names : List NodeName) (apart : TellApart names) where
       → map (listener_named names) (listened nat_eq x words ls) ≡ listened name_eq (name x) words (map (listener_named names) ls)
   listened-named ls h x at words =
       by (list_any (is_listener nat_eq x words.event words.label words.capture) ls)
-      ∙ ap (λ (b : Bool). if b then map (listener_named names) ls else map (listener_named names) ls ++ record { node = name x; words = words } ∷ []) (there-named ls h x at words.event words.label words.capture)
+      ∙ ap (λ (b : Bool). if b then map (listener_named names) ls else map (listener_named names) ls ++
+      record { node = name x; words = words } ∷ []) (there-named ls h x at words.event words.label words.capture)
     where
-      by : (b : Bool) → map (listener_named names) (if b then ls else ls ++ record { node = x; words = words } ∷ []) ≡ (if b then map (listener_named names) ls else map (listener_named names) ls ++ record { node = name x; words = words } ∷ [])
+      by : (b : Bool) → map (listener_named names)
+          (if b then ls else ls ++ record { node = x; words = words } ∷ []) ≡
+          (if b then map (listener_named names) ls else map (listener_named names) ls ++ record { node = name x; words = words } ∷ [])
       by true = refl
       by false = map-join (listener_named names) ls (record { node = x; words = words } ∷ [])
 
@@ -90,7 +102,8 @@ module _ (names : List NodeName) (apart : TellApart names) where
   kept-named l k ls h = by l.words.once
     where
       by : (b : Bool) → map (listener_named names) (if b then unlistened nat_eq l.node l.words.event l.words.label l.words.capture ls else ls)
-          ≡ (if b then unlistened name_eq (name l.node) l.words.event l.words.label l.words.capture (map (listener_named names) ls) else map (listener_named names) ls)
+          ≡ (if b then unlistened name_eq (name l.node) l.words.event l.words.label l.words.capture (map (listener_named names) ls) else map
+          (listener_named names) ls)
       by true = unlistened-named ls h l.node k l.words.event l.words.label l.words.capture
       by false = refl
 
@@ -103,7 +116,8 @@ module _ (names : List NodeName) (apart : TellApart names) where
       by false = h
 
   -- what an action does
-  acted-named : (a : Action) (cancels : Bool) (s : Dispatching ℕ) → dispatching_named names (after_action a cancels s) ≡ after_action a cancels (dispatching_named names s)
+  acted-named : (a : Action) (cancels : Bool) (s : Dispatching ℕ) →
+      dispatching_named names (after_action a cancels s) ≡ after_action a cancels (dispatching_named names s)
   acted-named Log cancels s = refl
   acted-named Stop cancels s = refl
   acted-named StopNow cancels s = refl
@@ -127,9 +141,14 @@ module _ (names : List NodeName) (apart : TellApart names) where
     called-named v s l k h = by s.stopped_now
       where
         acts : Dispatching NodeName
-        acts = after_action l.words.action (may_cancel e l.words) (record (dispatching_named names s) { listeners = kept_after name_eq (listener_named names l) (map (listener_named names) s.listeners); lines = map (line_named names) s.lines ++ line_of (visit_named names v) l.words ∷ [] })
+        acts = after_action l.words.action (may_cancel e l.words)
+            (record (dispatching_named names s) {
+              listeners = kept_after name_eq (listener_named names l) (map (listener_named names) s.listeners);
+              lines = map (line_named names) s.lines ++ line_of (visit_named names v) l.words ∷ [];
+            })
 
-        by : (b : Bool) → dispatching_named names (if b then s else after_action l.words.action (may_cancel e l.words) (heard_by v s l)) ≡ (if b then dispatching_named names s else acts)
+        by : (b : Bool) → dispatching_named names (if b then s else after_action l.words.action (may_cancel e l.words) (heard_by v s l)) ≡
+            (if b then dispatching_named names s else acts)
         by true = refl
         by false =
             acted-named l.words.action (may_cancel e l.words) (heard_by v s l)
@@ -142,23 +161,28 @@ module _ (names : List NodeName) (apart : TellApart names) where
             }))
 
     -- it leaves listeners of these nodes
-    called-at : (v : Visit ℕ) (s : Dispatching ℕ) (l : Listener ℕ) → AllByRecursion (IsListenerAt names) s.listeners → AllByRecursion (IsListenerAt names) (called nat_eq e v s l).listeners
+    called-at : (v : Visit ℕ) (s : Dispatching ℕ) (l : Listener ℕ) → AllByRecursion (IsListenerAt names) s.listeners →
+        AllByRecursion (IsListenerAt names) (called nat_eq e v s l).listeners
     called-at v s l h = by s.stopped_now
       where
         by : (b : Bool) → AllByRecursion (IsListenerAt names) (if b then s else after_action l.words.action (may_cancel e l.words) (heard_by v s l)).listeners
         by true = h
-        by false = subst (AllByRecursion (IsListenerAt names)) (sym (acted-listeners l.words.action (may_cancel e l.words) (heard_by v s l))) (kept-at l s.listeners h)
+        by false = subst (AllByRecursion (IsListenerAt names)) (sym (acted-listeners l.words.action (may_cancel e l.words) (heard_by v s l)))
+            (kept-at l s.listeners h)
 
     -- the calls of some listeners
-    calls-named : (v : Visit ℕ) (heard : List (Listener ℕ)) (s : Dispatching ℕ) → AllByRecursion (IsListenerAt names) heard → AllByRecursion (IsListenerAt names) s.listeners
-        → dispatching_named names (fold (called nat_eq e v) s heard) ≡ fold (called name_eq e (visit_named names v)) (dispatching_named names s) (map (listener_named names) heard)
+    calls-named : (v : Visit ℕ) (heard : List (Listener ℕ)) (s : Dispatching ℕ) → AllByRecursion (IsListenerAt names) heard →
+        AllByRecursion (IsListenerAt names) s.listeners
+        → dispatching_named names (fold (called nat_eq e v) s heard) ≡ fold (called name_eq e (visit_named names v)) (dispatching_named names s)
+        (map (listener_named names) heard)
     calls-named v [] s g h = refl
     calls-named v (l ∷ heard) s g h =
         calls-named v heard (called nat_eq e v s l) g.1 (called-at v s l h)
         ∙ ap (λ d. fold (called name_eq e (visit_named names v)) d (map (listener_named names) heard)) (called-named v s l g.0 h)
 
     -- they leave listeners of these nodes
-    calls-at : (v : Visit ℕ) (heard : List (Listener ℕ)) (s : Dispatching ℕ) → AllByRecursion (IsListenerAt names) s.listeners → AllByRecursion (IsListenerAt names) (fold (called nat_eq e v) s heard).listeners
+    calls-at : (v : Visit ℕ) (heard : List (Listener ℕ)) (s : Dispatching ℕ) → AllByRecursion (IsListenerAt names) s.listeners →
+        AllByRecursion (IsListenerAt names) (fold (called nat_eq e v) s heard).listeners
     calls-at v [] s h = h
     calls-at v (l ∷ heard) s h = calls-at v heard (called nat_eq e v s l) (called-at v s l h)
 
@@ -167,19 +191,23 @@ module _ (names : List NodeName) (apart : TellApart names) where
         → dispatching_named names (visited nat_eq e s v) ≡ visited name_eq e (dispatching_named names s) (visit_named names v)
     visited-named v at s h = by s.stopped
       where
-        hear : map (listener_named names) (filter (hears nat_eq e v) s.listeners) ≡ filter (hears name_eq e (visit_named names v)) (map (listener_named names) s.listeners)
+        hear : map (listener_named names) (filter (hears nat_eq e v) s.listeners) ≡ filter (hears name_eq e (visit_named names v))
+            (map (listener_named names) s.listeners)
         hear = filter-mapped (listener_named names) (IsListenerAt names) (hears nat_eq e v) (hears name_eq e (visit_named names v))
-            (λ l k. ap (λ b. b && (text_eq l.words.event e.event && beq l.words.capture v.capturing)) (key-test names apart l.node v.current k at)) s.listeners h
+            (λ l k. ap (λ b. b && (text_eq l.words.event e.event && beq l.words.capture v.capturing))
+            (key-test names apart l.node v.current k at)) s.listeners h
 
         by : (b : Bool) → dispatching_named names (if b then s else fold (called nat_eq e v) s (filter (hears nat_eq e v) s.listeners))
-            ≡ (if b then dispatching_named names s else fold (called name_eq e (visit_named names v)) (dispatching_named names s) (filter (hears name_eq e (visit_named names v)) (map (listener_named names) s.listeners)))
+            ≡ (if b then dispatching_named names s else fold (called name_eq e (visit_named names v)) (dispatching_named names s)
+            (filter (hears name_eq e (visit_named names v)) (map (listener_named names) s.listeners)))
         by true = refl
         by false =
             calls-named v (filter (hears nat_eq e v) s.listeners) s (all-kept (IsListenerAt names) (hears nat_eq e v) s.listeners h) h
             ∙ ap (fold (called name_eq e (visit_named names v)) (dispatching_named names s)) hear
 
     -- it leaves listeners of these nodes
-    visited-at : (v : Visit ℕ) (s : Dispatching ℕ) → AllByRecursion (IsListenerAt names) s.listeners → AllByRecursion (IsListenerAt names) (visited nat_eq e s v).listeners
+    visited-at : (v : Visit ℕ) (s : Dispatching ℕ) → AllByRecursion (IsListenerAt names) s.listeners →
+        AllByRecursion (IsListenerAt names) (visited nat_eq e s v).listeners
     visited-at v s h = by s.stopped
       where
         by : (b : Bool) → AllByRecursion (IsListenerAt names) (if b then s else fold (called nat_eq e v) s (filter (hears nat_eq e v) s.listeners)).listeners
@@ -187,7 +215,8 @@ module _ (names : List NodeName) (apart : TellApart names) where
         by false = calls-at v (filter (hears nat_eq e v) s.listeners) s h
 
     -- all visits
-    visits-named : (vs : List (Visit ℕ)) → AllByRecursion (λ v. v.current < length names) vs → (s : Dispatching ℕ) → AllByRecursion (IsListenerAt names) s.listeners
+    visits-named : (vs : List (Visit ℕ)) → AllByRecursion (λ v. v.current < length names) vs → (s : Dispatching ℕ) →
+        AllByRecursion (IsListenerAt names) s.listeners
         → dispatching_named names (fold (visited nat_eq e) s vs) ≡ fold (visited name_eq e) (dispatching_named names s) (map (visit_named names) vs)
     visits-named [] g s h = refl
     visits-named (v ∷ vs) g s h =
@@ -201,7 +230,8 @@ module _ (names : List NodeName) (apart : TellApart names) where
     target-named v h = key-test names apart v.node v.target h.node h.target
 
     -- the visit of a view
-    visit-named : (capturing : Bool) (v : View ℕ) → IsViewOf names v → visit_named names (visit_of nat_eq capturing v) ≡ visit_of name_eq capturing (view_named names v)
+    visit-named : (capturing : Bool) (v : View ℕ) → IsViewOf names v →
+        visit_named names (visit_of nat_eq capturing v) ≡ visit_of name_eq capturing (view_named names v)
     visit-named capturing v h = λ j. record {
       current = name v.node;
       phase = if target-named v h j then 2 else (if capturing then 1 else 3);
@@ -212,17 +242,20 @@ module _ (names : List NodeName) (apart : TellApart names) where
     }
 
     -- of some views
-    along-named : (capturing : Bool) (vs : List (View ℕ)) → AllByRecursion (IsViewOf names) vs → map (visit_named names) (map (visit_of nat_eq capturing) vs) ≡ map (visit_of name_eq capturing) (map (view_named names) vs)
+    along-named : (capturing : Bool) (vs : List (View ℕ)) → AllByRecursion (IsViewOf names) vs →
+        map (visit_named names) (map (visit_of nat_eq capturing) vs) ≡ map (visit_of name_eq capturing) (map (view_named names) vs)
     along-named capturing [] h = refl
     along-named capturing (v ∷ vs) h = λ j. visit-named capturing v h.0 j ∷ along-named capturing vs h.1 j
 
     -- they are at these nodes
-    along-at : (capturing : Bool) (vs : List (View ℕ)) → AllByRecursion (IsViewOf names) vs → AllByRecursion (λ v. v.current < length names) (map (visit_of nat_eq capturing) vs)
+    along-at : (capturing : Bool) (vs : List (View ℕ)) → AllByRecursion (IsViewOf names) vs →
+        AllByRecursion (λ v. v.current < length names) (map (visit_of nat_eq capturing) vs)
     along-at capturing [] h = tt
     along-at capturing (v ∷ vs) h = (h.0.node, along-at capturing vs h.1)
 
     -- all of both
-    both-at : (xs ys : List (Visit ℕ)) → AllByRecursion (λ v. v.current < length names) xs → AllByRecursion (λ v. v.current < length names) ys → AllByRecursion (λ v. v.current < length names) (xs ++ ys)
+    both-at : (xs ys : List (Visit ℕ)) → AllByRecursion (λ v. v.current < length names) xs → AllByRecursion (λ v. v.current < length names) ys →
+        AllByRecursion (λ v. v.current < length names) (xs ++ ys)
     both-at [] ys g h = h
     both-at (x ∷ xs) ys g h = (g.0, both-at xs ys g.1 h)
 
@@ -235,8 +268,12 @@ module _ (names : List NodeName) (apart : TellApart names) where
         let up = filter (λ v. e.bubbles || is_at_target nat_eq v) vs in
         let down_views = all-reverse (IsViewOf names) vs g in
         let up_views = all-kept (IsViewOf names) (λ v. e.bubbles || is_at_target nat_eq v) vs g in
-        let up_named = filter-mapped (view_named names) (IsViewOf names) (λ v. e.bubbles || is_at_target nat_eq v) (λ v. e.bubbles || is_at_target name_eq v) (λ v k. ap (λ b. e.bubbles || b) (target-named v k)) vs g in
-        visits-named (visits_of nat_eq e.bubbles vs) (both-at (map (visit_of nat_eq true) down) (map (visit_of nat_eq false) up) (along-at true down down_views) (along-at false up up_views)) (begun ls) h
+        let up_named = filter-mapped (view_named names) (IsViewOf names) (λ v. e.bubbles || is_at_target nat_eq v)
+        (λ v. e.bubbles || is_at_target name_eq v) (λ v k. ap (λ b. e.bubbles || b) (target-named v k)) vs g in
+        visits-named (visits_of nat_eq e.bubbles vs)
+        (both-at (map (visit_of nat_eq true) down) (map (visit_of nat_eq false) up) (along-at true down down_views)
+        (along-at false up up_views)) (begun ls) h
         ∙ ap (fold (visited name_eq e) (begun (map (listener_named names) ls)))
         (map-join (visit_named names) (map (visit_of nat_eq true) down) (map (visit_of nat_eq false) up)
-        ∙ (λ j. (along-named true down down_views ∙ ap (map (visit_of name_eq true)) (reverse-mapped (view_named names) vs)) j ++ (along-named false up up_views ∙ ap (map (visit_of name_eq false)) up_named) j))
+        ∙ (λ j. (along-named true down down_views ∙ ap (map (visit_of name_eq true)) (reverse-mapped (view_named names) vs)) j ++
+        (along-named false up up_views ∙ ap (map (visit_of name_eq false)) up_named) j))

@@ -6,7 +6,8 @@ use Rattle.std.proofs.lemmas.Bool.{cond-true, cond-false}
 use Rattle.dom_base.specs.declared.Action.{Action}
 use Rattle.dom_base.specs.declared.Action.TheVariants.{Log, Stop, StopNow, Cancel}
 use Rattle.dom_model.specs.Command.{EventWords}
-use Rattle.dom_model.specs.Listeners.{Listener, Visit, Dispatching, after_action, may_cancel, line_of, is_listener, unlistened, kept_after, called, hears, visited}
+use Rattle.dom_model.specs.Listeners.{Listener, Visit, Dispatching, after_action, may_cancel, line_of, is_listener, unlistened, kept_after, called}
+use Rattle.dom_model.specs.Listeners.{hears, visited}
 use Rattle.dom_isolation.proofs.Tests.{by_cases}
 
 module _ {X : Type 0} where
@@ -17,7 +18,8 @@ module _ {X : Type 0} where
       let rest = filter-swap p q xs in
       by_cases (p x)
       (λ e. by_cases (q x)
-      (λ g. ap (filter p) (cond-true (q x) (x ∷ filter q xs) (filter q xs) g) ∙ cond-true (p x) (x ∷ filter p (filter q xs)) (filter p (filter q xs)) e ∙ ap (λ ys. x ∷ ys) rest
+      (λ g. ap (filter p) (cond-true (q x) (x ∷ filter q xs) (filter q xs) g) ∙ cond-true (p x) (x ∷ filter p (filter q xs))
+      (filter p (filter q xs)) e ∙ ap (λ ys. x ∷ ys) rest
       ∙ sym (ap (filter q) (cond-true (p x) (x ∷ filter p xs) (filter p xs) e) ∙ cond-true (q x) (x ∷ filter q (filter p xs)) (filter q (filter p xs)) g))
       (λ g. ap (filter p) (cond-false (q x) (x ∷ filter q xs) (filter q xs) g) ∙ rest
       ∙ sym (ap (filter q) (cond-true (p x) (x ∷ filter p xs) (filter p xs) e) ∙ cond-false (q x) (x ∷ filter q (filter p xs)) (filter q (filter p xs)) g)))
@@ -33,10 +35,12 @@ module _ {X : Type 0} where
   filter-wider p q wider (x ∷ xs) =
       let rest = filter-wider p q wider xs in
       by_cases (p x)
-      (λ e. ap (filter p) (cond-true (q x) (x ∷ filter q xs) (filter q xs) (wider x e)) ∙ cond-true (p x) (x ∷ filter p (filter q xs)) (filter p (filter q xs)) e ∙ ap (λ ys. x ∷ ys) rest
+      (λ e. ap (filter p) (cond-true (q x) (x ∷ filter q xs) (filter q xs) (wider x e)) ∙ cond-true (p x) (x ∷ filter p (filter q xs))
+      (filter p (filter q xs)) e ∙ ap (λ ys. x ∷ ys) rest
       ∙ sym (cond-true (p x) (x ∷ filter p xs) (filter p xs) e))
       (λ e. by_cases (q x)
-      (λ g. ap (filter p) (cond-true (q x) (x ∷ filter q xs) (filter q xs) g) ∙ cond-false (p x) (x ∷ filter p (filter q xs)) (filter p (filter q xs)) e ∙ rest ∙ sym (cond-false (p x) (x ∷ filter p xs) (filter p xs) e))
+      (λ g. ap (filter p) (cond-true (q x) (x ∷ filter q xs) (filter q xs) g) ∙ cond-false (p x) (x ∷ filter p (filter q xs))
+      (filter p (filter q xs)) e ∙ rest ∙ sym (cond-false (p x) (x ∷ filter p xs) (filter p xs) e))
       (λ g. ap (filter p) (cond-false (q x) (x ∷ filter q xs) (filter q xs) g) ∙ rest ∙ sym (cond-false (p x) (x ∷ filter p xs) (filter p xs) e)))
 
 module _ {N : Type 0} (same : N → N → Bool) (e : EventWords) where
@@ -65,20 +69,26 @@ module _ {N : Type 0} (same : N → N → Bool) (e : EventWords) where
     called-narrow : (v : Visit N) (s : Dispatching N) (l : Listener N) → narrowed c (called same e v s l) ≡ called same e v (narrowed c s) l
     called-narrow v s l = by s.stopped_now
       where
-        by : (b : Bool) → narrowed c (if b then s else after_action l.words.action (may_cancel e l.words) (record s { listeners = kept_after same l s.listeners; lines = s.lines ++ line_of v l.words ∷ [] }))
-            ≡ (if b then narrowed c s else after_action l.words.action (may_cancel e l.words) (record s { listeners = kept_after same l (filter c s.listeners); lines = s.lines ++ line_of v l.words ∷ [] }))
+        by : (b : Bool) → narrowed c (if b then s else after_action l.words.action (may_cancel e l.words)
+            (record s { listeners = kept_after same l s.listeners; lines = s.lines ++ line_of v l.words ∷ [] }))
+            ≡ (if b then narrowed c s else after_action l.words.action (may_cancel e l.words)
+            (record s { listeners = kept_after same l (filter c s.listeners); lines = s.lines ++ line_of v l.words ∷ [] }))
         by true = refl
         by false =
-            acted-narrow l.words.action (may_cancel e l.words) (record s { listeners = kept_after same l s.listeners; lines = s.lines ++ line_of v l.words ∷ [] })
-            ∙ ap (λ ls. after_action l.words.action (may_cancel e l.words) (record s { listeners = ls; lines = s.lines ++ line_of v l.words ∷ [] })) (kept-narrow l s.listeners)
+            acted-narrow l.words.action (may_cancel e l.words)
+            (record s { listeners = kept_after same l s.listeners; lines = s.lines ++ line_of v l.words ∷ [] })
+            ∙ ap (λ ls. after_action l.words.action (may_cancel e l.words)
+            (record s { listeners = ls; lines = s.lines ++ line_of v l.words ∷ [] })) (kept-narrow l s.listeners)
 
     -- the calls of some listeners
-    calls-narrow : (v : Visit N) (heard : List (Listener N)) (s : Dispatching N) → narrowed c (fold (called same e v) s heard) ≡ fold (called same e v) (narrowed c s) heard
+    calls-narrow : (v : Visit N) (heard : List (Listener N)) (s : Dispatching N) →
+        narrowed c (fold (called same e v) s heard) ≡ fold (called same e v) (narrowed c s) heard
     calls-narrow v [] s = refl
     calls-narrow v (l ∷ heard) s = calls-narrow v heard (called same e v s l) ∙ ap (λ d. fold (called same e v) d heard) (called-narrow v s l)
 
     -- a visit that only such listeners hear
-    pub visited-narrow : (v : Visit N) → ((l : Listener N) → hears same e v l ≡ true → c l ≡ true) → (s : Dispatching N) → narrowed c (visited same e s v) ≡ visited same e (narrowed c s) v
+    pub visited-narrow : (v : Visit N) → ((l : Listener N) → hears same e v l ≡ true → c l ≡ true) → (s : Dispatching N) →
+        narrowed c (visited same e s v) ≡ visited same e (narrowed c s) v
     visited-narrow v wider s = by s.stopped
       where
         by : (b : Bool) → narrowed c (if b then s else fold (called same e v) s (filter (hears same e v) s.listeners))
@@ -112,12 +122,15 @@ module _ {N : Type 0} (same : N → N → Bool) (e : EventWords) where
     called-apart : (s : Dispatching N) (l : Listener N) → hears same e v l ≡ true → filter c (called same e v s l).listeners ≡ filter c s.listeners
     called-apart s l h = by s.stopped_now
       where
-        by : (b : Bool) → filter c (if b then s else after_action l.words.action (may_cancel e l.words) (record s { listeners = kept_after same l s.listeners; lines = s.lines ++ line_of v l.words ∷ [] })).listeners ≡ filter c s.listeners
+        by : (b : Bool) → filter c (if b then s else after_action l.words.action (may_cancel e l.words)
+            (record s { listeners = kept_after same l s.listeners; lines = s.lines ++ line_of v l.words ∷ [] })).listeners ≡ filter c s.listeners
         by true = refl
-        by false = ap (filter c) (acted-apart l.words.action (may_cancel e l.words) (record s { listeners = kept_after same l s.listeners; lines = s.lines ++ line_of v l.words ∷ [] })) ∙ kept-apart l h s.listeners
+        by false = ap (filter c) (acted-apart l.words.action (may_cancel e l.words)
+            (record s { listeners = kept_after same l s.listeners; lines = s.lines ++ line_of v l.words ∷ [] })) ∙ kept-apart l h s.listeners
 
     -- the calls of listeners that hear
-    calls-apart : (heard : List (Listener N)) → AllByRecursion (λ l. hears same e v l ≡ true) heard → (s : Dispatching N) → filter c (fold (called same e v) s heard).listeners ≡ filter c s.listeners
+    calls-apart : (heard : List (Listener N)) → AllByRecursion (λ l. hears same e v l ≡ true) heard → (s : Dispatching N) →
+        filter c (fold (called same e v) s heard).listeners ≡ filter c s.listeners
     calls-apart [] h s = refl
     calls-apart (l ∷ heard) h s = calls-apart heard h.1 (called same e v s l) ∙ called-apart s l h.0
 

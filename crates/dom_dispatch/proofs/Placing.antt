@@ -1,5 +1,6 @@
 -- The places of a node's entries in a table, and the entries in them.
-use Rattle.std.proofs.Common.{◌≡◌, ℕ, ◌+◌, ◌<◌, ◌||◌, Bool, true, false, not, List, [], ◌∷◌, ◌++◌, length, get_or, take, filter, Option, Some, None, zero, suc, refl, sym, ap, subst, ◌∙◌, arith, append_assoc, append-nil, length-append}
+use Rattle.std.proofs.Common.{◌≡◌, ℕ, ◌+◌, ◌<◌, ◌||◌, Bool, true, false, not, List, [], ◌∷◌, ◌++◌, length, get_or, take, filter, Option, Some, None}
+use Rattle.std.proofs.Common.{zero, suc, refl, sym, ap, subst, ◌∙◌, arith, append_assoc, append-nil, length-append}
 use Rattle.std.specs.Prelude.{nat_eq, is_some, filter_map, slice_get, slice_set, remove, if◌then◌else◌}
 use Rattle.std.specs.List.{list_any, cons_option}
 use Rattle.std.specs.Option.{option_flatten, option_map_or}
@@ -35,12 +36,14 @@ places-append k n [] ys = ap (λ m. places_from k m ys) (omega arith)
 places-append k n (x ∷ xs) ys = by (is_of_node k x) (places-append k (n + 1) xs ys ∙ ap (λ m. places_from k (n + 1) xs ++ places_from k m ys) (omega arith))
   where
     by : (b : Bool) → places_from k (n + 1) (xs ++ ys) ≡ places_from k (n + 1) xs ++ places_from k (n + length (x ∷ xs)) ys
-        → (if b then n ∷ places_from k (n + 1) (xs ++ ys) else places_from k (n + 1) (xs ++ ys)) ≡ (if b then n ∷ places_from k (n + 1) xs else places_from k (n + 1) xs) ++ places_from k (n + length (x ∷ xs)) ys
+        → (if b then n ∷ places_from k (n + 1) (xs ++ ys) else places_from k (n + 1) (xs ++ ys)) ≡
+        (if b then n ∷ places_from k (n + 1) xs else places_from k (n + 1) xs) ++ places_from k (n + length (x ∷ xs)) ys
     by true rest = ap (λ ps. n ∷ ps) rest
     by false rest = rest
 
 -- the places with one entry more
-pub places-more : (k : ℕ) (es : List (Option Entry)) (e : Entry) (before now : List ℕ) → before ≡ places_from k 0 es → now ≡ (if nat_eq e.node k then before ++ length es ∷ [] else before)
+pub places-more : (k : ℕ) (es : List (Option Entry)) (e : Entry) (before now : List ℕ) → before ≡ places_from k 0 es →
+    now ≡ (if nat_eq e.node k then before ++ length es ∷ [] else before)
     → now ≡ places_from k 0 (es ++ Some e ∷ [])
 places-more k es e before now was is =
     is ∙ ap (λ ps. if nat_eq e.node k then ps ++ length es ∷ [] else ps) was ∙ by (nat_eq e.node k)
@@ -57,21 +60,25 @@ abbrev pub picked : List (Option Entry) → List ℕ → List Entry
 picked es places = filter_map (entry_at es) places
 
 -- with one place more
-picked-next : (es : List (Option Entry)) (places : List ℕ) (i place : ℕ) → slice_get places i ≡ Some place → picked es (take (i + 1) places) ≡ picked es (take i places) ++ cons_option (entry_at es place) []
+picked-next : (es : List (Option Entry)) (places : List ℕ) (i place : ℕ) → slice_get places i ≡ Some place →
+    picked es (take (i + 1) places) ≡ picked es (take i places) ++ cons_option (entry_at es place) []
 picked-next es places i place there =
-    ap (picked es) (take_more places i place (slice_get_within places i place there) ∙ ap (λ x. take i places ++ x ∷ []) (get_or_from_slice_get places i place place there))
+    ap (picked es) (take_more places i place (slice_get_within places i place there) ∙
+    ap (λ x. take i places ++ x ∷ []) (get_or_from_slice_get places i place place there))
     ∙ filter_map-append (entry_at es) (take i places) (place ∷ [])
 
 module _ (p : Listener ℕ → Bool) (es : List (Option Entry)) (places : List ℕ) (i place : ℕ) (there : slice_get places i ≡ Some place) where
   -- those that pass a test
-  kept-split : filter p (listeners_in (picked es (take (i + 1) places))) ≡ filter p (listeners_in (picked es (take i places))) ++ filter p (listeners_in (cons_option (entry_at es place) []))
+  kept-split : filter p (listeners_in (picked es (take (i + 1) places))) ≡ filter p (listeners_in (picked es (take i places))) ++
+      filter p (listeners_in (cons_option (entry_at es place) []))
   kept-split =
       ap (λ xs. filter p (listeners_in xs)) (picked-next es places i place there)
       ∙ ap (filter p) (map-append listener_of (picked es (take i places)) (cons_option (entry_at es place) []))
       ∙ filter-append p (listeners_in (picked es (take i places))) (listeners_in (cons_option (entry_at es place) []))
 
   -- none passes a test, if the one in that place doesn't
-  pub none-next : list_any p (listeners_in (picked es (take i places))) ≡ false → passes_in p es place ≡ false → list_any p (listeners_in (picked es (take (i + 1) places))) ≡ false
+  pub none-next : list_any p (listeners_in (picked es (take i places))) ≡ false → passes_in p es place ≡ false →
+      list_any p (listeners_in (picked es (take (i + 1) places))) ≡ false
   none-next none not_it =
       ap (λ xs. list_any p (listeners_in xs)) (picked-next es places i place there)
       ∙ ap (list_any p) (map-append listener_of (picked es (take i places)) (cons_option (entry_at es place) []))
@@ -84,16 +91,19 @@ module _ (p : Listener ℕ → Bool) (es : List (Option Entry)) (places : List �
 
   -- those that pass it are the same, if there is none or the one in that place doesn't
   pub kept-same : passes_in p es place ≡ false → filter p (listeners_in (picked es (take (i + 1) places))) ≡ filter p (listeners_in (picked es (take i places)))
-  kept-same not_it = kept-split ∙ ap (λ ls. filter p (listeners_in (picked es (take i places))) ++ ls) (alone (entry_at es place) not_it) ∙ append-nil (filter p (listeners_in (picked es (take i places))))
+  kept-same not_it = kept-split ∙ ap (λ ls. filter p (listeners_in (picked es (take i places))) ++ ls) (alone (entry_at es place) not_it) ∙
+      append-nil (filter p (listeners_in (picked es (take i places))))
     where
       alone : (o : Option Entry) → option_map_or (λ (e : Entry). p (listener_of e)) o false ≡ false → filter p (listeners_in (cons_option o [])) ≡ []
       alone None h = refl
       alone (Some e) h = cond-false (p (listener_of e)) (listener_of e ∷ []) [] h
 
   -- and that one comes to them, if it passes
-  pub kept-next : (e : Entry) → entry_at es place ≡ Some e → p (listener_of e) ≡ true → filter p (listeners_in (picked es (take (i + 1) places))) ≡ filter p (listeners_in (picked es (take i places))) ++ listener_of e ∷ []
+  pub kept-next : (e : Entry) → entry_at es place ≡ Some e → p (listener_of e) ≡ true →
+      filter p (listeners_in (picked es (take (i + 1) places))) ≡ filter p (listeners_in (picked es (take i places))) ++ listener_of e ∷ []
   kept-next e at it =
-      kept-split ∙ ap (λ ls. filter p (listeners_in (picked es (take i places))) ++ ls) (ap (λ o. filter p (listeners_in (cons_option o []))) at ∙ cond-true (p (listener_of e)) (listener_of e ∷ []) [] it)
+      kept-split ∙ ap (λ ls. filter p (listeners_in (picked es (take i places))) ++ ls)
+      (ap (λ o. filter p (listeners_in (cons_option o []))) at ∙ cond-true (p (listener_of e)) (listener_of e ∷ []) [] it)
 
 module _ (k : ℕ) where
   -- whether an entry is the node's
@@ -112,7 +122,8 @@ module _ (k : ℕ) where
   picked-behind done (Some e ∷ es) = by (nat_eq e.node k) (sym (moved done (Some e) es) ∙ picked-behind (done ++ Some e ∷ []) es)
     where
       by : (b : Bool) → picked (done ++ Some e ∷ es) (places_from k (length done + 1) es) ≡ filter is_own (present es)
-          → picked (done ++ Some e ∷ es) (if b then length done ∷ places_from k (length done + 1) es else places_from k (length done + 1) es) ≡ (if b then e ∷ filter is_own (present es) else filter is_own (present es))
+          → picked (done ++ Some e ∷ es) (if b then length done ∷ places_from k (length done + 1) es else places_from k (length done + 1) es) ≡
+          (if b then e ∷ filter is_own (present es) else filter is_own (present es))
       by true rest = λ j. cons_option (option_flatten (get-seam done (Some e) es j)) (rest j)
       by false rest = rest
 
@@ -142,7 +153,8 @@ module _ (k : ℕ) where
     pub number : length (places_from k n before) ≡ at
 
   -- the same with one place more in front
-  further : (n : ℕ) (o : Option Entry) (b : Bool) → is_of_node k o ≡ b → (es : List (Option Entry)) (i j : ℕ) → IsParted (n + 1) es i j → IsParted n (o ∷ es) (if b then suc i else i) j
+  further : (n : ℕ) (o : Option Entry) (b : Bool) → is_of_node k o ≡ b → (es : List (Option Entry)) (i j : ℕ) → IsParted (n + 1) es i j →
+      IsParted n (o ∷ es) (if b then suc i else i) j
   further n o b is es i j s = record {
     before = o ∷ s.before;
     after = s.after;
@@ -161,11 +173,16 @@ module _ (k : ℕ) where
   parted-from n [] at j h = cc
   parted-from n (None ∷ es) at j h = further n None false refl es at j (parted-from (n + 1) es at j h)
   parted-from n (Some e ∷ es) at j h = by_cases (nat_eq e.node k)
-      (λ is. first (λ i g. parted-from (n + 1) es i j g) is at (ap (λ (b : Bool). slice_get (if b then n ∷ places_from k (n + 1) es else places_from k (n + 1) es) at) (sym is) ∙ h))
-      (λ is. further n (Some e) false is es at j (parted-from (n + 1) es at j (ap (λ (b : Bool). slice_get (if b then n ∷ places_from k (n + 1) es else places_from k (n + 1) es) at) (sym is) ∙ h)))
+      (λ is. first (λ i g. parted-from (n + 1) es i j g) is at
+      (ap (λ (b : Bool). slice_get (if b then n ∷ places_from k (n + 1) es else places_from k (n + 1) es) at) (sym is) ∙ h))
+      (λ is. further n (Some e) false is es at j
+      (parted-from (n + 1) es at j (ap (λ (b : Bool). slice_get (if b then n ∷ places_from k (n + 1) es else places_from k (n + 1) es) at)
+      (sym is) ∙ h)))
     where
-      first : ((i : ℕ) → slice_get (places_from k (n + 1) es) i ≡ Some j → IsParted (n + 1) es i j) → nat_eq e.node k ≡ true → (at : ℕ) → slice_get (n ∷ places_from k (n + 1) es) at ≡ Some j → IsParted n (Some e ∷ es) at j
-      first again is zero g = let same : n ≡ j = cc in record { before = []; after = es; entry = e; whole = refl; own = is; place = omega (arith, same); number = refl }
+      first : ((i : ℕ) → slice_get (places_from k (n + 1) es) i ≡ Some j → IsParted (n + 1) es i j) → nat_eq e.node k ≡ true → (at : ℕ) →
+          slice_get (n ∷ places_from k (n + 1) es) at ≡ Some j → IsParted n (Some e ∷ es) at j
+      first again is zero g = let same : n ≡ j =
+          cc in record { before = []; after = es; entry = e; whole = refl; own = is; place = omega (arith, same); number = refl }
       first again is (suc i) g = further n (Some e) true is es i j (again i g)
 
   pub parted : (es : List (Option Entry)) (at j : ℕ) → slice_get (places_from k 0 es) at ≡ Some j → IsParted 0 es at j
@@ -191,8 +208,10 @@ module _ (k : ℕ) where
     -- one entry less is there
     pub parted-fewer : length (present (slice_set es j None)) + 1 ≡ length (present es)
     parted-fewer =
-        let less = ap (λ xs. length (present xs)) without ∙ ap length (filter_map-append (λ o. o) s.before (None ∷ s.after)) ∙ length-append (present s.before) (present s.after) in
-        let all = ap (λ xs. length (present xs)) s.whole ∙ ap length (filter_map-append (λ o. o) s.before (Some s.entry ∷ s.after)) ∙ length-append (present s.before) (s.entry ∷ present s.after) in
+        let less = ap (λ xs. length (present xs)) without ∙ ap length (filter_map-append (λ o. o) s.before (None ∷ s.after)) ∙
+        length-append (present s.before) (present s.after) in
+        let all = ap (λ xs. length (present xs)) s.whole ∙ ap length (filter_map-append (λ o. o) s.before (Some s.entry ∷ s.after)) ∙
+        length-append (present s.before) (s.entry ∷ present s.after) in
         omega (arith, less, all)
 
     -- those that fail a test which it passes stay
@@ -202,18 +221,22 @@ module _ (k : ℕ) where
         let q : Listener ℕ → Bool = λ l. not (p l) in
         let tail : List (Listener ℕ) = listeners_in (present s.after) in
         ap (λ xs. filter q (listeners_in (present xs))) without ∙ split q (None ∷ s.after)
-        ∙ ap (λ ls. filter q (listeners_in (present s.before)) ++ ls) (sym (cond-false (q (listener_of s.entry)) (listener_of s.entry ∷ filter q tail) (filter q tail) (ap not is)))
+        ∙ ap (λ ls. filter q (listeners_in (present s.before)) ++ ls)
+        (sym (cond-false (q (listener_of s.entry)) (listener_of s.entry ∷ filter q tail) (filter q tail) (ap not is)))
         ∙ sym (ap (λ xs. filter q (listeners_in (present xs))) s.whole ∙ split q (Some s.entry ∷ s.after))
       where
-        split : (q : Listener ℕ → Bool) (ys : List (Option Entry)) → filter q (listeners_in (present (s.before ++ ys))) ≡ filter q (listeners_in (present s.before)) ++ filter q (listeners_in (present ys))
+        split : (q : Listener ℕ → Bool) (ys : List (Option Entry)) →
+            filter q (listeners_in (present (s.before ++ ys))) ≡ filter q (listeners_in (present s.before)) ++ filter q (listeners_in (present ys))
         split q ys =
-            ap (λ xs. filter q (listeners_in xs)) (filter_map-append (λ o. o) s.before ys) ∙ ap (filter q) (map-append listener_of (present s.before) (present ys))
+            ap (λ xs. filter q (listeners_in xs)) (filter_map-append (λ o. o) s.before ys) ∙
+            ap (filter q) (map-append listener_of (present s.before) (present ys))
             ∙ filter-append q (listeners_in (present s.before)) (listeners_in (present ys))
 
     -- the places of each node without it
     pub parted-places : (m : ℕ) → (if nat_eq k m then remove (places_from m 0 es) at else places_from m 0 es) ≡ places_from m 0 (slice_set es j None)
     parted-places m = by_cases (nat_eq k m)
-        (λ e. cond-true (nat_eq k m) (remove (places_from m 0 es) at) (places_from m 0 es) e ∙ subst (λ x. remove (places_from x 0 es) at ≡ places_from x 0 (slice_set es j None)) (eqb-true k m e) here)
+        (λ e. cond-true (nat_eq k m) (remove (places_from m 0 es) at) (places_from m 0 es) e ∙
+        subst (λ x. remove (places_from x 0 es) at ≡ places_from x 0 (slice_set es j None)) (eqb-true k m e) here)
         (λ e. cond-false (nat_eq k m) (remove (places_from m 0 es) at) (places_from m 0 es) e ∙ elsewhere m e)
       where
         -- the places behind it
@@ -221,22 +244,27 @@ module _ (k : ℕ) where
         behind x = places_from x (length s.before + 1) s.after
 
         less : (x : ℕ) → places_from x 0 (slice_set es j None) ≡ places_from x 0 s.before ++ behind x
-        less x = ap (places_from x 0) without ∙ places-append x 0 s.before (None ∷ s.after) ∙ ap (λ m. places_from x 0 s.before ++ places_from x m (None ∷ s.after)) (omega arith)
+        less x = ap (places_from x 0) without ∙ places-append x 0 s.before (None ∷ s.after) ∙
+            ap (λ m. places_from x 0 s.before ++ places_from x m (None ∷ s.after)) (omega arith)
 
         all : (x : ℕ) → places_from x 0 es ≡ places_from x 0 s.before ++ (if nat_eq s.entry.node x then length s.before ∷ behind x else behind x)
-        all x = ap (places_from x 0) s.whole ∙ places-append x 0 s.before (Some s.entry ∷ s.after) ∙ ap (λ m. places_from x 0 s.before ++ places_from x m (Some s.entry ∷ s.after)) (omega arith)
+        all x = ap (places_from x 0) s.whole ∙ places-append x 0 s.before (Some s.entry ∷ s.after) ∙
+            ap (λ m. places_from x 0 s.before ++ places_from x m (Some s.entry ∷ s.after)) (omega arith)
 
         here : remove (places_from k 0 es) at ≡ places_from k 0 (slice_set es j None)
         here =
             (λ i. remove (all k i) (sym s.number i))
-            ∙ ap (λ ps. remove (places_from k 0 s.before ++ ps) (length (places_from k 0 s.before))) (cond-true (nat_eq s.entry.node k) (length s.before ∷ behind k) (behind k) s.own)
+            ∙ ap (λ ps. remove (places_from k 0 s.before ++ ps) (length (places_from k 0 s.before)))
+            (cond-true (nat_eq s.entry.node k) (length s.before ∷ behind k) (behind k) s.own)
             ∙ remove-seam (places_from k 0 s.before) (length s.before) (behind k)
             ∙ sym (less k)
 
         elsewhere : (x : ℕ) → nat_eq k x ≡ false → places_from x 0 es ≡ places_from x 0 (slice_set es j None)
         elsewhere x e =
             all x
-            ∙ ap (λ ps. places_from x 0 s.before ++ ps) (cond-false (nat_eq s.entry.node x) (length s.before ∷ behind x) (behind x) (ap (λ y. nat_eq y x) (eqb-true s.entry.node k s.own) ∙ e))
+            ∙ ap (λ ps. places_from x 0 s.before ++ ps)
+            (cond-false (nat_eq s.entry.node x) (length s.before ∷ behind x) (behind x)
+            (ap (λ y. nat_eq y x) (eqb-true s.entry.node k s.own) ∙ e))
             ∙ sym (less x)
 
 -- where none passes a test, all fail it
@@ -244,7 +272,8 @@ pub none-pass : (p : Listener ℕ → Bool) (ls : List (Listener ℕ)) → list_
 none-pass p [] h = refl
 none-pass p (l ∷ ls) h = by_cases (p l)
     (λ e. let here : true ≡ false = sym (ap (λ b. b || list_any p ls) e) ∙ h in cc)
-    (λ e. cond-true (not (p l)) (l ∷ filter (λ x. not (p x)) ls) (filter (λ x. not (p x)) ls) (ap not e) ∙ ap (λ xs. l ∷ xs) (none-pass p ls (sym (ap (λ b. b || list_any p ls) e) ∙ h)))
+    (λ e. cond-true (not (p l)) (l ∷ filter (λ x. not (p x)) ls) (filter (λ x. not (p x)) ls) (ap not e) ∙
+    ap (λ xs. l ∷ xs) (none-pass p ls (sym (ap (λ b. b || list_any p ls) e) ∙ h)))
 
 -- one that passes it in some place is one of those that are there
 pub passes-any : (p : Listener ℕ → Bool) (es : List (Option Entry)) (i : ℕ) → passes_in p es i ≡ true → list_any p (listeners_in (present es)) ≡ true

@@ -1,5 +1,6 @@
 -- The steps of loops over listeners and over the visits of a path, and the dispatch in a world.
-use Rattle.std.proofs.Common.{◌≡◌, ℕ, ◌+◌, ◌<◌, Bool, true, false, cond, List, [], ◌∷◌, ◌++◌, length, get_or, take, drop, filter, fold, map, reverse, Option, Some, option_map, zero, suc, refl, sym, ap, ◌∙◌, arith, drop-cons}
+use Rattle.std.proofs.Common.{◌≡◌, ℕ, ◌+◌, ◌<◌, Bool, true, false, cond, List, [], ◌∷◌, ◌++◌, length, get_or, take, drop, filter, fold, map, reverse}
+use Rattle.std.proofs.Common.{Option, Some, option_map, zero, suc, refl, sym, ap, ◌∙◌, arith, drop-cons}
 use Rattle.std.specs.Prelude.{slice_get}
 use Rattle.std.specs.List.{AllByRecursion}
 use Rattle.std.proofs.lemmas.List.{map-append, reverse-append}
@@ -35,7 +36,8 @@ pub kept-more : {X Y : Type 0} (f : X → Y) (p : X → Bool) (xs : List X) (i :
     → map f (filter p (take i xs)) ++ cond (p x) (f x ∷ []) [] ≡ map f (filter p (take (i + 1) xs))
 kept-more f p xs i x h g =
     let here = filter p (take i xs) in
-    sym (ap (map f) (filter_more p xs i x h ∙ ap (λ y. here ++ cond (p y) (y ∷ []) []) (sym g)) ∙ map-append f here (cond (p x) (x ∷ []) []) ∙ ap (λ ys. map f here ++ ys) (map-cond f (p x) x))
+    sym (ap (map f) (filter_more p xs i x h ∙ ap (λ y. here ++ cond (p y) (y ∷ []) []) (sym g)) ∙ map-append f here (cond (p x) (x ∷ []) []) ∙
+    ap (λ ys. map f here ++ ys) (map-cond f (p x) x))
 
 module _ {D V W : Type 0} (step : D → W → D) (g : V → W) where
   -- one step, or none
@@ -44,7 +46,8 @@ module _ {D V W : Type 0} (step : D → W → D) (g : V → W) where
   fold-cond false d x = refl
 
   -- the next visit from the front, or none
-  pub bubbled-more : (p : V → Bool) (vs : List V) (i : ℕ) (v : V) → slice_get vs i ≡ Some v → (from before after : D) → before ≡ fold step from (map g (filter p (take i vs)))
+  pub bubbled-more : (p : V → Bool) (vs : List V) (i : ℕ) (v : V) → slice_get vs i ≡ Some v → (from before after : D) →
+      before ≡ fold step from (map g (filter p (take i vs)))
       → after ≡ cond (p v) (step before (g v)) before → after ≡ fold step from (map g (filter p (take (i + 1) vs)))
   bubbled-more p vs i v at from before after b a =
       let done = map g (filter p (take i vs)) in
@@ -53,11 +56,13 @@ module _ {D V W : Type 0} (step : D → W → D) (g : V → W) where
       ∙ ap (fold step from) (kept-more g p vs i v (slice_get_within vs i v at) (sym (get_or_from_slice_get vs i v v at)))
 
   -- the next visit from the end
-  pub captured-more : (vs : List V) (k n : ℕ) (v : V) → n ≡ suc k → slice_get vs k ≡ Some v → (from before after : D) → before ≡ fold step from (map g (reverse (drop n vs)))
+  pub captured-more : (vs : List V) (k n : ℕ) (v : V) → n ≡ suc k → slice_get vs k ≡ Some v → (from before after : D) →
+      before ≡ fold step from (map g (reverse (drop n vs)))
       → after ≡ step before (g v) → after ≡ fold step from (map g (reverse (drop k vs)))
   captured-more vs k n v next at from before after b a =
       let rest = reverse (drop (suc k) vs) in
-      let all : drop k vs ≡ v ∷ drop (suc k) vs = drop-cons vs k v (slice_get_within vs k v at) ∙ ap (λ x. x ∷ drop (suc k) vs) (get_or_from_slice_get vs k v v at) in
+      let all : drop k vs ≡ v ∷ drop (suc k) vs =
+      drop-cons vs k v (slice_get_within vs k v at) ∙ ap (λ x. x ∷ drop (suc k) vs) (get_or_from_slice_get vs k v v at) in
       a ∙ ap (λ d. step d (g v)) (b ∙ ap (λ m. fold step from (map g (reverse (drop m vs)))) next)
       ∙ sym (fold-append step from (map g rest) (g v ∷ []))
       ∙ ap (fold step from) (sym (ap (map g) (ap reverse all ∙ reverse-append (v ∷ []) (drop (suc k) vs)) ∙ map-append g rest (v ∷ [])))
@@ -72,7 +77,8 @@ module _ (trees : List Tree) (items : List Item) (vs : List (View ℕ)) (shown :
   -- what is shown at an item
   pub view-is : (i : ℕ) (x : Item) → i < length items → x ≡ get_or items i x → slice_get vs i ≡ Some (view_in trees items x)
   view-is i x h g =
-      ap (λ xs. slice_get xs i) shown ∙ slice_get-map (view_in trees items) items i ∙ ap (option_map (view_in trees items)) (slice_get-get_or items i x h ∙ ap Some (sym g))
+      ap (λ xs. slice_get xs i) shown ∙ slice_get-map (view_in trees items) items i ∙
+      ap (option_map (view_in trees items)) (slice_get-get_or items i x h ∙ ap Some (sym g))
 
   -- something is
   pub view-there : (i : ℕ) → i < length items → (v : View ℕ) × (slice_get vs i ≡ Some v)
@@ -86,11 +92,15 @@ views-of names [] h = tt
 views-of names (v ∷ vs) h = (record { node = h.0.node; target = h.0.target }, views-of names vs h.1)
 
 -- a dispatch by keys is the dispatch in each world
-pub dispatched-in : (f : NamedTrees) (hosts : List ShadowHost) → TellApart f.names → (before after : List (Listener ℕ)) (target : ℕ) (related : Option ℕ) (e : EventWords) (outcome : Outcome)
-    → IsDispatched f hosts before after target related e outcome → AllByRecursion (IsListenerAt f.names) before → IsDispatchedIn f hosts before after target related e outcome
+pub dispatched-in : (f : NamedTrees) (hosts : List ShadowHost) → TellApart f.names →
+    (before after : List (Listener ℕ)) (target : ℕ) (related : Option ℕ) (e : EventWords) (outcome : Outcome)
+    → IsDispatched f hosts before after target related e outcome → AllByRecursion (IsListenerAt f.names) before →
+    IsDispatchedIn f hosts before after target related e outcome
 dispatched-in f hosts apart before after target related e outcome d at w is has =
-    let far = dispatched-along f.names apart before at d.shown (views-of f.names d.shown d.nodes) w has (name_at f.names target) (option_map (name_at f.names) related) e (d.path w is) in (
-      λ o. far.0 o ∙ ap (λ (ls : List (Listener ℕ)). record (part_of w o) { listeners = filter (is_of_owner o) (map (listener_named f.names) ls) }) (sym d.listeners),
+    let far = dispatched-along f.names apart before at d.shown (views-of f.names d.shown d.nodes) w has (name_at f.names target)
+    (option_map (name_at f.names) related) e (d.path w is) in (
+      λ o. far.0 o ∙ ap (λ (ls : List (Listener ℕ)). record (part_of w o)
+          { listeners = filter (is_of_owner o) (map (listener_named f.names) ls) }) (sym d.listeners),
       far.1 ∙ ap (λ (ls : List (EventLine ℕ)). map event_output (map (line_named f.names) ls)) (sym d.lines),
       far.2 ∙ sym d.answer,
     )

@@ -54,16 +54,20 @@ IsOwnLine names l = l.owner ≡ (name_at names l.current).owner
 -- where the visit is of its node's owner, lines that are their nodes' owners' are followed by such lines
 abbrev pub KeepsOwners : Visit → Progress → Progress → Type 0
 KeepsOwners v before after =
-    (names : List NodeName) → v.owner ≡ (name_at names v.current).owner → AllByRecursion (IsOwnLine names) before.lines.items → AllByRecursion (IsOwnLine names) after.lines.items
+    (names : List NodeName) → v.owner ≡ (name_at names v.current).owner → AllByRecursion (IsOwnLine names) before.lines.items →
+    AllByRecursion (IsOwnLine names) after.lines.items
 
-module _ (f : NamedTrees) (hosts : List ShadowHost) (before after : List (Listener ℕ)) (target : ℕ) (related : Option ℕ) (e : EventWords) (outcome : Outcome) where
+module _ (f : NamedTrees) (hosts : List ShadowHost) (before after : List (Listener ℕ)) (target : ℕ) (related : Option ℕ) (e : EventWords)
+    (outcome : Outcome) where
   -- An event was dispatched along its path: what it shows there are nodes; it is what the event shows in these trees and hosts, and in
   -- every world that has them (DOM Standard, concept: dispatch).
   pub record IsDispatched : Type 0 where
     pub shown : List (View ℕ)
     pub nodes : AllByRecursion (ShowsNodes f.names) shown
-    pub path : (w : World) → IsWorldOf f hosts w → map (view_named f.names) shown ≡ views w (name_at f.names target) (option_map (name_at f.names) related) e.composed
-    pub hosted : (depth : ℕ) → IsHosted f hosts depth → AreViews (shadows f hosts) depth (name_at f.names target) (option_map (name_at f.names) related) e.composed (map (view_named f.names) shown)
+    pub path : (w : World) → IsWorldOf f hosts w →
+        map (view_named f.names) shown ≡ views w (name_at f.names target) (option_map (name_at f.names) related) e.composed
+    pub hosted : (depth : ℕ) → IsHosted f hosts depth →
+        AreViews (shadows f hosts) depth (name_at f.names target) (option_map (name_at f.names) related) e.composed (map (view_named f.names) shown)
     pub listeners : after ≡ (dispatch_along before e shown).listeners
     pub lines : map line_in outcome.lines.items ≡ (dispatch_along before e shown).lines
     pub answer : outcome.answer ≡ not (dispatch_along before e shown).cancelled

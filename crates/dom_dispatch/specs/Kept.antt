@@ -42,8 +42,10 @@ dispatch_along ls e vs = fold (visited nat_eq e) (begun ls) (visits_of nat_eq e.
 -- leaves each owner its listeners (DOM Standard, concept: dispatch).
 abbrev pub DispatchedAlong : Type 0
 DispatchedAlong =
-    (names : List NodeName) → TellApart names → (ls : List (Listener ℕ)) → AllByRecursion (IsListenerAt names) ls → (vs : List (View ℕ)) → AllByRecursion (IsViewOf names) vs →
-    (w : World) → HasListeners w (map (listener_named names) ls) → (target : NodeName) (related : Option NodeName) (e : EventWords) → map (view_named names) vs ≡ views w target related e.composed →
+    (names : List NodeName) → TellApart names → (ls : List (Listener ℕ)) → AllByRecursion (IsListenerAt names) ls → (vs : List (View ℕ)) →
+    AllByRecursion (IsViewOf names) vs →
+    (w : World) → HasListeners w (map (listener_named names) ls) → (target : NodeName) (related : Option NodeName) (e : EventWords) →
+    map (view_named names) vs ≡ views w target related e.composed →
     let all = dispatch_along ls e vs in
     let end = dispatch_in w target related e in
     ((o : Owner) → part_of end.run.0 o ≡ record (part_of w o) { listeners = filter (is_of_owner o) (map (listener_named names) all.listeners) })

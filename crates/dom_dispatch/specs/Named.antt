@@ -65,18 +65,22 @@ module _ (names : List NodeName) where
 -- What is done by keys is what is done by names (DOM Standard, 2.7: add an event listener, remove an event listener).
 abbrev pub ListenedByNames : Type 0
 ListenedByNames =
-    (names : List NodeName) → TellApart names → (ls : List (Listener ℕ)) → AllByRecursion (IsListenerAt names) ls → (x : ℕ) → x < length names → (words : ListenerWords) →
+    (names : List NodeName) → TellApart names → (ls : List (Listener ℕ)) → AllByRecursion (IsListenerAt names) ls → (x : ℕ) → x < length names →
+    (words : ListenerWords) →
     map (listener_named names) (listened nat_eq x words ls) ≡ listened name_eq (name_at names x) words (map (listener_named names) ls)
 
 -- a listener less
 abbrev pub UnlistenedByNames : Type 0
 UnlistenedByNames =
-    (names : List NodeName) → TellApart names → (ls : List (Listener ℕ)) → AllByRecursion (IsListenerAt names) ls → (x : ℕ) → x < length names → (event label : Word) (capture : Bool) →
-    map (listener_named names) (unlistened nat_eq x event label capture ls) ≡ unlistened name_eq (name_at names x) event label capture (map (listener_named names) ls)
+    (names : List NodeName) → TellApart names → (ls : List (Listener ℕ)) → AllByRecursion (IsListenerAt names) ls → (x : ℕ) → x < length names →
+    (event label : Word) (capture : Bool) →
+    map (listener_named names) (unlistened nat_eq x event label capture ls) ≡ unlistened name_eq (name_at names x) event label capture
+    (map (listener_named names) ls)
 
 -- a dispatch along a path, from the listeners that there are (DOM Standard, concept: dispatch)
 abbrev pub DispatchedByNames : Type 0
 DispatchedByNames =
-    (names : List NodeName) → TellApart names → (ls : List (Listener ℕ)) → AllByRecursion (IsListenerAt names) ls → (vs : List (View ℕ)) → AllByRecursion (IsViewOf names) vs → (e : EventWords) →
+    (names : List NodeName) → TellApart names → (ls : List (Listener ℕ)) → AllByRecursion (IsListenerAt names) ls → (vs : List (View ℕ)) →
+    AllByRecursion (IsViewOf names) vs → (e : EventWords) →
     dispatching_named names (fold (visited nat_eq e) (begun ls) (visits_of nat_eq e.bubbles vs))
     ≡ fold (visited name_eq e) (begun (map (listener_named names) ls)) (visits_of name_eq e.bubbles (map (view_named names) vs))

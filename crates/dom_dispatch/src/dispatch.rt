@@ -37,7 +37,8 @@ impl Listeners {
         requires free { slots.now.begun ≡ None }
         requires slots { AreSlotsOf forest.now slots.now }
         ensures keys { IfOk result (λ outcome. IsDispatched forest.now slots.now.hosts self.old self.new target event.related (event_words event) outcome) }
-        ensures names { IfOk result (λ outcome. AllByRecursion (IsListenerAt forest.now.names) self.old → IsDispatchedIn forest.now slots.now.hosts self.old self.new target event.related (event_words event) outcome) }
+        ensures names { IfOk result (λ outcome. AllByRecursion (IsListenerAt forest.now.names) self.old →
+            IsDispatchedIn forest.now slots.now.hosts self.old self.new target event.related (event_words event) outcome) }
         ensures owners { IfOk result (λ outcome. AllByRecursion (IsOwnLine forest.now.names) outcome.lines.items) }
     {
         forest.nodes_stand_once();
@@ -62,7 +63,8 @@ impl Listeners {
     ) -> Result<(), AllocError>
         requires nodes { AllByRecursion (HasNodes forest.now.names) path.now.items }
         requires owners { AllByRecursion (IsOwnLine forest.now.names) so_far.old.lines.items }
-        ensures visits { OnOk result (dispatching_in self.new so_far.new ≡ fold (visited nat_eq (event_words event.now)) (dispatching_in self.old so_far.old) (map (visit_of nat_eq true) (reverse path.now.views))) }
+        ensures visits { OnOk result (dispatching_in self.new so_far.new ≡ fold (visited nat_eq (event_words event.now))
+            (dispatching_in self.old so_far.old) (map (visit_of nat_eq true) (reverse path.now.views))) }
         ensures owners { OnOk result (AllByRecursion (IsOwnLine forest.now.names) so_far.new.lines.items) }
     {
         let mut at = path.items().len();
@@ -84,7 +86,9 @@ impl Listeners {
     ) -> Result<(), AllocError>
         requires nodes { AllByRecursion (HasNodes forest.now.names) path.now.items }
         requires owners { AllByRecursion (IsOwnLine forest.now.names) so_far.old.lines.items }
-        ensures visits { OnOk result (dispatching_in self.new so_far.new ≡ fold (visited nat_eq (event_words event.now)) (dispatching_in self.old so_far.old) (map (visit_of nat_eq false) (filter (λ v. event.now.bubbles || is_at_target nat_eq v) path.now.views))) }
+        ensures visits { OnOk result (dispatching_in self.new so_far.new ≡ fold (visited nat_eq (event_words event.now))
+            (dispatching_in self.old so_far.old)
+            (map (visit_of nat_eq false) (filter (λ v. event.now.bubbles || is_at_target nat_eq v) path.now.views))) }
         ensures owners { OnOk result (AllByRecursion (IsOwnLine forest.now.names) so_far.new.lines.items) }
     {
         for at in 0..path.items().len() {
@@ -110,7 +114,9 @@ impl Listeners {
         requires within { at < length path.now.items }
         requires nodes { AllByRecursion (HasNodes forest.now.names) path.now.items }
         requires owners { AllByRecursion (IsOwnLine forest.now.names) so_far.old.lines.items }
-        ensures visit { OnOk result ((view : View ℕ) → slice_get path.now.views at ≡ Some view → dispatching_in self.new so_far.new ≡ visited nat_eq (event_words event.now) (dispatching_in self.old so_far.old) (visit_of nat_eq capturing view)) }
+        ensures visit { OnOk result ((view : View ℕ) → slice_get path.now.views at ≡ Some view →
+            dispatching_in self.new so_far.new ≡ visited nat_eq (event_words event.now) (dispatching_in self.old so_far.old)
+            (visit_of nat_eq capturing view)) }
         ensures owners { OnOk result (AllByRecursion (IsOwnLine forest.now.names) so_far.new.lines.items) }
     {
         if so_far.stopped {
@@ -149,7 +155,8 @@ impl Listeners {
         mut heard: VecDeque<Entry>,
         so_far: &mut Progress,
     ) -> Result<(), AllocError>
-        ensures calls { OnOk result (dispatching_in self.new so_far.new ≡ fold (called nat_eq (event_words event.now) (visit_in visit.now)) (dispatching_in self.old so_far.old) (listeners_in heard.items)) }
+        ensures calls { OnOk result (dispatching_in self.new so_far.new ≡ fold (called nat_eq (event_words event.now) (visit_in visit.now))
+            (dispatching_in self.old so_far.old) (listeners_in heard.items)) }
         ensures owners { OnOk result (KeepsOwners visit.now so_far.old so_far.new) }
     {
         while let Some(listener) = heard.pop_front() {
@@ -167,7 +174,8 @@ impl Listeners {
         listener: Entry,
         so_far: &mut Progress,
     ) -> Result<(), AllocError>
-        ensures call { OnOk result (dispatching_in self.new so_far.new ≡ called nat_eq (event_words event.now) (visit_in visit.now) (dispatching_in self.old so_far.old) (listener_of listener)) }
+        ensures call { OnOk result (dispatching_in self.new so_far.new ≡ called nat_eq (event_words event.now) (visit_in visit.now)
+            (dispatching_in self.old so_far.old) (listener_of listener)) }
         ensures owners { OnOk result (KeepsOwners visit.now so_far.old so_far.new) }
     {
         if so_far.stopped_now {

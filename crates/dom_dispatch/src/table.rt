@@ -1,5 +1,6 @@
 //! Where listeners stand.
-ghost use Rattle.std.specs.Prelude.{◌≡◌, ℕ, ◌+◌, ◌*◌, ◌<◌, ◌≤◌, ◌↔◌, ◌++◌, ◌∷◌, [], Bool, nat_eq, not, true, is_some, length, filter, vec_len, vec_capacity, IsTrue, IfSome, IfOk, OnOk, OnErr};
+ghost use Rattle.std.specs.Prelude.{◌≡◌, ℕ, ◌+◌, ◌*◌, ◌<◌, ◌≤◌, ◌↔◌, ◌++◌, ◌∷◌, [], Bool, nat_eq, not, true, is_some, length, filter, vec_len};
+ghost use Rattle.std.specs.Prelude.{vec_capacity, IsTrue, IfSome, IfOk, OnOk, OnErr};
 ghost use Rattle.std.specs.List.{list_any};
 ghost use Rattle.std.specs.Option.{option_map};
 ghost use Rattle.dom_model.specs.Listeners.{Listener, is_listener};
@@ -47,7 +48,8 @@ impl Table {
         requires indexed { IsIndexed self.now.places self.now.entries.items }
         ensures there { is_some result ≡ list_any (is_listener nat_eq node event.now label.now capture) (listeners_in (present self.now.entries.items)) }
         ensures within { IfSome result (λ at. at < length (places_at self.now.places node)) }
-        ensures found { IfSome result (λ at. holds_at (is_listener nat_eq node event.now label.now capture) self.now.entries.items (places_at self.now.places node) at ≡ true) }
+        ensures found { IfSome result (λ at. holds_at (is_listener nat_eq node event.now label.now capture) self.now.entries.items
+            (places_at self.now.places node) at ≡ true) }
     {
         let places = self.places.of(node);
         for at in 0..places.len() {
@@ -144,7 +146,9 @@ impl Table {
         ensures indexed { IsIndexed self.new.places self.new.entries.items }
         // The others stay, and so do all that fail a test which this one passes.
         ensures fewer { length (present self.new.entries.items) + 1 ≡ length (present self.old.entries.items) }
-        ensures others { (p : Listener ℕ → Bool) → holds_at p self.old.entries.items (places_at self.old.places node) at ≡ true → filter (λ l. not (p l)) (listeners_in (present self.new.entries.items)) ≡ filter (λ l. not (p l)) (listeners_in (present self.old.entries.items)) }
+        ensures others { (p : Listener ℕ → Bool) → holds_at p self.old.entries.items (places_at self.old.places node) at ≡ true →
+            filter (λ l. not (p l)) (listeners_in (present self.new.entries.items)) ≡ filter (λ l. not (p l))
+            (listeners_in (present self.old.entries.items)) }
     {
         let place = self.places.of(node)[at];
         self.places.remove(node, at);

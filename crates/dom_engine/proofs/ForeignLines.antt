@@ -34,11 +34,13 @@ page-may_use c h = refl
 -- a page's line is never busy
 why-page : (w : World) (c : Command) → is_command_of Page c ≡ true → names_foreign c ≡ true → refusal w Page c ≡ Some Foreign
 why-page w c h g =
-    ap (λ b. option_or (first_refusal ((not b, Syntax) ∷ (is_busy w Page, Busy) ∷ (names_foreign c, Foreign) ∷ (not (is_there w Page), Unknown) ∷ [])) (part_refusal (part_of w Page) c)) h
+    ap (λ b. option_or (first_refusal ((not b, Syntax) ∷ (is_busy w Page, Busy) ∷ (names_foreign c, Foreign) ∷ (not (is_there w Page), Unknown) ∷
+    [])) (part_refusal (part_of w Page) c)) h
     ∙ ap (λ b. option_or (first_refusal ((is_busy w Page, Busy) ∷ (b, Foreign) ∷ (not (is_there w Page), Unknown) ∷ [])) (part_refusal (part_of w Page) c)) g
     ∙ from (is_page_turn w.turn)
   where
-    from : (b : Bool) → option_or (first_refusal ((b && false, Busy) ∷ (true, Foreign) ∷ (not (is_there w Page), Unknown) ∷ [])) (part_refusal (part_of w Page) c) ≡ Some Foreign
+    from : (b : Bool) → option_or (first_refusal ((b && false, Busy) ∷ (true, Foreign) ∷ (not (is_there w Page), Unknown) ∷ []))
+        (part_refusal (part_of w Page) c) ≡ Some Foreign
     from true = refl
     from false = refl
 

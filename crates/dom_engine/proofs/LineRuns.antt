@@ -1,5 +1,6 @@
 -- Lines that are run behind other lines.
-use Rattle.std.proofs.Common.{◌≡◌, ℕ, ◌+◌, ◌<◌, ◌≤◌, List, [], ◌∷◌, ◌++◌, length, take, drop, get_or, map, Option, Result, refl, sym, ap, subst, ◌∙◌, arith, length-append}
+use Rattle.std.proofs.Common.{◌≡◌, ℕ, ◌+◌, ◌<◌, ◌≤◌, List, [], ◌∷◌, ◌++◌, length, take, drop, get_or, map, Option, Result, refl, sym, ap, subst, ◌∙◌}
+use Rattle.std.proofs.Common.{arith, length-append}
 use Rattle.std.proofs.lemmas.List.{map-append, take_more, take-append-le, take-append-drop}
 use Rattle.std.proofs.Math.Seq.{take-append-add}
 use Rattle.std.specs.Io.KnownBytes.{Appends}
@@ -31,12 +32,14 @@ pub shows-none : (a : Option (List ℕ)) (view : Option Owner) (w : World) (done
 shows-none a view w done e = subst (Appends a a) (sym (ap (shown view w) e ∙ shown-none view w)) (Appends-nil a)
 
 -- what is shown of all lines is what is shown of the first, and then of the others
-pub shown-behind : (view view' : Option Owner) (w w' : World) (done more : List (List ℕ)) → Behind view w done view' w' → shown view w (done ++ more) ≡ shown view w done ++ shown view' w' more
+pub shown-behind : (view view' : Option Owner) (w w' : World) (done more : List (List ℕ)) → Behind view w done view' w' →
+    shown view w (done ++ more) ≡ shown view w done ++ shown view' w' more
 shown-behind view view' w w' done more b = rw (b.same, b.world) (shown-append view w done more)
 
 -- some lines behind others, of which more were to come
 pub some_behind : (view view' : Option Owner) (w w' : World) (done more rest all : List (List ℕ)) (a b c : Option (List ℕ)) → Behind view w done view' w'
-    → all ≡ (done ++ more) ++ rest → Appends a b (shown view w done) → WritesSome b c (shown view' w') more → (some : WritesSome a c (shown view w) all) × (length done ≤ some.count) × (some.count ≤ length (done ++ more))
+    → all ≡ (done ++ more) ++ rest → Appends a b (shown view w done) → WritesSome b c (shown view' w') more →
+    (some : WritesSome a c (shown view w) all) × (length done ≤ some.count) × (some.count ≤ length (done ++ more))
 some_behind view view' w w' done more rest all a b c at e before h =
     let few : length done + h.count ≤ length (done ++ more) = omega (arith, length-append done more, h.within) in
     let front : take (length done + h.count) all ≡ done ++ take h.count more =
@@ -52,38 +55,49 @@ some_behind view view' w w' done more rest all a b c at e before h =
     )
 
 -- Lines are run behind others.
-pub lines_behind : {A : Type 0} (r : Result A RunFault) (view view' : Option Owner) (w w' : World) (done more : List (List ℕ)) (f₀ f₁ f₂ : ℕ) (a b c : Option (List ℕ))
-    → Behind view w done view' w' → f₁ ≡ f₀ → Appends a b (shown view w done) → EndsLines r f₁ f₂ b c (shown view' w') more → EndsLines r f₀ f₂ a c (shown view w) (done ++ more)
+pub lines_behind : {A : Type 0} (r : Result A RunFault) (view view' : Option Owner) (w w' : World) (done more : List (List ℕ)) (f₀ f₁ f₂ : ℕ)
+    (a b c : Option (List ℕ))
+    → Behind view w done view' w' → f₁ ≡ f₀ → Appends a b (shown view w done) → EndsLines r f₁ f₂ b c (shown view' w') more →
+    EndsLines r f₀ f₂ a c (shown view w) (done ++ more)
 lines_behind r view view' w w' done more f₀ f₁ f₂ a b c at f before h =
-    ends_behind r f₀ f₁ f₂ a b c (shown view w (done ++ more)) (shown view w done) (shown view' w' more) _ _ f before (shown-behind view view' w w' done more at)
+    ends_behind r f₀ f₁ f₂ a b c (shown view w (done ++ more)) (shown view w done) (shown view' w' more) _ _ f before
+    (shown-behind view view' w w' done more at)
     (λ some. (some_behind view view' w w' done more [] (done ++ more) a b c at (no_lines-behind (done ++ more)) before some).0) h
 
 -- Lines behind others, and before more, meet a fault.
 pub lines_between : (e : RunFault) (view view' : Option Owner) (w w' : World) (done more rest all : List (List ℕ)) (f₀ f₁ f₂ : ℕ) (a b c : Option (List ℕ))
     → Behind view w done view' w' → all ≡ (done ++ more) ++ rest → f₁ ≡ f₀ → Appends a b (shown view w done)
-    → StopsWriting e f₁ f₂ b c (shown view' w' more) (WritesSome b c (shown view' w') more) → StopsWriting e f₀ f₂ a c (shown view w all) (WritesSome a c (shown view w) all)
+    → StopsWriting e f₁ f₂ b c (shown view' w' more) (WritesSome b c (shown view' w') more) →
+    StopsWriting e f₀ f₂ a c (shown view w all) (WritesSome a c (shown view w) all)
 lines_between e view view' w w' done more rest all f₀ f₁ f₂ a b c at whole f before h =
     let split : shown view w all ≡ (shown view w done ++ shown view' w' more) ++ shown view (world_after w (done ++ more)) rest =
-    ap (shown view w) whole ∙ shown-append view w (done ++ more) rest ∙ ap (λ (x : List ℕ). x ++ shown view (world_after w (done ++ more)) rest) (shown-behind view view' w w' done more at) in
-    stops_between e f₀ f₁ f₂ a b c (shown view w all) (shown view w done) (shown view' w' more) (shown view (world_after w (done ++ more)) rest) _ _ f before split
+    ap (shown view w) whole ∙ shown-append view w (done ++ more) rest ∙ ap (λ (x : List ℕ). x ++ shown view (world_after w (done ++ more)) rest)
+    (shown-behind view view' w w' done more at) in
+    stops_between e f₀ f₁ f₂ a b c (shown view w all) (shown view w done) (shown view' w' more) (shown view (world_after w (done ++ more)) rest) _
+    _ f before split
     (λ some. (some_behind view view' w w' done more rest all a b c at whole before some).0) h
 
 -- the world behind more lines
-pub world-behind : (view view' : Option Owner) (w w' : World) (done more all : List (List ℕ)) (v : World) → Behind view w done view' w' → all ≡ done ++ more → v ≡ world_after w' more
+pub world-behind : (view view' : Option Owner) (w w' : World) (done more all : List (List ℕ)) (v : World) → Behind view w done view' w' →
+    all ≡ done ++ more → v ≡ world_after w' more
     → v ≡ world_after w all
-world-behind view view' w w' done more all v at e h = h ∙ ap (λ x. world_after x more) at.world ∙ sym (world_after-append w done more) ∙ ap (world_after w) (sym e)
+world-behind view view' w w' done more all v at e h =
+    h ∙ ap (λ x. world_after x more) at.world ∙ sym (world_after-append w done more) ∙ ap (world_after w) (sym e)
 
 -- more lines are run
 pub lines_done : (view view' : Option Owner) (w w' : World) (done more all : List (List ℕ)) (a b c : Option (List ℕ))
     → Behind view w done view' w' → all ≡ done ++ more → Appends a b (shown view w done) → Appends b c (shown view' w' more) → Appends a c (shown view w all)
 lines_done view view' w w' done more all a b c at e before h =
-    subst (Appends a c) (sym (ap (shown view w) e ∙ shown-behind view view' w w' done more at)) (Appends-trans a b c (shown view w done) (shown view' w' more) before h)
+    subst (Appends a c) (sym (ap (shown view w) e ∙ shown-behind view view' w w' done more at))
+    (Appends-trans a b c (shown view w done) (shown view' w' more) before h)
 
 module _ {V : Type 0} (bytes : V → List ℕ) where
   -- one more of some lines
-  pub one_more : (lines : List V) (i : ℕ) (line : V) (text : List ℕ) → i < length lines → line ≡ get_or lines i line → text ≡ bytes line → map bytes (take (i + 1) lines) ≡ map bytes (take i lines) ++ text ∷ []
+  pub one_more : (lines : List V) (i : ℕ) (line : V) (text : List ℕ) → i < length lines → line ≡ get_or lines i line → text ≡ bytes line →
+      map bytes (take (i + 1) lines) ≡ map bytes (take i lines) ++ text ∷ []
   one_more lines i line text h e t =
-      ap (map bytes) (take_more lines i line h) ∙ map-append bytes (take i lines) (get_or lines i line ∷ []) ∙ ap (λ (x : List ℕ). map bytes (take i lines) ++ x ∷ []) (ap bytes (sym e) ∙ sym t)
+      ap (map bytes) (take_more lines i line h) ∙ map-append bytes (take i lines) (get_or lines i line ∷ []) ∙
+      ap (λ (x : List ℕ). map bytes (take i lines) ++ x ∷ []) (ap bytes (sym e) ∙ sym t)
 
   -- lines around one of them
   pub around : (lines : List V) (i : ℕ) (line : V) (text : List ℕ) → i < length lines → line ≡ get_or lines i line → text ≡ bytes line

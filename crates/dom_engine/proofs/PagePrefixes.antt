@@ -1,5 +1,6 @@
 -- What the page sees where a run comes to its end, and where a fault stops it.
-use Rattle.std.proofs.Common.{◌≡◌, ℕ, ◌≤◌, ◌⊎◌, List, [], ◌++◌, length, take, drop, map, filter, Option, None, Some, IfSome, IsTrue, refl, sym, ap, subst, ◌∙◌, append_assoc, append-nil, inl, inr}
+use Rattle.std.proofs.Common.{◌≡◌, ℕ, ◌≤◌, ◌⊎◌, List, [], ◌++◌, length, take, drop, map, filter, Option, None, Some, IfSome, IsTrue, refl, sym, ap}
+use Rattle.std.proofs.Common.{subst, ◌∙◌, append_assoc, append-nil, inl, inr}
 use Rattle.std.proofs.lemmas.List.{take-append-drop, take-append-le}
 use Rattle.std.proofs.lemmas.List.Elements.{filter-append}
 use Rattle.std.specs.Io.KnownBytes.{Appends, IsAtEnd}
@@ -20,7 +21,8 @@ use Rattle.dom_isolation.proofs.PlainTexts.{picked_lines-agree_so_far}
 use Rattle.dom_streams.specs.declared.fault.RunFault.TheVariants.{Read, Write, Memory, InputLimit}
 use Rattle.dom_engine.specs.Run.{answers, answers_to_end, finished_text, run_text, RunsToEnd, StopsAtWrite}
 use Rattle.dom_streams.specs.Views.{viewed}
-use Rattle.dom_engine.specs.PageLaws.{page_text_so_far, page_text_to_end, page_text, HasPage, page_seen, PageSees, PageSeesFront, PageSeesLinesNamed, PageSeesPrefix}
+use Rattle.dom_engine.specs.PageLaws.{page_text_so_far, page_text_to_end, page_text, HasPage, page_seen, PageSees, PageSeesFront, PageSeesLinesNamed}
+use Rattle.dom_engine.specs.PageLaws.{PageSeesPrefix}
 use Rattle.dom_engine.proofs.PageRuns.{lines_of-ended, page_text-agrees}
 
 -- ---- what the page sees
@@ -48,14 +50,20 @@ answers-page : (lines : List (List ℕ)) → IsTrue (no_component_stops decode l
 unfolding answers
 answers-page lines h =
     let outputs = (run_lines first_world (map decode lines)).1 in
-    ap (λ (ls : List (List ℕ)). text_of_lines (page_lines ls)) (lines_of-ended (map output_line outputs)) ∙ ap text_of_lines (picked_lines-agree_so_far decode decode-reads_plain_words lines h)
+    ap (λ (ls : List (List ℕ)). text_of_lines (page_lines ls)) (lines_of-ended (map output_line outputs)) ∙
+    ap text_of_lines (picked_lines-agree_so_far decode decode-reads_plain_words lines h)
 
 -- of a run that has come to its end
 pub page-at_end : {view : Option Owner} {from to old new : Option (List ℕ)} → RunsToEnd view from to old new
     → IfSome from (λ bytes. HasPage view → IsTrue (no_component_stops decode (lines_of bytes)) → PageSees view old new (page_text bytes))
 page-at_end {view = view} {from = from} {to = to} {old = old} {new = new} r =
-    Consumes-whole from to r.given (λ bytes. HasPage view → IsTrue (no_component_stops decode (lines_of bytes)) → PageSees view old new (page_text bytes)) r.consumed r.at_end
-    (λ p h. record { written = run_text view r.given; appends = r.written; seen = seen-viewed view (answers_to_end (lines_of r.given)) p ∙ page_text-agrees r.given h })
+    Consumes-whole from to r.given (λ bytes. HasPage view → IsTrue (no_component_stops decode (lines_of bytes)) →
+    PageSees view old new (page_text bytes)) r.consumed r.at_end
+    (λ p h. record {
+      written = run_text view r.given;
+      appends = r.written;
+      seen = seen-viewed view (answers_to_end (lines_of r.given)) p ∙ page_text-agrees r.given h;
+    })
 
 -- ---- what more bytes add
 
@@ -97,11 +105,14 @@ page-ended bytes more = page-more (cut_of bytes).finished (lines_of ((cut_of byt
 -- ---- faults
 
 -- what the page sees is at the front of what it would see
-sees-front : (view : Option Owner) (old new : Option (List ℕ)) (seen rest all : List ℕ) → all ≡ seen ++ rest → PageSees view old new seen → PageSeesFront view old new all
-sees-front view old new seen rest all e s = record { written = s.written; appends = s.appends; back = rest; split = e ∙ ap (λ (x : List ℕ). x ++ rest) (sym s.seen) }
+sees-front : (view : Option Owner) (old new : Option (List ℕ)) (seen rest all : List ℕ) → all ≡ seen ++ rest → PageSees view old new seen →
+    PageSeesFront view old new all
+sees-front view old new seen rest all e s =
+    record { written = s.written; appends = s.appends; back = rest; split = e ∙ ap (λ (x : List ℕ). x ++ rest) (sym s.seen) }
 
 -- some first bytes of a text, of which the page sees some first bytes of its own
-sees-cut : (view : Option Owner) (old new : Option (List ℕ)) (text front back seen rest all : List ℕ) → text ≡ front ++ back → page_seen view text ≡ seen → all ≡ seen ++ rest
+sees-cut : (view : Option Owner) (old new : Option (List ℕ)) (text front back seen rest all : List ℕ) → text ≡ front ++ back →
+    page_seen view text ≡ seen → all ≡ seen ++ rest
     → Appends old new front → PageSeesFront view old new all
 sees-cut view old new text front back seen rest all split is e written =
     let cut = seen-front view front back in
@@ -115,29 +126,44 @@ sees-cut view old new text front back seen rest all split is e written =
 -- The lines named.
 pub page-sees_lines_named : PageSeesLinesNamed
 page-sees_lines_named view from to old new Read s p whole h =
-    record { written = finished_text view s.given; appends = s.written; seen = seen-viewed view (answers first_world (cut_of s.given).finished) p ∙ answers-page (cut_of s.given).finished h }
+    record {
+      written = finished_text view s.given;
+      appends = s.written;
+      seen = seen-viewed view (answers first_world (cut_of s.given).finished) p ∙ answers-page (cut_of s.given).finished h;
+    }
 page-sees_lines_named view from to old new InputLimit s p whole h =
-    record { written = finished_text view s.given; appends = s.written; seen = seen-viewed view (answers first_world (cut_of s.given).finished) p ∙ answers-page (cut_of s.given).finished h }
+    record {
+      written = finished_text view s.given;
+      appends = s.written;
+      seen = seen-viewed view (answers first_world (cut_of s.given).finished) p ∙ answers-page (cut_of s.given).finished h;
+    }
 page-sees_lines_named view from to old new Memory s p whole h =
     let lines = take s.count (lines_of (s.early ++ s.late)) in
-    record { written = viewed view (answers first_world lines); appends = s.written; seen = seen-viewed view (answers first_world lines) p ∙ answers-page lines h }
+    record {
+      written = viewed view (answers first_world lines);
+      appends = s.written;
+      seen = seen-viewed view (answers first_world lines) p ∙ answers-page lines h;
+    }
 page-sees_lines_named view from to old new Write s p whole h = absurd whole
 
 -- A write failed: at lines that are ended, or at the end.
 write-prefix : (view : Option Owner) (from to old new : Option (List ℕ)) (s : StopsAtWrite view from to old new) → HasPage view →
-    IsTrue (no_component_stops decode (lines_of (s.early ++ s.late))) → (more : List ℕ) → (IsAtEnd to → more ≡ []) → PageSeesFront view old new (page_text ((s.early ++ s.late) ++ more))
+    IsTrue (no_component_stops decode (lines_of (s.early ++ s.late))) → (more : List ℕ) → (IsAtEnd to → more ≡ []) →
+    PageSeesFront view old new (page_text ((s.early ++ s.late) ++ more))
 write-prefix view from to old new s p h more end =
     let read = s.early ++ s.late in
     let ended = (cut_of read).finished in
     let front = finished_text view s.early ++ s.front in
     elim s.split [
       | inl e ↦
-          let quiet = first_lines-stop_nothing decode ended (last_line (cut_of read).rest) (subst (λ ls. IsTrue (no_component_stops decode ls)) (lines_of-cut read) h) in
+          let quiet = first_lines-stop_nothing decode ended (last_line (cut_of read).rest)
+          (subst (λ ls. IsTrue (no_component_stops decode ls)) (lines_of-cut read) h) in
           let on = page-ended read more in
           sees-cut view old new (finished_text view read) front s.back (page_text_so_far ended) on.0 (page_text (read ++ more)) e
           (seen-viewed view (answers first_world ended) p ∙ answers-page ended quiet) on.1 s.written
       | inr e ↦
-          sees-cut view old new (run_text view read) front s.back (page_text read) [] (page_text (read ++ more)) e.0 (seen-viewed view (answers_to_end (lines_of read)) p ∙ page_text-agrees read h)
+          sees-cut view old new (run_text view read) front s.back (page_text read) [] (page_text (read ++ more)) e.0
+          (seen-viewed view (answers_to_end (lines_of read)) p ∙ page_text-agrees read h)
           (ap (λ x. page_text (read ++ x)) (end e.1) ∙ ap page_text (append-nil read) ∙ sym (append-nil (page_text read))) s.written
     ]
 
@@ -145,15 +171,18 @@ write-prefix view from to old new s p h more end =
 pub page-sees_prefix : PageSeesPrefix
 page-sees_prefix view from to old new Read s p h more follows =
     let on = page-ended s.given more in
-    sees-front view old new (page_text_so_far (cut_of s.given).finished) on.0 (page_text (s.given ++ more)) on.1 (page-sees_lines_named view from to old new Read s p tt h)
+    sees-front view old new (page_text_so_far (cut_of s.given).finished) on.0 (page_text (s.given ++ more)) on.1
+    (page-sees_lines_named view from to old new Read s p tt h)
 page-sees_prefix view from to old new InputLimit s p h more follows =
     let on = page-ended s.given (s.more ++ more) in
-    sees-front view old new (page_text_so_far (cut_of s.given).finished) on.0 (page_text ((s.given ++ s.more) ++ more)) (ap page_text (append_assoc s.given s.more more) ∙ on.1)
+    sees-front view old new (page_text_so_far (cut_of s.given).finished) on.0 (page_text ((s.given ++ s.more) ++ more))
+    (ap page_text (append_assoc s.given s.more more) ∙ on.1)
     (page-sees_lines_named view from to old new InputLimit s p tt h)
 page-sees_prefix view from to old new Memory s p h more follows =
     let read = s.early ++ s.late in
     let known : (s.count ≤ length (cut_of read).finished) ⊎ (more ≡ []) = elim s.ended [ inl few ↦ inl few | inr end ↦ inr (follows end) ] in
     let others = lines_of-taken s.count read more known in
     let on = page-more (take s.count (lines_of read)) others.0 (lines_of (read ++ more)) others.1 in
-    sees-front view old new (page_text_so_far (take s.count (lines_of read))) on.0 (page_text (read ++ more)) on.1 (page-sees_lines_named view from to old new Memory s p tt h)
+    sees-front view old new (page_text_so_far (take s.count (lines_of read))) on.0 (page_text (read ++ more)) on.1
+    (page-sees_lines_named view from to old new Memory s p tt h)
 page-sees_prefix view from to old new Write s p h more follows = write-prefix view from to old new s p h more follows

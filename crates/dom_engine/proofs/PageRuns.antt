@@ -22,7 +22,8 @@ pub page_text-agrees : PageTextIsThePageMachines
 unfolding answers_to_end
 page_text-agrees bytes h =
     let outputs = outputs_of (map decode (lines_of bytes)) in
-    ap (λ (lines : List (List ℕ)). text_of_lines (page_lines lines)) (lines_of-ended (map output_line outputs)) ∙ ap text_of_lines (picked_lines-agree decode decode-reads_plain_words bytes h)
+    ap (λ (lines : List (List ℕ)). text_of_lines (page_lines lines)) (lines_of-ended (map output_line outputs)) ∙
+    ap text_of_lines (picked_lines-agree decode decode-reads_plain_words bytes h)
 
 pub page_text-same : SamePageText
 page_text-same first second h g e = page_text-agrees first h ∙ ap (λ items. output_text (page_outputs_of decode items)) e ∙ sym (page_text-agrees second g)

@@ -5,16 +5,20 @@ use Rattle.dom_reader.specs.Streams.{fed}
 use Rattle.dom_reader.proofs.StreamLaws.{fed-pieces}
 
 -- the lines of bytes in two pieces
-pub fed-lines : (kept kept' passed piece all : List ℕ) → kept' ≡ (fed kept passed).rest → all ≡ passed ++ piece → (fed kept all).finished ≡ (fed kept passed).finished ++ (fed kept' piece).finished
+pub fed-lines : (kept kept' passed piece all : List ℕ) → kept' ≡ (fed kept passed).rest → all ≡ passed ++ piece →
+    (fed kept all).finished ≡ (fed kept passed).finished ++ (fed kept' piece).finished
 fed-lines kept kept' passed piece all k e =
-    ap (λ x. (fed kept x).finished) e ∙ ap (λ cut. cut.finished) (fed-pieces kept passed piece) ∙ ap (λ x. (fed kept passed).finished ++ (fed x piece).finished) (sym k)
+    ap (λ x. (fed kept x).finished) e ∙ ap (λ cut. cut.finished) (fed-pieces kept passed piece) ∙
+    ap (λ x. (fed kept passed).finished ++ (fed x piece).finished) (sym k)
 
 -- the unfinished line of bytes in two pieces
 pub fed-rest : (kept kept' passed piece all : List ℕ) → kept' ≡ (fed kept passed).rest → all ≡ passed ++ piece → (fed kept all).rest ≡ (fed kept' piece).rest
-fed-rest kept kept' passed piece all k e = ap (λ x. (fed kept x).rest) e ∙ ap (λ cut. cut.rest) (fed-pieces kept passed piece) ∙ ap (λ x. (fed x piece).rest) (sym k)
+fed-rest kept kept' passed piece all k e =
+    ap (λ x. (fed kept x).rest) e ∙ ap (λ cut. cut.rest) (fed-pieces kept passed piece) ∙ ap (λ x. (fed x piece).rest) (sym k)
 
 -- bytes of which a piece more has passed
-pub piece-behind : (bytes passed rest piece later : List ℕ) (n : ℕ) → bytes ≡ passed ++ rest → piece ≡ take n rest → later ≡ drop n rest → bytes ≡ (passed ++ piece) ++ later
+pub piece-behind : (bytes passed rest piece later : List ℕ) (n : ℕ) → bytes ≡ passed ++ rest → piece ≡ take n rest → later ≡ drop n rest →
+    bytes ≡ (passed ++ piece) ++ later
 piece-behind bytes passed rest piece later n e here behind =
     e
     ∙ ap (λ x. passed ++ x) (sym (take-append-drop n rest))

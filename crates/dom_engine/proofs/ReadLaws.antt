@@ -1,5 +1,6 @@
 -- Laws of what a run has read, and of what stops it.
-use Rattle.std.proofs.Common.{◌≡◌, ℕ, ◌<◌, ◌≤◌, ◌⊎◌, List, [], ◌∷◌, ◌++◌, length, length-append, ◌+◌, take, map, Option, refl, sym, ap, subst, ◌∙◌, append_assoc, append-nil, arith, inl, inr}
+use Rattle.std.proofs.Common.{◌≡◌, ℕ, ◌<◌, ◌≤◌, ◌⊎◌, List, [], ◌∷◌, ◌++◌, length, length-append, ◌+◌, take, map, Option, refl, sym, ap, subst, ◌∙◌}
+use Rattle.std.proofs.Common.{append_assoc, append-nil, arith, inl, inr}
 use Rattle.std.proofs.lemmas.List.{length-map, take-map}
 use Rattle.std.specs.Io.KnownBytes.{Appends, Consumes, IsAtEnd}
 use Rattle.std.proofs.KnownBytes.{Appends-nil, Appends-trans, Consumes-nil, Consumes-trans}
@@ -11,7 +12,8 @@ use Rattle.dom_reader.specs.Streams.{fed, IsKept}
 use Rattle.dom_reader.proofs.StreamLaws.{fed-none, fed-is_kept, lines_of-fed_all}
 use Rattle.dom_streams.specs.declared.fault.RunFault.{RunFault}
 use Rattle.dom_streams.specs.declared.fault.RunFault.TheVariants.{Read, Write, Memory, InputLimit}
-use Rattle.dom_engine.specs.Run.{world_after, answers, ending, shown, finished_text, WritesSome, RunsToEnd, StopsRun, StopsAtRead, StopsAtWrite, StopsAtMemory, StopsAtLimit, run_text, read_size, input_limit}
+use Rattle.dom_engine.specs.Run.{world_after, answers, ending, shown, finished_text, WritesSome, RunsToEnd, StopsRun, StopsAtRead, StopsAtWrite}
+use Rattle.dom_engine.specs.Run.{StopsAtMemory, StopsAtLimit, run_text, read_size, input_limit}
 use Rattle.dom_streams.specs.Writing.{AppendsFront, StopsWriting}
 use Rattle.dom_streams.specs.Views.{viewed}
 use Rattle.dom_engine.specs.Reading.{HasRead, StopsOneRead, MoreAt}
@@ -26,7 +28,8 @@ pub start-kept : IsKept []
 start-kept = record { one_line = tt; short = omega arith }
 
 -- nothing was read yet
-pub read-none : (view : Option Owner) (from old : Option (List ℕ)) (kept : List ℕ) (w : World) → kept ≡ [] → w ≡ first_world → HasRead [] view from from old old kept w
+pub read-none : (view : Option Owner) (from old : Option (List ℕ)) (kept : List ℕ) (w : World) → kept ≡ [] → w ≡ first_world →
+    HasRead [] view from from old old kept w
 read-none view from old kept w k e =
     let none = fed-none [] start-kept in
     let no_lines = ap (λ cut. cut.finished) none in
@@ -39,12 +42,14 @@ read-none view from old kept w k e =
     }
 
 -- what is kept behind the bytes that were read
-pub read-kept : (given : List ℕ) (view : Option Owner) (from to old new : Option (List ℕ)) (kept : List ℕ) (w : World) → HasRead given view from to old new kept w → IsKept kept
+pub read-kept : (given : List ℕ) (view : Option Owner) (from to old new : Option (List ℕ)) (kept : List ℕ) (w : World) →
+    HasRead given view from to old new kept w → IsKept kept
 read-kept given view from to old new kept w h = subst IsKept (sym h.kept_is) (fed-is_kept [] given)
 
 -- more bytes were read
 pub read-more : (given bytes : List ℕ) (view view' : Option Owner) (from mid to old between new : Option (List ℕ)) (kept kept' : List ℕ) (w w' : World)
-    → HasRead given view from mid old between kept w → view' ≡ view → Consumes mid to bytes → kept' ≡ (fed kept bytes).rest → w' ≡ world_after w (fed kept bytes).finished
+    → HasRead given view from mid old between kept w → view' ≡ view → Consumes mid to bytes → kept' ≡ (fed kept bytes).rest →
+    w' ≡ world_after w (fed kept bytes).finished
     → Appends between new (shown view' w (fed kept bytes).finished) → HasRead (given ++ bytes) view from to old new kept' w'
 read-more given bytes view view' from mid to old between new kept kept' w w' h v consumed k e written =
     let at : Behind view first_world (fed [] given).finished view' w = record { same = v; world = h.world_is } in
@@ -71,7 +76,8 @@ all-kept bytes =
 
 -- a read fails
 pub stops-read : (given : List ℕ) (view : Option Owner) (from mid to old between new : Option (List ℕ)) (kept : List ℕ) (w : World)
-    → HasRead given view from mid old between kept w → length given ≤ input_limit → Consumes mid to [] → Appends between new [] → StopsAtRead view from to old new
+    → HasRead given view from mid old between kept w → length given ≤ input_limit → Consumes mid to [] → Appends between new [] →
+    StopsAtRead view from to old new
 stops-read given view from mid to old between new kept w h few consumed written = record {
   given = given;
   few = few;
@@ -81,7 +87,8 @@ stops-read given view from mid to old between new kept w h few consumed written 
 
 -- there is more than a run reads
 pub stops-limit : (given more : List ℕ) (view : Option Owner) (from mid to old new : Option (List ℕ)) (kept : List ℕ) (w : World)
-    → HasRead given view from mid old new kept w → length given ≡ input_limit → (0 < length more) × (length more ≤ read_size) → Consumes mid to more → StopsAtLimit view from to old new
+    → HasRead given view from mid old new kept w → length given ≡ input_limit → (0 < length more) × (length more ≤ read_size) →
+    Consumes mid to more → StopsAtLimit view from to old new
 stops-limit given more view from mid to old new kept w h full over consumed = record {
   given = given;
   more = more;
@@ -93,13 +100,16 @@ stops-limit given more view from mid to old new kept w h full over consumed = re
 }
 
 -- memory is refused to lines behind those of the bytes that were read
-pub stops-memory : (given bytes : List ℕ) (view view' : Option Owner) (from mid to old between new : Option (List ℕ)) (kept : List ℕ) (w : World) (more rest : List (List ℕ))
+pub stops-memory : (given bytes : List ℕ) (view view' : Option Owner) (from mid to old between new : Option (List ℕ)) (kept : List ℕ) (w : World)
+    (more rest : List (List ℕ))
     → HasRead given view from mid old between kept w → view' ≡ view → length bytes ≤ read_size → length (given ++ bytes) ≤ input_limit → Consumes mid to bytes
     → map kept_line (lines_of (given ++ bytes)) ≡ ((fed [] given).finished ++ more) ++ rest
-    → (length ((fed [] given).finished ++ more) ≤ length (cut_of (given ++ bytes)).finished) ⊎ IsAtEnd to → WritesSome between new (shown view' w) more → StopsAtMemory view from to old new
+    → (length ((fed [] given).finished ++ more) ≤ length (cut_of (given ++ bytes)).finished) ⊎ IsAtEnd to →
+    WritesSome between new (shown view' w) more → StopsAtMemory view from to old new
 stops-memory given bytes view view' from mid to old between new kept w more rest h v near few consumed e ended some =
     let all = lines_of (given ++ bytes) in
-    let found = some_behind view view' first_world w (fed [] given).finished more rest (map kept_line all) old between new (record { same = v; world = h.world_is }) e h.written some in
+    let found = some_behind view view' first_world w (fed [] given).finished more rest (map kept_line all) old between new
+    (record { same = v; world = h.world_is }) e h.written some in
     let front : shown view first_world (take found.0.count (map kept_line all)) ≡ viewed view (answers first_world (take found.0.count all)) =
     ap (shown view first_world) (take-map kept_line found.0.count all) ∙ ap (viewed view) (answers-kept first_world (take found.0.count all)) in
     record {
@@ -140,8 +150,10 @@ stops-write given bytes text view from mid to old between new kept w h near few 
         ∙ ap (λ x. (x ++ part.front) ++ part.back) (finished-shown view given)
 
 -- One read more, for which there is so much room, meets a fault.
-pub stops-one_read : (e : RunFault) (given : List ℕ) (room : ℕ) (view view' : Option Owner) (from mid to old between new : Option (List ℕ)) (kept : List ℕ) (w : World) (failed fails : ℕ)
-    → HasRead given view from mid old between kept w → room ≤ read_size → length given + room ≤ input_limit → view' ≡ view → StopsOneRead e room (shown view' w) kept mid to failed fails between new → StopsRun e view from to old new
+pub stops-one_read : (e : RunFault) (given : List ℕ) (room : ℕ) (view view' : Option Owner) (from mid to old between new : Option (List ℕ))
+    (kept : List ℕ) (w : World) (failed fails : ℕ)
+    → HasRead given view from mid old between kept w → room ≤ read_size → length given + room ≤ input_limit → view' ≡ view →
+    StopsOneRead e room (shown view' w) kept mid to failed fails between new → StopsRun e view from to old new
 stops-one_read Read given room view view' from mid to old between new kept w failed fails h one most v stops =
     stops-read given view from mid to old between new kept w h (omega (arith, most)) stops.0 stops.1
 stops-one_read InputLimit given room view view' from mid to old between new kept w failed fails h one most v stops = absurd stops
@@ -176,8 +188,10 @@ stops-one_read Memory given room view view' from mid to old between new kept w f
 stops-one_read Write given room view view' from mid to old between new kept w failed fails h one most v stops =
     let bytes = stops.0 in
     let lines = fed-lines [] kept given bytes (given ++ bytes) h.kept_is refl in
-    stops-write given bytes _ view from mid to old between new kept w h (omega (arith, stops.1, one)) (omega (arith, stops.1, most, length-append given bytes)) stops.2
-    (inl (sym (finished-shown view (given ++ bytes)) ∙ ap (shown view first_world) lines ∙ shown-behind view view' first_world w _ _ (record { same = v; world = h.world_is }))) stops.3.1
+    stops-write given bytes _ view from mid to old between new kept w h (omega (arith, stops.1, one))
+    (omega (arith, stops.1, most, length-append given bytes)) stops.2
+    (inl (sym (finished-shown view (given ++ bytes)) ∙ ap (shown view first_world) lines ∙ shown-behind view view' first_world w _ _
+    (record { same = v; world = h.world_is }))) stops.3.1
 
 -- One read more, behind all that a run reads, finds no end.
 pub stops-more : (e : RunFault) (given more : List ℕ) (view : Option Owner) (from mid to old new : Option (List ℕ)) (kept : List ℕ) (w : World)
@@ -192,7 +206,8 @@ stops-more Memory given more view from mid to old new kept w h full consumed at 
 
 -- a run's text is that of the lines that are ended, and then of what is left at the end
 run_text-split : (view : Option Owner) (given kept : List ℕ) (w : World) → kept ≡ (fed [] given).rest → w ≡ world_after first_world (fed [] given).finished
-    → run_text view given ≡ shown view first_world (fed [] given).finished ++ (shown view w (last_line kept) ++ viewed view (ending (world_after w (last_line kept))))
+    → run_text view given ≡ shown view first_world (fed [] given).finished ++
+    (shown view w (last_line kept) ++ viewed view (ending (world_after w (last_line kept))))
 run_text-split view given kept w k e =
     let lines = lines_of given in
     let ended = (fed [] given).finished in
@@ -228,15 +243,19 @@ no_more : (given : List ℕ) → length given ≤ input_limit → length (given 
 no_more given few = omega (arith, few, length-append given [])
 
 -- A fault stops what is left at the end.
-pub stops-end : (e : RunFault) (given : List ℕ) (view view' : Option Owner) (from to old mid new : Option (List ℕ)) (kept : List ℕ) (w : World) (failed fails : ℕ)
+pub stops-end : (e : RunFault) (given : List ℕ) (view view' : Option Owner) (from to old mid new : Option (List ℕ)) (kept : List ℕ) (w : World)
+    (failed fails : ℕ)
     → HasRead given view from to old mid kept w → IsAtEnd to → length given ≤ input_limit → view' ≡ view
-    → StopsWriting e failed fails mid new (shown view' w (last_line kept) ++ viewed view' (ending (world_after w (last_line kept)))) (WritesSome mid new (shown view' w) (last_line kept))
+    → StopsWriting e failed fails mid new (shown view' w (last_line kept) ++ viewed view' (ending (world_after w (last_line kept))))
+    (WritesSome mid new (shown view' w) (last_line kept))
     → StopsRun e view from to old new
 stops-end Read given view view' from to old mid new kept w failed fails h end few v stops = absurd stops
 stops-end InputLimit given view view' from to old mid new kept w failed fails h end few v stops = absurd stops
 stops-end Memory given view view' from to old mid new kept w failed fails h end few v stops =
-    let whole = ap (λ x. map kept_line (lines_of x)) (append-nil given) ∙ all-kept given ∙ ap (λ r. (fed [] given).finished ++ last_line r) (sym h.kept_is) ∙ no_lines-behind _ in
-    stops-memory given [] view view' from to to old mid new kept w (last_line kept) [] h v (omega arith) (no_more given few) (Consumes-nil to) whole (inr end) stops.1
+    let whole = ap (λ x. map kept_line (lines_of x)) (append-nil given) ∙ all-kept given ∙ ap (λ r. (fed [] given).finished ++ last_line r)
+    (sym h.kept_is) ∙ no_lines-behind _ in
+    stops-memory given [] view view' from to to old mid new kept w (last_line kept) [] h v (omega arith) (no_more given few) (Consumes-nil to)
+    whole (inr end) stops.1
 stops-end Write given view view' from to old mid new kept w failed fails h end few v stops =
     let text = ap (run_text view) (append-nil given) ∙ run_text-split view given kept w h.kept_is h.world_is in
     let at_view = subst (λ x. AppendsFront mid new (shown x w (last_line kept) ++ viewed x (ending (world_after w (last_line kept))))) v stops.1 in

@@ -77,7 +77,8 @@ ending-is w = refl
 -- lines say what is kept of them
 read_kept : (lines : List (List ℕ)) → map decode (map kept_line lines) ≡ map decode lines
 read_kept [] = refl
-read_kept (line ∷ lines) = ap (λ (l : Line). l ∷ map decode (map kept_line lines)) (decode-kept line) ∙ ap (λ (ls : List Line). decode line ∷ ls) (read_kept lines)
+read_kept (line ∷ lines) = ap (λ (l : Line). l ∷ map decode (map kept_line lines)) (decode-kept line) ∙ ap (λ (ls : List Line). decode line ∷ ls)
+    (read_kept lines)
 
 pub answers-kept : (w : World) (lines : List (List ℕ)) → answers w (map kept_line lines) ≡ answers w lines
 unfolding answers

@@ -22,7 +22,8 @@ abbrev pub HasReadAll : Option Owner → Option (List ℕ) → Option (List ℕ)
 HasReadAll view from to old new kept w = (given : List ℕ) × HasRead given view from to old new kept w × IsAtEnd to × (length given ≤ input_limit)
 
 -- how a fault stops what is done for one read of at most so many bytes, behind what is kept of the unfinished line
-abbrev pub StopsOneRead : RunFault → ℕ → (List (List ℕ) → List ℕ) → List ℕ → Option (List ℕ) → Option (List ℕ) → ℕ → ℕ → Option (List ℕ) → Option (List ℕ) → Type 0
+abbrev pub StopsOneRead : RunFault → ℕ → (List (List ℕ) → List ℕ) → List ℕ → Option (List ℕ) → Option (List ℕ) → ℕ → ℕ → Option (List ℕ) →
+    Option (List ℕ) → Type 0
 StopsOneRead Read room text kept from to failed fails old new = Consumes from to [] × Appends old new []
 StopsOneRead InputLimit room text kept from to failed fails old new = ⊥
 StopsOneRead Write room text kept from to failed fails old new = (given : List ℕ) × (length given ≤ room) × Consumes from to given

@@ -5,7 +5,8 @@
 ghost use Rattle.std.specs.Prelude.{◌≡◌, IsTrue};
 ghost use Rattle.dom_examples.specs.Example.{Computes, Singles, page_answers, answers_for};
 ghost use Rattle.dom_examples.specs.TreeExamples.{append_and_remove, first_refusals, closed_tree, validity_order, split_surrogates, documents_and_attaching};
-ghost use Rattle.dom_examples.specs.ObserverExamples.{last_child_again, fragments_into_document, replace_by_next_sibling, transient_registrations, text_replaced, old_data_and_filter};
+ghost use Rattle.dom_examples.specs.ObserverExamples.{last_child_again, fragments_into_document, replace_by_next_sibling, transient_registrations};
+ghost use Rattle.dom_examples.specs.ObserverExamples.{text_replaced, old_data_and_filter};
 ghost use Rattle.dom_examples.specs.RangeExamples.{extract_insert_delete, normalize_texts, range_in_one_text, extract_behind_start, extract_both_sides};
 ghost use Rattle.dom_examples.specs.CursorExamples.{reference_removed, walkers_and_filters};
 ghost use Rattle.dom_examples.specs.SelectorExamples.{query_and_match, query_in_closed_tree};

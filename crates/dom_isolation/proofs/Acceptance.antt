@@ -54,7 +54,8 @@ pub record IsAccepted (w : World) (o : Owner) (c : Command) : Type 0 where
 -- they are known
 pub accepted-facts : (w : World) (o : Owner) (c : Command) → refusal w o c ≡ None → IsAccepted w o c
 accepted-facts w o c e =
-    let all = or-none (first_refusal ((not (is_command_of o c), Syntax) ∷ (is_busy w o, Busy) ∷ (names_foreign c, Foreign) ∷ (not (is_there w o), Unknown) ∷ [])) (part_refusal (part_of w o) c) e in
+    let all = or-none (first_refusal ((not (is_command_of o c), Syntax) ∷ (is_busy w o, Busy) ∷ (names_foreign c, Foreign) ∷
+    (not (is_there w o), Unknown) ∷ [])) (part_refusal (part_of w o) c) e in
     let first = next-test (not (is_command_of o c)) Syntax ((is_busy w o, Busy) ∷ (names_foreign c, Foreign) ∷ (not (is_there w o), Unknown) ∷ []) all.0 in
     let second = next-test (is_busy w o) Busy ((names_foreign c, Foreign) ∷ (not (is_there w o), Unknown) ∷ []) first.1 in
     let third = next-test (names_foreign c) Foreign ((not (is_there w o), Unknown) ∷ []) second.1 in

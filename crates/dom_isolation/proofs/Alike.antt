@@ -47,12 +47,14 @@ alike-then u v w a b o = record { trees = (a o).trees ∙ (b o).trees; count = (
 pub host_of-same : (v w : World) → ((o : Owner) → (part_of v o).attached ≡ (part_of w o).attached) → (o : Owner) → host_of v o ≡ host_of w o
 host_of-same v w a o = from (made_by o)
   where
-    from : (m : Option (Owner × ℕ)) → option_and_then (λ (maker, k). slice_get (part_of v maker).attached k) m ≡ option_and_then (λ (maker, k). slice_get (part_of w maker).attached k) m
+    from : (m : Option (Owner × ℕ)) → option_and_then (λ (maker, k). slice_get (part_of v maker).attached k) m ≡ option_and_then
+        (λ (maker, k). slice_get (part_of w maker).attached k) m
     from None = refl
     from (Some m) = ap (λ hs. slice_get hs m.1) (a m.0)
 
 -- such a world is one too
-pub world-alike : (v w : World) → AreAlike v w → (is_there w Page ≡ true → is_there v Page ≡ true) → AllByRecursion (IsForeignTo Page) v.signalled → (is_page_turn v.turn ≡ false → filter is_page_task v.tasks ≡ []) →
+pub world-alike : (v w : World) → AreAlike v w → (is_there w Page ≡ true → is_there v Page ≡ true) →
+    AllByRecursion (IsForeignTo Page) v.signalled → (is_page_turn v.turn ≡ false → filter is_page_task v.tasks ≡ []) →
     IsWorld w → IsWorld v
 world-alike v w a there signals tasks i =
     record {
@@ -60,7 +62,8 @@ world-alike v w a there signals tasks i =
       parts = λ o. part-alike (part_of v o) (part_of w o) (owner-part_of v o ∙ sym (owner-part_of w o)) (a o) (i.parts o);
       hosts = λ o. subst (AllByRecursion (IsOf o)) (sym (a o).attached) (i.hosts o);
       makers = makers-same v w (λ o. (a o).attached) i.makers;
-      shadow_roots = λ o h. subst (λ t. IsRoot t (shadow_root_of o)) (sym (a o).trees) (i.shadow_roots o (subst (λ x. is_some x ≡ true) (host_of-same v w (λ x. (a x).attached) o) h));
+      shadow_roots = λ o h. subst (λ t. IsRoot t (shadow_root_of o)) (sym (a o).trees)
+          (i.shadow_roots o (subst (λ x. is_some x ≡ true) (host_of-same v w (λ x. (a x).attached) o) h));
       signalled = signals;
       tasks = tasks;
     }
@@ -77,15 +80,18 @@ alike-with_part w p o e a other =
     by_cases (owner_eq o other)
     (λ h. let same = owner_eq-true o other h in
     subst (λ q. IsAlike q (part_of w other)) (sym (part_of-with_part w p other (e ∙ same))) (subst (λ x. IsAlike p (part_of w x)) same a))
-    (λ h. subst (λ q. IsAlike q (part_of w other)) (sym (part_of-with_part-other w p other (λ g. owner_eq-false o other h (sym e ∙ g)))) (record { trees = refl; count = refl; attached = refl }))
+    (λ h. subst (λ q. IsAlike q (part_of w other)) (sym (part_of-with_part-other w p other (λ g. owner_eq-false o other h (sym e ∙ g))))
+    (record { trees = refl; count = refl; attached = refl }))
 
 -- listeners of the parts of another world that are the same
 pub logs-same : (v w : World) → ((o : Owner) → (part_of v o).listeners ≡ (part_of w o).listeners) → ComponentsOnlyLog w → ComponentsOnlyLog v
 logs-same v w a logs o f = subst (AllByRecursion OnlyLogs) (sym (a o)) (logs o f)
 
 -- another part with the same listeners
-pub listeners-with_part : (w : World) (p : Part) (o : Owner) → p.owner ≡ o → p.listeners ≡ (part_of w o).listeners → (other : Owner) → (part_of (with_part w p) other).listeners ≡ (part_of w other).listeners
+pub listeners-with_part : (w : World) (p : Part) (o : Owner) → p.owner ≡ o → p.listeners ≡ (part_of w o).listeners → (other : Owner) →
+    (part_of (with_part w p) other).listeners ≡ (part_of w other).listeners
 listeners-with_part w p o e a other =
     by_cases (owner_eq o other)
-    (λ h. let same = owner_eq-true o other h in ap (λ (q : Part). q.listeners) (part_of-with_part w p other (e ∙ same)) ∙ a ∙ ap (λ x. (part_of w x).listeners) same)
+    (λ h. let same = owner_eq-true o other h in ap (λ (q : Part). q.listeners) (part_of-with_part w p other (e ∙ same)) ∙ a ∙
+    ap (λ x. (part_of w x).listeners) same)
     (λ h. ap (λ (q : Part). q.listeners) (part_of-with_part-other w p other (λ g. owner_eq-false o other h (sym e ∙ g))))

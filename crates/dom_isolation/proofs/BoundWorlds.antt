@@ -1,5 +1,6 @@
 -- Lines keep the ends of ranges within their nodes.
-use Rattle.std.proofs.Common.{◌≡◌, ◌≢◌, ℕ, Bool, true, false, List, [], ◌∷◌, ◌++◌, filter, fold, length, Option, Some, None, option_map, refl, sym, ap, ◌∙◌, arith, true≢false, subst}
+use Rattle.std.proofs.Common.{◌≡◌, ◌≢◌, ℕ, Bool, true, false, List, [], ◌∷◌, ◌++◌, filter, fold, length, Option, Some, None, option_map, refl, sym}
+use Rattle.std.proofs.Common.{ap, ◌∙◌, arith, true≢false, subst}
 use Rattle.std.specs.Prelude.{is_some, map}
 use Rattle.dom_base.specs.declared.Kind.{Kind}
 use Rattle.dom_base.specs.declared.Kind.TheVariants.{Document, Shadow}
@@ -24,7 +25,8 @@ use Rattle.dom_model.specs.Runs.{Run, quiet, run_each, unless_refused}
 use Rattle.dom_model.specs.Slots.{signals, with_signal}
 use Rattle.dom_model.specs.Steps.{Step, place, take_out, set_document, set_attribute, queue_record, part_step, after, is_taken}
 use Rattle.dom_model.specs.Tree.{node_in, has_data, parent_of}
-use Rattle.dom_model.specs.Turns.{slotchange, firing_slotchange, is_owned_by, without_signals, notified, running_task, ending_turn, has_other_turn, ending_other_turn, opening_turn}
+use Rattle.dom_model.specs.Turns.{slotchange, firing_slotchange, is_owned_by, without_signals, notified, running_task, ending_turn, has_other_turn}
+use Rattle.dom_model.specs.Turns.{ending_other_turn, opening_turn}
 use Rattle.dom_model.specs.Validity.{insertion_refusal}
 use Rattle.dom_model.specs.World.{World, Task, micro_task, notify_task, part_of, with_part, component_made, components_below, shadow_root_of}
 use Rattle.dom_model.specs.WorldSteps.{world_step, world_after, stepped, with_removal_signals, with_notify_if, with_shadow_document}
@@ -46,8 +48,10 @@ use Rattle.dom_isolation.proofs.PlanContents.{range-ends}
 use Rattle.dom_isolation.proofs.RangeRoots.{one_roots-of}
 use Rattle.dom_isolation.proofs.RangeInsertions.{room-inserting_into_range}
 use Rattle.dom_isolation.proofs.ShadowRoots.{not_taken}
-use Rattle.dom_isolation.proofs.RangePlans.{IsProper, room-extracting, room-deleting}
-use Rattle.dom_isolation.proofs.TableCommands.{Holds, holds-effect, exists-first, insert_node-valid, insert_node-may}
+use Rattle.dom_isolation.proofs.RangePlans.{IsProper, room-deleting}
+use Rattle.dom_isolation.proofs.ExtractionPlans.{room-extracting}
+use Rattle.dom_isolation.proofs.TableCommands.{Holds, exists-first}
+use Rattle.dom_isolation.proofs.TableRegisters.{holds-effect, insert_node-valid, insert_node-may}
 use Rattle.dom_isolation.proofs.TableEffects.{KeepsBase, base-effect}
 use Rattle.dom_isolation.proofs.TableLines.{first-is_whole, step-keeps_whole, ending-keeps_whole, any-reached}
 use Rattle.dom_isolation.proofs.TableSteps.{MadeIn}
@@ -74,12 +78,14 @@ others-stepped o w s h x f = subst (HasRoom nowhere) (sym (part_of-stepped-other
 others-document : (o : Owner) (d : NodeName) (w : World) (c : Owner) → Ground w → OtherRooms o w → OtherRooms o (with_shadow_document d w c)
 others-document o d w c g h =
     let s = set_document (shadow_root_of c) d in
-    each-part (λ x q. x ≢ o → HasRoom nowhere q) w (part_step (part_of w c) s) c (owner-part_step (part_of w c) s ∙ owner-part_of w c) (λ f. room-document nowhere (part_of w c) (shadow_root_of c) d (g.parts c) (h c f)) h
+    each-part (λ x q. x ≢ o → HasRoom nowhere q) w (part_step (part_of w c) s) c (owner-part_step (part_of w c) s ∙ owner-part_of w c)
+    (λ f. room-document nowhere (part_of w c) (shadow_root_of c) d (g.parts c) (h c f)) h
 
 -- of all of them
 others-documents : (o : Owner) (d : NodeName) (cs : List Owner) (w : World) → Ground w → OtherRooms o w → OtherRooms o (fold (with_shadow_document d) w cs)
 others-documents o d [] w g h = h
-others-documents o d (c ∷ cs) w g h = others-documents o d cs (with_shadow_document d w c) (ground-stepped c w (set_document (shadow_root_of c) d) g) (others-document o d w c g h)
+others-documents o d (c ∷ cs) w g h = others-documents o d cs (with_shadow_document d w c)
+    (ground-stepped c w (set_document (shadow_root_of c) d) g) (others-document o d w c g h)
 
 -- signals
 others-signals : (o : Owner) (ss : List NodeName) (w : World) → OtherRooms o w → OtherRooms o (fold with_signal w ss)
@@ -87,7 +93,8 @@ others-signals o [] w h = h
 others-signals o (s ∷ ss) w h = others-signals o ss (with_signal w s) h
 
 -- the signals of a removal
-others-removal : (o : Owner) (was now : World) (x : NodeName) (parent : Option NodeName) → OtherRooms o now → OtherRooms o (with_removal_signals was now x parent)
+others-removal : (o : Owner) (was now : World) (x : NodeName) (parent : Option NodeName) → OtherRooms o now →
+    OtherRooms o (with_removal_signals was now x parent)
 others-removal o was now x None h = h
 others-removal o was now x (Some parent) h = others-signals o (signals was now x parent true) now h
 
@@ -103,16 +110,21 @@ others-world_step o w (place x parent before) g h =
 others-world_step o w (take_out x) g h = others-removal o w (stepped o w (take_out x)) x (parent_of (part_of w o).trees x) (others-stepped o w (take_out x) h)
 others-world_step o w (set_attribute x a v) g h =
     let now = stepped o w (set_attribute x a v) in others-signals o (signals w now x x false) now (others-stepped o w (set_attribute x a v) h)
-others-world_step o w (set_document x d) g h = others-documents o d (components_below max_depth w x) (stepped o w (set_document x d)) (ground-stepped o w (set_document x d) g) (others-stepped o w (set_document x d) h)
+others-world_step o w (set_document x d) g h =
+    others-documents o d (components_below max_depth w x) (stepped o w (set_document x d)) (ground-stepped o w (set_document x d) g)
+    (others-stepped o w (set_document x d) h)
 others-world_step o w (queue_record c) g h = others-notify (is_taken (part_of w o) c) o (stepped o w (queue_record c)) (others-stepped o w (queue_record c) h)
 others-world_step o w s g h = others-stepped o w s h
 
 -- many steps: in their part they are what they are alone
-rooms-world_after : (o : Owner) (steps : List Step) (w : World) → Ground w → MadeIn (part_of w o) steps → OtherRooms o w → HasRoom nowhere (after (part_of w o) steps) → AllRooms (world_after o w steps)
-rooms-world_after o [] w g m h r = λ x. by_cases (Rattle.dom_model.specs.Names.owner_eq x o) (λ e. subst (λ y. HasRoom nowhere (part_of w y)) (sym (owner_eq-true x o e)) r) (λ e. h x (owner_eq-false x o e))
+rooms-world_after : (o : Owner) (steps : List Step) (w : World) → Ground w → MadeIn (part_of w o) steps → OtherRooms o w →
+    HasRoom nowhere (after (part_of w o) steps) → AllRooms (world_after o w steps)
+rooms-world_after o [] w g m h r = λ x. by_cases (Rattle.dom_model.specs.Names.owner_eq x o)
+    (λ e. subst (λ y. HasRoom nowhere (part_of w y)) (sym (owner_eq-true x o e)) r) (λ e. h x (owner_eq-false x o e))
 rooms-world_after o (s ∷ steps) w g m h r =
     let own = part-own_step o w s g m.0 in
-    rooms-world_after o steps (world_step o w s) (ground-world_step o w s g) (subst (λ p. MadeIn p steps) (sym own) m.1) (others-world_step o w s g h) (subst (λ p. HasRoom nowhere (after p steps)) (sym own) r)
+    rooms-world_after o steps (world_step o w s) (ground-world_step o w s g) (subst (λ p. MadeIn p steps) (sym own) m.1)
+    (others-world_step o w s g h) (subst (λ p. HasRoom nowhere (after p steps)) (sym own) r)
 
 -- Dispatches, notifications and the endings of turns.
 rooms-visits : (e : EventWords) (vs : List (Visit NodeName)) (w : World) (d : Dispatching NodeName) → AllRooms w → AllRooms (fold (world_visit e) (w, d) vs).0
@@ -138,7 +150,8 @@ rooms-running : (w : World) (t : Task) → AllRooms w → AllRooms (running_task
 rooms-running w (micro_task o label) h = h
 rooms-running w (notify_task o) h =
     let calm = without_signals w o in
-    rooms-firings (filter (is_owned_by o) w.signalled) (with_part calm (notified (part_of w o))) (rooms-with_part calm (notified (part_of w o)) o (owner-part_of w o) (room-same (part_of w o) (notified (part_of w o)) refl refl (h o)) h)
+    rooms-firings (filter (is_owned_by o) w.signalled) (with_part calm (notified (part_of w o)))
+    (rooms-with_part calm (notified (part_of w o)) o (owner-part_of w o) (room-same (part_of w o) (notified (part_of w o)) refl refl (h o)) h)
 
 -- all tasks
 rooms-running_all : (ts : List Task) (w : World) → AllRooms w → AllRooms (run_each running_task w ts).0
@@ -171,7 +184,8 @@ rooms-attaching w o x h =
     (rooms-with_part w more o (owner-part_of w o) (room-same p more refl refl (h o)) h)
 
 -- An accepted command.
-rooms-effect : (w : World) (o : Owner) (e : Effect) → Ground w → KeepsBase (part_of w o) e → Holds (part_of w o) e → Roomy (part_of w o) e → AllRooms w → AllRooms (effect_in w o e).0
+rooms-effect : (w : World) (o : Owner) (e : Effect) → Ground w → KeepsBase (part_of w o) e → Holds (part_of w o) e → Roomy (part_of w o) e →
+    AllRooms w → AllRooms (effect_in w o e).0
 rooms-effect w o (tables p lines v) g base m r h = rooms-with_part w p o (base.0 ∙ owner-part_of w o) r h
 rooms-effect w o (changes steps v) g base m r h = rooms-world_after o steps w g m (λ x f. h x) r
 
@@ -200,11 +214,13 @@ for-ranges p i t (Command.insert_node k x) n = λ h.
     let refused = insertion_refusal p.trees parent node (start_reference p.trees r) in
     let valid = insert_node-valid p k x a.own r e in
     room-inserting_into_range k r node p i (range-ends p k t r e).0 (insert_node-may p k x i t (exists-first p x true (has_range p k) a.exist) a.own r e)
-    (insertion-open p.trees parent node (start_reference p.trees r) (not_taken (cannot_take_node p.trees r node) refused valid)) (takes (cannot_take_node p.trees r node) refused valid) h)
+    (insertion-open p.trees parent node (start_reference p.trees r) (not_taken (cannot_take_node p.trees r node) refused valid))
+    (takes (cannot_take_node p.trees r node) refused valid) h)
 for-ranges p i t c n = tt
 
 -- any command
-rooms-perform : (w : World) (o : Owner) (c : Command) → Facts w o → is_command_of o c ≡ true → part_refusal (part_of w o) c ≡ None → AllRooms w → AllRooms (perform w o c).0
+rooms-perform : (w : World) (o : Owner) (c : Command) → Facts w o → is_command_of o c ≡ true → part_refusal (part_of w o) c ≡ None → AllRooms w →
+    AllRooms (perform w o c).0
 rooms-perform w o (Command.attach x) k g r h = rooms-attaching w o (named (part_of w o) x) h
 rooms-perform w o (Command.connected x) k g r h = h
 rooms-perform w o (Command.assigned x) k g r h = h
@@ -213,7 +229,8 @@ rooms-perform w o (Command.micro label) k g r h = h
 rooms-perform w o Command.end_turn k g r h = rooms-ending_turn w h
 rooms-perform w o c k g r h =
     let p = part_of w o in
-    rooms-effect w o (effect p c) k.ground (base-effect p c) (holds-effect p (k.ground.parts o) k.tables k.first c r) (room-effect p (k.ground.parts o) (h o) c r (for-ranges p (k.ground.parts o) k.tables c r)) h
+    rooms-effect w o (effect p c) k.ground (base-effect p c) (holds-effect p (k.ground.parts o) k.tables k.first c r)
+    (room-effect p (k.ground.parts o) (h o) c r (for-ranges p (k.ground.parts o) k.tables c r)) h
 
 -- with the turn that it opens
 facts-opening : (w : World) (o : Owner) → Facts w o → Facts (opening_turn w o) o
@@ -222,10 +239,12 @@ facts-opening w o k =
     (record { ground = record { parts = k.ground.parts; makers = k.ground.makers }; tables = k.tables; first = k.first })
 
 -- `.` apart
-rooms-accepted : (w : World) (o : Owner) (c : Command) → Facts w o → is_command_of o c ≡ true → part_refusal (part_of w o) c ≡ None → AllRooms w → AllRooms (accepted w o c).0
+rooms-accepted : (w : World) (o : Owner) (c : Command) → Facts w o → is_command_of o c ≡ true → part_refusal (part_of w o) c ≡ None → AllRooms w →
+    AllRooms (accepted w o c).0
 rooms-accepted w o Command.end_turn k g r h = rooms-ending_turn w h
 rooms-accepted w o c k g r h =
-    rooms-perform (opening_turn w o) o c (facts-opening w o k) g (ap (λ p. part_refusal p c) (part_of-opening w o o) ∙ r) (either_way AllRooms (is_some w.turn) w (record w { turn = Some o }) h h)
+    rooms-perform (opening_turn w o) o c (facts-opening w o k) g (ap (λ p. part_refusal p c) (part_of-opening w o o) ∙ r)
+    (either_way AllRooms (is_some w.turn) w (record w { turn = Some o }) h h)
 
 -- refused or accepted
 rooms-command : {only_log : Bool} (w : World) (o : Owner) (c : Command) → IsReached only_log w → IsWhole w → AllRooms w → AllRooms (run_command o c w).0
@@ -242,7 +261,8 @@ rooms-command w o c r i h = from (refusal w o c) refl
 rooms-line : {only_log : Bool} (w : World) (l : Line) → IsReached only_log w → IsWhole w → AllRooms w → AllRooms (step w l).0
 rooms-line w no_owner r i h = h
 rooms-line w (no_command o) r i h = rooms-ending_other w o h
-rooms-line {only_log = b} w (command o c) r i h = rooms-command (ending_other_turn w o).0 o c (ending-keeps_reached b w o r) (ending-keeps_whole b w o r i) (rooms-ending_other w o h)
+rooms-line {only_log = b} w (command o c) r i h =
+    rooms-command (ending_other_turn w o).0 o c (ending-keeps_reached b w o r) (ending-keeps_whole b w o r i) (rooms-ending_other w o h)
 
 -- The laws.
 all-of : {only_log : Bool} (w : World) → IsReached only_log w → IsBounded w → AllRooms w
@@ -265,7 +285,8 @@ ending-keeps_bounds b w o r h = bounded-of (ending_other_turn w o).0 (ending-kee
 pub finish-keeps_bounds : FinishKeepsBounds
 finish-keeps_bounds b w r h =
     let g = all-of w r h in
-    bounded-of (finish w).0 (finish-keeps_reached b w r) (either_way (λ (x : Run World). AllRooms x.0) (is_some w.turn) (ending_turn w) (quiet w) (rooms-ending_turn w g) g)
+    bounded-of (finish w).0 (finish-keeps_reached b w r)
+    (either_way (λ (x : Run World). AllRooms x.0) (is_some w.turn) (ending_turn w) (quiet w) (rooms-ending_turn w g) g)
 
 -- the first world
 pub first-is_bounded : FirstIsBounded
@@ -281,7 +302,8 @@ module _ {L : Type 0} (read : L → Line) where
   lines-stay_bounded : (ls : List L) (w : World) → IsReached false w → IsWhole w → IsBounded w → IsBounded (run_lines w (map read ls)).0
   lines-stay_bounded [] w r i h = h
   lines-stay_bounded (l ∷ ls) w r i h =
-      lines-stay_bounded ls (step w (read l)).0 (step-keeps_reached false w (read l) r (λ e. absurd (true≢false (sym e)))) (step-keeps_whole false w (read l) r i) (step-keeps_bounds false w (read l) r i h)
+      lines-stay_bounded ls (step w (read l)).0 (step-keeps_reached false w (read l) r (λ e. absurd (true≢false (sym e))))
+      (step-keeps_whole false w (read l) r i) (step-keeps_bounds false w (read l) r i h)
 
   -- from the first one on
   pub scripts-stay_bounded : ScriptsStayBounded read

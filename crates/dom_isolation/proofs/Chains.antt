@@ -1,6 +1,7 @@
 -- The chain of hosts of a node: each node but the last is in a shadow tree and one deeper than the next, the host of its root; the
 -- last one is in no shadow tree. So what is hidden goes by the roots of the chain.
-use Rattle.std.proofs.Common.{◌≡◌, ◌≢◌, ℕ, zero, suc, ◌≤◌, ◌<◌, Bool, true, false, not, ◌&&◌, ◌||◌, List, [], ◌∷◌, ◌++◌, map, flat_map, Option, Some, None, unwrap_or, refl, sym, ap, ◌∙◌, arith, true≢false, subst, append-nil}
+use Rattle.std.proofs.Common.{◌≡◌, ◌≢◌, ℕ, zero, suc, ◌≤◌, ◌<◌, Bool, true, false, not, ◌&&◌, ◌||◌, List, [], ◌∷◌, ◌++◌, map, flat_map, Option, Some}
+use Rattle.std.proofs.Common.{None, unwrap_or, refl, sym, ap, ◌∙◌, arith, true≢false, subst, append-nil}
 use Rattle.std.specs.Prelude.{IsTrue, is_some, option_to_list}
 use Rattle.std.specs.List.{AllByRecursion, last_or}
 use Rattle.std.specs.Option.{option_and_then}
@@ -8,7 +9,8 @@ use Rattle.dom_base.specs.declared.Owner.{Owner}
 use Rattle.dom_base.specs.declared.NodeName.{NodeName}
 use Rattle.dom_model.specs.Names.{name_eq, owner_eq, owner_depth, is_in}
 use Rattle.dom_model.specs.Tree.{names_of, roots, root_of}
-use Rattle.dom_model.specs.World.{World, part_of, trees_with, root_at, ancestors_at, host_of, host_above, host_chain, hosts_from, some_if, shadow_root_of, shadow_including_ancestors, is_in_shadow_tree}
+use Rattle.dom_model.specs.World.{World, part_of, trees_with, root_at, ancestors_at, host_of, host_above, host_chain, hosts_from, some_if}
+use Rattle.dom_model.specs.World.{shadow_root_of, shadow_including_ancestors, is_in_shadow_tree}
 use Rattle.dom_model.specs.Paths.{is_hidden_from}
 use Rattle.dom_model.proofs.OwnerLaws.{owner_eq-true, owner_eq-same, ne-owner_eq, name_eq-same, made_by-is, depth-made}
 use Rattle.dom_isolation.specs.Worlds.{IsWorld, IsOf, times_in}
@@ -17,7 +19,8 @@ use Rattle.dom_isolation.proofs.Lists.{all-then}
 use Rattle.dom_isolation.proofs.Makers.{hosted, hosted-owned, hosted-maker, hosted-no_page}
 use Rattle.dom_isolation.proofs.ReachedFacts.{root-alone}
 use Rattle.dom_isolation.proofs.Tests.{by_cases}
-use Rattle.dom_isolation.proofs.Trees.{name_eq-true, ancestors-root, root-there, by_times, ancestors-present, ancestors-absent, all-in, last_from, last-is, last-in}
+use Rattle.dom_isolation.proofs.Trees.{name_eq-true, ancestors-root, root-there, by_times, ancestors-present, ancestors-absent, all-in, last_from}
+use Rattle.dom_isolation.proofs.Trees.{last-is, last-in}
 
 -- the last of an owner's nodes is the owner's
 last-owned : (x : NodeName) (d : Option NodeName) (xs : List NodeName) → (unwrap_or d x).owner ≡ x.owner → AllByRecursion (IsOf x.owner) xs →

@@ -1,5 +1,6 @@
 -- A command of a component, as the page sees it: nothing, or an outward event.
-use Rattle.std.proofs.Common.{◌≡◌, ℕ, Bool, true, false, not, ◌&&◌, ◌||◌, List, [], ◌∷◌, ◌++◌, zero, suc, length, unwrap_or, flat_map, filter, map, Option, Some, None, option_map, refl, sym, ap, ◌∙◌, true≢false, subst, append-nil}
+use Rattle.std.proofs.Common.{◌≡◌, ℕ, Bool, true, false, not, ◌&&◌, ◌||◌, List, [], ◌∷◌, ◌++◌, zero, suc, length, unwrap_or, flat_map, filter, map}
+use Rattle.std.proofs.Common.{Option, Some, None, option_map, refl, sym, ap, ◌∙◌, true≢false, subst, append-nil}
 use Rattle.std.specs.Prelude.{is_some, is_none, if◌then◌else◌, option_to_list}
 use Rattle.std.proofs.lemmas.List.Elements.{filter-append}
 use Rattle.std.proofs.lemmas.Bool.{cond-true, cond-false}
@@ -45,7 +46,8 @@ effect-other w k (tables p lines v) h =
     let f = Component-IsNoPage k in
     let mine = h.0 ∙ owner-part_of w (Component k) in
     quiet_then (with_part w p, map (says (Component k)) lines) (page_of w) (answering (Component k) v)
-    (ap (λ s. (s, outputs_for Page (map (says (Component k)) lines))) (same_page_of (with_part w p) w (part_of-with_part-other w p Page (λ e. f (sym mine ∙ e))) refl refl)
+    (ap (λ s. (s, outputs_for Page (map (says (Component k)) lines)))
+    (same_page_of (with_part w p) w (part_of-with_part-other w p Page (λ e. f (sym mine ∙ e))) refl refl)
     ∙ ap (λ ls. (page_of w, ls)) (outputs_for_page-other (Component k) f lines)) refl
 effect-other w k (changes steps v) h = ap (λ s. quiet s) (page_of-world_after-other (Component k) (Component-IsNoPage k) w steps)
 
@@ -54,9 +56,11 @@ related-near : (p : Part) (k : ComponentName) (x : Spelled) (e : EventWords) (y 
     part_refusal p (Command.dispatch x e (Some y)) ≡ None → root_of p.trees (named p y) ≡ root_of p.trees (named p x)
 related-near p k x e y o h =
     let c = Command.dispatch x e (Some y) in
-    let own : related_refusal (Component k) p (named p x) (Some y) ≡ None = subst (λ o. related_refusal o p (named p x) (Some y) ≡ None) o (part-accepted p c h).own in
+    let own : related_refusal (Component k) p (named p x) (Some y) ≡ None =
+    subst (λ o. related_refusal o p (named p x) (Some y) ≡ None) o (part-accepted p c h).own in
     let same = (next-test (has_other_root p (named p x) y || false) TypeFault [] own).0 in
-    sym (name_eq-true (root_of p.trees (named p x)) (root_of p.trees (named p y)) (from (name_eq (root_of p.trees (named p x)) (root_of p.trees (named p y))) same))
+    sym (name_eq-true (root_of p.trees (named p x)) (root_of p.trees (named p y))
+    (from (name_eq (root_of p.trees (named p x)) (root_of p.trees (named p y))) same))
   where
     from : (b : Bool) → (not b || false) ≡ false → b ≡ true
     from true g = refl
@@ -65,7 +69,8 @@ related-near p k x e y o h =
 -- A dispatch.
 dispatched-component : (w : World) (k : ComponentName) → IsQuiet w → (x : Spelled) (e : EventWords) (related : Option Spelled) →
     part_refusal (part_of w (Component k)) (Command.dispatch x e related) ≡ None →
-    page_run (perform w (Component k) (Command.dispatch x e related)) ≡ outward_run (page_of w) (outward_dispatch w (Component k) (Command.dispatch x e related))
+    page_run (perform w (Component k) (Command.dispatch x e related)) ≡ outward_run (page_of w)
+    (outward_dispatch w (Component k) (Command.dispatch x e related))
 dispatched-component w k q x e related h =
     let p = part_of w (Component k) in
     let o = owner-part_of w (Component k) in
@@ -77,16 +82,24 @@ dispatched-component w k q x e related h =
     ∙ ap (λ r. run_then r quiet) seen ∙ run_then-quiet_end (outward_run (page_of w) (outward_at w target e (option_map (named p) related)))
     ∙ ap (outward_run (page_of w)) (same_event related)
   where
-    near : (r : Option Spelled) → part_refusal (part_of w (Component k)) (Command.dispatch x e r) ≡ None → HasSameRoot w (named (part_of w (Component k)) x) (option_map (named (part_of w (Component k))) r)
+    near : (r : Option Spelled) → part_refusal (part_of w (Component k)) (Command.dispatch x e r) ≡ None →
+        HasSameRoot w (named (part_of w (Component k)) x) (option_map (named (part_of w (Component k))) r)
     near None g = tt
     near (Some y) g =
         let p = part_of w (Component k) in
         let o = owner-part_of w (Component k) in
         let at_y : (named p y).owner ≡ Component k = owner-named p y ∙ o in
-        let at_x : (named p x).owner ≡ Component k = owner-named p x ∙ o in
-        ((at_y ∙ sym at_x, ap (λ q. root_of (part_of w q).trees (named p y)) at_y ∙ related-near p k x e y o g ∙ ap (λ q. root_of (part_of w q).trees (named p x)) (sym at_x)), tt)
+        let at_x : (named p x).owner ≡ Component k = owner-named p x ∙ o in (
+          (
+            at_y ∙ sym at_x,
+            ap (λ q. root_of (part_of w q).trees (named p y)) at_y ∙ related-near p k x e y o g ∙
+                ap (λ q. root_of (part_of w q).trees (named p x)) (sym at_x),
+          ),
+          tt,
+        )
 
-    same_event : (r : Option Spelled) → outward_at w (named (part_of w (Component k)) x) e (option_map (named (part_of w (Component k))) r) ≡ outward_dispatch w (Component k) (Command.dispatch x e r)
+    same_event : (r : Option Spelled) → outward_at w (named (part_of w (Component k)) x) e
+        (option_map (named (part_of w (Component k))) r) ≡ outward_dispatch w (Component k) (Command.dispatch x e r)
     same_event None = refl
     same_event (Some y) = refl
 
@@ -117,7 +130,9 @@ perform-component w k q t (Command.attach a) h r = attaching-component w k (name
 perform-component w k q t (Command.connected a) h r = refl
 perform-component w k q t (Command.assigned a) h r = refl
 perform-component w k q t (Command.dispatch a b c) h r = dispatched-component w k q a b c r
-perform-component w k q t (Command.micro a) h r = ap quiet (same_page_of (record w { tasks = w.tasks ++ micro_task (Component k) a ∷ [] }) w refl (filter-append is_page_task w.tasks (micro_task (Component k) a ∷ []) ∙ append-nil (filter is_page_task w.tasks)) refl)
+perform-component w k q t (Command.micro a) h r =
+    ap quiet (same_page_of (record w { tasks = w.tasks ++ micro_task (Component k) a ∷ [] }) w refl
+    (filter-append is_page_task w.tasks (micro_task (Component k) a ∷ []) ∙ append-nil (filter is_page_task w.tasks)) refl)
 perform-component w k q t Command.end_turn h r = quiet_then (ending_turn w) (page_of w) (answering (Component k) nothing) (ending-component w q t) refl
 perform-component w k q t c h r = effect-other w k (effect (part_of w (Component k)) c) (base-effect (part_of w (Component k)) c)
 
@@ -143,7 +158,9 @@ opened-event w k c =
     in_turn (Command.dispatch a b None) =
         let v : World = record w { turn = Some (Component k) } in
         let x = named (part_of w (Component k)) a in
-        ap (λ xs. if b.composed then option_map (outward_of b) (if is_in_shadow_tree w x && is_page (unwrap_or (last_of xs) x).owner then Some (unwrap_or (last_of xs) x) else None) else None) (hosts-in_turn w (Some (Component k)) (owner_depth x.owner) x)
+        ap (λ xs. if b.composed then option_map (outward_of b)
+        (if is_in_shadow_tree w x && is_page (unwrap_or (last_of xs) x).owner then Some (unwrap_or (last_of xs) x) else None) else None)
+        (hosts-in_turn w (Some (Component k)) (owner_depth x.owner) x)
     in_turn c = refl
 
 -- with the turn that it opens
@@ -151,7 +168,9 @@ opened : (w : World) (k : ComponentName) → IsQuiet w → is_page_turn w.turn �
     part_refusal (part_of w (Component k)) c ≡ None →
     page_run (perform (opening_turn w (Component k)) (Component k) c) ≡ outward_run (page_of w) (outward_dispatch w (Component k) c)
 opened w k q t c h r =
-    perform-component (opening_turn w (Component k)) k (quiet-opening w q (Component k) (λ e. absurd (Component-IsNoPage k e))) (ap (λ (s : PageState). s.is_open) (opening-component w k t) ∙ t) c h (ap (λ p. part_refusal p c) (part_of-opening w (Component k) (Component k)) ∙ r)
+    perform-component (opening_turn w (Component k)) k (quiet-opening w q (Component k) (λ e. absurd (Component-IsNoPage k e)))
+    (ap (λ (s : PageState). s.is_open) (opening-component w k t) ∙ t) c h
+    (ap (λ p. part_refusal p c) (part_of-opening w (Component k) (Component k)) ∙ r)
     ∙ ap (λ s. outward_run s (outward_dispatch (opening_turn w (Component k)) (Component k) c)) (opening-component w k t)
     ∙ ap (outward_run (page_of w)) (opened-event w k c)
 
@@ -171,9 +190,12 @@ command-component w k q c = from (refusal w (Component k) c) refl
     not_open true h = absurd (true≢false h)
     not_open false h = refl
 
-    from : (r : Option Refusal) → refusal w (Component k) c ≡ r → page_run (unless_refused (Component k) (refusal w (Component k) c) w (accepted w (Component k) c)) ≡ outward_run (page_of w) (if is_none (refusal w (Component k) c) then outward_dispatch w (Component k) c else None)
+    from : (r : Option Refusal) → refusal w (Component k) c ≡ r →
+        page_run (unless_refused (Component k) (refusal w (Component k) c) w (accepted w (Component k) c)) ≡ outward_run (page_of w)
+        (if is_none (refusal w (Component k) c) then outward_dispatch w (Component k) c else None)
     from (Some r) e =
-        ap (λ o. page_run (unless_refused (Component k) o w (accepted w (Component k) c))) e ∙ sym (ap (λ o. outward_run (page_of w) (if is_none o then outward_dispatch w (Component k) c else None)) e)
+        ap (λ o. page_run (unless_refused (Component k) o w (accepted w (Component k) c))) e ∙
+        sym (ap (λ o. outward_run (page_of w) (if is_none o then outward_dispatch w (Component k) c else None)) e)
     from None e =
         let a = accepted-facts w (Component k) c e in
         ap (λ o. page_run (unless_refused (Component k) o w (accepted w (Component k) c))) e

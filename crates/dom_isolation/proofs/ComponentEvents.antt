@@ -1,7 +1,8 @@
 -- A dispatch of a component, as the page sees it: nothing, or the outward event at its host.
 use Rattle.dom_isolation.proofs.PagePaths.{views-page}
 use Rattle.dom_model.proofs.OwnerLaws.{owner_eq-true, owner_eq-false, maker-is_page}
-use Rattle.std.proofs.Common.{◌≡◌, ◌≢◌, Bool, true, false, ◌&&◌, List, [], ◌∷◌, ◌++◌, filter, Option, Some, None, option_map, unwrap_or, refl, sym, ap, ◌∙◌, true≢false, subst, append-nil}
+use Rattle.std.proofs.Common.{◌≡◌, ◌≢◌, Bool, true, false, ◌&&◌, List, [], ◌∷◌, ◌++◌, filter, Option, Some, None, option_map, unwrap_or, refl, sym}
+use Rattle.std.proofs.Common.{ap, ◌∙◌, true≢false, subst, append-nil}
 use Rattle.std.specs.Prelude.{is_some, if◌then◌else◌, option_to_list}
 use Rattle.std.specs.List.{AllByRecursion, last_or}
 use Rattle.std.specs.Option.{option_and_then}
@@ -87,7 +88,8 @@ pub dispatch-component : (w : World) → IsQuiet w → (x : NodeName) (related :
 dispatch-component w q x related e f same =
     by_cases e.composed (λ c. by_cases (is_in_shadow_tree w x) (λ h. inside c h) (λ h. outside c h)) (λ c. kept c)
   where
-    none : outward_at w x e related ≡ None → NoView w x related e.composed → page_run (dispatch_in w x related e).run ≡ outward_run (page_of w) (outward_at w x e related)
+    none : outward_at w x e related ≡ None → NoView w x related e.composed →
+        page_run (dispatch_in w x related e).run ≡ outward_run (page_of w) (outward_at w x e related)
     none o h = dispatch-nothing w x related e (q.logs refl) h ∙ sym (ap (outward_run (page_of w)) o)
 
     kept_none : (r : Option NodeName) → e.composed ≡ false → outward_at w x e r ≡ None
@@ -100,7 +102,8 @@ dispatch-component w q x related e f same =
     outside_none : (r : Option NodeName) → is_in_shadow_tree w x ≡ false → e.composed ≡ true → outward_at w x e r ≡ None
     outside_none None h c =
         ap (λ b. if b then option_map (outward_of e) (outermost_host w x) else None) c
-        ∙ ap (λ b. option_map (outward_of e) (if b && is_page (unwrap_or (last_of (host_chain w x)) x).owner then Some (unwrap_or (last_of (host_chain w x)) x) else None)) h
+        ∙ ap (λ b. option_map (outward_of e)
+        (if b && is_page (unwrap_or (last_of (host_chain w x)) x).owner then Some (unwrap_or (last_of (host_chain w x)) x) else None)) h
     outside_none (Some y) h c = refl
 
     outside : e.composed ≡ true → is_in_shadow_tree w x ≡ false → page_run (dispatch_in w x related e).run ≡ outward_run (page_of w) (outward_at w x e related)

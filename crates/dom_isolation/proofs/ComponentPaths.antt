@@ -1,5 +1,6 @@
 -- The path of an event of a component's node: none of its nodes is the page's, unless the event goes out to the host.
-use Rattle.std.proofs.Common.{◌≡◌, ℕ, Bool, true, false, not, ◌&&◌, ◌||◌, List, [], ◌∷◌, ◌++◌, find, filter, flat_map, take_while, Option, Some, None, unwrap_or, map, refl, sym, ap, ◌∙◌, arith, subst, append-nil}
+use Rattle.std.proofs.Common.{◌≡◌, ℕ, Bool, true, false, not, ◌&&◌, ◌||◌, List, [], ◌∷◌, ◌++◌, find, filter, flat_map, take_while, Option, Some, None}
+use Rattle.std.proofs.Common.{unwrap_or, map, refl, sym, ap, ◌∙◌, arith, subst, append-nil}
 use Rattle.std.specs.Prelude.{if◌then◌else◌}
 use Rattle.std.specs.List.{AllByRecursion}
 use Rattle.std.proofs.lemmas.Grind.{flat_map-append}
@@ -9,7 +10,8 @@ use Rattle.dom_base.specs.declared.Owner.TheVariants.{Page}
 use Rattle.dom_base.specs.declared.NodeName.{NodeName}
 use Rattle.dom_model.specs.Names.{name_eq, owner_depth, max_depth, is_in}
 use Rattle.dom_model.specs.World.{World, part_of, trees_with, ancestors_at, host_chain}
-use Rattle.dom_model.specs.Paths.{is_hidden_from, retarget, retarget_related, is_node, with_slots, way_up, whole_path, ends_at, event_path, view_at, views, plain_view, plain_views}
+use Rattle.dom_model.specs.Paths.{is_hidden_from, retarget, retarget_related, is_node, with_slots, way_up, whole_path, ends_at, event_path, view_at}
+use Rattle.dom_model.specs.Paths.{views, plain_view, plain_views}
 use Rattle.dom_model.proofs.OwnerLaws.{ne-owner_eq, name_eq-same}
 use Rattle.dom_isolation.specs.Worlds.{IsWorld, IsOf, IsForeignTo, times_in}
 use Rattle.dom_isolation.proofs.Chains.{IsBelow, hosts-alone, chain-below, chain-first, absent-host, other-owner, hidden-itself, hidden-deeper}
@@ -17,7 +19,8 @@ use Rattle.dom_isolation.proofs.Lists.{all-append, all-then, all-from, all-flat_
 use Rattle.dom_isolation.proofs.Tests.{by_cases, either_way}
 use Rattle.dom_isolation.proofs.Trees.{by_times, ancestors-absent, ancestors-present}
 use Rattle.dom_isolation.proofs.Hiding.{IsInTree, ancestors-in_tree, ancestors-owned, page-not_hidden, in_tree-hidden}
-use Rattle.dom_isolation.proofs.PagePaths.{is_page_node, IsSeen, IsInSome, seen-in_some, in_some-foreign, slot_way, slots-behind, slots-first, slot_way-in_some, way-seen, way-pages, uncut, view_at-page}
+use Rattle.dom_isolation.proofs.PagePaths.{is_page_node, IsSeen, IsInSome, seen-in_some, in_some-foreign, slot_way, slots-behind, slots-first}
+use Rattle.dom_isolation.proofs.PagePaths.{slot_way-in_some, way-seen, way-pages, uncut, view_at-page}
 use Rattle.dom_isolation.proofs.Dispatches.{is_page_view}
 
 -- the node is no page node
@@ -45,25 +48,30 @@ abbrev pub cut_at : World → NodeName → Option NodeName → List NodeName →
 cut_at w target related xs = take_while (λ y. not (ends_at w target related y)) xs
 
 -- a front of such a list
-cut-foreign : (w : World) (target : NodeName) (related : Option NodeName) (xs : List NodeName) → AllByRecursion Foreign xs → AllByRecursion Foreign (cut_at w target related xs)
+cut-foreign : (w : World) (target : NodeName) (related : Option NodeName) (xs : List NodeName) → AllByRecursion Foreign xs →
+    AllByRecursion Foreign (cut_at w target related xs)
 cut-foreign w target related xs h = all-take_while Foreign (λ y. not (ends_at w target related y)) xs h
 
 -- a path of which that is so
-path-foreign : (w : World) (target : NodeName) (related : Option NodeName) (composed : Bool) → AllByRecursion Foreign (cut_at w target related (whole_path w target composed)) → AllByRecursion Foreign (event_path w target related composed)
+path-foreign : (w : World) (target : NodeName) (related : Option NodeName) (composed : Bool) →
+    AllByRecursion Foreign (cut_at w target related (whole_path w target composed)) → AllByRecursion Foreign (event_path w target related composed)
 path-foreign w target related composed h =
     let test = is_node target (retarget_related w related target) && not (is_node target related) in
     by_cases test (λ e. subst (AllByRecursion Foreign) (sym (cond-true test [] (cut_at w target related (whole_path w target composed)) e)) tt)
     (λ e. subst (AllByRecursion Foreign) (sym (cond-false test [] (cut_at w target related (whole_path w target composed)) e)) h)
 
 -- without page nodes in the path the page has no view
-pub views-foreign : (w : World) (target : NodeName) (related : Option NodeName) (composed : Bool) → AllByRecursion Foreign (event_path w target related composed) → filter is_page_view (views w target related composed) ≡ []
+pub views-foreign : (w : World) (target : NodeName) (related : Option NodeName) (composed : Bool) →
+    AllByRecursion Foreign (event_path w target related composed) → filter is_page_view (views w target related composed) ≡ []
 views-foreign w target related composed h =
     let path = event_path w target related composed in
     filter-map is_page_view (view_at w target related path) path
-    ∙ ap (map (view_at w target related path)) (filter_none is_page_node path (all-then Foreign (λ y. is_page_node y ≡ false) (λ y f. ne-owner_eq y.owner Page f) path h))
+    ∙ ap (map (view_at w target related path))
+    (filter_none is_page_node path (all-then Foreign (λ y. is_page_node y ≡ false) (λ y f. ne-owner_eq y.owner Page f) path h))
 
 -- An event that is not composed, and one whose target is in no shadow tree.
-pub views-kept_in : (w : World) → IsWorld w → (target : NodeName) (related : Option NodeName) → Foreign target → filter is_page_view (views w target related false) ≡ []
+pub views-kept_in : (w : World) → IsWorld w → (target : NodeName) (related : Option NodeName) → Foreign target →
+    filter is_page_view (views w target related false) ≡ []
 views-kept_in w i target related f =
     views-foreign w target related false (path-foreign w target related false
     (cut-foreign w target related (way_up w target ++ []) (all-append Foreign (way_up w target) [] (way_up-foreign w i target f) tt)))
@@ -131,7 +139,8 @@ way_up-in_some w i x t =
     (ancestors-in_tree w i x.owner x t))
 
 -- the views at page nodes are those of the event at the host
-pub views-outward : (w : World) → IsWorld w → (x host : NodeName) → IsUnder w x host → filter is_page_view (views w x None true) ≡ plain_views (part_of w Page).trees host None
+pub views-outward : (w : World) → IsWorld w → (x host : NodeName) → IsUnder w x host →
+    filter is_page_view (views w x None true) ≡ plain_views (part_of w Page).trees host None
 views-outward w i x host u =
     let inner = flat_map (way_up w) u.inner in
     let outer = way_up w host in
@@ -141,15 +150,19 @@ views-outward w i x host u =
     (all-then (λ y. IsInTree w y.owner y) (λ y. AllByRecursion (IsInSome w) (way_up w y)) (way_up-in_some w i) u.inner u.trees) in
     let pages : filter is_page_node (inner ++ outer) ≡ up =
     filter-append is_page_node inner outer
-    ∙ ap (λ xs. xs ++ filter is_page_node outer) (filter_none is_page_node inner (all-then (IsInSome w) (λ y. is_page_node y ≡ false) (λ y t. ne-owner_eq y.owner Page (in_some-foreign w y t)) inner inside))
+    ∙ ap (λ xs. xs ++ filter is_page_node outer)
+    (filter_none is_page_node inner (all-then (IsInSome w) (λ y. is_page_node y ≡ false)
+    (λ y t. ne-owner_eq y.owner Page (in_some-foreign w y t)) inner inside))
     ∙ way-pages w i max_depth up owned in
     let seen = all-append (IsSeen w) inner outer (all-then (IsInSome w) (IsSeen w) (seen-in_some w i) inner inside) (way-seen w i max_depth up owned) in
     let at : (y : NodeName) → y.owner ≡ Page → view_at w x None (inner ++ outer) y ≡ plain_view host None up y =
     λ y e. view_at-page w x host None (inner ++ outer) up y (retarget-under w i x host y u e) refl
-    (filter_same (λ z. not (is_hidden_from w y z)) is_page_node (inner ++ outer) (all-then (IsSeen w) (λ z. not (is_hidden_from w y z) ≡ is_page_node z) (λ z s. s y e) (inner ++ outer) seen) ∙ pages) in
+    (filter_same (λ z. not (is_hidden_from w y z)) is_page_node (inner ++ outer)
+    (all-then (IsSeen w) (λ z. not (is_hidden_from w y z) ≡ is_page_node z) (λ z s. s y e) (inner ++ outer) seen) ∙ pages) in
     ap (λ path. filter is_page_view (map (view_at w x None path) path)) (event_path-outward w x host u)
     ∙ filter-map is_page_view (view_at w x None (inner ++ outer)) (inner ++ outer) ∙ ap (map (view_at w x None (inner ++ outer))) pages
-    ∙ map_same (view_at w x None (inner ++ outer)) (plain_view host None up) up (all-then (IsOf Page) (λ y. view_at w x None (inner ++ outer) y ≡ plain_view host None up y) at up owned)
+    ∙ map_same (view_at w x None (inner ++ outer)) (plain_view host None up) up
+    (all-then (IsOf Page) (λ y. view_at w x None (inner ++ outer) y ≡ plain_view host None up y) at up owned)
     ∙ ap (λ o. plain_views (part_of w o).trees host None) u.page
 
 -- A related node in the same shadow tree: the path ends before the host of the tree's root, which is seen in place of both.

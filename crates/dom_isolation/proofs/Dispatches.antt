@@ -28,13 +28,16 @@ abbrev pub is_page_view : View NodeName → Bool
 is_page_view v = is_page v.node.owner
 
 -- visits at page nodes, of the views at page nodes
-pub page_visits_of : (bubbles : Bool) (vs : List (View NodeName)) → filter is_page_visit (visits_of name_eq bubbles vs) ≡ visits_of name_eq bubbles (filter is_page_view vs)
+pub page_visits_of : (bubbles : Bool) (vs : List (View NodeName)) →
+    filter is_page_visit (visits_of name_eq bubbles vs) ≡ visits_of name_eq bubbles (filter is_page_view vs)
 page_visits_of bubbles vs =
     let going_up = filter (λ v. bubbles || is_at_target name_eq v) in
     filter-append is_page_visit (map (visit_of name_eq true) (reverse vs)) (map (visit_of name_eq false) (going_up vs))
-    ∙ ap (λ xs. xs ++ filter is_page_visit (map (visit_of name_eq false) (going_up vs))) (filter-map is_page_visit (visit_of name_eq true) (reverse vs) ∙ ap (map (visit_of name_eq true)) (filter-reverse is_page_view vs))
+    ∙ ap (λ xs. xs ++ filter is_page_visit (map (visit_of name_eq false) (going_up vs)))
+    (filter-map is_page_visit (visit_of name_eq true) (reverse vs) ∙ ap (map (visit_of name_eq true)) (filter-reverse is_page_view vs))
     ∙ ap (λ xs. map (visit_of name_eq true) (reverse (filter is_page_view vs)) ++ xs)
-    (filter-map is_page_visit (visit_of name_eq false) (going_up vs) ∙ ap (map (visit_of name_eq false)) (filter-filter is_page_view (λ v. bubbles || is_at_target name_eq v) vs))
+    (filter-map is_page_visit (visit_of name_eq false) (going_up vs) ∙
+    ap (map (visit_of name_eq false)) (filter-filter is_page_view (λ v. bubbles || is_at_target name_eq v) vs))
 
 -- the lines
 page_eq-sym : (o : Owner) → owner_eq Page o ≡ owner_eq o Page
@@ -55,16 +58,30 @@ page_end s d = record { run = (record s { part = with_listeners s.part d.listene
 -- what the page sees of a dispatch is the fold over the visits at its nodes
 pub dispatch-seen : (w : World) (target : NodeName) (related : Option NodeName) (e : EventWords) → ComponentsOnlyLog w →
     page_dispatched (dispatch_in w target related e)
-    ≡ page_end (page_of w) (fold (visited name_eq e) (begun (part_of w Page).listeners) (visits_of name_eq e.bubbles (filter is_page_view (views w target related e.composed))))
+    ≡ page_end (page_of w) (fold (visited name_eq e) (begun (part_of w Page).listeners)
+    (visits_of name_eq e.bubbles (filter is_page_view (views w target related e.composed))))
 dispatch-seen w target related e logs =
     let vs = visits_of name_eq e.bubbles (views w target related e.composed) in
     let start : InWorld = (w, begun []) in
     let end = fold (world_visit e) start vs in
-    let seen_end = page_going-visits e vs start logs ∙ ap (fold (visited name_eq e) (begun (part_of w Page).listeners)) (page_visits_of e.bubbles (views w target related e.composed)) in
+    let seen_end = page_going-visits e vs start logs ∙ ap (fold (visited name_eq e) (begun (part_of w Page).listeners))
+    (page_visits_of e.bubbles (views w target related e.composed)) in
     let first : page_dispatched (dispatched end.0 end.1) ≡ page_end (page_of w) (page_going end) =
-    ap (λ (v : World). record { run = (record { part = part_of end.0 Page; tasks = filter is_page_task v.tasks; is_open = is_page_turn v.turn }, outputs_for Page (map event_output end.1.lines)); answer = not end.1.cancelled }) (rest-visits e vs start)
-    ∙ ap (λ (p : Part). record { run = (record (page_of w) { part = p }, outputs_for Page (map event_output end.1.lines)); answer = not end.1.cancelled }) (part_of-visits e vs start Page)
-    ∙ ap (λ ls. record { run = (record (page_of w) { part = with_listeners (part_of w Page) (part_of end.0 Page).listeners }, ls); answer = not end.1.cancelled }) (outputs_for-event_lines end.1.lines) in
+    ap (λ (v : World). record {
+      run = (
+        record { part = part_of end.0 Page; tasks = filter is_page_task v.tasks; is_open = is_page_turn v.turn },
+        outputs_for Page (map event_output end.1.lines),
+      );
+      answer = not end.1.cancelled;
+    }) (rest-visits e vs start)
+    ∙ ap (λ (p : Part). record {
+      run = (record (page_of w) { part = p }, outputs_for Page (map event_output end.1.lines));
+      answer = not end.1.cancelled;
+    }) (part_of-visits e vs start Page)
+    ∙ ap (λ ls. record {
+      run = (record (page_of w) { part = with_listeners (part_of w Page) (part_of end.0 Page).listeners }, ls);
+      answer = not end.1.cancelled;
+    }) (outputs_for-event_lines end.1.lines) in
     first ∙ ap (page_end (page_of w)) seen_end
 
 -- the page machine's dispatch, where the views at page nodes are its own
@@ -72,10 +89,13 @@ pub dispatch-page : (w : World) (target x : NodeName) (related near : Option Nod
     filter is_page_view (views w target related e.composed) ≡ plain_views (part_of w Page).trees x near →
     page_dispatched (dispatch_in w target related e) ≡ page_dispatch (page_of w) x near e
 dispatch-page w target x related near e logs h =
-    dispatch-seen w target related e logs ∙ ap (λ vs. page_end (page_of w) (fold (visited name_eq e) (begun (part_of w Page).listeners) (visits_of name_eq e.bubbles vs))) h
+    dispatch-seen w target related e logs ∙
+    ap (λ vs. page_end (page_of w) (fold (visited name_eq e) (begun (part_of w Page).listeners) (visits_of name_eq e.bubbles vs))) h
 
 -- nothing, where no view is at a page node
 pub dispatch-nothing : (w : World) (target : NodeName) (related : Option NodeName) (e : EventWords) → ComponentsOnlyLog w →
     filter is_page_view (views w target related e.composed) ≡ [] → page_run (dispatch_in w target related e).run ≡ quiet (page_of w)
 dispatch-nothing w target related e logs h =
-    ap (λ (d : Dispatched PageState). d.run) (dispatch-seen w target related e logs ∙ ap (λ vs. page_end (page_of w) (fold (visited name_eq e) (begun (part_of w Page).listeners) (visits_of name_eq e.bubbles vs))) h)
+    ap (λ (d : Dispatched PageState). d.run)
+    (dispatch-seen w target related e logs ∙
+    ap (λ vs. page_end (page_of w) (fold (visited name_eq e) (begun (part_of w Page).listeners) (visits_of name_eq e.bubbles vs))) h)

@@ -1,5 +1,6 @@
 -- What holds of the worlds holds of the first one, and attaching keeps it.
-use Rattle.std.proofs.Common.{◌≡◌, ◌≢◌, ℕ, zero, suc, ◌≤◌, ◌<◌, Bool, true, false, ◌||◌, List, [], ◌∷◌, ◌++◌, length, Option, Some, None, refl, sym, ap, ◌∙◌, arith, true≢false, subst}
+use Rattle.std.proofs.Common.{◌≡◌, ◌≢◌, ℕ, zero, suc, ◌≤◌, ◌<◌, Bool, true, false, ◌||◌, List, [], ◌∷◌, ◌++◌, length, Option, Some, None, refl, sym}
+use Rattle.std.proofs.Common.{ap, ◌∙◌, arith, true≢false, subst}
 use Rattle.std.specs.Prelude.{IsTrue, is_some, slice_get}
 use Rattle.std.specs.List.{AllByRecursion}
 use Rattle.std.specs.Option.{option_and_then}
@@ -30,7 +31,8 @@ part-root o k d =
     let is : (x : NodeName) → 1 ≤ times_in (tree n none none) x → n.name ≡ x =
     λ x h. by_cases (name_eq n.name x) (λ e. name_eq-true n.name x e) (λ e. absurd (let g = times-elsewhere n none none x e in omega arith)) in
     record {
-      unique = λ x. by_cases (name_eq n.name x) (λ e. let g = times-here n none none x e in omega arith) (λ e. let g = times-elsewhere n none none x e in omega arith);
+      unique = λ x. by_cases (name_eq n.name x) (λ e. let g = times-here n none none x e in omega arith)
+          (λ e. let g = times-elsewhere n none none x e in omega arith);
       owned = λ x h. ap (λ (y : NodeName). y.owner) (sym (is x h));
       numbered = λ x h. let same : 0 ≡ x.number = ap (λ (y : NodeName). y.number) (is x h) in omega arith;
     }
@@ -84,7 +86,8 @@ module _ {only_log : Bool} where
       }
 
 -- Attaching.
-get-push : {P : Type 0} (xs : List NodeName) (x : NodeName) (k : ℕ) → is_some (slice_get (xs ++ x ∷ []) k) ≡ true → (k ≡ length xs → P) → (is_some (slice_get xs k) ≡ true → P) → P
+get-push : {P : Type 0} (xs : List NodeName) (x : NodeName) (k : ℕ) → is_some (slice_get (xs ++ x ∷ []) k) ≡ true → (k ≡ length xs → P) →
+    (is_some (slice_get xs k) ≡ true → P) → P
 get-push [] x zero h f g = f refl
 get-push [] x (suc k) h f g = absurd (true≢false (sym h))
 get-push (y ∷ xs) x zero h f g = g refl

@@ -1,5 +1,6 @@
 -- The path of an event goes from each node to its event parent: up the ways of the nodes of its target's chain of hosts.
-use Rattle.std.proofs.Common.{zero, suc, ◌≡◌, ◌≤◌, ◌<◌, ℕ, Bool, true, false, not, List, [], ◌∷◌, ◌++◌, flat_map, Option, Some, None, refl, sym, ap, ◌∙◌, arith, subst, append-nil}
+use Rattle.std.proofs.Common.{zero, suc, ◌≡◌, ◌≤◌, ◌<◌, ℕ, Bool, true, false, not, List, [], ◌∷◌, ◌++◌, flat_map, Option, Some, None, refl, sym, ap}
+use Rattle.std.proofs.Common.{◌∙◌, arith, subst, append-nil}
 use Rattle.dom_base.specs.declared.NodeName.{NodeName}
 use Rattle.dom_base.specs.declared.Owner.{Owner}
 use Rattle.dom_model.specs.Names.{name_eq, first_of, owner_depth}
@@ -12,17 +13,19 @@ use Rattle.dom_isolation.specs.Tables.{IsNodeIn, IsWhole}
 use Rattle.dom_isolation.specs.Worlds.{times_in, IsWorld}
 use Rattle.dom_isolation.proofs.Chains.{root-owned, above-host, below-host, hosts-alone, chain-below, other-owner}
 use Rattle.dom_isolation.proofs.FollowPaths.{Runs, runs-join, node-way, root-out, root-shut, root-loose}
-use Rattle.dom_isolation.proofs.KindCommands.{has_node-times}
+use Rattle.dom_isolation.proofs.KindLines.{has_node-times}
 use Rattle.dom_isolation.proofs.Lists.{get-all}
 use Rattle.dom_isolation.proofs.Makers.{hosted, hosted-owned}
 
 -- As the definition says it.
-follows-run : (w : World) (composed : Bool) (first x : NodeName) (xs : List NodeName) → Runs (event_parent w composed first) x xs None → FollowsParents w composed first (x ∷ xs)
+follows-run : (w : World) (composed : Bool) (first x : NodeName) (xs : List NodeName) → Runs (event_parent w composed first) x xs None →
+    FollowsParents w composed first (x ∷ xs)
 follows-run w composed first x [] h = h
 follows-run w composed first x (y ∷ xs) h = (h.0, follows-run w composed first y xs h.1)
 
 -- a path that begins at the target and goes on so
-follows-path : (w : World) (composed : Bool) (x : NodeName) (path xs : List NodeName) → path ≡ x ∷ xs → Runs (event_parent w composed x) x xs None → (first_of path ≡ Some x) × FollowsParents w composed x path
+follows-path : (w : World) (composed : Bool) (x : NodeName) (path xs : List NodeName) → path ≡ x ∷ xs →
+    Runs (event_parent w composed x) x xs None → (first_of path ≡ Some x) × FollowsParents w composed x path
 follows-path w composed x path xs e h = (ap first_of e, subst (FollowsParents w composed x) (sym e) (follows-run w composed x x xs h))
 
 -- a host is a node of its owner

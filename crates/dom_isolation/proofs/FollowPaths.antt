@@ -1,5 +1,6 @@
 -- The path of an event goes from each node to its event parent.
-use Rattle.std.proofs.Common.{zero, suc, ◌≡◌, ◌≤◌, ◌<◌, ◌+◌, ℕ, Bool, true, false, not, ◌||◌, List, [], ◌∷◌, ◌++◌, drop, flat_map, unwrap_or, Option, Some, None, refl, sym, ap, ◌∙◌, arith, true≢false, subst, append-nil}
+use Rattle.std.proofs.Common.{zero, suc, ◌≡◌, ◌≤◌, ◌<◌, ◌+◌, ℕ, Bool, true, false, not, ◌||◌, List, [], ◌∷◌, ◌++◌, drop, flat_map, unwrap_or, Option}
+use Rattle.std.proofs.Common.{Some, None, refl, sym, ap, ◌∙◌, arith, true≢false, subst, append-nil}
 use Rattle.std.specs.Prelude.{if◌then◌else◌, IsTrue, is_some, option_to_list}
 use Rattle.std.specs.List.{AllByRecursion}
 use Rattle.std.specs.Option.{option_or, option_and_then}
@@ -13,14 +14,15 @@ use Rattle.dom_model.specs.Names.{name_eq, first_of, last_of, owner_depth, max_d
 use Rattle.dom_model.specs.Paths.{with_slots, way_up, event_parent}
 use Rattle.dom_model.specs.Slots.{slot_in, slot_of}
 use Rattle.dom_model.specs.Tree.{Trees, is_shadow, inclusive_ancestors, parent_of, root_of}
-use Rattle.dom_model.specs.World.{World, part_of, trees_with, node_at, kind_at, root_at, parent_at, ancestors_at, component_at, host_of, host_above, shadow_root_of, shadow_tree, some_if, MayAttach}
+use Rattle.dom_model.specs.World.{World, part_of, trees_with, node_at, kind_at, root_at, parent_at, ancestors_at, component_at, host_of, host_above}
+use Rattle.dom_model.specs.World.{shadow_root_of, shadow_tree, some_if, MayAttach}
 use Rattle.dom_model.proofs.OwnerLaws.{name_eq-same, depth-maker}
 use Rattle.dom_model.proofs.StepLaws.{Component-IsNoPage}
 use Rattle.dom_isolation.specs.Laws.{IsReached}
 use Rattle.dom_isolation.specs.Worlds.{times_in, MayBeShadow, IsOf, IsWorld}
 use Rattle.dom_isolation.proofs.Chains.{IsBelow, above-host, root-owned}
 use Rattle.dom_isolation.proofs.Hiding.{owned-in, ancestors-owned, IsInTree, slot-in_tree, slot_in-there}
-use Rattle.dom_isolation.proofs.Insides.{parent-there, child-there, no_parent-root}
+use Rattle.dom_isolation.proofs.InsideAncestors.{parent-there, child-there, no_parent-root}
 use Rattle.dom_isolation.proofs.Lists.{all-then}
 use Rattle.dom_isolation.proofs.Makers.{component-host, component-maker, component-deeper, hosted-is}
 use Rattle.dom_isolation.proofs.Owners.{node-there, there-hosted}
@@ -36,12 +38,14 @@ Runs up x [] e = up x ≡ e
 Runs up x (y ∷ ys) e = (up x ≡ Some y) × Runs up y ys e
 
 -- one after another
-pub runs-join : (up : NodeName → Option NodeName) (x : NodeName) (xs : List NodeName) (y : NodeName) (ys : List NodeName) (e : Option NodeName) → Runs up x xs (Some y) → Runs up y ys e → Runs up x (xs ++ y ∷ ys) e
+pub runs-join : (up : NodeName → Option NodeName) (x : NodeName) (xs : List NodeName) (y : NodeName) (ys : List NodeName) (e : Option NodeName) →
+    Runs up x xs (Some y) → Runs up y ys e → Runs up x (xs ++ y ∷ ys) e
 runs-join up x [] y ys e h g = (h, g)
 runs-join up x (z ∷ xs) y ys e h g = (h.0, runs-join up z xs y ys e h.1 g)
 
 -- by another function that agrees
-runs-change : (up to : NodeName → Option NodeName) (e : Option NodeName) (Q : NodeName → Type 0) → ((y z : NodeName) → Q y → up y ≡ Some z → to y ≡ Some z) → ((y : NodeName) → Q y → up y ≡ None → to y ≡ e) →
+runs-change : (up to : NodeName → Option NodeName) (e : Option NodeName) (Q : NodeName → Type 0) →
+    ((y z : NodeName) → Q y → up y ≡ Some z → to y ≡ Some z) → ((y : NodeName) → Q y → up y ≡ None → to y ≡ e) →
     (x : NodeName) (xs : List NodeName) → AllByRecursion Q (x ∷ xs) → Runs up x xs None → Runs to x xs e
 runs-change up to e Q f g x [] q h = g x q.0 h
 runs-change up to e Q f g x (y ∷ ys) q h = (f x y q.0 h.0, runs-change up to e Q f g y ys q.1 h.1)
@@ -72,7 +76,8 @@ record IsSlotOf (w : World) (x s : NodeName) : Type 0 where
 slot-facts : (w : World) → IsWorld w → (x s : NodeName) → slot_of w x ≡ Some s → IsSlotOf w x s
 slot-facts w i x s h = from (parent_at w x) refl
   where
-    at_parent : (p : NodeName) (c : Option Owner) → parent_at w x ≡ Some p → component_at w p ≡ c → option_and_then (λ c. slot_in (shadow_tree w c) (node_at w x)) c ≡ Some s → IsSlotOf w x s
+    at_parent : (p : NodeName) (c : Option Owner) → parent_at w x ≡ Some p → component_at w p ≡ c →
+        option_and_then (λ c. slot_in (shadow_tree w c) (node_at w x)) c ≡ Some s → IsSlotOf w x s
     at_parent p None e f g = cc
     at_parent p (Some c) e f g =
         let t = slot-in_tree w i x s h in
@@ -92,8 +97,10 @@ slot-facts w i x s h = from (parent_at w x) refl
         }
 
     from : (o : Option NodeName) → parent_at w x ≡ o → IsSlotOf w x s
-    from None e = let none_at : slot_of w x ≡ None = ap (λ o. option_and_then (λ c. slot_in (shadow_tree w c) (node_at w x)) (option_and_then (component_at w) o)) e in cc
-    from (Some p) e = at_parent p (component_at w p) e refl (sym (ap (λ o. option_and_then (λ c. slot_in (shadow_tree w c) (node_at w x)) (option_and_then (component_at w) o)) e) ∙ h)
+    from None e = let none_at : slot_of w x ≡ None =
+        ap (λ o. option_and_then (λ c. slot_in (shadow_tree w c) (node_at w x)) (option_and_then (component_at w) o)) e in cc
+    from (Some p) e = at_parent p (component_at w p) e refl
+        (sym (ap (λ o. option_and_then (λ c. slot_in (shadow_tree w c) (node_at w x)) (option_and_then (component_at w) o)) e) ∙ h)
 
 -- a node without a parent has none,
 slot-rootless : (w : World) (x : NodeName) → parent_at w x ≡ None → slot_of w x ≡ None
@@ -123,11 +130,14 @@ module _ {only_log : Bool} (w : World) (r : IsReached only_log w) (composed : Bo
 
   -- of a node that is no shadow root
   plain-up : (y : NodeName) → is_shadow (kind_at w y) ≡ false → up_from y ≡ option_or (slot_of w y) (parent_at w y)
-  plain-up y e = cond-false (is_shadow (kind_at w y)) (if composed || not (name_eq y (root_at w first)) then host_of w y.owner else None) (option_or (slot_of w y) (parent_at w y)) e
+  plain-up y e = cond-false (is_shadow (kind_at w y)) (if composed || not (name_eq y (root_at w first)) then host_of w y.owner else None)
+      (option_or (slot_of w y) (parent_at w y)) e
 
   -- of a shadow root
-  pub shadow-up : (y : NodeName) → is_shadow (kind_at w y) ≡ true → up_from y ≡ (if composed || not (name_eq y (root_at w first)) then host_of w y.owner else None)
-  shadow-up y e = cond-true (is_shadow (kind_at w y)) (if composed || not (name_eq y (root_at w first)) then host_of w y.owner else None) (option_or (slot_of w y) (parent_at w y)) e
+  pub shadow-up : (y : NodeName) → is_shadow (kind_at w y) ≡ true →
+      up_from y ≡ (if composed || not (name_eq y (root_at w first)) then host_of w y.owner else None)
+  shadow-up y e = cond-true (is_shadow (kind_at w y)) (if composed || not (name_eq y (root_at w first)) then host_of w y.owner else None)
+      (option_or (slot_of w y) (parent_at w y)) e
 
   -- a shadow root has its owner's first name
   pub shadow-name : (y : NodeName) (o : Owner) → y.owner ≡ o → is_shadow (kind_at w y) ≡ true → (o ≡ Page → ⊥) × (y ≡ shadow_root_of y.owner)

@@ -1,5 +1,6 @@
 -- What is hidden from a page node: in a world as the machine reaches it, just the nodes of shadow trees.
-use Rattle.std.proofs.Common.{◌≡◌, ◌≢◌, ◌≤◌, Bool, true, false, not, ◌&&◌, List, [], ◌∷◌, find, flat_map, option_map, Option, Some, None, unwrap_or, refl, sym, ap, ◌∙◌, arith, true≢false, subst, append-nil}
+use Rattle.std.proofs.Common.{◌≡◌, ◌≢◌, ◌≤◌, Bool, true, false, not, ◌&&◌, List, [], ◌∷◌, find, flat_map, option_map, Option, Some, None, unwrap_or}
+use Rattle.std.proofs.Common.{refl, sym, ap, ◌∙◌, arith, true≢false, subst, append-nil}
 use Rattle.std.specs.Prelude.{if◌then◌else◌, IsTrue, is_some, option_to_list}
 use Rattle.std.specs.List.{AllByRecursion}
 use Rattle.std.specs.Option.{option_and_then}
@@ -9,7 +10,8 @@ use Rattle.dom_base.specs.declared.Owner.TheVariants.{Page}
 use Rattle.dom_base.specs.declared.NodeName.{NodeName}
 use Rattle.dom_model.specs.Names.{DomString, name_eq, owner_depth, is_in}
 use Rattle.dom_model.specs.Tree.{Trees, Node, nodes, root_of}
-use Rattle.dom_model.specs.World.{World, part_of, node_at, trees_with, root_at, parent_at, ancestors_at, component_at, host_of, host_chain, hosts_from, some_if, shadow_root_of, shadow_tree, shadow_including_ancestors, is_in_shadow_tree}
+use Rattle.dom_model.specs.World.{World, part_of, node_at, trees_with, root_at, parent_at, ancestors_at, component_at, host_of, host_chain}
+use Rattle.dom_model.specs.World.{hosts_from, some_if, shadow_root_of, shadow_tree, shadow_including_ancestors, is_in_shadow_tree}
 use Rattle.dom_model.specs.Slots.{slot_of, slot_in, has_slot_name, slottable_name}
 use Rattle.dom_model.specs.Paths.{is_hidden_from, retarget, retarget_related}
 use Rattle.dom_model.proofs.OwnerLaws.{ne-owner_eq, name_eq-same}
@@ -45,14 +47,16 @@ find-all P t (x ∷ xs) y h e =
 pub slot_in-there : (ts : Trees) (n : Node) (s : NodeName) → slot_in ts n ≡ Some s → 1 ≤ times_in ts s
 slot_in-there ts n s h = by_name (slottable_name n) refl
   where
-    by_found : (name : DomString) (o : Option Node) → find (has_slot_name name) (nodes ts) ≡ o → option_map (λ (m : Node). m.name) o ≡ Some s → 1 ≤ times_in ts s
+    by_found : (name : DomString) (o : Option Node) → find (has_slot_name name) (nodes ts) ≡ o → option_map (λ (m : Node). m.name) o ≡ Some s →
+        1 ≤ times_in ts s
     by_found name None e g = cc
     by_found name (Some m) e g =
         let same : m.name ≡ s = cc in
         subst (λ s. 1 ≤ times_in ts s) same (find-all (λ (m : Node). 1 ≤ times_in ts m.name) (has_slot_name name) (nodes ts) m (nodes-there ts) e)
 
     by_name : (o : Option DomString) → slottable_name n ≡ o → 1 ≤ times_in ts s
-    by_name None e = let none : slot_in ts n ≡ None = ap (λ o. option_and_then (λ name. option_map (λ (s : Node). s.name) (find (has_slot_name name) (nodes ts))) o) e in cc
+    by_name None e = let none : slot_in ts n ≡ None =
+        ap (λ o. option_and_then (λ name. option_map (λ (s : Node). s.name) (find (has_slot_name name) (nodes ts))) o) e in cc
     by_name (Some name) e =
         by_found name (find (has_slot_name name) (nodes ts)) refl
         (sym (ap (λ o. option_and_then (λ name. option_map (λ (s : Node). s.name) (find (has_slot_name name) (nodes ts))) o) e) ∙ h)
@@ -88,10 +92,13 @@ pub ancestors-in_tree : (w : World) → IsWorld w → (c : Owner) (s : NodeName)
 ancestors-in_tree w i c s t =
     all_two (ancestors_at w s) (ancestors-owned w i s) (ancestors-root (trees_with w s) (i.parts s.owner).unique s)
   where
-    all_two : (ys : List NodeName) → AllByRecursion (IsOf s.owner) ys → AllByRecursion (λ y. root_of (trees_with w s) y ≡ root_of (trees_with w s) s) ys → AllByRecursion (IsInTree w c) ys
+    all_two : (ys : List NodeName) → AllByRecursion (IsOf s.owner) ys →
+        AllByRecursion (λ y. root_of (trees_with w s) y ≡ root_of (trees_with w s) s) ys → AllByRecursion (IsInTree w c) ys
     all_two [] a b = tt
-    all_two (y ∷ ys) a b =
-        (record { foreign = t.foreign; owner = a.0 ∙ t.owner; host = t.host; root = ap (λ o. root_of (part_of w o).trees y) a.0 ∙ b.0 ∙ t.root }, all_two ys a.1 b.1)
+    all_two (y ∷ ys) a b = (
+      record { foreign = t.foreign; owner = a.0 ∙ t.owner; host = t.host; root = ap (λ o. root_of (part_of w o).trees y) a.0 ∙ b.0 ∙ t.root },
+      all_two ys a.1 b.1,
+    )
 
 -- it has a shadow-including ancestor that no page node has
 pub in_tree : (w : World) (c : Owner) (y : NodeName) → IsInTree w c y → is_in_shadow_tree w y ≡ true
@@ -103,7 +110,8 @@ in_tree w c y t = by_host (host_of w c) refl t.host
     by_host : (o : Option NodeName) → host_of w c ≡ o → is_some o ≡ true → is_in_shadow_tree w y ≡ true
     by_host None e h = absurd (true≢false (sym h))
     by_host (Some x) e h =
-        ap (λ o. is_some (option_and_then (some_if (name_eq (root_at w y) (shadow_root_of y.owner))) o)) (ap (host_of w) t.owner ∙ e) ∙ ap (λ b. is_some (some_if b x)) root_is
+        ap (λ o. is_some (option_and_then (some_if (name_eq (root_at w y) (shadow_root_of y.owner))) o)) (ap (host_of w) t.owner ∙ e) ∙
+        ap (λ b. is_some (some_if b x)) root_is
 
 -- Page nodes.
 pub host_chain-page : (w : World) (x : NodeName) → x.owner ≡ Page → host_chain w x ≡ x ∷ []
@@ -127,7 +135,8 @@ pub in_tree-hidden : (w : World) → IsWorld w → (c : Owner) (x y : NodeName) 
 in_tree-hidden w i c x y h t =
     ap (λ b. b && not (is_in name_eq (root_at w y) (shadow_including_ancestors w x))) (in_tree w c y t)
     ∙ ap (λ xs. not (is_in name_eq (root_at w y) xs)) (shadow_including-page w x h)
-    ∙ ap not (not_in (root_at w y) (ancestors_at w x) Page (λ e. t.foreign (sym (ap (λ (r : NodeName). r.owner) t.root) ∙ e)) (subst (λ o. AllByRecursion (IsOf o) (ancestors_at w x)) h (ancestors-owned w i x)))
+    ∙ ap not (not_in (root_at w y) (ancestors_at w x) Page (λ e. t.foreign (sym (ap (λ (r : NodeName). r.owner) t.root) ∙ e))
+    (subst (λ o. AllByRecursion (IsOf o) (ancestors_at w x)) h (ancestors-owned w i x)))
 
 -- Retargeting a page node gives the node.
 pub retarget-page : (w : World) (a b : NodeName) → a.owner ≡ Page → retarget w a b ≡ a
@@ -136,6 +145,7 @@ retarget-page w a b h =
     ∙ ap (λ t. unwrap_or (if not t then Some a else None) a) (page-not_hidden w b a h)
 
 -- and so a related node
-pub retarget_related-page : (w : World) (related : Option NodeName) (b : NodeName) → AllByRecursion (IsOf Page) (option_to_list related) → retarget_related w related b ≡ related
+pub retarget_related-page : (w : World) (related : Option NodeName) (b : NodeName) → AllByRecursion (IsOf Page) (option_to_list related) →
+    retarget_related w related b ≡ related
 retarget_related-page w None b h = refl
 retarget_related-page w (Some a) b h = ap Some (retarget-page w a b h.0)

@@ -1,18 +1,24 @@
 -- How many children nodes have, and what the elementary changes do to that and to the nodes themselves.
-use Rattle.std.proofs.Common.{◌≡◌, ℕ, ◌+◌, ◌≤◌, ◌<◌, Bool, true, false, List, [], ◌∷◌, ◌++◌, length, Option, Some, None, refl, sym, ap, ◌∙◌, arith, true≢false, subst, drop}
+use Rattle.std.proofs.Common.{◌≡◌, ℕ, ◌+◌, ◌≤◌, ◌<◌, Bool, true, false, List, [], ◌∷◌, ◌++◌, length, Option, Some, None, refl, sym, ap, ◌∙◌, arith}
+use Rattle.std.proofs.Common.{true≢false, subst, drop}
 use Rattle.std.specs.Prelude.{if◌then◌else◌}
 use Rattle.std.specs.Option.{option_map_or}
 use Rattle.std.proofs.lemmas.Bool.{cond-true, cond-false}
 use Rattle.dom_base.specs.declared.NodeName.{NodeName}
 use Rattle.dom_model.specs.Names.{name_eq, is_in, items_before, first_of}
-use Rattle.dom_model.specs.Tree.{Trees, none, tree, Node, names_of, roots, subtree, or_else, trees_below, children_of, parent_of, index_of, inclusive_ancestors, on_top}
+use Rattle.dom_model.specs.Tree.{Trees, none, tree, Node, names_of, roots, subtree, or_else, trees_below, children_of, parent_of, index_of}
+use Rattle.dom_model.specs.Tree.{inclusive_ancestors, on_top}
 use Rattle.dom_model.specs.TreeChanges.{followed_by, without, put_before, put_below, put_root, taken_out, placed, with_node, map_nodes}
 use Rattle.dom_model.proofs.OwnerLaws.{name_eq-same}
 use Rattle.dom_isolation.specs.Worlds.{times_in}
-use Rattle.dom_isolation.proofs.Insides.{inside, times-inside, times-parted, without-absent, or_else-none, parent-there, no_parent-root}
+use Rattle.dom_isolation.proofs.Insides.{inside, times-inside, times-parted, without-absent, or_else-none}
+use Rattle.dom_isolation.proofs.InsideAncestors.{parent-there, no_parent-root}
 use Rattle.dom_isolation.proofs.Tests.{by_cases, or-later}
-use Rattle.dom_isolation.proofs.TreeChangeLaws.{put_where, where-here, where-later, put_before-where, put_root-where, HasRoot, without-here, without-elsewhere, subtree-here, subtree-elsewhere, put_below-here, put_below-elsewhere, put_below-absent}
-use Rattle.dom_isolation.proofs.Trees.{IsUnique, by_times, times-here, times-elsewhere, times-more, subtree-absent, name_eq-sym, name_eq-true, root-there, ancestors-absent, ancestors-present}
+use Rattle.dom_isolation.proofs.TreeChangeLaws.{put_where, where-here, where-later, put_before-where, put_root-where, HasRoot, without-here}
+use Rattle.dom_isolation.proofs.TreeChangeLaws.{without-elsewhere, subtree-here, subtree-elsewhere, put_below-here, put_below-elsewhere}
+use Rattle.dom_isolation.proofs.TreeChangeLaws.{put_below-absent}
+use Rattle.dom_isolation.proofs.Trees.{IsUnique, by_times, times-here, times-elsewhere, times-more, subtree-absent, name_eq-sym, name_eq-true}
+use Rattle.dom_isolation.proofs.Trees.{root-there, ancestors-absent, ancestors-present}
 
 -- how many roots there are
 abbrev pub rooted : Trees → ℕ
@@ -37,7 +43,8 @@ pub kids-absent : (ts : Trees) (y : NodeName) → times_in ts y ≡ 0 → kids t
 kids-absent none y h = refl
 kids-absent (tree n c r) y h =
     by_cases (name_eq n.name y) (λ e. absurd (let g = times-here n c r y e in omega arith))
-    (λ e. let g = times-elsewhere n c r y e in let k = kids-elsewhere n c r y e in let a = kids-absent c y (omega arith) in let b = kids-absent r y (omega arith) in omega arith)
+    (λ e. let g = times-elsewhere n c r y e in let k = kids-elsewhere n c r y e in let a = kids-absent c y (omega arith) in let b = kids-absent r
+    y (omega arith) in omega arith)
 
 -- roots, read as a list
 length-roots : (ts : Trees) → length (names_of (roots ts)) ≡ rooted ts
@@ -58,7 +65,8 @@ kids-below (tree n c r) y u =
     by_times (times_in c y)
     (λ z. let s = ap (λ t. rooted (trees_below t)) (subtree-elsewhere n c r y e ∙ ap (λ t. or_else t (subtree r y)) (subtree-absent c y z)) in
     let a = kids-absent c y z in let b = kids-below r y ur in omega arith)
-    (λ z. let s = ap (λ t. rooted (trees_below t)) (subtree-elsewhere n c r y e ∙ ap (or_else (subtree c y)) (subtree-absent r y (omega arith)) ∙ or_else-none (subtree c y)) in
+    (λ z. let s = ap (λ t. rooted (trees_below t))
+    (subtree-elsewhere n c r y e ∙ ap (or_else (subtree c y)) (subtree-absent r y (omega arith)) ∙ or_else-none (subtree c y)) in
     let a = kids-absent r y (omega arith) in let b = kids-below c y uc in omega arith))
 
 -- so the list of children has that length
@@ -106,7 +114,8 @@ abbrev pub one_at : NodeName → NodeName → ℕ
 one_at x y = if name_eq x y then 1 else 0
 
 -- what is put below a node
-kids-put_below : (parent : NodeName) (before : Option NodeName) (new ts : Trees) (y : NodeName) → times_in ts parent ≡ 1 → kids (put_below parent before new ts) y ≡ kids new y + kids ts y + (if name_eq parent y then rooted new else 0)
+kids-put_below : (parent : NodeName) (before : Option NodeName) (new ts : Trees) (y : NodeName) → times_in ts parent ≡ 1 →
+    kids (put_below parent before new ts) y ≡ kids new y + kids ts y + (if name_eq parent y then rooted new else 0)
 kids-put_below parent before new none y h = absurd (omega arith)
 kids-put_below parent before new (tree n c r) y h =
     by_cases (name_eq n.name parent)
@@ -122,7 +131,8 @@ kids-put_below parent before new (tree n c r) y h =
     by_cases (name_eq n.name y)
     (λ k. let i = kids-here n c r y k in let j = kids-here n (put_before before new (put_below parent before new c)) (put_below parent before new r) y k in
     let l = cond-true (name_eq parent y) (rooted new) 0 (sym (ap (λ z. name_eq z y) same) ∙ k) in omega arith)
-    (λ k. let i = kids-elsewhere n c r y k in let j = kids-elsewhere n (put_before before new (put_below parent before new c)) (put_below parent before new r) y k in
+    (λ k. let i = kids-elsewhere n c r y k in let j = kids-elsewhere n (put_before before new (put_below parent before new c))
+    (put_below parent before new r) y k in
     let l = cond-false (name_eq parent y) (rooted new) 0 (sym (ap (λ z. name_eq z y) same) ∙ k) in omega arith))
     (λ e. let s = ap (λ t. kids t y) (put_below-elsewhere parent before new n c r e) in
     let g = times-elsewhere n c r parent e in
@@ -162,7 +172,8 @@ kids-parted (tree n c r) x y u h =
     let once = u x in
     by_cases (name_eq n.name x)
     (λ e. let g = times-here n c r x e in
-    let s = ap (λ t. kids t y) (without-here n c r x e ∙ without-absent r x (omega arith)) in let t = ap (λ t. kids t y) (subtree-here n c r x e) in omega arith)
+    let s = ap (λ t. kids t y) (without-here n c r x e ∙ without-absent r x (omega arith)) in let t =
+    ap (λ t. kids t y) (subtree-here n c r x e) in omega arith)
     (λ e. let g = times-elsewhere n c r x e in
     let later = or-later (name_eq x n.name) (is_in name_eq x (names_of (roots r))) (name_eq-sym x n.name ∙ e) h in
     let there = root-there r x later in
@@ -171,23 +182,30 @@ kids-parted (tree n c r) x y u h =
     let b = kids-parted r x y (λ k. let o = u k in let m = times-more n c r k in omega arith) later in omega arith)
 
 -- the parent in the trees below a root
-below-parent : (n : Node) (c r : Trees) (x : NodeName) (path : List NodeName) → name_eq n.name x ≡ false → inclusive_ancestors c x ≡ x ∷ path → parent_of (tree n c r) x ≡ first_of (path ++ n.name ∷ [])
+below-parent : (n : Node) (c r : Trees) (x : NodeName) (path : List NodeName) → name_eq n.name x ≡ false → inclusive_ancestors c x ≡ x ∷ path →
+    parent_of (tree n c r) x ≡ first_of (path ++ n.name ∷ [])
 below-parent n c r x path e h =
-    ap (λ p. first_of (drop 1 p)) (cond-false (name_eq n.name x) (x ∷ []) (on_top (inclusive_ancestors c x) n.name (inclusive_ancestors r x)) e ∙ ap (λ p. on_top p n.name (inclusive_ancestors r x)) h)
+    ap (λ p. first_of (drop 1 p)) (cond-false (name_eq n.name x) (x ∷ []) (on_top (inclusive_ancestors c x) n.name (inclusive_ancestors r x)) e ∙
+    ap (λ p. on_top p n.name (inclusive_ancestors r x)) h)
 
 -- A child that is taken out of its tree: one less of its parent's.
-kids-taken : (ts : Trees) (x parent y : NodeName) → IsUnique ts → parent_of ts x ≡ Some parent → (kids (without x ts) y + kids (subtree ts x) y + one_at parent y ≡ kids ts y) × (rooted (without x ts) ≡ rooted ts)
+kids-taken : (ts : Trees) (x parent y : NodeName) → IsUnique ts → parent_of ts x ≡ Some parent →
+    (kids (without x ts) y + kids (subtree ts x) y + one_at parent y ≡ kids ts y) × (rooted (without x ts) ≡ rooted ts)
 kids-taken none x parent y u h = cc
 kids-taken (tree n c r) x parent y u h =
     let once = u x in
     let uc : IsUnique c = λ k. let o = u k in let m = times-more n c r k in omega arith in
     let ur : IsUnique r = λ k. let o = u k in let m = times-more n c r k in omega arith in
     by_cases (name_eq n.name x)
-    (λ e. let is : first_of (drop 1 (x ∷ [])) ≡ Some parent = sym (ap (λ p. first_of (drop 1 p)) (cond-true (name_eq n.name x) (x ∷ []) (on_top (inclusive_ancestors c x) n.name (inclusive_ancestors r x)) e)) ∙ h in cc)
+    (λ e. let is : first_of (drop 1 (x ∷ [])) ≡ Some parent = sym
+    (ap (λ p. first_of (drop 1 p)) (cond-true (name_eq n.name x) (x ∷ []) (on_top (inclusive_ancestors c x) n.name (inclusive_ancestors r x))
+    e)) ∙ h in cc)
     (λ e. let g = times-elsewhere n c r x e in
     let s = without-elsewhere n c r x e in
     by_times (times_in c x)
-    (λ z. let up : parent_of r x ≡ Some parent = sym (ap (λ p. first_of (drop 1 p)) (cond-false (name_eq n.name x) (x ∷ []) (on_top (inclusive_ancestors c x) n.name (inclusive_ancestors r x)) e ∙ ap (λ p. on_top p n.name (inclusive_ancestors r x)) (ancestors-absent c x z))) ∙ h in
+    (λ z. let up : parent_of r x ≡ Some parent = sym
+    (ap (λ p. first_of (drop 1 p)) (cond-false (name_eq n.name x) (x ∷ []) (on_top (inclusive_ancestors c x) n.name (inclusive_ancestors r x))
+    e ∙ ap (λ p. on_top p n.name (inclusive_ancestors r x)) (ancestors-absent c x z))) ∙ h in
     let b = kids-taken r x parent y ur up in
     let b0 = b.0 in let b1 = b.1 in
     let whole = s ∙ ap (λ t. tree n t (without x r)) (without-absent c x z) in
@@ -204,8 +222,10 @@ kids-taken (tree n c r) x parent y u h =
   where
     from : (parent_of c x ≡ Some parent → (kids (without x c) y + kids (subtree c x) y + one_at parent y ≡ kids c y) × (rooted (without x c) ≡ rooted c)) →
         (path : List NodeName) → first_of (path ++ n.name ∷ []) ≡ Some parent → inclusive_ancestors c x ≡ x ∷ path → IsUnique c → 1 ≤ times_in c x →
-        kids (without x (tree n c r)) y ≡ kids (tree n (without x c) r) y → kids (subtree (tree n c r) x) y ≡ kids (subtree c x) y → rooted (without x (tree n c r)) ≡ rooted (tree n (without x c) r) →
-        (kids (without x (tree n c r)) y + kids (subtree (tree n c r) x) y + one_at parent y ≡ kids (tree n c r) y) × (rooted (without x (tree n c r)) ≡ rooted (tree n c r))
+        kids (without x (tree n c r)) y ≡ kids (tree n (without x c) r) y → kids (subtree (tree n c r) x) y ≡ kids (subtree c x) y →
+        rooted (without x (tree n c r)) ≡ rooted (tree n (without x c) r) →
+        (kids (without x (tree n c r)) y + kids (subtree (tree n c r) x) y + one_at parent y ≡ kids (tree n c r) y) ×
+        (rooted (without x (tree n c r)) ≡ rooted (tree n c r))
     from f [] up path uc z w t v =
         let both : Some n.name ≡ Some parent = up in
         let same : n.name ≡ parent = cc in
@@ -215,8 +235,10 @@ kids-taken (tree n c r) x parent y u h =
         let b = kids-parted c x y uc root in
         let o : one_at parent y ≡ one_at n.name y = ap (λ q. one_at q y) (sym same) in (
           by_cases (name_eq n.name y)
-              (λ k. let i = kids-here n c r y k in let j = kids-here n (without x c) r y k in let l : one_at n.name y ≡ 1 = cond-true (name_eq n.name y) 1 0 k in omega arith)
-              (λ k. let i = kids-elsewhere n c r y k in let j = kids-elsewhere n (without x c) r y k in let l : one_at n.name y ≡ 0 = cond-false (name_eq n.name y) 1 0 k in omega arith),
+              (λ k. let i = kids-here n c r y k in let j = kids-here n (without x c) r y k in let l : one_at n.name y ≡ 1 = cond-true
+              (name_eq n.name y) 1 0 k in omega arith)
+              (λ k. let i = kids-elsewhere n c r y k in let j = kids-elsewhere n (without x c) r y k in let l : one_at n.name y ≡ 0 = cond-false
+              (name_eq n.name y) 1 0 k in omega arith),
           omega arith,
         )
     from f (q ∷ path) up h uc z w t v =
@@ -248,7 +270,8 @@ rooted-subtree (tree n c r) x h =
     left (tree n c r) b h = h
 
 -- a root that is placed
-pub kids-placed : (ts : Trees) (x parent : NodeName) (before : Option NodeName) (y : NodeName) → IsUnique ts → 1 ≤ times_in ts parent → inside ts x parent ≡ 0 → HasRoot ts x → kids (placed x parent before ts) y ≡ kids ts y + one_at parent y
+pub kids-placed : (ts : Trees) (x parent : NodeName) (before : Option NodeName) (y : NodeName) → IsUnique ts → 1 ≤ times_in ts parent →
+    inside ts x parent ≡ 0 → HasRoot ts x → kids (placed x parent before ts) y ≡ kids ts y + one_at parent y
 kids-placed ts x parent before y u t h k =
     let once = u parent in
     let s = times-inside ts x parent in
@@ -287,39 +310,53 @@ root-below (tree n c r) x parent u h =
     let uc : IsUnique c = λ k. let o = u k in let m = times-more n c r k in omega arith in
     let ur : IsUnique r = λ k. let o = u k in let m = times-more n c r k in omega arith in
     by_cases (name_eq n.name x)
-    (λ e. let is : first_of (drop 1 (x ∷ [])) ≡ Some parent = sym (ap (λ p. first_of (drop 1 p)) (cond-true (name_eq n.name x) (x ∷ []) (on_top (inclusive_ancestors c x) n.name (inclusive_ancestors r x)) e)) ∙ h in cc)
+    (λ e. let is : first_of (drop 1 (x ∷ [])) ≡ Some parent = sym
+    (ap (λ p. first_of (drop 1 p)) (cond-true (name_eq n.name x) (x ∷ []) (on_top (inclusive_ancestors c x) n.name (inclusive_ancestors r x))
+    e)) ∙ h in cc)
     (λ e. let g = times-elsewhere n c r x e in
     by_times (times_in c x)
-    (λ z. let up : parent_of r x ≡ Some parent = sym (ap (λ p. first_of (drop 1 p)) (cond-false (name_eq n.name x) (x ∷ []) (on_top (inclusive_ancestors c x) n.name (inclusive_ancestors r x)) e ∙ ap (λ p. on_top p n.name (inclusive_ancestors r x)) (ancestors-absent c x z))) ∙ h in
+    (λ z. let up : parent_of r x ≡ Some parent = sym
+    (ap (λ p. first_of (drop 1 p)) (cond-false (name_eq n.name x) (x ∷ []) (on_top (inclusive_ancestors c x) n.name (inclusive_ancestors r x))
+    e ∙ ap (λ p. on_top p n.name (inclusive_ancestors r x)) (ancestors-absent c x z))) ∙ h in
     let there = parent-there r x parent up in
     let other : name_eq n.name parent ≡ false = by_cases (name_eq n.name parent) (λ k. absurd (let q = times-here n c r parent k in omega arith)) (λ k. k) in
     let m = times-elsewhere n c r parent other in
-    subst (λ t. HasRoot (trees_below t) x) (sym (subtree-elsewhere n c r parent other ∙ ap (λ t. or_else t (subtree r parent)) (subtree-absent c parent (omega arith)))) (root-below r x parent ur up))
+    subst (λ t. HasRoot (trees_below t) x)
+    (sym (subtree-elsewhere n c r parent other ∙ ap (λ t. or_else t (subtree r parent)) (subtree-absent c parent (omega arith))))
+    (root-below r x parent ur up))
     (λ z. let at = ancestors-present c x z in from (λ e. root-below c x parent uc e) at.0 (sym (below-parent n c r x at.0 e at.1) ∙ h) at.1 uc z once_p))
   where
-    from : (parent_of c x ≡ Some parent → HasRoot (trees_below (subtree c parent)) x) → (path : List NodeName) → first_of (path ++ n.name ∷ []) ≡ Some parent → inclusive_ancestors c x ≡ x ∷ path → IsUnique c → 1 ≤ times_in c x → times_in (tree n c r) parent ≤ 1 → HasRoot (trees_below (subtree (tree n c r) parent)) x
+    from : (parent_of c x ≡ Some parent → HasRoot (trees_below (subtree c parent)) x) → (path : List NodeName) →
+        first_of (path ++ n.name ∷ []) ≡ Some parent → inclusive_ancestors c x ≡ x ∷ path → IsUnique c → 1 ≤ times_in c x →
+        times_in (tree n c r) parent ≤ 1 → HasRoot (trees_below (subtree (tree n c r) parent)) x
     from f [] up path uc z once =
         let both : Some n.name ≡ Some parent = up in
         let same : n.name ≡ parent = cc in
         let alone : parent_of c x ≡ None = ap (λ p. first_of (drop 1 p)) path in
-        subst (λ t. HasRoot (trees_below t) x) (sym (subtree-here n c r parent (ap (λ q. name_eq n.name q) (sym same) ∙ name_eq-same n.name))) (no_parent-root c x z alone)
+        subst (λ t. HasRoot (trees_below t) x) (sym (subtree-here n c r parent (ap (λ q. name_eq n.name q) (sym same) ∙ name_eq-same n.name)))
+        (no_parent-root c x z alone)
     from f (q ∷ path) up h uc z once =
         let inner : parent_of c x ≡ Some parent = ap (λ p. first_of (drop 1 p)) h ∙ up in
         let there = parent-there c x parent inner in
-        let other : name_eq n.name parent ≡ false = by_cases (name_eq n.name parent) (λ k. absurd (let q = times-here n c r parent k in omega arith)) (λ k. k) in
+        let other : name_eq n.name parent ≡ false =
+        by_cases (name_eq n.name parent) (λ k. absurd (let q = times-here n c r parent k in omega arith)) (λ k. k) in
         let m = times-elsewhere n c r parent other in
-        subst (λ t. HasRoot (trees_below t) x) (sym (subtree-elsewhere n c r parent other ∙ ap (or_else (subtree c parent)) (subtree-absent r parent (omega arith)) ∙ or_else-none (subtree c parent))) (f inner)
+        subst (λ t. HasRoot (trees_below t) x)
+        (sym (subtree-elsewhere n c r parent other ∙ ap (or_else (subtree c parent)) (subtree-absent r parent (omega arith)) ∙
+        or_else-none (subtree c parent))) (f inner)
 
 -- what comes before an item that is there is shorter
 before-shorter : (x : NodeName) (xs : List NodeName) → is_in name_eq x xs ≡ true → length (items_before name_eq x xs) < length xs
 before-shorter x [] h = absurd (true≢false (sym h))
 before-shorter x (y ∷ xs) h =
     by_cases (name_eq x y) (λ e. let g = ap length (cond-true (name_eq x y) [] (y ∷ items_before name_eq x xs) e) in omega arith)
-    (λ e. let g = ap length (cond-false (name_eq x y) [] (y ∷ items_before name_eq x xs) e) in let b = before-shorter x xs (or-later (name_eq x y) (is_in name_eq x xs) e h) in omega arith)
+    (λ e. let g = ap length (cond-false (name_eq x y) [] (y ∷ items_before name_eq x xs) e) in let b = before-shorter x xs
+    (or-later (name_eq x y) (is_in name_eq x xs) e h) in omega arith)
 
 -- an index is below the number of children
 pub index-below : (ts : Trees) (x parent : NodeName) → IsUnique ts → parent_of ts x ≡ Some parent → index_of ts x < kids ts parent
 index-below ts x parent u h =
-    let same : index_of ts x ≡ length (items_before name_eq x (children_of ts parent)) = ap (λ (o : Option NodeName). length (items_before name_eq x (option_map_or (children_of ts) o (x ∷ [])))) h in
+    let same : index_of ts x ≡ length (items_before name_eq x (children_of ts parent)) =
+    ap (λ (o : Option NodeName). length (items_before name_eq x (option_map_or (children_of ts) o (x ∷ [])))) h in
     let b = before-shorter x (children_of ts parent) (root-below ts x parent u h) in
     let c = length-children ts parent u in omega arith

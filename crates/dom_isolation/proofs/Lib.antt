@@ -36,12 +36,15 @@ pub mod PlainLines
 pub mod PlainTexts
 pub mod WorldSteps
 pub mod OwnerSteps
+pub mod OwnerDispatches
 pub mod OwnerCommands
 pub mod KindCommands
+pub mod KindLines
 pub mod Acceptance
 pub mod ShadowRoots
 pub mod NodeKinds
 pub mod Insides
+pub mod InsideAncestors
 pub mod Descents
 pub mod Roots
 pub mod TableSteps
@@ -56,6 +59,8 @@ pub mod PlanContents
 pub mod Recorded
 pub mod RecordedTexts
 pub mod TableCommands
+pub mod TableCursors
+pub mod TableRegisters
 pub mod RecordedRanges
 pub mod RecordedCommands
 pub mod TableWorlds
@@ -63,6 +68,7 @@ pub mod Bounds
 pub mod Reached
 pub mod ReachedFacts
 pub mod PlanBounds
+pub mod PlacedBounds
 pub mod TextBounds
 pub mod Childs
 pub mod TableLines
@@ -78,4 +84,5 @@ pub mod FollowPaths
 pub mod FollowEvents
 pub mod RangeEnds
 pub mod RangePlans
+pub mod ExtractionPlans
 pub mod Sights

@@ -9,7 +9,8 @@ use Rattle.dom_base.specs.declared.NodeName.{NodeName}
 use Rattle.dom_model.specs.Names.{ComponentName}
 use Rattle.dom_model.specs.Runs.{Run, quiet, run_each}
 use Rattle.dom_model.specs.World.{World, Task, micro_task, notify_task, part_of, with_part}
-use Rattle.dom_model.specs.Turns.{slotchange, firing_slotchange, is_owned_by, without_signals, notified, running_task, ending_turn, is_other_component, has_other_turn, ending_other_turn, ending_any_turn, opening_turn, is_page_turn}
+use Rattle.dom_model.specs.Turns.{slotchange, firing_slotchange, is_owned_by, without_signals, notified, running_task, ending_turn}
+use Rattle.dom_model.specs.Turns.{is_other_component, has_other_turn, ending_other_turn, ending_any_turn, opening_turn, is_page_turn}
 use Rattle.dom_model.specs.PageMachine.{page_of, page_task, page_turn_end, page_finish, is_page_task}
 use Rattle.dom_isolation.specs.Laws.{page_run, IsQuiet, IsSound}
 use Rattle.dom_isolation.proofs.Tests.{by_cases}
@@ -74,7 +75,8 @@ IsPageTime w = has_other_turn w Page ≡ false
 pub page_time : (w : World) → IsPageTime (ending_other_turn w Page).0
 page_time w =
     by_cases (has_other_turn w Page)
-    (λ h. subst (λ (r : Run World). IsPageTime r.0) (sym (cond-true (has_other_turn w Page) (ending_turn w) (quiet w) h)) (ap (λ t. option_map_or (is_other_component Page) t false) (turn-ending_turn w)))
+    (λ h. subst (λ (r : Run World). IsPageTime r.0) (sym (cond-true (has_other_turn w Page) (ending_turn w) (quiet w) h))
+    (ap (λ t. option_map_or (is_other_component Page) t false) (turn-ending_turn w)))
     (λ h. subst (λ (r : Run World). IsPageTime r.0) (sym (cond-false (has_other_turn w Page) (ending_turn w) (quiet w) h)) h)
 
 -- A turn is opened.
@@ -90,9 +92,11 @@ opening-page w h = from w.turn refl h
     opened : Option Owner → World
     opened t = if is_some t then w else record w { turn = Some Page }
 
-    from : (t : Option Owner) → w.turn ≡ t → option_map_or (is_other_component Page) t false ≡ false → page_of (if is_some w.turn then w else record w { turn = Some Page }) ≡ record (page_of w) { is_open = true }
+    from : (t : Option Owner) → w.turn ≡ t → option_map_or (is_other_component Page) t false ≡ false →
+        page_of (if is_some w.turn then w else record w { turn = Some Page }) ≡ record (page_of w) { is_open = true }
     from None e g = ap (λ t. page_of (if is_some t then w else record w { turn = Some Page })) e
-    from (Some Page) e g = ap (λ t. page_of (if is_some t then w else record w { turn = Some Page })) e ∙ ap (λ t. record (page_of w) { is_open = is_page_turn t }) e
+    from (Some Page) e g = ap (λ t. page_of (if is_some t then w else record w { turn = Some Page })) e ∙
+        ap (λ t. record (page_of w) { is_open = is_page_turn t }) e
     from (Some (Component k)) e g = absurd (true≢false g)
 
 -- a component's turn, as the page sees it
@@ -115,17 +119,25 @@ module _ {only_log : Bool} where
       from : (t : Option Owner) → w.turn ≡ t → IsSound only_log (if is_some w.turn then w else record w { turn = Some o })
       from None e =
           subst (λ t. IsSound only_log (if is_some t then w else record w { turn = Some o })) (sym e)
-          (record { world = world-alike (record w { turn = Some o }) w (λ x. record { trees = refl; count = refl; attached = refl }) (λ x. x) q.world.signalled (tasks e) q.world; logs = q.logs })
+          (record {
+            world = world-alike (record w { turn = Some o }) w (λ x. record { trees = refl; count = refl; attached = refl }) (λ x. x)
+                q.world.signalled (tasks e) q.world;
+            logs = q.logs;
+          })
       from (Some x) e = subst (λ t. IsSound only_log (if is_some t then w else record w { turn = Some o })) (sym e) q
 
 -- The end of input.
 pub ending_any-page : (w : World) → IsQuiet w → page_run (ending_any_turn w) ≡ page_finish (page_of w)
 ending_any-page w q = from w.turn refl
   where
-    from : (t : Option Owner) → w.turn ≡ t → page_run (if is_some w.turn then ending_turn w else quiet w) ≡ (if is_page_turn w.turn then page_turn_end (page_of w) else quiet (page_of w))
+    from : (t : Option Owner) → w.turn ≡ t →
+        page_run (if is_some w.turn then ending_turn w else quiet w) ≡ (if is_page_turn w.turn then page_turn_end (page_of w) else quiet (page_of w))
     from None e =
-        ap (λ t. page_run (if is_some t then ending_turn w else quiet w)) e ∙ sym (ap (λ t. if is_page_turn t then page_turn_end (page_of w) else quiet (page_of w)) e)
+        ap (λ t. page_run (if is_some t then ending_turn w else quiet w)) e ∙
+        sym (ap (λ t. if is_page_turn t then page_turn_end (page_of w) else quiet (page_of w)) e)
     from (Some Page) e =
-        ap (λ t. page_run (if is_some t then ending_turn w else quiet w)) e ∙ ending_turn-page w q ∙ sym (ap (λ t. if is_page_turn t then page_turn_end (page_of w) else quiet (page_of w)) e)
+        ap (λ t. page_run (if is_some t then ending_turn w else quiet w)) e ∙ ending_turn-page w q ∙
+        sym (ap (λ t. if is_page_turn t then page_turn_end (page_of w) else quiet (page_of w)) e)
     from (Some (Component k)) e =
-        ap (λ t. page_run (if is_some t then ending_turn w else quiet w)) e ∙ ending-component w q (ap is_page_turn e) ∙ sym (ap (λ t. if is_page_turn t then page_turn_end (page_of w) else quiet (page_of w)) e)
+        ap (λ t. page_run (if is_some t then ending_turn w else quiet w)) e ∙ ending-component w q (ap is_page_turn e) ∙
+        sym (ap (λ t. if is_page_turn t then page_turn_end (page_of w) else quiet (page_of w)) e)

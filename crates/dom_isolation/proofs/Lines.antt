@@ -20,13 +20,15 @@ use Rattle.dom_isolation.proofs.ComponentEvents.{outward_run, run_then-quiet_end
 use Rattle.dom_isolation.proofs.ComponentCommands.{command-component}
 
 -- after a run that shows nothing comes what is shown
-quiet_first : (r : Run World) (s : PageState) (f : World → Run World) (g : PageState → Run PageState) → page_run r ≡ quiet s → page_run (f r.0) ≡ g (page_of r.0) → page_run (run_then r f) ≡ g s
+quiet_first : (r : Run World) (s : PageState) (f : World → Run World) (g : PageState → Run PageState) → page_run r ≡ quiet s →
+    page_run (f r.0) ≡ g (page_of r.0) → page_run (run_then r f) ≡ g s
 quiet_first r s f g a b = run_then-square r f g b ∙ ap (λ (x : Run PageState). run_then x g) a
 
 -- a line of the page
 pub line-page : (w : World) → IsQuiet w → (l : Line) → is_of is_page (owner_of_line l) ≡ true → page_run (step w l) ≡ page_line (page_of w) l
 line-page w q no_owner h = absurd (true≢false (sym h))
-line-page w q (no_command Page) h = quiet_first (ending_other_turn w Page) (page_of w) (refusing Page Syntax) (refusing Page Syntax) (ending_other-quiet w q Page) refl
+line-page w q (no_command Page) h = quiet_first (ending_other_turn w Page) (page_of w) (refusing Page Syntax) (refusing Page Syntax)
+    (ending_other-quiet w q Page) refl
 line-page w q (no_command (Component k)) h = absurd (true≢false (sym h))
 line-page w q (command Page c) h =
     quiet_first (ending_other_turn w Page) (page_of w) (run_command Page c) (λ s. page_command s c) (ending_other-quiet w q Page)
@@ -34,13 +36,16 @@ line-page w q (command Page c) h =
 line-page w q (command (Component k) c) h = absurd (true≢false (sym h))
 
 -- a line of another owner
-pub line-other : (w : World) → IsQuiet w → (l : Line) → is_of is_page (owner_of_line l) ≡ false → page_run (step w l) ≡ outward_run (page_of w) (outward_event w l)
+pub line-other : (w : World) → IsQuiet w → (l : Line) → is_of is_page (owner_of_line l) ≡ false →
+    page_run (step w l) ≡ outward_run (page_of w) (outward_event w l)
 line-other w q no_owner h = refl
 line-other w q (no_command Page) h = absurd (true≢false h)
-line-other w q (no_command (Component k)) h = quiet_first (ending_other_turn w (Component k)) (page_of w) (refusing (Component k) Syntax) quiet (ending_other-quiet w q (Component k)) refl
+line-other w q (no_command (Component k)) h =
+    quiet_first (ending_other_turn w (Component k)) (page_of w) (refusing (Component k) Syntax) quiet (ending_other-quiet w q (Component k)) refl
 line-other w q (command Page c) h = absurd (true≢false h)
 line-other w q (command (Component k) c) h =
-    quiet_first (ending_other_turn w (Component k)) (page_of w) (run_command (Component k) c) (λ s. outward_run s (outward_event w (command (Component k) c))) (ending_other-quiet w q (Component k))
+    quiet_first (ending_other_turn w (Component k)) (page_of w) (run_command (Component k) c)
+    (λ s. outward_run s (outward_event w (command (Component k) c))) (ending_other-quiet w q (Component k))
     (command-component (ending_other_turn w (Component k)).0 k (quiet-ending_other w q (Component k)) c)
 
 -- One line, by its items of the trace.
@@ -56,5 +61,7 @@ module _ {L : Type 0} (read : L → Line) where
       let kept = is_of is_page (owner_of_line (read l)) in
       let others = map outward (option_to_list (outward_event w (read l))) in
       by_cases kept
-      (λ h. line-page w q (read l) h ∙ sym (run_then-quiet_end (page_line (page_of w) (read l))) ∙ sym (ap (run_page read (page_of w)) (cond-true kept (line l ∷ []) others h)))
-      (λ h. line-other w q (read l) h ∙ sym (items-outward (page_of w) (outward_event w (read l))) ∙ sym (ap (run_page read (page_of w)) (cond-false kept (line l ∷ []) others h)))
+      (λ h. line-page w q (read l) h ∙ sym (run_then-quiet_end (page_line (page_of w) (read l))) ∙
+      sym (ap (run_page read (page_of w)) (cond-true kept (line l ∷ []) others h)))
+      (λ h. line-other w q (read l) h ∙ sym (items-outward (page_of w) (outward_event w (read l))) ∙
+      sym (ap (run_page read (page_of w)) (cond-false kept (line l ∷ []) others h)))

@@ -1,5 +1,6 @@
 -- Facts on lists.
-use Rattle.std.proofs.Common.{◌≡◌, ℕ, zero, ◌<◌, Some, length, true≢false, Bool, true, false, not, List, [], ◌∷◌, ◌++◌, filter, map, flat_map, take_while, reverse, refl, sym, ap, ◌∙◌, arith, append-nil, take, drop, subst, suc, ◌+◌}
+use Rattle.std.proofs.Common.{◌≡◌, ℕ, zero, ◌<◌, Some, length, true≢false, Bool, true, false, not, List, [], ◌∷◌, ◌++◌, filter, map, flat_map}
+use Rattle.std.proofs.Common.{take_while, reverse, refl, sym, ap, ◌∙◌, arith, append-nil, take, drop, subst, suc, ◌+◌}
 use Rattle.std.proofs.lemmas.Bool.{cond-true, cond-false}
 use Rattle.std.proofs.lemmas.List.{reverse-append}
 use Rattle.std.specs.Prelude.{is_some, slice_get}
@@ -72,7 +73,8 @@ module _ {X : Type 0} where
   filter-reverse test [] = refl
   filter-reverse test (x ∷ xs) =
       ap (filter test) (reverse-append (x ∷ []) xs) ∙ filter-append test (reverse xs) (x ∷ [])
-      ∙ by_cases (test x) (λ e. rw (e, filter-reverse test xs) (sym (reverse-append (x ∷ []) (filter test xs)))) (λ e. rw (e, filter-reverse test xs) (append-nil (reverse (filter test xs))))
+      ∙ by_cases (test x) (λ e. rw (e, filter-reverse test xs) (sym (reverse-append (x ∷ []) (filter test xs))))
+      (λ e. rw (e, filter-reverse test xs) (append-nil (reverse (filter test xs))))
 
   -- two tests that agree on the items
   pub filter_same : (p q : X → Bool) (xs : List X) → AllByRecursion (λ x. p x ≡ q x) xs → filter p xs ≡ filter q xs
@@ -98,7 +100,8 @@ module _ {X : Type 0} where
   pub all-take_while : (P : X → Type 0) (p : X → Bool) (xs : List X) → AllByRecursion P xs → AllByRecursion P (take_while p xs)
   all-take_while P p [] h = tt
   all-take_while P p (x ∷ xs) h =
-      by_cases (p x) (λ e. subst (AllByRecursion P) (sym (take_while-yes p x xs e)) (h.0, all-take_while P p xs h.1)) (λ e. subst (AllByRecursion P) (sym (take_while-no p x xs e)) tt)
+      by_cases (p x) (λ e. subst (AllByRecursion P) (sym (take_while-yes p x xs e)) (h.0, all-take_while P p xs h.1))
+      (λ e. subst (AllByRecursion P) (sym (take_while-no p x xs e)) tt)
 
   -- all but the first
   pub all-dropped : (P : X → Type 0) (xs : List X) → AllByRecursion P xs → AllByRecursion P (drop 1 xs)
@@ -106,14 +109,16 @@ module _ {X : Type 0} where
   all-dropped P (x ∷ xs) h = h.1
 
   -- what stands before an item that fails
-  pub all-before : (P : X → Type 0) (p : X → Bool) (xs : List X) (y : X) (ys : List X) → p y ≡ false → AllByRecursion P xs → AllByRecursion P (take_while p (xs ++ y ∷ ys))
+  pub all-before : (P : X → Type 0) (p : X → Bool) (xs : List X) (y : X) (ys : List X) → p y ≡ false → AllByRecursion P xs →
+      AllByRecursion P (take_while p (xs ++ y ∷ ys))
   all-before P p [] y ys e h = subst (AllByRecursion P) (sym (take_while-no p y ys e)) tt
   all-before P p (x ∷ xs) y ys e h =
       by_cases (p x) (λ t. subst (AllByRecursion P) (sym (take_while-yes p x (xs ++ y ∷ ys) t)) (h.0, all-before P p xs y ys e h.1))
       (λ t. subst (AllByRecursion P) (sym (take_while-no p x (xs ++ y ∷ ys) t)) tt)
 
 -- all of what is made of each item
-pub all-flat_map : {X Y : Type 0} (P : Y → Type 0) (f : X → List Y) (xs : List X) → AllByRecursion (λ x. AllByRecursion P (f x)) xs → AllByRecursion P (flat_map f xs)
+pub all-flat_map : {X Y : Type 0} (P : Y → Type 0) (f : X → List Y) (xs : List X) → AllByRecursion (λ x. AllByRecursion P (f x)) xs →
+    AllByRecursion P (flat_map f xs)
 all-flat_map P f [] h = tt
 all-flat_map P f (x ∷ xs) h = all-append P (f x) (flat_map f xs) h.0 (all-flat_map P f xs h.1)
 

@@ -45,11 +45,14 @@ module _ (P : Node → Type 0) (k : OfKinds P) where
       from None = i
       from (Some parent) = nodes-taken_out P x p.trees i
   nodes-step p (set_document x d) i h =
-      nodes-mapped (λ n. if is_in name_eq n.name (inclusive_descendants p.trees x) then with_document d n else n) (some-keeps (λ (n : Node). is_in name_eq n.name (inclusive_descendants p.trees x)) (with_document d) (λ n. (refl, refl))) p.trees i
+      nodes-mapped (λ n. if is_in name_eq n.name (inclusive_descendants p.trees x) then with_document d n else n)
+      (some-keeps (λ (n : Node). is_in name_eq n.name (inclusive_descendants p.trees x)) (with_document d) (λ n. (refl, refl))) p.trees i
   nodes-step p (set_attribute x a v) i h =
-      nodes-mapped (λ n. if name_eq n.name x then with_attribute a v n else n) (some-keeps (λ (n : Node). name_eq n.name x) (with_attribute a v) (attribute-keeps a v)) p.trees i
+      nodes-mapped (λ n. if name_eq n.name x then with_attribute a v n else n)
+      (some-keeps (λ (n : Node). name_eq n.name x) (with_attribute a v) (attribute-keeps a v)) p.trees i
   nodes-step p (replace_data x offset count new) i h =
-      nodes-mapped (λ n. if name_eq n.name x then with_data_replaced offset count new n else n) (some-keeps (λ (n : Node). name_eq n.name x) (with_data_replaced offset count new) (λ n. (refl, refl))) p.trees i
+      nodes-mapped (λ n. if name_eq n.name x then with_data_replaced offset count new n else n)
+      (some-keeps (λ (n : Node). name_eq n.name x) (with_data_replaced offset count new) (λ n. (refl, refl))) p.trees i
   nodes-step p s i h = i
 
 -- a step that makes no shadow root
@@ -86,10 +89,14 @@ kinds-step p s k h =
     let q = part_step p s in
     let same = (rest-step p s).0 in
     record {
-      shadows = subst (λ o. AllNodes (IsShadowOf o) q.trees) (sym (owner-part_step p s)) (nodes-step (IsShadowOf p.owner) (shadow-of_kinds p.owner) p s k.shadows (new-no_shadow p s p.owner h));
+      shadows = subst (λ o. AllNodes (IsShadowOf o) q.trees) (sym (owner-part_step p s))
+          (nodes-step (IsShadowOf p.owner) (shadow-of_kinds p.owner) p s k.shadows (new-no_shadow p s p.owner h));
       hosts = subst (AllByRecursion (IsHost q)) (sym same)
           (all-then (IsHost p) (IsHost q)
-          (λ x i. record { made = (let more = count-grows p s in let made = i.made in omega arith); element = nodes-step (IsElementAt x) (element-of_kinds x) p s i.element (new-no_host p s x i.made) }) p.attached k.hosts);
+          (λ x i. record {
+            made = (let more = count-grows p s in let made = i.made in omega arith);
+            element = nodes-step (IsElementAt x) (element-of_kinds x) p s i.element (new-no_host p s x i.made);
+          }) p.attached k.hosts);
       once = λ x. subst (λ xs. times_among xs x ≤ 1) (sym same) (k.once x);
     }
 
@@ -99,15 +106,21 @@ kinds-alike q p e a k =
     record {
       shadows = subst (λ ts. AllNodes (IsShadowOf q.owner) ts) (sym a.trees) (subst (λ o. AllNodes (IsShadowOf o) p.trees) (sym e) k.shadows);
       hosts = subst (AllByRecursion (IsHost q)) (sym a.attached)
-          (all-then (IsHost p) (IsHost q) (λ x i. record { made = subst (λ n. x.number < n) (sym a.count) i.made; element = subst (AllNodes (IsElementAt x)) (sym a.trees) i.element }) p.attached k.hosts);
+          (all-then (IsHost p) (IsHost q)
+          (λ x i. record {
+            made = subst (λ n. x.number < n) (sym a.count) i.made;
+            element = subst (AllNodes (IsElementAt x)) (sym a.trees) i.element;
+          }) p.attached k.hosts);
       once = λ x. subst (λ xs. times_among xs x ≤ 1) (sym a.attached) (k.once x);
     }
 
 -- A node that is read, of all nodes with a property, has it; a name without a node reads as a fragment.
-read-all : (P : Node → Type 0) (x : NodeName) → P (no_node x) → (ns : List Node) → AllByRecursion P ns → P (unwrap_or (find (λ n. name_eq n.name x) ns) (no_node x))
+read-all : (P : Node → Type 0) (x : NodeName) → P (no_node x) → (ns : List Node) → AllByRecursion P ns →
+    P (unwrap_or (find (λ n. name_eq n.name x) ns) (no_node x))
 read-all P x h [] g = h
 read-all P x h (n ∷ ns) g =
-    by_cases (name_eq n.name x) (λ e. subst (λ o. P (unwrap_or o (no_node x))) (sym (cond-true (name_eq n.name x) (Some n) (find (λ m. name_eq m.name x) ns) e)) g.0)
+    by_cases (name_eq n.name x) (λ e. subst (λ o. P (unwrap_or o (no_node x)))
+    (sym (cond-true (name_eq n.name x) (Some n) (find (λ m. name_eq m.name x) ns) e)) g.0)
     (λ e. subst (λ o. P (unwrap_or o (no_node x))) (sym (cond-false (name_eq n.name x) (Some n) (find (λ m. name_eq m.name x) ns) e)) (read-all P x h ns g.1))
 
 -- the same of a list of trees
@@ -118,8 +131,10 @@ node-read P x h ts g = read-all P x h (nodes ts) (nodes-listed P ts g)
 read-named : (x : NodeName) (ns : List Node) → (unwrap_or (find (λ n. name_eq n.name x) ns) (no_node x)).name ≡ x
 read-named x [] = refl
 read-named x (n ∷ ns) =
-    by_cases (name_eq n.name x) (λ e. ap (λ (o : Option Node). (unwrap_or o (no_node x)).name) (cond-true (name_eq n.name x) (Some n) (find (λ m. name_eq m.name x) ns) e) ∙ name_eq-true n.name x e)
-    (λ e. ap (λ (o : Option Node). (unwrap_or o (no_node x)).name) (cond-false (name_eq n.name x) (Some n) (find (λ m. name_eq m.name x) ns) e) ∙ read-named x ns)
+    by_cases (name_eq n.name x) (λ e. ap (λ (o : Option Node). (unwrap_or o (no_node x)).name)
+    (cond-true (name_eq n.name x) (Some n) (find (λ m. name_eq m.name x) ns) e) ∙ name_eq-true n.name x e)
+    (λ e. ap (λ (o : Option Node). (unwrap_or o (no_node x)).name) (cond-false (name_eq n.name x) (Some n) (find (λ m. name_eq m.name x) ns) e) ∙
+    read-named x ns)
 
 -- in a list of trees
 pub name-node_in : (ts : Trees) (x : NodeName) → (node_in ts x).name ≡ x

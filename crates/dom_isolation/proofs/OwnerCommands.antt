@@ -1,5 +1,6 @@
 -- Every line keeps whose parts are there; attaching adds one.
-use Rattle.std.proofs.Common.{◌≡◌, ◌≢◌, ℕ, suc, Bool, true, false, List, [], ◌∷◌, ◌++◌, length, filter, Option, Some, None, option_map, refl, sym, ap, ◌∙◌, arith, subst, append-nil, length-append}
+use Rattle.std.proofs.Common.{◌≡◌, ◌≢◌, ℕ, suc, Bool, true, false, List, [], ◌∷◌, ◌++◌, length, filter, Option, Some, None, option_map, refl, sym, ap}
+use Rattle.std.proofs.Common.{◌∙◌, arith, subst, append-nil, length-append}
 use Rattle.std.specs.Prelude.{is_some, is_none, option_to_list}
 use Rattle.std.specs.Option.{option_map_or}
 use Rattle.std.proofs.lemmas.Bool.{cond-true, cond-false, false_from_ne_true}
@@ -29,7 +30,9 @@ use Rattle.dom_isolation.proofs.FirstWorld.{quiet-first, quiet-attaching, by_own
 use Rattle.dom_isolation.proofs.LineBegins.{IsPageTime, page_time, quiet-opening, quiet-ending_other}
 use Rattle.dom_isolation.proofs.Lists.{all-append, all-then}
 use Rattle.dom_isolation.proofs.Tests.{either_way}
-use Rattle.dom_isolation.proofs.OwnerSteps.{IsPeopled, same-people, peopled-with_part, peopled-world_after, peopled-dispatch, peopled-ending_turn, peopled-ending_other}
+use Rattle.dom_isolation.proofs.OwnerSteps.{IsPeopled, same-people, peopled-with_part, peopled-world_after}
+use Rattle.dom_isolation.proofs.OwnerDispatches.{peopled-dispatch, peopled-ending_turn}
+use Rattle.dom_isolation.proofs.OwnerDispatches.{peopled-ending_other}
 use Rattle.dom_isolation.proofs.Owners.{has_owner, there-listed, owners-put, owners-put_new, absent-part, made_by-told, next-absent}
 use Rattle.dom_isolation.proofs.PageCommands.{owner-named}
 use Rattle.dom_isolation.proofs.Acceptance.{accepted-facts, attach-may}
@@ -118,21 +121,24 @@ peopled-perform w o (Command.connected x) h g q i = i
 peopled-perform w o (Command.assigned x) h g q i = i
 peopled-perform w o (Command.dispatch x e related) h g q i = peopled-dispatch w q.world (named (part_of w o) x) (option_map (named (part_of w o)) related) e i
 peopled-perform w o (Command.micro label) h g q i =
-    same-people (perform w o (Command.micro label)).0 w (refl, λ x. refl) i.owners.turn (all-append (λ t. IsThere w (task_owner t)) w.tasks (micro_task o label ∷ []) i.owners.tasks (h, tt)) i.owners.signalled i
+    same-people (perform w o (Command.micro label)).0 w (refl, λ x. refl) i.owners.turn
+    (all-append (λ t. IsThere w (task_owner t)) w.tasks (micro_task o label ∷ []) i.owners.tasks (h, tt)) i.owners.signalled i
 peopled-perform w o Command.end_turn h g q i = peopled-ending_turn w q i
 peopled-perform w o c h g q i = peopled-effect w o (effect (part_of w o) c) h (base-effect (part_of w o) c) i
 
 -- the turn that it opens
 pub peopled-opening : (w : World) (o : Owner) → IsThere w o → IsPeopled w → IsPeopled (opening_turn w o)
 peopled-opening w o h i =
-    either_way IsPeopled (is_some w.turn) w (record w { turn = Some o }) i (same-people (record w { turn = Some o }) w (refl, λ x. refl) (h, tt) i.owners.tasks i.owners.signalled i)
+    either_way IsPeopled (is_some w.turn) w (record w { turn = Some o }) i
+    (same-people (record w { turn = Some o }) w (refl, λ x. refl) (h, tt) i.owners.tasks i.owners.signalled i)
 
 -- its owner stays there
 pub there-opening : (w : World) (o : Owner) → IsThere w o → IsThere (opening_turn w o) o
 there-opening w o h = either_way (λ v. IsThere v o) (is_some w.turn) w (record w { turn = Some o }) h h
 
 -- with that turn
-peopled-accepted : (w : World) (o : Owner) (c : Command) → (o ≡ Page → IsPageTime w) → IsThere w o → is_command_of o c ≡ true → IsSound false w → IsPeopled w → IsPeopled (accepted w o c).0
+peopled-accepted : (w : World) (o : Owner) (c : Command) → (o ≡ Page → IsPageTime w) → IsThere w o → is_command_of o c ≡ true → IsSound false w →
+    IsPeopled w → IsPeopled (accepted w o c).0
 peopled-accepted w o Command.end_turn t h g q i = peopled-ending_turn w q i
 peopled-accepted w o c t h g q i = peopled-perform (opening_turn w o) o c (there-opening w o h) g (quiet-opening w q o t) (peopled-opening w o h i)
 
@@ -142,11 +148,13 @@ peopled-command w o c t q i = from (refusal w o c) refl
   where
     from : (r : Option Refusal) → refusal w o c ≡ r → IsPeopled (unless_refused o (refusal w o c) w (accepted w o c)).0
     from (Some r) e = subst (λ a. IsPeopled (unless_refused o a w (accepted w o c)).0) (sym e) i
-    from None e = let a = accepted-facts w o c e in subst (λ a. IsPeopled (unless_refused o a w (accepted w o c)).0) (sym e) (peopled-accepted w o c t a.there a.grammar q i)
+    from None e = let a = accepted-facts w o c e in subst (λ a. IsPeopled (unless_refused o a w (accepted w o c)).0) (sym e)
+        (peopled-accepted w o c t a.there a.grammar q i)
 
 -- a line keeps who is there
 pub peopled-step : (w : World) (l : Line) → IsSound false w → IsPeopled w → IsPeopled (step w l).0
 peopled-step w no_owner q i = i
 peopled-step w (no_command o) q i = peopled-ending_other w o q i
 peopled-step w (command o c) q i =
-    peopled-command (ending_other_turn w o).0 o c (λ e. subst (λ x. IsPageTime (ending_other_turn w x).0) (sym e) (page_time w)) (quiet-ending_other w q o) (peopled-ending_other w o q i)
+    peopled-command (ending_other_turn w o).0 o c (λ e. subst (λ x. IsPageTime (ending_other_turn w x).0) (sym e) (page_time w))
+    (quiet-ending_other w q o) (peopled-ending_other w o q i)

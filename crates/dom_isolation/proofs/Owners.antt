@@ -1,6 +1,7 @@
 -- Whose parts are there: the page's and the attached components'. Writing a part that is there, signalling slots that are
 -- there, and dispatches keep that.
-use Rattle.std.proofs.Common.{◌≡◌, ◌≢◌, ℕ, zero, suc, ◌<◌, ◌≤◌, Bool, true, false, ◌||◌, List, [], ◌∷◌, ◌++◌, length, map, filter, Option, Some, None, unwrap_or, refl, sym, ap, ◌∙◌, arith, true≢false, subst}
+use Rattle.std.proofs.Common.{◌≡◌, ◌≢◌, ℕ, zero, suc, ◌<◌, ◌≤◌, Bool, true, false, ◌||◌, List, [], ◌∷◌, ◌++◌, length, map, filter, Option, Some, None}
+use Rattle.std.proofs.Common.{unwrap_or, refl, sym, ap, ◌∙◌, arith, true≢false, subst}
 use Rattle.std.specs.Prelude.{⊤, is_some, is_none}
 use Rattle.std.specs.List.{list_any}
 use Rattle.std.specs.Option.{option_map_or}
@@ -27,14 +28,16 @@ there-listed [] o = refl
 there-listed (p ∷ ps) o =
     by_cases (owner_eq p.owner o)
     (λ e. ap is_some (cond-true (owner_eq p.owner o) (Some p) (find_part ps o) e) ∙ sym (ap (λ b. b || has_owner (map (λ (p : Part). p.owner) ps) o) e))
-    (λ e. ap is_some (cond-false (owner_eq p.owner o) (Some p) (find_part ps o) e) ∙ there-listed ps o ∙ sym (ap (λ b. b || has_owner (map (λ (p : Part). p.owner) ps) o) e))
+    (λ e. ap is_some (cond-false (owner_eq p.owner o) (Some p) (find_part ps o) e) ∙ there-listed ps o ∙
+    sym (ap (λ b. b || has_owner (map (λ (p : Part). p.owner) ps) o) e))
 
 -- the same owners are there
 pub there-same : (v w : World) → owners_in v ≡ owners_in w → (o : Owner) → is_there v o ≡ is_there w o
 there-same v w e o = there-listed v.parts o ∙ ap (λ os. has_owner os o) e ∙ sym (there-listed w.parts o)
 
 -- a part that is written where there is one, and where there is none
-pub owners-put : (ps : List Part) (p : Part) → is_some (find_part ps p.owner) ≡ true → map (λ (p : Part). p.owner) (put_part ps p) ≡ map (λ (p : Part). p.owner) ps
+pub owners-put : (ps : List Part) (p : Part) → is_some (find_part ps p.owner) ≡ true →
+    map (λ (p : Part). p.owner) (put_part ps p) ≡ map (λ (p : Part). p.owner) ps
 owners-put [] p h = absurd (true≢false (sym h))
 owners-put (q ∷ qs) p h =
     let owners : List Part → List Owner = map (λ (p : Part). p.owner) in
@@ -44,7 +47,8 @@ owners-put (q ∷ qs) p h =
     ∙ ap (λ os. q.owner ∷ os) (owners-put qs p (sym (ap is_some (cond-false (owner_eq q.owner p.owner) (Some q) (find_part qs p.owner) e)) ∙ h)))
 
 -- a part of a new owner comes last
-pub owners-put_new : (ps : List Part) (p : Part) → has_owner (map (λ (p : Part). p.owner) ps) p.owner ≡ false → map (λ (p : Part). p.owner) (put_part ps p) ≡ map (λ (p : Part). p.owner) ps ++ p.owner ∷ []
+pub owners-put_new : (ps : List Part) (p : Part) → has_owner (map (λ (p : Part). p.owner) ps) p.owner ≡ false →
+    map (λ (p : Part). p.owner) (put_part ps p) ≡ map (λ (p : Part). p.owner) ps ++ p.owner ∷ []
 owners-put_new [] p h = refl
 owners-put_new (q ∷ qs) p h =
     let owners : List Part → List Owner = map (λ (p : Part). p.owner) in

@@ -1,5 +1,6 @@
 -- A command of the page in the world does to the page's part what it does in the page machine.
-use Rattle.std.proofs.Common.{◌≡◌, Bool, true, false, not, ◌&&◌, List, [], ◌∷◌, ◌++◌, length, map, Option, Some, None, option_map, unwrap_or, refl, sym, ap, ◌∙◌, true≢false, subst, suc}
+use Rattle.std.proofs.Common.{◌≡◌, Bool, true, false, not, ◌&&◌, List, [], ◌∷◌, ◌++◌, length, map, Option, Some, None, option_map, unwrap_or, refl}
+use Rattle.std.proofs.Common.{sym, ap, ◌∙◌, true≢false, subst, suc}
 use Rattle.std.specs.Prelude.{option_to_list}
 use Rattle.std.specs.List.{AllByRecursion, last_or}
 use Rattle.std.specs.Option.{option_or}
@@ -46,8 +47,10 @@ and-false false = refl
 -- the page's refusals are the page machine's
 pub refusal-page : (w : World) → IsWorld w → (c : Command) → refusal w Page c ≡ page_refusal (page_of w) c
 refusal-page w i c =
-    ap (λ b. option_or (first_refusal ((not (is_command_of Page c), Syntax) ∷ (b, Busy) ∷ (names_foreign c, Foreign) ∷ (not (is_there w Page), Unknown) ∷ [])) (part_refusal (part_of w Page) c)) (and-false (is_page_turn w.turn))
-    ∙ ap (λ b. option_or (first_refusal ((not (is_command_of Page c), Syntax) ∷ (names_foreign c, Foreign) ∷ (not b, Unknown) ∷ [])) (part_refusal (part_of w Page) c)) i.page
+    ap (λ b. option_or (first_refusal ((not (is_command_of Page c), Syntax) ∷ (b, Busy) ∷ (names_foreign c, Foreign) ∷
+    (not (is_there w Page), Unknown) ∷ [])) (part_refusal (part_of w Page) c)) (and-false (is_page_turn w.turn))
+    ∙ ap (λ b. option_or (first_refusal ((not (is_command_of Page c), Syntax) ∷ (names_foreign c, Foreign) ∷ (not b, Unknown) ∷ []))
+    (part_refusal (part_of w Page) c)) i.page
 
 -- Effects.
 pub page_of-with_part : (w : World) (p : Part) → p.owner ≡ Page → page_of (with_part w p) ≡ record (page_of w) { part = p }
@@ -70,16 +73,19 @@ attaching-page w x =
     let marked = with_part w (record p { attached = p.attached ++ x ∷ [] }) in
     let root = part_with_root c Shadow (node_in p.trees x).document in
     ap (λ q. answering Page (a_component c) (record (page_of w) { part = q }))
-    (part_of-with_part-other marked root Page (Component-IsNoPage (suc (length p.attached))) ∙ part_of-with_part w (record p { attached = p.attached ++ x ∷ [] }) Page (owner-part_of w Page))
+    (part_of-with_part-other marked root Page (Component-IsNoPage (suc (length p.attached))) ∙
+    part_of-with_part w (record p { attached = p.attached ++ x ∷ [] }) Page (owner-part_of w Page))
 
 -- the last of the page's nodes is the page's
-owner-last : (xs : List NodeName) (o : Option NodeName) (x : NodeName) → AllByRecursion (IsOf Page) xs → AllByRecursion (IsOf Page) (option_to_list o) → x.owner ≡ Page → (unwrap_or (last_or o xs) x).owner ≡ Page
+owner-last : (xs : List NodeName) (o : Option NodeName) (x : NodeName) → AllByRecursion (IsOf Page) xs →
+    AllByRecursion (IsOf Page) (option_to_list o) → x.owner ≡ Page → (unwrap_or (last_or o xs) x).owner ≡ Page
 owner-last [] None x h g e = e
 owner-last [] (Some y) x h g e = g.0
 owner-last (y ∷ xs) o x h g e = owner-last xs (Some y) x h.1 (h.0, tt) e
 
 -- a page node is connected where its root is a document
-connected-page : (w : World) → IsWorld w → (x : NodeName) → x.owner ≡ Page → is_connected w x ≡ is_document (kind_of (part_of w Page).trees (root_of (part_of w Page).trees x))
+connected-page : (w : World) → IsWorld w → (x : NodeName) → x.owner ≡ Page →
+    is_connected w x ≡ is_document (kind_of (part_of w Page).trees (root_of (part_of w Page).trees x))
 connected-page w i x h =
     let up = ancestors_at w x in
     let root = unwrap_or (last_of up) x in
@@ -103,7 +109,8 @@ page_related w None = tt
 page_related w (Some x) = (page_named w x, tt)
 
 -- a dispatch of the page
-pub dispatched-page : (w : World) → IsQuiet w → (x : Spelled) (e : EventWords) (related : Option Spelled) → page_run (perform w Page (Command.dispatch x e related)) ≡ page_perform (page_of w) (Command.dispatch x e related)
+pub dispatched-page : (w : World) → IsQuiet w → (x : Spelled) (e : EventWords) (related : Option Spelled) →
+    page_run (perform w Page (Command.dispatch x e related)) ≡ page_perform (page_of w) (Command.dispatch x e related)
 dispatched-page w q x e related =
     let p = part_of w Page in
     let d = dispatch_in w (named p x) (option_map (named p) related) e in
@@ -115,19 +122,24 @@ dispatched-page w q x e related =
 -- every accepted command of the page
 pub perform-page : (w : World) → IsQuiet w → (c : Command) → is_command_of Page c ≡ true → page_run (perform w Page c) ≡ page_perform (page_of w) c
 perform-page w q (Command.attach a) h = attaching-page w (named (part_of w Page) a)
-perform-page w q (Command.connected a) h = ap (λ b. answering Page (a_truth b) (page_of w)) (connected-page w q.world (named (part_of w Page) a) (page_named w a))
+perform-page w q (Command.connected a) h =
+    ap (λ b. answering Page (a_truth b) (page_of w)) (connected-page w q.world (named (part_of w Page) a) (page_named w a))
 perform-page w q (Command.assigned a) h = absurd (true≢false (sym h))
 perform-page w q (Command.dispatch a b c) h = dispatched-page w q a b c
-perform-page w q (Command.micro a) h = ap (λ ts. answering Page nothing (record (page_of w) { tasks = ts })) (filter-append is_page_task w.tasks (micro_task Page a ∷ []))
-perform-page w q Command.end_turn h = run_then-square (ending_turn w) (answering Page nothing) (answering Page nothing) refl ∙ ap (λ r. run_then r (answering Page nothing)) (ending_turn-page w q)
+perform-page w q (Command.micro a) h = ap (λ ts. answering Page nothing (record (page_of w) { tasks = ts }))
+    (filter-append is_page_task w.tasks (micro_task Page a ∷ []))
+perform-page w q Command.end_turn h = run_then-square (ending_turn w) (answering Page nothing) (answering Page nothing) refl ∙
+    ap (λ r. run_then r (answering Page nothing)) (ending_turn-page w q)
 perform-page w q c h = effect-page w (effect (part_of w Page) c) (base-effect (part_of w Page) c)
 
 -- with the turn that it opens
-opened : (w : World) → IsQuiet w → IsPageTime w → (c : Command) → is_command_of Page c ≡ true → page_run (perform (opening_turn w Page) Page c) ≡ page_perform (record (page_of w) { is_open = true }) c
+opened : (w : World) → IsQuiet w → IsPageTime w → (c : Command) → is_command_of Page c ≡ true →
+    page_run (perform (opening_turn w Page) Page c) ≡ page_perform (record (page_of w) { is_open = true }) c
 opened w q t c h = perform-page (opening_turn w Page) (quiet-opening w q Page (λ e. t)) c h ∙ ap (λ s. page_perform s c) (opening-page w t)
 
 -- the turn is opened by every command but `.`
-pub accepted-page : (w : World) → IsQuiet w → IsPageTime w → (c : Command) → is_command_of Page c ≡ true → page_run (accepted w Page c) ≡ page_accepted (page_of w) c
+pub accepted-page : (w : World) → IsQuiet w → IsPageTime w → (c : Command) → is_command_of Page c ≡ true →
+    page_run (accepted w Page c) ≡ page_accepted (page_of w) c
 accepted-page w q t Command.end_turn h = perform-page w q Command.end_turn h
 accepted-page w q t c h = opened w q t c h
 
@@ -140,10 +152,14 @@ not-refused false ts r h = cc
 pub command-page : (w : World) → IsQuiet w → IsPageTime w → (c : Command) → page_run (run_command Page c w) ≡ page_command (page_of w) c
 command-page w q t c = from (refusal w Page c) refl
   where
-    from : (r : Option Refusal) → refusal w Page c ≡ r → page_run (unless_refused Page (refusal w Page c) w (accepted w Page c)) ≡ unless_refused Page (page_refusal (page_of w) c) (page_of w) (page_accepted (page_of w) c)
+    from : (r : Option Refusal) → refusal w Page c ≡ r →
+        page_run (unless_refused Page (refusal w Page c) w (accepted w Page c)) ≡ unless_refused Page (page_refusal (page_of w) c) (page_of w)
+        (page_accepted (page_of w) c)
     from (Some r) e =
-        ap (λ o. page_run (unless_refused Page o w (accepted w Page c))) e ∙ sym (ap (λ o. unless_refused Page o (page_of w) (page_accepted (page_of w) c)) (sym (refusal-page w q.world c) ∙ e))
+        ap (λ o. page_run (unless_refused Page o w (accepted w Page c))) e ∙
+        sym (ap (λ o. unless_refused Page o (page_of w) (page_accepted (page_of w) c)) (sym (refusal-page w q.world c) ∙ e))
     from None e =
-        let mine = not-refused (is_command_of Page c) ((is_busy w Page, Busy) ∷ (names_foreign c, Foreign) ∷ (not (is_there w Page), Unknown) ∷ []) (part_refusal (part_of w Page) c) e in
+        let mine = not-refused (is_command_of Page c)
+        ((is_busy w Page, Busy) ∷ (names_foreign c, Foreign) ∷ (not (is_there w Page), Unknown) ∷ []) (part_refusal (part_of w Page) c) e in
         ap (λ o. page_run (unless_refused Page o w (accepted w Page c))) e ∙ accepted-page w q t c mine
         ∙ sym (ap (λ o. unless_refused Page o (page_of w) (page_accepted (page_of w) c)) (sym (refusal-page w q.world c) ∙ e))

@@ -1,5 +1,6 @@
 -- The path of an event of a page node: its inclusive ancestors, and between them nodes of shadow trees, which are hidden.
-use Rattle.std.proofs.Common.{◌≡◌, ℕ, zero, suc, Bool, true, false, not, ◌&&◌, List, [], ◌∷◌, ◌++◌, filter, flat_map, take_while, Option, Some, None, map, refl, sym, ap, ◌∙◌, subst, append-nil}
+use Rattle.std.proofs.Common.{◌≡◌, ℕ, zero, suc, Bool, true, false, not, ◌&&◌, List, [], ◌∷◌, ◌++◌, filter, flat_map, take_while, Option, Some, None}
+use Rattle.std.proofs.Common.{map, refl, sym, ap, ◌∙◌, subst, append-nil}
 use Rattle.std.specs.Prelude.{if◌then◌else◌, option_to_list}
 use Rattle.std.specs.List.{AllByRecursion}
 use Rattle.std.proofs.lemmas.List.Elements.{filter-append}
@@ -10,12 +11,14 @@ use Rattle.dom_base.specs.declared.NodeName.{NodeName}
 use Rattle.dom_model.specs.Names.{name_eq, max_depth}
 use Rattle.dom_model.specs.World.{World, part_of, ancestors_at, host_chain}
 use Rattle.dom_model.specs.Slots.{slot_of}
-use Rattle.dom_model.specs.Paths.{is_hidden_from, retarget, retarget_related, is_node, with_slots, way_up, whole_path, ends_at, event_path, view_at, views, plain_view, plain_views}
+use Rattle.dom_model.specs.Paths.{is_hidden_from, retarget, retarget_related, is_node, with_slots, way_up, whole_path, ends_at, event_path, view_at}
+use Rattle.dom_model.specs.Paths.{views, plain_view, plain_views}
 use Rattle.dom_model.specs.Trace.{is_page}
 use Rattle.dom_model.proofs.OwnerLaws.{ne-owner_eq}
 use Rattle.dom_isolation.specs.Worlds.{IsWorld, IsOf, IsForeignTo}
 use Rattle.dom_isolation.proofs.Lists.{all-append, all-from, all-then, all-flat_map, filter-map, filter_none, filter_same, map_same, take_while_all}
-use Rattle.dom_isolation.proofs.Hiding.{IsInTree, slot-in_tree, ancestors-in_tree, ancestors-owned, host_chain-page, page-not_hidden, in_tree-hidden, retarget-page, retarget_related-page}
+use Rattle.dom_isolation.proofs.Hiding.{IsInTree, slot-in_tree, ancestors-in_tree, ancestors-owned, host_chain-page, page-not_hidden, in_tree-hidden}
+use Rattle.dom_isolation.proofs.Hiding.{retarget-page, retarget_related-page}
 use Rattle.dom_isolation.proofs.Dispatches.{is_page_view}
 
 -- whether a node is the page's
@@ -106,8 +109,10 @@ way-pages w i depth (x ∷ xs) h =
     ∙ way-pages w i depth xs h.1)
 
 -- a path that is not cut
-pub uncut : (w : World) (target : NodeName) (related : Option NodeName) (xs : List NodeName) → AllByRecursion (λ y. ends_at w target related y ≡ false) xs → take_while (λ y. not (ends_at w target related y)) xs ≡ xs
-uncut w target related xs h = take_while_all (λ y. not (ends_at w target related y)) xs (all-then (λ y. ends_at w target related y ≡ false) (λ y. not (ends_at w target related y) ≡ true) (λ y e. ap not e) xs h)
+pub uncut : (w : World) (target : NodeName) (related : Option NodeName) (xs : List NodeName) →
+    AllByRecursion (λ y. ends_at w target related y ≡ false) xs → take_while (λ y. not (ends_at w target related y)) xs ≡ xs
+uncut w target related xs h = take_while_all (λ y. not (ends_at w target related y)) xs
+    (all-then (λ y. ends_at w target related y ≡ false) (λ y. not (ends_at w target related y) ≡ true) (λ y e. ap not e) xs h)
 
 -- a node other than the target is not the target
 no_other : (b c : Bool) → (not b && (b && c)) ≡ false
@@ -117,7 +122,8 @@ no_other false c = refl
 -- no path of a page target ends early
 ends-page : (w : World) (target : NodeName) (related : Option NodeName) → target.owner ≡ Page → (y : NodeName) → ends_at w target related y ≡ false
 ends-page w target related h y =
-    ap (λ t. not (name_eq y target) && (name_eq y t && is_node y (retarget_related w related y))) (retarget-page w target y h) ∙ no_other (name_eq y target) (is_node y (retarget_related w related y))
+    ap (λ t. not (name_eq y target) && (name_eq y t && is_node y (retarget_related w related y))) (retarget-page w target y h) ∙
+    no_other (name_eq y target) (is_node y (retarget_related w related y))
 
 -- a test does not hold with its contrary
 and-not : (b : Bool) → (b && not b) ≡ false
@@ -125,14 +131,16 @@ and-not true = refl
 and-not false = refl
 
 -- the path of an event of a page target
-pub event_path-page : (w : World) → IsWorld w → (target : NodeName) (related : Option NodeName) (composed : Bool) → target.owner ≡ Page → AllByRecursion (IsOf Page) (option_to_list related) →
+pub event_path-page : (w : World) → IsWorld w → (target : NodeName) (related : Option NodeName) (composed : Bool) → target.owner ≡ Page →
+    AllByRecursion (IsOf Page) (option_to_list related) →
     event_path w target related composed ≡ way_up w target
 event_path-page w i target related composed h g =
     let whole : whole_path w target composed ≡ way_up w target = ap (flat_map (way_up w)) (chain composed) ∙ append-nil (way_up w target) in
     let cut = λ (xs : List NodeName). take_while (λ y. not (ends_at w target related y)) xs in
     ap (λ r. if is_node target r && not (is_node target related) then [] else cut (whole_path w target composed)) (retarget_related-page w related target g)
     ∙ cond-false (is_node target related && not (is_node target related)) [] (cut (whole_path w target composed)) (and-not (is_node target related))
-    ∙ ap cut whole ∙ uncut w target related (way_up w target) (all-from (λ y. ends_at w target related y ≡ false) (ends-page w target related h) (way_up w target))
+    ∙ ap cut whole ∙ uncut w target related (way_up w target)
+    (all-from (λ y. ends_at w target related y ≡ false) (ends-page w target related h) (way_up w target))
   where
     chain : (c : Bool) → (if c then host_chain w target else target ∷ []) ≡ target ∷ []
     chain true = host_chain-page w target h
@@ -140,14 +148,16 @@ event_path-page w i target related composed h g =
 
 -- The views at page nodes are those of the page alone.
 pub view_at-page : (w : World) (target near : NodeName) (related : Option NodeName) (path pages : List NodeName) (x : NodeName) →
-    retarget w target x ≡ near → retarget_related w related x ≡ related → filter (λ y. not (is_hidden_from w x y)) path ≡ pages → view_at w target related path x ≡ plain_view near related pages x
+    retarget w target x ≡ near → retarget_related w related x ≡ related → filter (λ y. not (is_hidden_from w x y)) path ≡ pages →
+    view_at w target related path x ≡ plain_view near related pages x
 view_at-page w target near related path pages x a b c =
     ap (λ t. record { node = x; target = t; related = retarget_related w related x; path = filter (λ y. not (is_hidden_from w x y)) path }) a
     ∙ ap (λ r. record { node = x; target = near; related = r; path = filter (λ y. not (is_hidden_from w x y)) path }) b
     ∙ ap (λ p. record { node = x; target = near; related = related; path = p }) c
 
 -- the views at its page nodes are the page machine's
-pub views-page : (w : World) → IsWorld w → (target : NodeName) (related : Option NodeName) (composed : Bool) → target.owner ≡ Page → AllByRecursion (IsOf Page) (option_to_list related) →
+pub views-page : (w : World) → IsWorld w → (target : NodeName) (related : Option NodeName) (composed : Bool) → target.owner ≡ Page →
+    AllByRecursion (IsOf Page) (option_to_list related) →
     filter is_page_view (views w target related composed) ≡ plain_views (part_of w Page).trees target related
 views-page w i target related composed h g =
     let way = way_up w target in
@@ -161,5 +171,6 @@ views-page w i target related composed h g =
     (λ y s. s x e) way (way-seen w i max_depth up owned)) ∙ pages) in
     ap (λ path. filter is_page_view (map (view_at w target related path) path)) path_is
     ∙ filter-map is_page_view (view_at w target related way) way ∙ ap (map (view_at w target related way)) pages
-    ∙ map_same (view_at w target related way) (plain_view target related up) up (all-then (IsOf Page) (λ x. view_at w target related way x ≡ plain_view target related up x) at up owned)
+    ∙ map_same (view_at w target related way) (plain_view target related up) up
+    (all-then (IsOf Page) (λ x. view_at w target related way x ≡ plain_view target related up x) at up owned)
     ∙ ap (λ o. plain_views (part_of w o).trees target related) h

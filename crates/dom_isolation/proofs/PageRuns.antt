@@ -34,7 +34,8 @@ module _ {L : Type 0} (read : L → Line) where
       quiet-lines ls (step w (read l)).0 (quiet-step w (read l) q (λ y. not-true (line_may_stop w (read l)) both.0)) both.1
 
   -- lines from a world on, as the page sees them
-  pub lines-page : (ls : List L) (w : World) → IsQuiet w → no_component_stops_from read w ls ≡ true → page_run (run_lines w (map read ls)) ≡ run_page read (page_of w) (trace_from read is_page w ls)
+  pub lines-page : (ls : List L) (w : World) → IsQuiet w → no_component_stops_from read w ls ≡ true →
+      page_run (run_lines w (map read ls)) ≡ run_page read (page_of w) (trace_from read is_page w ls)
   lines-page [] w q h = refl
   lines-page (l ∷ ls) w q h =
       let both = and_parts (not (line_may_stop w (read l))) (no_component_stops_from read (step w (read l)).0 ls) h in
@@ -50,7 +51,8 @@ module _ {L : Type 0} (read : L → Line) where
   page_run-agrees ls h = lines-page ls first_world quiet-first h
 
   -- lines and more lines
-  trace-on : (ls more : List L) (w : World) → trace_from read is_page w (ls ++ more) ≡ trace_from read is_page w ls ++ trace_from read is_page (run_lines w (map read ls)).0 more
+  trace-on : (ls more : List L) (w : World) →
+      trace_from read is_page w (ls ++ more) ≡ trace_from read is_page w ls ++ trace_from read is_page (run_lines w (map read ls)).0 more
   trace-on [] more w = refl
   trace-on (l ∷ ls) more w =
       let v = (step w (read l)).0 in
@@ -60,8 +62,11 @@ module _ {L : Type 0} (read : L → Line) where
   -- of a script
   pub trace-goes_on : TraceGoesOn read
   trace-goes_on ls more =
-      let rest = trace_from read is_page (run_lines first_world (map read ls)).0 more in
-      (trace-on ls more first_world, ap (run_page read first_page) (trace-on ls more first_world) ∙ run_each-append (step_page read) first_page (trace_from read is_page first_world ls) rest)
+      let rest = trace_from read is_page (run_lines first_world (map read ls)).0 more in (
+        trace-on ls more first_world,
+        ap (run_page read first_page) (trace-on ls more first_world) ∙ run_each-append (step_page read) first_page
+            (trace_from read is_page first_world ls) rest,
+      )
 
   -- what the page machine writes for the lines so far, and then for more of them and the ending
   pub page_output-goes_on : PageOutputGoesOn read
@@ -92,7 +97,8 @@ module _ {L : Type 0} (read : L → Line) where
   pub page-sees_its_trace : PageSeesItsTrace read
   page-sees_its_trace ls h =
       ap (λ (r : Run PageState). r.1)
-      (run_then-square (run_lines first_world (map read ls)) finish page_finish (ending_any-page (run_lines first_world (map read ls)).0 (quiet-lines ls first_world quiet-first h))
+      (run_then-square (run_lines first_world (map read ls)) finish page_finish
+      (ending_any-page (run_lines first_world (map read ls)).0 (quiet-lines ls first_world quiet-first h))
       ∙ ap (λ (r : Run PageState). run_then r page_finish) (lines-page ls first_world quiet-first h))
 
   -- equal traces

@@ -1,5 +1,6 @@
 -- Steps in the world, as the page sees them: those of the page are its own, those of components are none.
-use Rattle.std.proofs.Common.{◌≡◌, ◌≢◌, Bool, true, false, ◌&&◌, List, [], ◌∷◌, ◌++◌, filter, fold, Option, Some, None, refl, sym, ap, ◌∙◌, append-nil, true≢false}
+use Rattle.std.proofs.Common.{◌≡◌, ◌≢◌, Bool, true, false, ◌&&◌, List, [], ◌∷◌, ◌++◌, filter, fold, Option, Some, None, refl, sym, ap, ◌∙◌}
+use Rattle.std.proofs.Common.{append-nil, true≢false}
 use Rattle.std.specs.Prelude.{if◌then◌else◌}
 use Rattle.std.specs.List.{AllByRecursion, list_any}
 use Rattle.std.proofs.lemmas.List.Elements.{filter-append}
@@ -10,7 +11,8 @@ use Rattle.dom_base.specs.declared.NodeName.{NodeName}
 use Rattle.dom_model.specs.Names.{name_eq, max_depth, is_empty}
 use Rattle.dom_model.specs.Tree.{parent_of}
 use Rattle.dom_model.specs.Steps.{Step, place, take_out, set_document, set_attribute, queue_record, is_taken}
-use Rattle.dom_model.specs.World.{World, Task, micro_task, notify_task, part_of, node_at, is_in_shadow_tree, is_notify_of, queued_notify, with_notify, components_below, shadow_root_of}
+use Rattle.dom_model.specs.World.{World, Task, micro_task, notify_task, part_of, node_at, is_in_shadow_tree, is_notify_of, queued_notify, with_notify}
+use Rattle.dom_model.specs.World.{components_below, shadow_root_of}
 use Rattle.dom_model.specs.Slots.{signals, with_signal, assigned, is_slot_element, is_bare_slot, is_changed, own_slots, other_slots}
 use Rattle.dom_model.specs.WorldSteps.{world_step, world_after, stepped, with_signals, with_removal_signals, with_notify_if, with_shadow_document}
 use Rattle.dom_model.specs.PageMachine.{page_of, is_page_task, page_step, page_notify_if, page_stepped}
@@ -107,12 +109,17 @@ page_of-notify_other false c w h = refl
 
 -- a step of a component shows nothing
 pub page_of-world_step-other : (c : Owner) → c ≢ Page → (w : World) (s : Step) → page_of (world_step c w s) ≡ page_of w
-page_of-world_step-other c h w (place x parent before) = page_of-with_signals w (stepped c w (place x parent before)) x parent true ∙ page_of-stepped-other w c (place x parent before) h
-page_of-world_step-other c h w (take_out x) = page_of-with_removal_signals w (stepped c w (take_out x)) x (parent_of (part_of w c).trees x) ∙ page_of-stepped-other w c (take_out x) h
+page_of-world_step-other c h w (place x parent before) =
+    page_of-with_signals w (stepped c w (place x parent before)) x parent true ∙ page_of-stepped-other w c (place x parent before) h
+page_of-world_step-other c h w (take_out x) =
+    page_of-with_removal_signals w (stepped c w (take_out x)) x (parent_of (part_of w c).trees x) ∙ page_of-stepped-other w c (take_out x) h
 page_of-world_step-other c h w (set_document x d) =
-    page_of-documents (components_below max_depth w x) d (stepped c w (set_document x d)) (below-components max_depth w x) ∙ page_of-stepped-other w c (set_document x d) h
-page_of-world_step-other c h w (set_attribute x a v) = page_of-with_signals w (stepped c w (set_attribute x a v)) x x false ∙ page_of-stepped-other w c (set_attribute x a v) h
-page_of-world_step-other c h w (queue_record r) = page_of-notify_other (is_taken (part_of w c) r) c (stepped c w (queue_record r)) h ∙ page_of-stepped-other w c (queue_record r) h
+    page_of-documents (components_below max_depth w x) d (stepped c w (set_document x d)) (below-components max_depth w x) ∙
+    page_of-stepped-other w c (set_document x d) h
+page_of-world_step-other c h w (set_attribute x a v) =
+    page_of-with_signals w (stepped c w (set_attribute x a v)) x x false ∙ page_of-stepped-other w c (set_attribute x a v) h
+page_of-world_step-other c h w (queue_record r) =
+    page_of-notify_other (is_taken (part_of w c) r) c (stepped c w (queue_record r)) h ∙ page_of-stepped-other w c (queue_record r) h
 page_of-world_step-other c h w s = page_of-stepped-other w c s h
 
 -- nor do many
@@ -131,13 +138,17 @@ page_of-notify false w = refl
 
 -- a step of the page is the page machine's
 pub page_of-world_step : (w : World) (s : Step) → page_of (world_step Page w s) ≡ page_step (page_of w) s
-page_of-world_step w (place x parent before) = page_of-with_signals w (stepped Page w (place x parent before)) x parent true ∙ page_of-stepped w (place x parent before)
-page_of-world_step w (take_out x) = page_of-with_removal_signals w (stepped Page w (take_out x)) x (parent_of (part_of w Page).trees x) ∙ page_of-stepped w (take_out x)
+page_of-world_step w (place x parent before) =
+    page_of-with_signals w (stepped Page w (place x parent before)) x parent true ∙ page_of-stepped w (place x parent before)
+page_of-world_step w (take_out x) = page_of-with_removal_signals w (stepped Page w (take_out x)) x (parent_of (part_of w Page).trees x) ∙
+    page_of-stepped w (take_out x)
 page_of-world_step w (set_document x d) =
-    page_of-documents (components_below max_depth w x) d (stepped Page w (set_document x d)) (below-components max_depth w x) ∙ page_of-stepped w (set_document x d)
+    page_of-documents (components_below max_depth w x) d (stepped Page w (set_document x d)) (below-components max_depth w x) ∙
+    page_of-stepped w (set_document x d)
 page_of-world_step w (set_attribute x a v) = page_of-with_signals w (stepped Page w (set_attribute x a v)) x x false ∙ page_of-stepped w (set_attribute x a v)
 page_of-world_step w (queue_record c) =
-    page_of-notify (is_taken (part_of w Page) c) (stepped Page w (queue_record c)) ∙ ap (page_notify_if (is_taken (part_of w Page) c)) (page_of-stepped w (queue_record c))
+    page_of-notify (is_taken (part_of w Page) c) (stepped Page w (queue_record c)) ∙ ap (page_notify_if (is_taken (part_of w Page) c))
+    (page_of-stepped w (queue_record c))
 page_of-world_step w s = page_of-stepped w s
 
 -- and so are many

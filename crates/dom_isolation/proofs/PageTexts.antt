@@ -18,7 +18,8 @@ use Rattle.dom_text.specs.Decode.{decode}
 use Rattle.dom_text.specs.Text.{output_line}
 use Rattle.dom_text.proofs.DecodeLaws.{decode_says}
 use Rattle.dom_text.proofs.TextLaws.{IsSaidBy, begins-says, says-begins}
-use Rattle.dom_isolation.specs.Texts.{ReadsPrefix, lines_in, OutputHasPageLines, PageViewIsItsOutput, TraceHasPageLines, PageLinesAgree, PageLinesAgreeSoFar, PageTextAgrees, SamePageText, ForeignLineIsRefused}
+use Rattle.dom_isolation.specs.Texts.{ReadsPrefix, lines_in, OutputHasPageLines, PageViewIsItsOutput, TraceHasPageLines, PageLinesAgree}
+use Rattle.dom_isolation.specs.Texts.{PageLinesAgreeSoFar, PageTextAgrees, SamePageText, ForeignLineIsRefused}
 use Rattle.dom_isolation.proofs.Tests.{by_cases}
 use Rattle.dom_isolation.proofs.PageRuns.{page_run-agrees, page-sees_its_trace}
 use Rattle.dom_model.proofs.TurnLaws.{foreign_is_refused}
@@ -41,7 +42,8 @@ said-page (command o c) h = ap is_page h
 pub decode-reads_prefix : ReadsPrefix decode
 decode-reads_prefix bytes =
     by_cases (begins_with (owner_prefix Page) bytes) (λ h. said-page (decode bytes) (begins-says bytes Page tt h) ∙ sym h)
-    (λ h. false_from_ne_true (is_of is_page (owner_of_line (decode bytes))) (λ g. true≢false (sym (says-begins bytes Page (page-said (decode bytes) g)) ∙ h)) ∙ sym h)
+    (λ h. false_from_ne_true (is_of is_page (owner_of_line (decode bytes)))
+    (λ g. true≢false (sym (says-begins bytes Page (page-said (decode bytes) g)) ∙ h)) ∙ sym h)
 
 -- The lines in a trace.
 lines_in-append : {L : Type 0} (xs ys : List (TraceItem L)) → lines_in (xs ++ ys) ≡ lines_in xs ++ lines_in ys
@@ -66,8 +68,10 @@ module _ (read : List ℕ → Line) where
       let begins = begins_with (owner_prefix Page) l in
       lines_in-append (items_of read is_page w l) rest
       ∙ by_cases kept
-      (λ e. ap (λ items. lines_in items ++ lines_in rest) (cond-true kept (line l ∷ []) others e) ∙ ap (λ xs. l ∷ xs) more ∙ sym (cond-true begins (l ∷ page_lines ls) (page_lines ls) (sym (h l) ∙ e)))
-      (λ e. ap (λ items. lines_in items ++ lines_in rest) (cond-false kept (line l ∷ []) others e) ∙ ap (λ xs. xs ++ lines_in rest) (lines_in-outward (outward_event w (read l))) ∙ more
+      (λ e. ap (λ items. lines_in items ++ lines_in rest) (cond-true kept (line l ∷ []) others e) ∙ ap (λ xs. l ∷ xs) more ∙
+      sym (cond-true begins (l ∷ page_lines ls) (page_lines ls) (sym (h l) ∙ e)))
+      (λ e. ap (λ items. lines_in items ++ lines_in rest) (cond-false kept (line l ∷ []) others e) ∙
+      ap (λ xs. xs ++ lines_in rest) (lines_in-outward (outward_event w (read l))) ∙ more
       ∙ sym (cond-false begins (l ∷ page_lines ls) (page_lines ls) (sym (h l) ∙ e)))
 
   -- of a script

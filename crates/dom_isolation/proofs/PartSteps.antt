@@ -13,7 +13,8 @@ use Rattle.dom_model.proofs.StepLaws.{owner-part_step}
 use Rattle.dom_isolation.specs.Worlds.{times_in, AllNodes, IsShadowAt, IsRoot, IsPart}
 use Rattle.dom_isolation.proofs.Tests.{by_cases}
 use Rattle.dom_isolation.proofs.Trees.{by_times, times-here, times-elsewhere, name_eq-true, root-there}
-use Rattle.dom_isolation.proofs.TreeChangeLaws.{times-with_node, times-taken_out, times-placed, times-map_nodes, nodes-with_node, nodes-taken_out, nodes-placed, nodes-map_nodes, HasRoot, root-with_node, root-taken_out, root-placed, root-map_nodes}
+use Rattle.dom_isolation.proofs.TreeChangeLaws.{times-with_node, times-taken_out, times-placed, times-map_nodes, nodes-with_node, nodes-taken_out}
+use Rattle.dom_isolation.proofs.TreeChangeLaws.{nodes-placed, nodes-map_nodes, HasRoot, root-with_node, root-taken_out, root-placed, root-map_nodes}
 
 -- A function on nodes that keeps names and kinds.
 abbrev pub KeepsNames : (Node → Node) → Type 0
@@ -65,18 +66,29 @@ IsMake s = ⊥
 kept-step : (p : Part) → IsPart p → (r : NodeName) (s : Step) → (IsMake s → ⊥) → IsKept p.trees (part_step p s).trees r (Allowed r s)
 kept-step p i r (make n) h = absurd (h tt)
 kept-step p i r (place x parent before) h =
-    record { times = λ y. times-placed x parent before p.trees y (i.unique parent); shadow = nodes-placed (IsShadowAt r) x parent before p.trees; alone = λ d. root-placed x parent before p.trees r d }
+    record {
+      times = λ y. times-placed x parent before p.trees y (i.unique parent);
+      shadow = nodes-placed (IsShadowAt r) x parent before p.trees;
+      alone = λ d. root-placed x parent before p.trees r d;
+    }
 kept-step p i r (take_out x) h = from (parent_of p.trees x)
   where
     from : (o : Option NodeName) → IsKept p.trees (option_map_or (leave p x) o p).trees r ⊤
     from None = kept-same p.trees r ⊤
-    from (Some parent) = record { times = times-taken_out x p.trees; shadow = nodes-taken_out (IsShadowAt r) x p.trees; alone = λ s. root-taken_out x p.trees r }
+    from (Some parent) = record {
+      times = times-taken_out x p.trees;
+      shadow = nodes-taken_out (IsShadowAt r) x p.trees;
+      alone = λ s. root-taken_out x p.trees r;
+    }
 kept-step p i r (set_document x d) h =
-    kept-mapped (λ n. if is_in name_eq n.name (inclusive_descendants p.trees x) then with_document d n else n) (some-keeps (λ (n : Node). is_in name_eq n.name (inclusive_descendants p.trees x)) (with_document d) (λ n. (refl, refl))) p.trees r ⊤
+    kept-mapped (λ n. if is_in name_eq n.name (inclusive_descendants p.trees x) then with_document d n else n)
+    (some-keeps (λ (n : Node). is_in name_eq n.name (inclusive_descendants p.trees x)) (with_document d) (λ n. (refl, refl))) p.trees r ⊤
 kept-step p i r (set_attribute x a v) h =
-    kept-mapped (λ n. if name_eq n.name x then with_attribute a v n else n) (some-keeps (λ (n : Node). name_eq n.name x) (with_attribute a v) (attribute-keeps a v)) p.trees r ⊤
+    kept-mapped (λ n. if name_eq n.name x then with_attribute a v n else n)
+    (some-keeps (λ (n : Node). name_eq n.name x) (with_attribute a v) (attribute-keeps a v)) p.trees r ⊤
 kept-step p i r (replace_data x offset count new) h =
-    kept-mapped (λ n. if name_eq n.name x then with_data_replaced offset count new n else n) (some-keeps (λ (n : Node). name_eq n.name x) (with_data_replaced offset count new) (λ n. (refl, refl))) p.trees r ⊤
+    kept-mapped (λ n. if name_eq n.name x then with_data_replaced offset count new n else n)
+    (some-keeps (λ (n : Node). name_eq n.name x) (with_data_replaced offset count new) (λ n. (refl, refl))) p.trees r ⊤
 kept-step p i r s h = kept-same p.trees r ⊤
 
 -- the count of the others stays
@@ -101,7 +113,8 @@ part-kept p s i h =
 
 -- a new node
 times-new : (n : Node) (x : NodeName) → times_in (tree n none none) x ≤ 1
-times-new n x = by_cases (name_eq n.name x) (λ e. let g = times-here n none none x e in omega arith) (λ e. let g = times-elsewhere n none none x e in omega arith)
+times-new n x = by_cases (name_eq n.name x) (λ e. let g = times-here n none none x e in omega arith)
+    (λ e. let g = times-elsewhere n none none x e in omega arith)
 
 -- the one name of a new node
 new-named : (n : Node) (x : NodeName) → 1 ≤ times_in (tree n none none) x → x ≡ n.name
@@ -141,7 +154,8 @@ pub record IsOwn (r : NodeName) (p : Part) : Type 0 where
 pub next-other : (r : NodeName) (p : Part) → IsOwn r p → name_eq (next_name p) r ≡ false
 next-other r p o =
     by_cases (name_eq (next_name p) r)
-    (λ e. absurd (let same = ap (times_in p.trees) (name_eq-true (next_name p) r e) in let a = next-absent p o.part in let b = root-there p.trees r o.root.alone in omega arith)) (λ e. e)
+    (λ e. absurd (let same = ap (times_in p.trees) (name_eq-true (next_name p) r e) in let a = next-absent p o.part in let b = root-there p.trees
+    r o.root.alone in omega arith)) (λ e. e)
 
 -- all steps but `make` keep the shadow root
 own-kept : (r : NodeName) (p : Part) (s : Step) → IsOwn r p → Allowed r s → (IsMake s → ⊥) → IsOwn r (part_step p s)

@@ -13,7 +13,8 @@ use Rattle.dom_model.specs.Names.{name_eq}
 use Rattle.dom_model.specs.Tree.{node_in, parent_of, attribute_value}
 use Rattle.dom_model.specs.Command.{Command, Line, no_owner, no_command, command, ListenerWords}
 use Rattle.dom_model.specs.CommandNames.{named}
-use Rattle.dom_model.specs.DocumentMachine.{first_world, part_with_root, refusal, effect_in, attaching, perform, accepted, run_command, step, run_lines, finish, outputs_of}
+use Rattle.dom_model.specs.DocumentMachine.{first_world, part_with_root, refusal, effect_in, attaching, perform, accepted, run_command, step}
+use Rattle.dom_model.specs.DocumentMachine.{run_lines, finish, outputs_of}
 use Rattle.dom_model.specs.Dispatch.{dispatch_in}
 use Rattle.dom_model.specs.Effects.{Effect, tables, changes, effect, answers, moves_iterator, sets_walker, node_or_null, string_or_null}
 use Rattle.dom_model.specs.Listeners.{Listener, is_listener, listened}
@@ -32,7 +33,8 @@ use Rattle.dom_isolation.proofs.TreeChangeLaws.{nodes-subtree}
 use Rattle.dom_isolation.proofs.PlanCommands.{Makes, MayDo, made-effect}
 use Rattle.dom_isolation.proofs.PlainWords.{IsPlainNode, IsPlainListener, IsPlainQueue, IsPlainPart, IsPlainStep, plain-queue, plain-queue_set, plain-rules}
 use Rattle.dom_isolation.proofs.WorldParts.{holds-with_part, holds-world_after}
-use Rattle.dom_isolation.proofs.PlainRuns.{IsPlainTask, IsPlainWorld, IsPlainValue, IsPlainSaid, IsPlainOutput, IsPlainRun, plain-run_then, plain-run_each, plain-steps, plain-dispatch, plain-ending_turn, plain-ending_other, plain-ending_any}
+use Rattle.dom_isolation.proofs.PlainRuns.{IsPlainTask, IsPlainWorld, IsPlainValue, IsPlainSaid, IsPlainOutput, IsPlainRun, plain-run_then}
+use Rattle.dom_isolation.proofs.PlainRuns.{plain-run_each, plain-steps, plain-dispatch, plain-ending_turn, plain-ending_other, plain-ending_any}
 
 -- What an effect leaves in tables and says.
 abbrev IsPlainEffect : Effect → Type 0
@@ -60,10 +62,12 @@ plain-walker p k w None v i h = (i, tt, h)
 plain-walker p k w (Some x) v i h = (i, tt, h)
 
 -- one more listener
-plain-listened : (x : NodeName) (w : ListenerWords) (ls : List (Listener NodeName)) → AllByRecursion IsPlainListener ls → HasNoFeed w.event × HasNoFeed w.label → AllByRecursion IsPlainListener (listened name_eq x w ls)
+plain-listened : (x : NodeName) (w : ListenerWords) (ls : List (Listener NodeName)) → AllByRecursion IsPlainListener ls → HasNoFeed w.event ×
+    HasNoFeed w.label → AllByRecursion IsPlainListener (listened name_eq x w ls)
 plain-listened x w ls h g =
     let more : List (Listener NodeName) = ls ++ record { node = x; words = w } ∷ [] in
-    either_way (AllByRecursion IsPlainListener) (list_any (is_listener name_eq x w.event w.label w.capture) ls) ls more h (all-append IsPlainListener ls (record { node = x; words = w } ∷ []) h (g, tt))
+    either_way (AllByRecursion IsPlainListener) (list_any (is_listener name_eq x w.event w.label w.capture) ls) ls more h
+    (all-append IsPlainListener ls (record { node = x; words = w } ∷ []) h (g, tt))
 
 -- every effect
 plain-effect : (p : Part) → IsPlainPart p → (c : Command) → HasPlainWords c → IsPlainEffect (effect p c)
@@ -91,21 +95,38 @@ plain-effect p i (Command.tree a) h = (i, tt, nodes-subtree IsPlainNode p.trees 
 plain-effect p i (Command.attribute a b) h = (i, tt, plain-string_or_null (attribute_value (node_in p.trees (named p a)) b))
 plain-effect p i (Command.parent a) h = (i, tt, plain-node_or_null (parent_of p.trees (named p a)))
 plain-effect p i (Command.document_of a) h = (i, tt, plain-node_or_null (node_in p.trees (named p a)).document)
-plain-effect p i (Command.range_get a) h = plain-some (range_at p a) (λ (r : Range NodeName). answers p (boundaries r.start r.end)) (answers p nothing) (λ r. (i, tt, tt)) (i, tt, tt)
-plain-effect p i (Command.range_text a) h = plain-some (range_at p a) (λ (r : Range NodeName). answers p (a_string (range_text_of p.trees r))) (answers p nothing) (λ r. (i, tt, tt)) (i, tt, tt)
-plain-effect p i (Command.iterator_next a) h = plain-some (slice_get p.iterators a) (λ k. moves_iterator p a false k (iterator_next_node p.trees k)) (answers p nothing) (λ k. (i, tt, plain-node_or_null (iterator_next_node p.trees k))) (i, tt, tt)
-plain-effect p i (Command.iterator_previous a) h = plain-some (slice_get p.iterators a) (λ k. moves_iterator p a true k (iterator_previous_node p.trees k)) (answers p nothing) (λ k. (i, tt, plain-node_or_null (iterator_previous_node p.trees k))) (i, tt, tt)
-plain-effect p i (Command.iterator_at a) h = plain-some (slice_get p.iterators a) (λ (k : Iterator). answers p (reference k.reference k.before)) (answers p nothing) (λ k. (i, tt, tt)) (i, tt, tt)
+plain-effect p i (Command.range_get a) h =
+    plain-some (range_at p a) (λ (r : Range NodeName). answers p (boundaries r.start r.end)) (answers p nothing) (λ r. (i, tt, tt)) (i, tt, tt)
+plain-effect p i (Command.range_text a) h =
+    plain-some (range_at p a) (λ (r : Range NodeName). answers p (a_string (range_text_of p.trees r))) (answers p nothing) (λ r. (i, tt, tt))
+    (i, tt, tt)
+plain-effect p i (Command.iterator_next a) h =
+    plain-some (slice_get p.iterators a) (λ k. moves_iterator p a false k (iterator_next_node p.trees k)) (answers p nothing)
+    (λ k. (i, tt, plain-node_or_null (iterator_next_node p.trees k))) (i, tt, tt)
+plain-effect p i (Command.iterator_previous a) h =
+    plain-some (slice_get p.iterators a) (λ k. moves_iterator p a true k (iterator_previous_node p.trees k)) (answers p nothing)
+    (λ k. (i, tt, plain-node_or_null (iterator_previous_node p.trees k))) (i, tt, tt)
+plain-effect p i (Command.iterator_at a) h =
+    plain-some (slice_get p.iterators a) (λ (k : Iterator). answers p (reference k.reference k.before)) (answers p nothing) (λ k. (i, tt, tt))
+    (i, tt, tt)
 plain-effect p i (Command.walk a b) h =
     plain-some (slice_get p.walkers a) (λ w. sets_walker p a w (walker_move p.trees w b) (node_or_null (walker_move p.trees w b))) (answers p nothing)
     (λ w. plain-walker p a w (walker_move p.trees w b) (node_or_null (walker_move p.trees w b)) i (plain-node_or_null (walker_move p.trees w b))) (i, tt, tt)
-plain-effect p i (Command.walker_at a) h = plain-some (slice_get p.walkers a) (λ (w : Walker). answers p (a_node w.current)) (answers p nothing) (λ w. (i, tt, tt)) (i, tt, tt)
-plain-effect p i (Command.walker_set a b) h = plain-some (slice_get p.walkers a) (λ w. sets_walker p a w (Some (named p b)) nothing) (answers p nothing) (λ w. (i, tt, tt)) (i, tt, tt)
+plain-effect p i (Command.walker_at a) h =
+    plain-some (slice_get p.walkers a) (λ (w : Walker). answers p (a_node w.current)) (answers p nothing) (λ w. (i, tt, tt)) (i, tt, tt)
+plain-effect p i (Command.walker_set a b) h =
+    plain-some (slice_get p.walkers a) (λ w. sets_walker p a w (Some (named p b)) nothing) (answers p nothing) (λ w. (i, tt, tt)) (i, tt, tt)
 plain-effect p i (Command.listen a b) h = ((i.0, plain-listened (named p a) b p.listeners i.1 h, i.2), tt, tt)
-plain-effect p i (Command.unlisten a b c d) h = ((i.0, all-filter IsPlainListener (λ l. not (is_listener name_eq (named p a) b c d l)) p.listeners i.1, i.2), tt, tt)
+plain-effect p i (Command.unlisten a b c d) h =
+    ((i.0, all-filter IsPlainListener (λ l. not (is_listener name_eq (named p a) b c d l)) p.listeners i.1, i.2), tt, tt)
 plain-effect p i Command.observer h = ((i.0, i.1, all-append IsPlainQueue p.record_queues ([] ∷ []) i.2 (tt, tt)), tt, tt)
 plain-effect p i (Command.disconnect a) h = ((i.0, i.1, plain-queue_set p.record_queues a [] i.2 tt), tt, tt)
-plain-effect p i (Command.take a) h = ((i.0, i.1, plain-queue_set p.record_queues a [] i.2 tt), all-map IsPlainSaid (recorded a) (queue_of p.record_queues a) (plain-queue p.record_queues a i.2), tt)
+plain-effect p i (Command.take a) h = (
+  (i.0, i.1, plain-queue_set p.record_queues a [] i.2 tt),
+  all-map IsPlainSaid (recorded a)
+      (queue_of p.record_queues a) (plain-queue p.record_queues a i.2),
+  tt,
+)
 plain-effect p i c h = (i, tt, tt)
 
 -- what it makes, and the attributes that it names
@@ -126,10 +147,12 @@ plain-says o ss h = all-map IsPlainOutput (says o) ss h
 
 -- An accepted command.
 plain-effect_in : (w : World) (o : Owner) (c : Command) → IsPlainWorld w → HasPlainWords c → IsPlainRun (effect_in w o (effect (part_of w o) c))
-plain-effect_in w o c h g = from (effect (part_of w o) c) (plain-effect (part_of w o) (h.parts o) c g) (made-effect plain-rules (part_of w o) (h.parts o) c (plain-may_do (part_of w o) c g))
+plain-effect_in w o c h g = from (effect (part_of w o) c) (plain-effect (part_of w o) (h.parts o) c g)
+    (made-effect plain-rules (part_of w o) (h.parts o) c (plain-may_do (part_of w o) c g))
   where
     from : (e : Effect) → IsPlainEffect e → Makes IsPlainStep e → IsPlainRun (effect_in w o e)
-    from (tables p lines v) k m = plain-run_then (with_part w p, map (says o) lines) (answering o v) (holds-with_part plain-steps w p h k.0, plain-says o lines k.1) (λ u i. (i, (k.2, tt)))
+    from (tables p lines v) k m = plain-run_then (with_part w p, map (says o) lines) (answering o v)
+        (holds-with_part plain-steps w p h k.0, plain-says o lines k.1) (λ u i. (i, (k.2, tt)))
     from (changes steps v) k m = (holds-world_after plain-steps o steps w h m, (k, tt))
 
 -- attaching
@@ -137,8 +160,11 @@ plain-attaching : (w : World) (o : Owner) (x : NodeName) → IsPlainWorld w → 
 plain-attaching w o x h =
     let p = part_of w o in
     let marked = with_part w (record p { attached = p.attached ++ x ∷ [] }) in
-    let c = component_made o (length p.attached) in
-    (holds-with_part plain-steps marked (part_with_root c Shadow (node_in p.trees x).document) (holds-with_part plain-steps w (record p { attached = p.attached ++ x ∷ [] }) h (h.parts o)) (((tt, tt), tt, tt), tt, tt), (tt, tt))
+    let c = component_made o (length p.attached) in (
+      holds-with_part plain-steps marked (part_with_root c Shadow (node_in p.trees x).document)
+          (holds-with_part plain-steps w (record p { attached = p.attached ++ x ∷ [] }) h (h.parts o)) (((tt, tt), tt, tt), tt, tt),
+      (tt, tt),
+    )
 
 -- every command
 plain-perform : (w : World) (o : Owner) (c : Command) → IsPlainWorld w → HasPlainWords c → IsPlainRun (perform w o c)
@@ -147,8 +173,10 @@ plain-perform w o (Command.connected x) h g = (h, (tt, tt))
 plain-perform w o (Command.assigned x) h g = (h, (tt, tt))
 plain-perform w o (Command.dispatch x e related) h g =
     let p = part_of w o in
-    plain-run_then (dispatch_in w (named p x) (option_map (named p) related) e).run (answering o _) (plain-dispatch w (named p x) (option_map (named p) related) e h) (λ u i. (i, (tt, tt)))
-plain-perform w o (Command.micro label) h g = (record { parts = h.parts; tasks = all-append IsPlainTask w.tasks (micro_task o label ∷ []) h.tasks (g, tt) }, (tt, tt))
+    plain-run_then (dispatch_in w (named p x) (option_map (named p) related) e).run (answering o _)
+    (plain-dispatch w (named p x) (option_map (named p) related) e h) (λ u i. (i, (tt, tt)))
+plain-perform w o (Command.micro label) h g =
+    (record { parts = h.parts; tasks = all-append IsPlainTask w.tasks (micro_task o label ∷ []) h.tasks (g, tt) }, (tt, tt))
 plain-perform w o Command.end_turn h g = plain-run_then (ending_turn w) (answering o nothing) (plain-ending_turn w h) (λ u i. (i, (tt, tt)))
 plain-perform w o c h g = plain-effect_in w o c h g
 

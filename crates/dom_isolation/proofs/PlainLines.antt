@@ -1,5 +1,6 @@
 -- The text of what is said without line feeds has none, and the protocol's reading gives words without line feeds alone.
-use Rattle.std.proofs.Common.{◌≡◌, ℕ, zero, suc, ◌+◌, ◌/◌, ◌%◌, ◌≤◌, Bool, true, false, not, cond, ◌||◌, eqb, List, [], ◌∷◌, ◌++◌, map, Option, Some, None, refl, sym, ap, ◌∙◌, arith, true≢false, subst}
+use Rattle.std.proofs.Common.{◌≡◌, ℕ, zero, suc, ◌+◌, ◌/◌, ◌%◌, ◌≤◌, Bool, true, false, not, cond, ◌||◌, eqb, List, [], ◌∷◌, ◌++◌, map, Option, Some}
+use Rattle.std.proofs.Common.{None, refl, sym, ap, ◌∙◌, arith, true≢false, subst}
 use Rattle.std.specs.Prelude.{codes, nat_lt, if◌then◌else◌}
 use Rattle.std.specs.List.{AllByRecursion, list_all, flat_map}
 use Rattle.std.specs.Int.{is_in_range}
@@ -16,12 +17,16 @@ use Rattle.dom_base.specs.declared.Refusal.{Refusal}
 use Rattle.dom_base.specs.declared.Refusal.TheVariants.{Syntax}
 use Rattle.dom_model.specs.Command.{Command, Line, no_owner, no_command, command}
 use Rattle.dom_model.specs.Names.{DomString, owner_eq}
-use Rattle.dom_model.specs.Output.{Change, child_list, attributes, character_data, EventLine, Boundary, Value, nothing, null, a_node, a_list, a_component, a_range, an_iterator, a_walker, an_observer, a_string, a_truth, a_count, a_tree, boundaries, reference, Said, replied, refused, event_seen, recorded, micro_ran, Output, bad_owner, says}
+use Rattle.dom_model.specs.Output.{Change, child_list, attributes, character_data, EventLine, Boundary, Value, nothing, null, a_node, a_list}
+use Rattle.dom_model.specs.Output.{a_component, a_range, an_iterator, a_walker, an_observer, a_string, a_truth, a_count, a_tree, boundaries}
+use Rattle.dom_model.specs.Output.{reference, Said, replied, refused, event_seen, recorded, micro_ran, Output, bad_owner, says}
 use Rattle.dom_model.specs.Tree.{Trees, none, tree, Node, Attribute}
 use Rattle.dom_text.specs.Decode.{decode}
 use Rattle.dom_text.specs.Grammar.{Says, Spells, parts}
 use Rattle.dom_text.specs.Lines.{line_feed, lines_of}
-use Rattle.dom_text.specs.Text.{hex_digits, unit_text, string_text, string_or_null, node_text_of, node_text, node_or_null, next_node_text, nodes_text, list_text, numbered_text, attribute_text, own_parts, opening_text, trees_text, boundary_text, truth_text, side_text, value_text, event_text, change_text, said_text, output_line, output_text}
+use Rattle.dom_text.specs.Text.{hex_digits, unit_text, string_text, string_or_null, node_text_of, node_text, node_or_null, next_node_text, nodes_text}
+use Rattle.dom_text.specs.Text.{list_text, numbered_text, attribute_text, own_parts, opening_text, trees_text, boundary_text, truth_text, side_text}
+use Rattle.dom_text.specs.Text.{value_text, event_text, change_text, said_text, output_line, output_text}
 use Rattle.dom_text.specs.Tokens.{IsWord, IsWordByte, IsLabel, is_label_byte}
 use Rattle.dom_text.specs.Words.{component_word, owner_word, kind_word}
 use Rattle.dom_text.proofs.DecodeLaws.{decode_says}
@@ -48,7 +53,8 @@ past b h = false_from_ne_true (eqb b line_feed) (λ t. let e : b ≡ 10 = eqb-tr
 -- a word that is written out
 plain-key : (name : List ℕ) → list_all (λ b. not (eqb b line_feed)) name ≡ true → HasNoFeed name
 plain-key [] h = tt
-plain-key (b ∷ bs) h = let both = and_parts (not (eqb b line_feed)) (list_all (λ b. not (eqb b line_feed)) bs) h in (not-true (eqb b line_feed) both.0, plain-key bs both.1)
+plain-key (b ∷ bs) h = let both = and_parts (not (eqb b line_feed)) (list_all (λ b. not (eqb b line_feed)) bs) h in
+    (not-true (eqb b line_feed) both.0, plain-key bs both.1)
 
 -- one text and then another
 and_then : (a b : List ℕ) → HasNoFeed a → HasNoFeed b → HasNoFeed (a ++ b)
@@ -60,7 +66,8 @@ behind_key name b h g = and_then name b (plain-key name h) g
 
 -- Numbers.
 plain-glyph : (upper : Bool) (d : ℕ) → IsNoFeed (digit_glyph upper d)
-plain-glyph upper d = either_way IsNoFeed (nat_lt d 10) (48 + d) (if upper then 55 + d else 87 + d) (past (48 + d) (omega arith)) (either_way IsNoFeed upper (55 + d) (87 + d) (past (55 + d) (omega arith)) (past (87 + d) (omega arith)))
+plain-glyph upper d = either_way IsNoFeed (nat_lt d 10) (48 + d) (if upper then 55 + d else 87 + d) (past (48 + d) (omega arith))
+    (either_way IsNoFeed upper (55 + d) (87 + d) (past (55 + d) (omega arith)) (past (87 + d) (omega arith)))
 
 -- digits
 plain-digits_onto : (k base : ℕ) (upper : Bool) (n : ℕ) (acc : List ℕ) → HasNoFeed acc → HasNoFeed (digits_onto k base upper n acc)
@@ -89,11 +96,16 @@ plain-unit u =
     by_cases quoted (λ e. subst HasNoFeed (sym (cond-true quoted (92 ∷ u ∷ []) other e)) (refl, (passes (λ v. eqb v 34 || eqb v 92) refl u e, tt)))
     (λ e. subst HasNoFeed (sym (cond-false quoted (92 ∷ u ∷ []) other e))
     (by_cases plain (λ f. subst HasNoFeed (sym (cond-true plain (u ∷ []) escaped f)) (passes (is_in_range 0x20 0x7E) refl u f, tt))
-    (λ f. subst HasNoFeed (sym (cond-false plain (u ∷ []) escaped f)) (refl, (refl, (plain-digit (u / 4096), (plain-digit (u / 256 % 16), (plain-digit (u / 16 % 16), (plain-digit (u % 16), tt)))))))))
+    (λ f. subst HasNoFeed (sym (cond-false plain (u ∷ []) escaped f))
+    (refl, (refl, (plain-digit (u / 4096), (plain-digit (u / 256 % 16), (plain-digit (u / 16 % 16), (plain-digit (u % 16), tt)))))))))
 
 -- a string
 plain-string : (units : DomString) → HasNoFeed (string_text units)
-plain-string units = (refl, and_then (flat_map unit_text units) (34 ∷ []) (all-flat_map IsNoFeed unit_text units (all-from (λ u. HasNoFeed (unit_text u)) plain-unit units)) (refl, tt))
+plain-string units = (
+  refl,
+  and_then (flat_map unit_text units) (34 ∷ [])
+      (all-flat_map IsNoFeed unit_text units (all-from (λ u. HasNoFeed (unit_text u)) plain-unit units)) (refl, tt),
+)
 
 -- or `null`
 plain-string_or_null : (o : Option DomString) → HasNoFeed (string_or_null o)
@@ -135,15 +147,18 @@ plain-nodes : (viewer : Owner) (xs : List NodeName) → HasNoFeed (nodes_text vi
 plain-nodes viewer [] = tt
 plain-nodes viewer (x ∷ xs) =
     and_then (node_text viewer x) (flat_map (next_node_text viewer) xs) (plain-node viewer x)
-    (all-flat_map IsNoFeed (next_node_text viewer) xs (all-from (λ y. HasNoFeed (next_node_text viewer y)) (λ y. behind_key (codes ",") (node_text viewer y) refl (plain-node viewer y)) xs))
+    (all-flat_map IsNoFeed (next_node_text viewer) xs
+    (all-from (λ y. HasNoFeed (next_node_text viewer y)) (λ y. behind_key (codes ",") (node_text viewer y) refl (plain-node viewer y)) xs))
 
 -- nodes in brackets
 plain-list : (viewer : Owner) (xs : List NodeName) → HasNoFeed (list_text viewer xs)
-plain-list viewer xs = and_then (codes "[" ++ nodes_text viewer xs) (codes "]") (behind_key (codes "[") (nodes_text viewer xs) refl (plain-nodes viewer xs)) (plain-key (codes "]") refl)
+plain-list viewer xs = and_then (codes "[" ++ nodes_text viewer xs) (codes "]")
+    (behind_key (codes "[") (nodes_text viewer xs) refl (plain-nodes viewer xs)) (plain-key (codes "]") refl)
 
 -- Trees.
 plain-attribute : (a : Attribute) → IsPlainAttribute a → HasNoFeed (attribute_text a)
-plain-attribute a h = and_then (codes " " ++ a.name ++ codes "=") (string_text a.value) (and_then (codes " " ++ a.name) (codes "=") (behind_key (codes " ") a.name refl h) (plain-key (codes "=") refl)) (plain-string a.value)
+plain-attribute a h = and_then (codes " " ++ a.name ++ codes "=") (string_text a.value)
+    (and_then (codes " " ++ a.name) (codes "=") (behind_key (codes " ") a.name refl h) (plain-key (codes "=") refl)) (plain-string a.value)
 
 -- what stands behind the kind of a node
 plain-own_parts : (k : Kind) (n : Node) → IsPlainNode n → HasNoFeed (own_parts k n)
@@ -164,7 +179,9 @@ plain-opening : (viewer : Owner) (n : Node) → IsPlainNode n → HasNoFeed (ope
 plain-opening viewer n h =
     let name = codes "(" ++ node_text viewer n.name in
     and_then (name ++ codes " " ++ kind_word n.kind) (own_parts n.kind n)
-    (and_then (name ++ codes " ") (kind_word n.kind) (and_then name (codes " ") (behind_key (codes "(") (node_text viewer n.name) refl (plain-node viewer n.name)) (plain-key (codes " ") refl)) (plain-key (kind_word n.kind) (plain-kind n.kind)))
+    (and_then (name ++ codes " ") (kind_word n.kind)
+    (and_then name (codes " ") (behind_key (codes "(") (node_text viewer n.name) refl (plain-node viewer n.name))
+    (plain-key (codes " ") refl)) (plain-key (kind_word n.kind) (plain-kind n.kind)))
     (plain-own_parts n.kind n h)
 
 -- trees
@@ -173,13 +190,17 @@ plain-trees viewer none h = tt
 plain-trees viewer (tree n c r) h =
     let opening = codes " " ++ opening_text viewer n in
     and_then (opening ++ trees_text viewer c ++ codes ")") (trees_text viewer r)
-    (and_then (opening ++ trees_text viewer c) (codes ")") (and_then opening (trees_text viewer c) (behind_key (codes " ") (opening_text viewer n) refl (plain-opening viewer n h.0)) (plain-trees viewer c h.1)) (plain-key (codes ")") refl))
+    (and_then (opening ++ trees_text viewer c) (codes ")")
+    (and_then opening (trees_text viewer c) (behind_key (codes " ") (opening_text viewer n) refl (plain-opening viewer n h.0))
+    (plain-trees viewer c h.1)) (plain-key (codes ")") refl))
     (plain-trees viewer r h.2)
 
 -- Replies.
 plain-boundary : (viewer : Owner) (b : Boundary NodeName) → HasNoFeed (boundary_text viewer b)
 plain-boundary viewer b =
-    and_then (codes " " ++ node_text viewer b.node ++ codes " ") (decimal b.offset) (and_then (codes " " ++ node_text viewer b.node) (codes " ") (behind_key (codes " ") (node_text viewer b.node) refl (plain-node viewer b.node)) (plain-key (codes " ") refl)) (plain-decimal b.offset)
+    and_then (codes " " ++ node_text viewer b.node ++ codes " ") (decimal b.offset)
+    (and_then (codes " " ++ node_text viewer b.node) (codes " ")
+    (behind_key (codes " ") (node_text viewer b.node) refl (plain-node viewer b.node)) (plain-key (codes " ") refl)) (plain-decimal b.offset)
 
 -- a truth value
 plain-truth : (b : Bool) → HasNoFeed (truth_text b)
@@ -206,9 +227,12 @@ plain-value viewer (a_string units) h = behind_key (codes " ") (string_text unit
 plain-value viewer (a_truth b) h = behind_key (codes " ") (truth_text b) refl (plain-truth b)
 plain-value viewer (a_count n) h = plain-numbered (codes " ") n refl
 plain-value viewer (a_tree ts) h = plain-trees viewer ts h
-plain-value viewer (boundaries start end) h = and_then (boundary_text viewer start) (boundary_text viewer end) (plain-boundary viewer start) (plain-boundary viewer end)
+plain-value viewer (boundaries start end) h =
+    and_then (boundary_text viewer start) (boundary_text viewer end) (plain-boundary viewer start) (plain-boundary viewer end)
 plain-value viewer (reference x before) h =
-    and_then (codes " " ++ node_text viewer x ++ codes " ") (side_text before) (and_then (codes " " ++ node_text viewer x) (codes " ") (behind_key (codes " ") (node_text viewer x) refl (plain-node viewer x)) (plain-key (codes " ") refl)) (plain-side before)
+    and_then (codes " " ++ node_text viewer x ++ codes " ") (side_text before)
+    (and_then (codes " " ++ node_text viewer x) (codes " ") (behind_key (codes " ") (node_text viewer x) refl (plain-node viewer x))
+    (plain-key (codes " ") refl)) (plain-side before)
 
 -- Events and records.
 -- a text, a word that is written out, and a text
@@ -229,7 +253,8 @@ plain-event viewer l h =
     (joined target (codes " current=") (node_text viewer l.current)
     (joined phase (codes " target=") (node_text viewer l.target)
     (joined event (codes " phase=") (decimal l.phase)
-    (joined label (codes " ") l.event (behind_key (codes "event ") l.label refl h.1) refl h.0) refl (plain-decimal l.phase)) refl (plain-node viewer l.target)) refl (plain-node viewer l.current))
+    (joined label (codes " ") l.event (behind_key (codes "event ") l.label refl h.1) refl h.0) refl (plain-decimal l.phase)) refl
+    (plain-node viewer l.target)) refl (plain-node viewer l.current))
     refl (plain-node_or_null viewer l.related)) refl (plain-list viewer l.path)
 
 -- a change
@@ -242,14 +267,16 @@ plain-change viewer (child_list x added removed previous next) h =
     joined third (codes " next=") (node_or_null viewer next)
     (joined second (codes " prev=") (node_or_null viewer previous)
     (joined first (codes " removed=") (list_text viewer removed)
-    (joined target (codes " added=") (list_text viewer added) (behind_key (codes "childList ") (node_text viewer x) refl (plain-node viewer x)) refl (plain-list viewer added)) refl (plain-list viewer removed))
+    (joined target (codes " added=") (list_text viewer added) (behind_key (codes "childList ") (node_text viewer x) refl (plain-node viewer x))
+    refl (plain-list viewer added)) refl (plain-list viewer removed))
     refl (plain-node_or_null viewer previous)) refl (plain-node_or_null viewer next)
 plain-change viewer (attributes x a old) h =
     let target = codes "attributes " ++ node_text viewer x in
     joined (target ++ codes " name=" ++ a) (codes " old=") (string_or_null old)
     (joined target (codes " name=") a (behind_key (codes "attributes ") (node_text viewer x) refl (plain-node viewer x)) refl h) refl (plain-string_or_null old)
 plain-change viewer (character_data x old) h =
-    joined (codes "characterData " ++ node_text viewer x) (codes " old=") (string_or_null old) (behind_key (codes "characterData ") (node_text viewer x) refl (plain-node viewer x)) refl (plain-string_or_null old)
+    joined (codes "characterData " ++ node_text viewer x) (codes " old=") (string_or_null old)
+    (behind_key (codes "characterData ") (node_text viewer x) refl (plain-node viewer x)) refl (plain-string_or_null old)
 
 -- Lines.
 plain-refusal : (r : Refusal) → list_all (λ b. not (eqb b line_feed)) (refusal_word r) ≡ true
@@ -262,7 +289,8 @@ plain-said viewer (replied v) h = behind_key (codes "ok") (value_text viewer v) 
 plain-said viewer (refused r) h = behind_key (codes "! ") (refusal_word r) refl (plain-key (refusal_word r) (plain-refusal r))
 plain-said viewer (event_seen l) h = plain-event viewer l h
 plain-said viewer (recorded k c) h =
-    joined (codes "record " ++ numbered_text (codes "o") k) (codes " ") (change_text viewer c) (behind_key (codes "record ") (numbered_text (codes "o") k) refl (plain-numbered (codes "o") k refl)) refl (plain-change viewer c h)
+    joined (codes "record " ++ numbered_text (codes "o") k) (codes " ") (change_text viewer c)
+    (behind_key (codes "record ") (numbered_text (codes "o") k) refl (plain-numbered (codes "o") k refl)) refl (plain-change viewer c h)
 plain-said viewer (micro_ran label) h = behind_key (codes "micro ") label refl h
 
 -- a line of output
@@ -272,7 +300,8 @@ plain-output (says o s) h = joined (owner_word o) (codes " ") (said_text o s) (p
 
 -- the text of such lines is cut into them again
 pub lines_of-output : (os : List Output) → AllByRecursion IsPlainOutput os → lines_of (output_text os) ≡ map output_line os
-lines_of-output os h = lines_of-text_of_lines (map output_line os) (all-map HasNoFeed output_line os (all-then IsPlainOutput (λ o. HasNoFeed (output_line o)) plain-output os h))
+lines_of-output os h = lines_of-text_of_lines (map output_line os)
+    (all-map HasNoFeed output_line os (all-then IsPlainOutput (λ o. HasNoFeed (output_line o)) plain-output os h))
 
 -- What is read.
 plain-word : (name : List ℕ) → IsWord name → HasNoFeed name

@@ -8,20 +8,23 @@ use Rattle.dom_base.specs.declared.Action.{Action}
 use Rattle.dom_base.specs.declared.Action.TheVariants.{Log, Stop, StopNow, Cancel}
 use Rattle.dom_model.specs.Names.{name_eq}
 use Rattle.dom_model.specs.Command.{EventWords}
-use Rattle.dom_model.specs.Listeners.{Listener, Visit, Dispatching, visited, called, hears, is_listener, unlistened, kept_after, after_action, may_cancel, line_of, begun}
+use Rattle.dom_model.specs.Listeners.{Listener, Visit, Dispatching, visited, called, hears, is_listener, unlistened, kept_after, after_action}
+use Rattle.dom_model.specs.Listeners.{may_cancel, line_of, begun}
 use Rattle.dom_model.specs.Output.{Output, bad_owner, says, Said, replied, refused, event_seen, recorded, micro_ran, Value, a_tree, Change, EventLine}
 use Rattle.dom_model.specs.Part.{queue_of}
 use Rattle.dom_model.specs.Paths.{views}
 use Rattle.dom_model.specs.Dispatch.{world_visit, visits_of, dispatch_in, event_output}
 use Rattle.dom_model.specs.Runs.{Run, quiet, run_then, run_each}
-use Rattle.dom_model.specs.Turns.{records_of, notified, slotchange, firing_slotchange, is_owned_by, without_signals, notifying, running_task, ending_turn, has_other_turn, ending_other_turn, ending_any_turn}
+use Rattle.dom_model.specs.Turns.{records_of, notified, slotchange, firing_slotchange, is_owned_by, without_signals, notifying, running_task}
+use Rattle.dom_model.specs.Turns.{ending_turn, has_other_turn, ending_other_turn, ending_any_turn}
 use Rattle.dom_model.specs.World.{World, Task, micro_task, notify_task, part_of, with_part}
 use Rattle.dom_isolation.specs.Worlds.{AllNodes}
 use Rattle.dom_isolation.specs.Words.{HasNoFeed}
 use Rattle.dom_isolation.proofs.Lists.{all-append, all-filter, all-flat_map, all-from}
 use Rattle.dom_isolation.proofs.Tests.{either_way}
 use Rattle.dom_isolation.proofs.WorldParts.{HoldsIn, IsKeptIn, holds-with_part}
-use Rattle.dom_isolation.proofs.PlainWords.{IsPlainNode, IsPlainListener, IsPlainChange, IsPlainQueue, IsPlainPart, IsPlainStep, plain-queue, plain-queue_set, plain-part_step}
+use Rattle.dom_isolation.proofs.PlainWords.{IsPlainNode, IsPlainListener, IsPlainChange, IsPlainQueue, IsPlainPart, IsPlainStep, plain-queue}
+use Rattle.dom_isolation.proofs.PlainWords.{plain-queue_set, plain-part_step}
 
 -- A task, a world and what is said, with such words.
 abbrev pub IsPlainTask : Task → Type 0
@@ -84,7 +87,8 @@ plain-after_action StopNow c d h = h
 plain-after_action Cancel c d h = h
 
 -- a call
-plain-called : (e : EventWords) (v : Visit NodeName) (d : Dispatching NodeName) (l : Listener NodeName) → IsPlainGoing d → IsPlainListener l → IsPlainGoing (called name_eq e v d l)
+plain-called : (e : EventWords) (v : Visit NodeName) (d : Dispatching NodeName) (l : Listener NodeName) → IsPlainGoing d → IsPlainListener l →
+    IsPlainGoing (called name_eq e v d l)
 plain-called e v d l h g =
     let without = unlistened name_eq l.node l.words.event l.words.label l.words.capture d.listeners in
     let next : Dispatching NodeName = record d { listeners = kept_after name_eq l d.listeners; lines = d.lines ++ line_of v l.words ∷ [] } in
@@ -96,7 +100,8 @@ plain-called e v d l h g =
     ))
 
 -- calls of all that hear
-plain-calls : (e : EventWords) (v : Visit NodeName) (ls : List (Listener NodeName)) (d : Dispatching NodeName) → IsPlainGoing d → AllByRecursion IsPlainListener ls → IsPlainGoing (fold (called name_eq e v) d ls)
+plain-calls : (e : EventWords) (v : Visit NodeName) (ls : List (Listener NodeName)) (d : Dispatching NodeName) → IsPlainGoing d →
+    AllByRecursion IsPlainListener ls → IsPlainGoing (fold (called name_eq e v) d ls)
 plain-calls e v [] d h g = h
 plain-calls e v (l ∷ ls) d h g = plain-calls e v ls (called name_eq e v d l) (plain-called e v d l h g.0) g.1
 
@@ -104,7 +109,8 @@ plain-calls e v (l ∷ ls) d h g = plain-calls e v ls (called name_eq e v d l) (
 plain-visited : (e : EventWords) (v : Visit NodeName) (d : Dispatching NodeName) → IsPlainGoing d → IsPlainGoing (visited name_eq e d v)
 plain-visited e v d h =
     let hearing = filter (hears name_eq e v) d.listeners in
-    either_way IsPlainGoing d.stopped d (fold (called name_eq e v) d hearing) h (plain-calls e v hearing d h (all-filter IsPlainListener (hears name_eq e v) d.listeners h.0))
+    either_way IsPlainGoing d.stopped d (fold (called name_eq e v) d hearing) h
+    (plain-calls e v hearing d h (all-filter IsPlainListener (hears name_eq e v) d.listeners h.0))
 
 -- all visits in the world
 plain-visits : (e : EventWords) (vs : List (Visit NodeName)) (w : World) (d : Dispatching NodeName) → IsPlainWorld w → AllByRecursion IsPlainEvent d.lines →
@@ -115,7 +121,8 @@ plain-visits e (v ∷ vs) w d h g =
     let i = h.parts v.current.owner in
     let heard = visited name_eq e (record d { listeners = p.listeners }) v in
     let k = plain-visited e v (record d { listeners = p.listeners }) (i.1, g) in
-    plain-visits e vs (with_part w (record p { listeners = heard.listeners })) heard (holds-with_part plain-steps w (record p { listeners = heard.listeners }) h (i.0, k.0, i.2)) k.1
+    plain-visits e vs (with_part w (record p { listeners = heard.listeners })) heard
+    (holds-with_part plain-steps w (record p { listeners = heard.listeners }) h (i.0, k.0, i.2)) k.1
 
 -- the lines of a dispatch
 plain-event_outputs : (ls : List (EventLine NodeName)) → AllByRecursion IsPlainEvent ls → AllByRecursion IsPlainOutput (map event_output ls)
@@ -129,12 +136,14 @@ plain-dispatch w x related e h =
     (end.0, plain-event_outputs _ end.1)
 
 -- Notifications and the endings of turns.
-plain-records : (o : Owner) (k : ℕ) (changes : List (Change NodeName)) → IsPlainQueue changes → AllByRecursion IsPlainOutput (map (λ c. says o (recorded k c)) changes)
+plain-records : (o : Owner) (k : ℕ) (changes : List (Change NodeName)) → IsPlainQueue changes →
+    AllByRecursion IsPlainOutput (map (λ c. says o (recorded k c)) changes)
 plain-records o k [] h = tt
 plain-records o k (c ∷ cs) h = (h.0, plain-records o k cs h.1)
 
 -- queues that are emptied
-plain-emptied : (ks : List ℕ) (queues : List (List (Change NodeName))) → AllByRecursion IsPlainQueue queues → AllByRecursion IsPlainQueue (fold (λ queues k. slice_set queues k []) queues ks)
+plain-emptied : (ks : List ℕ) (queues : List (List (Change NodeName))) → AllByRecursion IsPlainQueue queues →
+    AllByRecursion IsPlainQueue (fold (λ queues k. slice_set queues k []) queues ks)
 plain-emptied [] queues h = h
 plain-emptied (k ∷ ks) queues h = plain-emptied ks (slice_set queues k []) (plain-queue_set queues k [] h tt)
 
@@ -144,8 +153,11 @@ plain-notifying w o h =
     let p = part_of w o in
     let i = h.parts o in
     let slots = filter (is_owned_by o) w.signalled in
-    let told = holds-with_part plain-steps (without_signals w o) (notified p) (record { parts = h.parts; tasks = h.tasks }) (i.0, i.1, plain-emptied p.pending p.record_queues i.2) in
-    let lines = all-flat_map IsPlainOutput (records_of p) p.pending (all-from (λ k. AllByRecursion IsPlainOutput (records_of p k)) (λ k. plain-records p.owner k (queue_of p.record_queues k) (plain-queue p.record_queues k i.2)) p.pending) in
+    let told = holds-with_part plain-steps (without_signals w o) (notified p) (record { parts = h.parts; tasks = h.tasks })
+    (i.0, i.1, plain-emptied p.pending p.record_queues i.2) in
+    let lines = all-flat_map IsPlainOutput (records_of p) p.pending
+    (all-from (λ k. AllByRecursion IsPlainOutput (records_of p k))
+    (λ k. plain-records p.owner k (queue_of p.record_queues k) (plain-queue p.record_queues k i.2)) p.pending) in
     plain-run_then (with_part (without_signals w o) (notified p), flat_map (records_of p) p.pending) (λ v. run_each firing_slotchange v slots) (told, lines)
     (λ v g. plain-run_each (λ s. ⊤) firing_slotchange (λ u s k t. plain-dispatch u s None slotchange k) slots v g (all-from (λ s. ⊤) (λ s. tt) slots))
 
@@ -156,7 +168,8 @@ plain-running w (notify_task o) h g = plain-notifying w o h
 
 -- the ending of a turn
 pub plain-ending_turn : (w : World) → IsPlainWorld w → IsPlainRun (ending_turn w)
-plain-ending_turn w h = plain-run_each IsPlainTask running_task plain-running w.tasks (record w { tasks = []; turn = None }) (record { parts = h.parts; tasks = tt }) h.tasks
+plain-ending_turn w h = plain-run_each IsPlainTask running_task plain-running w.tasks (record w { tasks = []; turn = None })
+    (record { parts = h.parts; tasks = tt }) h.tasks
 
 -- of another component's turn
 pub plain-ending_other : (w : World) (o : Owner) → IsPlainWorld w → IsPlainRun (ending_other_turn w o)

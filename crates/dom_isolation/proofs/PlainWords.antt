@@ -12,7 +12,8 @@ use Rattle.dom_model.specs.Listeners.{Listener}
 use Rattle.dom_model.specs.Observers.{Registration, target_of, without_old, fitting, asks_for_old}
 use Rattle.dom_model.specs.Output.{Change, child_list, attributes, character_data}
 use Rattle.dom_model.specs.Part.{Part, next_name, queue_of}
-use Rattle.dom_model.specs.Steps.{Step, make, place, take_out, set_document, set_attribute, replace_data, queue_record, part_step, leave, record_in, interested_in}
+use Rattle.dom_model.specs.Steps.{Step, make, place, take_out, set_document, set_attribute, replace_data, queue_record, part_step, leave, record_in}
+use Rattle.dom_model.specs.Steps.{interested_in}
 use Rattle.dom_isolation.specs.Worlds.{AllNodes}
 use Rattle.dom_isolation.specs.Words.{HasNoFeed}
 use Rattle.dom_isolation.proofs.Lists.{all-append, all-from}
@@ -66,17 +67,21 @@ plain-queue (q ∷ qs) zero h = h.0
 plain-queue (q ∷ qs) (suc k) h = plain-queue qs k h.1
 
 -- a queue that is written
-pub plain-queue_set : (queues : List (List (Change NodeName))) (k : ℕ) (q : List (Change NodeName)) → AllByRecursion IsPlainQueue queues → IsPlainQueue q → AllByRecursion IsPlainQueue (slice_set queues k q)
+pub plain-queue_set : (queues : List (List (Change NodeName))) (k : ℕ) (q : List (Change NodeName)) → AllByRecursion IsPlainQueue queues →
+    IsPlainQueue q → AllByRecursion IsPlainQueue (slice_set queues k q)
 plain-queue_set queues k q h g = all-set IsPlainQueue queues k q h g
 
 -- Attributes.
-plain-attributes_with : (a : Word) (v : DomString) (attributes : List Attribute) → HasNoFeed a → AllByRecursion IsPlainAttribute attributes → AllByRecursion IsPlainAttribute (attributes_with a v attributes)
+plain-attributes_with : (a : Word) (v : DomString) (attributes : List Attribute) → HasNoFeed a → AllByRecursion IsPlainAttribute attributes →
+    AllByRecursion IsPlainAttribute (attributes_with a v attributes)
 plain-attributes_with a v [] h g = (h, tt)
 plain-attributes_with a v (b ∷ bs) h g =
-    either_way (AllByRecursion IsPlainAttribute) (text_eq a b.name) (record b { value = v } ∷ bs) (b ∷ attributes_with a v bs) g (g.0, plain-attributes_with a v bs h g.1)
+    either_way (AllByRecursion IsPlainAttribute) (text_eq a b.name) (record b { value = v } ∷ bs) (b ∷ attributes_with a v bs) g
+    (g.0, plain-attributes_with a v bs h g.1)
 
 -- without an attribute
-plain-attributes_without : (a : Word) (attributes : List Attribute) → AllByRecursion IsPlainAttribute attributes → AllByRecursion IsPlainAttribute (attributes_without a attributes)
+plain-attributes_without : (a : Word) (attributes : List Attribute) → AllByRecursion IsPlainAttribute attributes →
+    AllByRecursion IsPlainAttribute (attributes_without a attributes)
 plain-attributes_without a [] g = tt
 plain-attributes_without a (b ∷ bs) g =
     either_way (AllByRecursion IsPlainAttribute) (text_eq a b.name) bs (b ∷ attributes_without a bs) g.1 (g.0, plain-attributes_without a bs g.1)
@@ -87,7 +92,8 @@ plain-with_attribute a None n h g = (g.0, plain-attributes_without a n.attribute
 plain-with_attribute a (Some v) n h g = (g.0, plain-attributes_with a v n.attributes h g.1)
 
 -- f of some nodes
-plain-some : (test : Node → Bool) (f : Node → Node) → ((n : Node) → IsPlainNode n → IsPlainNode (f n)) → (n : Node) → IsPlainNode n → IsPlainNode (if test n then f n else n)
+plain-some : (test : Node → Bool) (f : Node → Node) → ((n : Node) → IsPlainNode n → IsPlainNode (f n)) → (n : Node) → IsPlainNode n →
+    IsPlainNode (if test n then f n else n)
 plain-some test f h n g = either_way IsPlainNode (test n) (f n) n (h n g) g
 
 -- Records.
@@ -99,7 +105,8 @@ plain-without_old (character_data x old) h = tt
 -- the record that an observer gets
 plain-record : (p : Part) (c : Change NodeName) (k : ℕ) → IsPlainChange c → IsPlainChange (record_in p c k)
 plain-record p c k h =
-    either_way IsPlainChange (list_any (λ (r : Registration NodeName). (r.observer == k) && asks_for_old r.options c) (fitting name_eq (inclusive_ancestors p.trees (target_of c)) p.registrations c)) c (without_old c) h (plain-without_old c h)
+    either_way IsPlainChange (list_any (λ (r : Registration NodeName). (r.observer == k) && asks_for_old r.options c)
+    (fitting name_eq (inclusive_ancestors p.trees (target_of c)) p.registrations c)) c (without_old c) h (plain-without_old c h)
 
 -- the queues of those that are told
 plain-told : (p : Part) (c : Change NodeName) → IsPlainChange c → (ks : List ℕ) (queues : List (List (Change NodeName))) → AllByRecursion IsPlainQueue queues →
@@ -107,7 +114,8 @@ plain-told : (p : Part) (c : Change NodeName) → IsPlainChange c → (ks : List
 plain-told p c h [] queues g = g
 plain-told p c h (k ∷ ks) queues g =
     plain-told p c h ks (slice_set queues k (queue_of queues k ++ record_in p c k ∷ []))
-    (plain-queue_set queues k (queue_of queues k ++ record_in p c k ∷ []) g (all-append IsPlainChange (queue_of queues k) (record_in p c k ∷ []) (plain-queue queues k g) (plain-record p c k h, tt)))
+    (plain-queue_set queues k (queue_of queues k ++ record_in p c k ∷ []) g
+    (all-append IsPlainChange (queue_of queues k) (record_in p c k ∷ []) (plain-queue queues k g) (plain-record p c k h, tt)))
 
 -- Steps.
 pub plain-part_step : (p : Part) (s : Step) → IsPlainPart p → IsPlainStep s → IsPlainPart (part_step p s)
@@ -124,8 +132,12 @@ plain-part_step p (set_document x d) i h = (
   i.1,
   i.2,
 )
-plain-part_step p (set_attribute x a v) i h =
-    (nodes-map_nodes IsPlainNode (λ n. if name_eq n.name x then with_attribute a v n else n) (plain-some (λ (n : Node). name_eq n.name x) (with_attribute a v) (λ n g. plain-with_attribute a v n h g)) p.trees i.0, i.1, i.2)
+plain-part_step p (set_attribute x a v) i h = (
+  nodes-map_nodes IsPlainNode (λ n. if name_eq n.name x then with_attribute a v n else n)
+      (plain-some (λ (n : Node). name_eq n.name x) (with_attribute a v) (λ n g. plain-with_attribute a v n h g)) p.trees i.0,
+  i.1,
+  i.2,
+)
 plain-part_step p (replace_data x offset count new) i h = (
   nodes-map_nodes IsPlainNode (λ n. if name_eq n.name x then with_data_replaced offset count new n else n)
       (plain-some (λ (n : Node). name_eq n.name x) (with_data_replaced offset count new) (λ n g. g)) p.trees i.0,
@@ -139,7 +151,8 @@ plain-part_step p s i h = i
 plain-found : (x : NodeName) (ns : List Node) → AllByRecursion IsPlainNode ns → IsPlainNode (unwrap_or (find (λ n. name_eq n.name x) ns) (no_node x))
 plain-found x [] h = (tt, tt)
 plain-found x (n ∷ ns) h =
-    either_way (λ (o : Option Node). IsPlainNode (unwrap_or o (no_node x))) (name_eq n.name x) (Some n) (find (λ m. name_eq m.name x) ns) h.0 (plain-found x ns h.1)
+    either_way (λ (o : Option Node). IsPlainNode (unwrap_or o (no_node x))) (name_eq n.name x) (Some n) (find (λ m. name_eq m.name x) ns) h.0
+    (plain-found x ns h.1)
 
 -- a node of a part
 pub plain-node_in : (p : Part) (x : NodeName) → IsPlainPart p → IsPlainNode (node_in p.trees x)

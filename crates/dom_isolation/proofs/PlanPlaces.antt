@@ -10,7 +10,9 @@ use Rattle.dom_model.specs.TreeChanges.{without, map_nodes, with_name, with_docu
 use Rattle.dom_model.specs.Output.{Change, child_list}
 use Rattle.dom_model.specs.Part.{Part, next_name}
 use Rattle.dom_model.specs.Steps.{Step, make, make_room, place, take_out, set_document, set_attribute, replace_data, queue_record, part_step, leave, after}
-use Rattle.dom_model.specs.Changes.{Plan, in_turn, steps_of, Observing, observed, suppressed, telling, removal_record, removing, removing_from, has_document, changing_document, adopting, document_below, placed_nodes, emptying, making_room, placing, sibling_before, inserting_nodes, inserting}
+use Rattle.dom_model.specs.Changes.{Plan, in_turn, steps_of, Observing, observed, suppressed, telling, removal_record, removing, removing_from}
+use Rattle.dom_model.specs.Changes.{has_document, changing_document, adopting, document_below, placed_nodes, emptying, making_room, placing}
+use Rattle.dom_model.specs.Changes.{sibling_before, inserting_nodes, inserting}
 use Rattle.dom_model.proofs.StepLaws.{owner-part_step}
 use Rattle.dom_isolation.specs.Worlds.{times_in, IsPart}
 use Rattle.dom_isolation.proofs.NodesRead.{node-taken_out, node-placed, node-with_node, node-map_nodes}
@@ -21,7 +23,9 @@ use Rattle.dom_isolation.proofs.Trees.{times-subtree, name_eq-true}
 use Rattle.dom_isolation.proofs.PartSteps.{KeepsNames, some-keeps, attribute-keeps, part-step, next-absent}
 use Rattle.dom_isolation.proofs.NodeKinds.{count-grows}
 use Rattle.dom_isolation.proofs.TableSteps.{There, Fits, MadeIn, stays-step}
-use Rattle.dom_isolation.proofs.Insides.{inside, inside-taken_out, inside-placed, inside-with_node, inside-map_nodes, inside-nested, times-inside, children-inside, no_parent-root}
+use Rattle.dom_isolation.proofs.Insides.{inside, inside-taken_out, inside-placed, inside-with_node, inside-map_nodes, times-inside}
+use Rattle.dom_isolation.proofs.InsideAncestors.{inside-nested}
+use Rattle.dom_isolation.proofs.InsideAncestors.{children-inside, no_parent-root}
 
 -- Nodes of the tree of a do not come from a place outside of it.
 abbrev pub ApartFrom : Option NodeName → Part → NodeName → Type 0
@@ -77,7 +81,8 @@ mapped-apart : (f : Node → Node) → KeepsNames f → (ts : Trees) (a z : Node
 mapped-apart f h ts a z e = inside-map_nodes f (λ n. (h n).0) ts a z ∙ e
 
 -- a step
-apart-step : (p : Part) (s : Step) → IsPart p → (a z : NodeName) → There p a → ApartFrom (spot_of s) p a → inside p.trees a z ≡ 0 → inside (part_step p s).trees a z ≡ 0
+apart-step : (p : Part) (s : Step) → IsPart p → (a z : NodeName) → There p a → ApartFrom (spot_of s) p a → inside p.trees a z ≡ 0 →
+    inside (part_step p s).trees a z ≡ 0
 apart-step p (make n) i a z t h e =
     by_cases (name_eq (next_name p) a)
     (λ k. absurd (let b = next-absent p i in let same = ap (times_in p.trees) (name_eq-true (next_name p) a k) in omega arith))
@@ -89,11 +94,14 @@ apart-step p (take_out x) i a z t h e = from (parent_of p.trees x)
     from None = e
     from (Some parent) = let b = inside-taken_out p.trees x a z in omega arith
 apart-step p (set_document x d) i a z t h e =
-    mapped-apart (λ n. if is_in name_eq n.name (inclusive_descendants p.trees x) then with_document d n else n) (some-keeps (λ (n : Node). is_in name_eq n.name (inclusive_descendants p.trees x)) (with_document d) (λ n. (refl, refl))) p.trees a z e
+    mapped-apart (λ n. if is_in name_eq n.name (inclusive_descendants p.trees x) then with_document d n else n)
+    (some-keeps (λ (n : Node). is_in name_eq n.name (inclusive_descendants p.trees x)) (with_document d) (λ n. (refl, refl))) p.trees a z e
 apart-step p (set_attribute x b v) i a z t h e =
-    mapped-apart (λ n. if name_eq n.name x then with_attribute b v n else n) (some-keeps (λ (n : Node). name_eq n.name x) (with_attribute b v) (attribute-keeps b v)) p.trees a z e
+    mapped-apart (λ n. if name_eq n.name x then with_attribute b v n else n)
+    (some-keeps (λ (n : Node). name_eq n.name x) (with_attribute b v) (attribute-keeps b v)) p.trees a z e
 apart-step p (replace_data x offset count new) i a z t h e =
-    mapped-apart (λ n. if name_eq n.name x then with_data_replaced offset count new n else n) (some-keeps (λ (n : Node). name_eq n.name x) (with_data_replaced offset count new) (λ n. (refl, refl))) p.trees a z e
+    mapped-apart (λ n. if name_eq n.name x then with_data_replaced offset count new n else n)
+    (some-keeps (λ (n : Node). name_eq n.name x) (with_data_replaced offset count new) (λ n. (refl, refl))) p.trees a z e
 apart-step p s i a z t h e = e
 
 -- kinds stay
@@ -113,17 +121,27 @@ kind-step p (take_out x) i h y t = from (parent_of p.trees x)
     from None = refl
     from (Some parent) = ap (λ (n : Node). n.kind) (node-taken_out p.trees x y i.unique t)
 kind-step p (set_document x d) i h y t =
-    mapped-kind (λ n. if is_in name_eq n.name (inclusive_descendants p.trees x) then with_document d n else n) (some-keeps (λ (n : Node). is_in name_eq n.name (inclusive_descendants p.trees x)) (with_document d) (λ n. (refl, refl))) p.trees y t
+    mapped-kind (λ n. if is_in name_eq n.name (inclusive_descendants p.trees x) then with_document d n else n)
+    (some-keeps (λ (n : Node). is_in name_eq n.name (inclusive_descendants p.trees x)) (with_document d) (λ n. (refl, refl))) p.trees y t
 kind-step p (set_attribute x b v) i h y t =
-    mapped-kind (λ n. if name_eq n.name x then with_attribute b v n else n) (some-keeps (λ (n : Node). name_eq n.name x) (with_attribute b v) (attribute-keeps b v)) p.trees y t
+    mapped-kind (λ n. if name_eq n.name x then with_attribute b v n else n)
+    (some-keeps (λ (n : Node). name_eq n.name x) (with_attribute b v) (attribute-keeps b v)) p.trees y t
 kind-step p (replace_data x offset count new) i h y t =
-    mapped-kind (λ n. if name_eq n.name x then with_data_replaced offset count new n else n) (some-keeps (λ (n : Node). name_eq n.name x) (with_data_replaced offset count new) (λ n. (refl, refl))) p.trees y t
+    mapped-kind (λ n. if name_eq n.name x then with_data_replaced offset count new n else n)
+    (some-keeps (λ (n : Node). name_eq n.name x) (with_data_replaced offset count new) (λ n. (refl, refl))) p.trees y t
 kind-step p s i h y t = refl
 
 -- is such a change
 pub changed-step : (p : Part) (s : Step) → IsPart p → Fits p s → Changed (spot_of s) p (part_step p s)
 changed-step p s i f =
-    record { owner = owner-part_step p s; part = part-step p s i; count = count-grows p s; there = stays-step p s i f; apart = apart-step p s i; kinds = kind-step p s i f }
+    record {
+      owner = owner-part_step p s;
+      part = part-step p s i;
+      count = count-grows p s;
+      there = stays-step p s i f;
+      apart = apart-step p s i;
+      kinds = kind-step p s i f;
+    }
 
 -- Steps that fit, and what they change.
 pub record Leads (spot : Option NodeName) (p : Part) (steps : List Step) : Type 0 where
@@ -168,7 +186,8 @@ leads-each spot P f h k [] p i g = leads-nothing spot p i
 leads-each spot P f h k (x ∷ xs) p i g =
     let first = h p x i g.0 in
     let q = after p (f x p) in
-    leads-then spot p (f x p) (in_turn f xs q) first (leads-each spot P f h k xs q first.changed.part (all-then (P p) (P q) (λ y. k p q y first.changed) xs g.1))
+    leads-then spot p (f x p) (in_turn f xs q) first
+    (leads-each spot P f h k xs q first.changed.part (all-then (P p) (P q) (λ y. k p q y first.changed) xs g.1))
 
 -- one of two lists of steps
 pub leads-if : (spot : Option NodeName) (p : Part) (b : Bool) (xs ys : List Step) → Leads spot p xs → Leads spot p ys → Leads spot p (if b then xs else ys)
@@ -188,7 +207,8 @@ leads-removing how x p i = from (parent_of p.trees x)
     from None = leads-nothing None p i
     from (Some parent) =
         let first = leads-one p (take_out x) i tt in
-        leads-then None p (take_out x ∷ []) (telling how (removal_record p.trees parent x)) first (leads-telling how (removal_record p.trees parent x) (part_step p (take_out x)) first.changed.part)
+        leads-then None p (take_out x ∷ []) (telling how (removal_record p.trees parent x)) first
+        (leads-telling how (removal_record p.trees parent x) (part_step p (take_out x)) first.changed.part)
 
 -- an adoption
 pub leads-adopting : (d x : NodeName) (p : Part) → IsPart p → x.owner ≡ p.owner → Leads None p (adopting d x p)
@@ -196,7 +216,8 @@ leads-adopting d x p i e =
     let first = leads-removing observed x p i in
     let q = after p (removing observed x p) in
     leads-then None p (removing observed x p) (changing_document d x q) first
-    (leads-if None q (not (has_document q.trees d x)) (set_document x d ∷ []) [] (leads-one q (set_document x d) first.changed.part (e ∙ sym first.changed.owner)) (leads-nothing None q first.changed.part))
+    (leads-if None q (not (has_document q.trees d x)) (set_document x d ∷ []) []
+    (leads-one q (set_document x d) first.changed.part (e ∙ sym first.changed.owner)) (leads-nothing None q first.changed.part))
 
 -- What may be placed below a node.
 pub record MayGo (parent : NodeName) (p : Part) (x : NodeName) : Type 0 where
@@ -226,7 +247,8 @@ root-removing how x p t = from (parent_of p.trees x) refl
     from : (o : Option NodeName) → parent_of p.trees x ≡ o → HasRoot (after p (option_map_or (removing_from how x p.trees) o [])).trees x
     from None e = no_parent-root p.trees x t e
     from (Some parent) e =
-        subst (λ ts. HasRoot ts x) (sym (telling-trees how (removal_record p.trees parent x) (part_step p (take_out x)) ∙ ap (λ (q : Part). q.trees) (taken-step p x parent e)))
+        subst (λ ts. HasRoot ts x) (sym (telling-trees how (removal_record p.trees parent x) (part_step p (take_out x)) ∙
+        ap (λ (q : Part). q.trees) (taken-step p x parent e)))
         (root-put_root_new x (subtree p.trees x) (without x p.trees) x (root-subtree p.trees x t))
 
 -- and stays one under another node document
@@ -236,21 +258,26 @@ root-adopting d x p t =
     let rooted = root-removing observed x p t in
     subst (λ (r : Part). HasRoot r.trees x) (sym (after-append p (removing observed x p) (changing_document d x q)))
     (either_way (λ steps. HasRoot (after q steps).trees x) (not (has_document q.trees d x)) (set_document x d ∷ []) []
-    (root-map_nodes (λ n. if is_in name_eq n.name (inclusive_descendants q.trees x) then with_document d n else n) (λ n. (some-keeps (λ (n : Node). is_in name_eq n.name (inclusive_descendants q.trees x)) (with_document d) (λ n. (refl, refl)) n).0) q.trees x rooted) rooted)
+    (root-map_nodes (λ n. if is_in name_eq n.name (inclusive_descendants q.trees x) then with_document d n else n)
+    (λ n. (some-keeps (λ (n : Node). is_in name_eq n.name (inclusive_descendants q.trees x)) (with_document d) (λ n. (refl, refl)) n).0)
+    q.trees x rooted) rooted)
 
 -- a node is adopted and placed
-pub leads-placing : (parent : NodeName) (before : Option NodeName) (p : Part) (x : NodeName) → IsPart p → MayGo parent p x → Leads (Some parent) p (placing parent before x p)
+pub leads-placing : (parent : NodeName) (before : Option NodeName) (p : Part) (x : NodeName) → IsPart p → MayGo parent p x →
+    Leads (Some parent) p (placing parent before x p)
 leads-placing parent before p x i m =
     let d = document_below p.trees parent in
     let q = after p (adopting d x p) in
     let first = leads-eased (Some parent) p (adopting d x p) (leads-adopting d x p i m.owner) in
     let n = may-still parent p q x first.changed m in
-    leads-then (Some parent) p (adopting d x p) (place x parent before ∷ []) first (leads-one q (place x parent before) first.changed.part (n.below, n.apart, root-adopting d x p m.there))
+    leads-then (Some parent) p (adopting d x p) (place x parent before ∷ []) first
+    (leads-one q (place x parent before) first.changed.part (n.below, n.apart, root-adopting d x p m.there))
 
 -- Insertions.
 leads-emptying : (node : NodeName) (children : List NodeName) (p : Part) → IsPart p → Leads None p (emptying node children p)
 leads-emptying node children p i =
-    let first = leads-each None (λ q (y : NodeName). ⊤) (removing suppressed) (λ q y j t. leads-removing suppressed y q j) (λ q r y c t. tt) children p i (all-from (λ y. ⊤) (λ y. tt) children) in
+    let first = leads-each None (λ q (y : NodeName). ⊤) (removing suppressed) (λ q y j t. leads-removing suppressed y q j) (λ q r y c t. tt)
+    children p i (all-from (λ y. ⊤) (λ y. tt) children) in
     leads-then None p (in_turn (removing suppressed) children p) (queue_record (child_list node [] children None None) ∷ []) first
     (leads-one (after p (in_turn (removing suppressed) children p)) (queue_record (child_list node [] children None None)) first.changed.part tt)
 
@@ -274,7 +301,8 @@ children-may parent p x i m =
 
 -- the nodes that an insertion places
 pub placed-may : (parent : NodeName) (p : Part) (x : NodeName) → IsPart p → MayGo parent p x → AllByRecursion (MayGo parent p) (placed_nodes p.trees x)
-placed-may parent p x i m = either_way (AllByRecursion (MayGo parent p)) (is_fragment (kind_of p.trees x)) (children_of p.trees x) (x ∷ []) (children-may parent p x i m) (m, tt)
+placed-may parent p x i m = either_way (AllByRecursion (MayGo parent p)) (is_fragment (kind_of p.trees x)) (children_of p.trees x) (x ∷ [])
+    (children-may parent p x i m) (m, tt)
 
 -- the fragment, if it is one, is emptied
 abbrev pub emptied_of : Part → NodeName → Plan
@@ -289,7 +317,8 @@ leads-emptied node p i = from (is_fragment (kind_of p.trees node))
     from false = leads-nothing None p i
 
 -- an insertion
-pub leads-inserting : (how : Observing) (node parent : NodeName) (before : Option NodeName) (p : Part) → IsPart p → MayGo parent p node → Leads (Some parent) p (inserting how node parent before p)
+pub leads-inserting : (how : Observing) (node parent : NodeName) (before : Option NodeName) (p : Part) → IsPart p → MayGo parent p node →
+    Leads (Some parent) p (inserting how node parent before p)
 leads-inserting how node parent before p i m =
     let spot = Some parent in
     let moved = placed_nodes p.trees node in
@@ -302,7 +331,11 @@ leads-inserting how node parent before p i m =
     let ab = leads-then spot p one two a b in
     let r = after p (one ++ two) in
     let three = in_turn (placing parent before) moved r in
-    let c = leads-each spot (MayGo parent) (placing parent before) (leads-placing parent before) (may-still parent) moved r ab.changed.part (all-then (MayGo parent p) (MayGo parent r) (λ y. may-still parent p r y ab.changed) moved (placed-may parent p node i m)) in
+    let c = leads-each spot (MayGo parent) (placing parent before) (leads-placing parent before) (may-still parent) moved r ab.changed.part
+    (all-then (MayGo parent p) (MayGo parent r) (λ y. may-still parent p r y ab.changed) moved (placed-may parent p node i m)) in
     let abc = leads-then spot p (one ++ two) three ab c in
-    let d = leads-eased spot (after p ((one ++ two) ++ three)) told (leads-telling how (child_list parent moved [] (sibling_before p.trees parent before) before) (after p ((one ++ two) ++ three)) abc.changed.part) in
-    leads-if spot p (is_empty moved) [] (inserting_nodes how node moved parent before p) (leads-nothing spot p i) (leads-then spot p ((one ++ two) ++ three) told abc d)
+    let d = leads-eased spot (after p ((one ++ two) ++ three)) told
+    (leads-telling how (child_list parent moved [] (sibling_before p.trees parent before) before) (after p ((one ++ two) ++ three))
+    abc.changed.part) in
+    leads-if spot p (is_empty moved) [] (inserting_nodes how node moved parent before p) (leads-nothing spot p i)
+    (leads-then spot p ((one ++ two) ++ three) told abc d)

@@ -1,48 +1,40 @@
 -- Deletions and extractions of a range whose ends are in one tree keep all ends of ranges within their nodes.
-use Rattle.std.proofs.Common.{◌≡◌, ◌≤◌, ℕ, ◌-◌, Bool, true, false, not, ◌&&◌, List, [], ◌∷◌, ◌++◌, length, Some, None, refl, sym, ap, ◌∙◌, arith, true≢false, subst}
+use Rattle.std.proofs.Common.{◌≡◌, ◌≤◌, ℕ, ◌-◌, Bool, true, false, not, ◌&&◌, List, [], ◌∷◌, ◌++◌, length, Some, None, refl, sym, ap, ◌∙◌, arith}
+use Rattle.std.proofs.Common.{true≢false, subst}
 use Rattle.std.specs.Prelude.{if◌then◌else◌, min}
 use Rattle.std.specs.List.{AllByRecursion}
-use Rattle.std.proofs.lemmas.Bool.{cond-true, cond-false, and_parts, not-true}
+use Rattle.std.proofs.lemmas.Bool.{cond-true, cond-false, and_parts}
 use Rattle.dom_base.specs.declared.NodeName.{NodeName}
-use Rattle.dom_model.specs.Names.{DomString, name_eq}
-use Rattle.dom_model.specs.Tree.{Trees, none, tree, Node, node_in, kind_of, has_data, subtree, trees_below, length_of, is_inclusive_ancestor, names_of, nodes}
-use Rattle.dom_model.specs.TreeChanges.{with_name}
+use Rattle.dom_model.specs.Names.{name_eq}
+use Rattle.dom_model.specs.Tree.{Trees, none, tree, Node, node_in, kind_of, has_data, length_of, is_inclusive_ancestor, names_of, nodes}
 use Rattle.dom_model.specs.Output.{character_data}
-use Rattle.dom_model.specs.Part.{Part, next_name}
+use Rattle.dom_model.specs.Part.{Part}
 use Rattle.dom_model.specs.Place.{Boundary, is_before, same_root}
 use Rattle.dom_model.specs.Ranges.{Range, at, is_collapsed, is_contained}
-use Rattle.dom_model.specs.Steps.{Step, make, set_range, queue_record, part_step, after}
-use Rattle.dom_model.specs.Changes.{Plan, ◌and_then◌, in_turn, doing, steps_of, observed, removing, inserting}
+use Rattle.dom_model.specs.Steps.{Step, set_range, queue_record, part_step, after}
+use Rattle.dom_model.specs.Changes.{Plan, ◌and_then◌, in_turn, doing, steps_of, observed, removing}
 use Rattle.dom_model.specs.TextChanges.{replacing_data}
-use Rattle.dom_model.specs.Extract.{Pieces, nothing, cut, tree_holding, cut_start, cut_end, pieces_of, common_ancestor, is_in_one_data, clone_part, making_below, taking, new_fragment_node, own_document, new_place, both_at, extracting}
+use Rattle.dom_model.specs.Extract.{cut, cut_start, cut_end, is_in_one_data}
+use Rattle.dom_model.specs.Extract.{new_place, both_at}
 use Rattle.dom_model.specs.RangeOps.{cutting_data, outermost_contained, deleting_contents, deleting}
 use Rattle.dom_model.proofs.OwnerLaws.{name_eq-same}
-use Rattle.dom_isolation.specs.Worlds.{times_in, IsPart, AllNodes}
-use Rattle.dom_isolation.proofs.Bounds.{Under, reach, nowhere, HasRoom, room-make, room-set}
+use Rattle.dom_isolation.specs.Worlds.{IsPart}
+use Rattle.dom_isolation.proofs.Bounds.{nowhere, HasRoom, room-set}
 use Rattle.dom_isolation.proofs.Bounds as bounds
-use Rattle.dom_isolation.proofs.Contained.{IsSpared}
-use Rattle.dom_isolation.proofs.Descents.{inside-ancestor, inside-below}
-use Rattle.dom_isolation.proofs.FitPieces.{IsClonable, common_below, fit-apart, fit-pieces}
-use Rattle.dom_isolation.proofs.Insides.{inside, inside-here, inside-without}
 use Rattle.dom_isolation.proofs.Kids.{kids}
-use Rattle.dom_isolation.proofs.Plans.{AreFit}
-use Rattle.dom_isolation.proofs.Roots.{self-above, above-parent}
-use Rattle.dom_isolation.proofs.TableRecords.{above-above}
-use Rattle.dom_isolation.proofs.NodesRead.{length-data, node-with_node, node-new, read-all}
+use Rattle.dom_isolation.proofs.Roots.{self-above}
+use Rattle.dom_isolation.proofs.NodesRead.{length-data}
 use Rattle.dom_isolation.proofs.Lists.{all-then, all-passed}
-use Rattle.dom_isolation.proofs.PartSteps.{next-absent}
-use Rattle.dom_isolation.proofs.PlanBounds.{room-then, room-removals, room-replacing_data, IsOpen, texts-inserting}
-use Rattle.dom_isolation.proofs.PlanPlaces.{Changed, MayGo, still, after-append, leads-one, leads-nothing, leads-inserting}
-use Rattle.dom_isolation.proofs.PlanTexts.{new-there, next-not, new-may, leads-removals, leads-replacing_data}
-use Rattle.dom_isolation.proofs.PlanContents.{OldIn, old-there, whole-then, leads-making_below, pieces-there, leads-taking}
-use Rattle.dom_isolation.proofs.PlanChildren.{IsChild, IsNot, child-removals, child-replacing_data, child-make, child-parent}
-use Rattle.dom_isolation.proofs.RangeBounds.{AreChildren, Misses, IsData, IsOpenIn, fits-still, room-taking}
+use Rattle.dom_isolation.proofs.PlanBounds.{room-then, room-removals, room-replacing_data, IsOpen}
+use Rattle.dom_isolation.proofs.PlanPlaces.{Changed, still, after-append, leads-nothing}
+use Rattle.dom_isolation.proofs.PlanTexts.{leads-removals, leads-replacing_data}
+use Rattle.dom_isolation.proofs.PlanChildren.{IsChild, IsNot, child-removals, child-replacing_data}
+use Rattle.dom_isolation.proofs.RangeBounds.{AreChildren}
 use Rattle.dom_isolation.proofs.RangeEnds.{room-at, above-kids, room-place_new}
 use Rattle.dom_isolation.proofs.TableSteps.{There}
-use Rattle.dom_isolation.proofs.Tests.{by_cases, either_way, which_way}
+use Rattle.dom_isolation.proofs.Tests.{by_cases, either_way}
 use Rattle.dom_isolation.proofs.TextBounds.{replaced-here}
-use Rattle.dom_isolation.proofs.TreeChangeLaws.{nodes-subtree, nodes-then, nodes-named}
-use Rattle.dom_isolation.proofs.Trees.{IsUnique, name_eq-true}
+use Rattle.dom_isolation.proofs.Trees.{name_eq-true}
 
 -- What is asked of a range: its ends are nodes of one tree, and its start is within its node.
 pub record IsProper (p : Part) (r : Range NodeName) : Type 0 where
@@ -52,11 +44,12 @@ pub record IsProper (p : Part) (r : Range NodeName) : Type 0 where
   pub within : r.start.offset ≤ length_of p.trees r.start.node
 
 -- a number is not zero and more
-zero_one : (k : ℕ) → k ≡ 0 → 1 ≤ k → ⊥
+pub zero_one : (k : ℕ) → k ≡ 0 → 1 ≤ k → ⊥
 zero_one k a b = absurd (omega arith)
 
 -- a start node above the end node is open, unless both are one Text
-start-open : (p : Part) (r : Range NodeName) → IsPart p → HasRoom nowhere p → is_in_one_data p.trees r ≡ false → is_inclusive_ancestor p.trees r.start.node r.end.node ≡ true → IsOpen p r.start.node
+start-open : (p : Part) (r : Range NodeName) → IsPart p → HasRoom nowhere p → is_in_one_data p.trees r ≡ false →
+    is_inclusive_ancestor p.trees r.start.node r.end.node ≡ true → IsOpen p r.start.node
 start-open p r i h e above =
     by_cases (has_data (kind_of p.trees r.start.node))
     (λ k. absurd (by_cases (name_eq r.start.node r.end.node)
@@ -65,7 +58,8 @@ start-open p r i h e above =
     (λ k. k)
 
 -- Data that are cut: up to the offset they stay.
-data-left : (p : Part) (x : NodeName) (offset count : ℕ) → has_data (kind_of p.trees x) ≡ true → offset ≤ length_of p.trees x → offset ≤ length_of (after p (replacing_data x offset count [] p)).trees x
+pub data-left : (p : Part) (x : NodeName) (offset count : ℕ) → has_data (kind_of p.trees x) ≡ true → offset ≤ length_of p.trees x →
+    offset ≤ length_of (after p (replacing_data x offset count [] p)).trees x
 data-left p x offset count k le =
     let old = (node_in p.trees x).text in
     let p1 = part_step p (queue_record (character_data x (Some old))) in
@@ -79,16 +73,18 @@ data-left p x offset count k le =
 
 -- a cut at an end of a range
 record IsCut (xs : List NodeName) (y : NodeName) (steps : List Step) (q : Part) : Type 0 where
-  part : IsPart (after q steps)
-  room : HasRoom nowhere (after q steps)
-  children : AreChildren xs y (after q steps)
-  changed : Changed None q (after q steps)
+  pub part : IsPart (after q steps)
+  pub room : HasRoom nowhere (after q steps)
+  pub children : AreChildren xs y (after q steps)
+  pub changed : Changed None q (after q steps)
 
 -- the same, as it is made
-cut-end : (xs : List NodeName) (y : NodeName) (ts : Trees) (r : Range NodeName) (x : NodeName) (q : Part) → IsPart q → HasRoom nowhere q → AreChildren xs y q → (has_data (kind_of ts x) ≡ true → has_data (kind_of q.trees x) ≡ true) → IsCut xs y (cutting_data ts r x q) q
+cut-end : (xs : List NodeName) (y : NodeName) (ts : Trees) (r : Range NodeName) (x : NodeName) (q : Part) → IsPart q → HasRoom nowhere q →
+    AreChildren xs y q → (has_data (kind_of ts x) ≡ true → has_data (kind_of q.trees x) ≡ true) → IsCut xs y (cutting_data ts r x q) q
 cut-end xs y ts r x q i h c k = from (has_data (kind_of ts x)) k
   where
-    from : (b : Bool) → (b ≡ true → has_data (kind_of q.trees x) ≡ true) → IsCut xs y ((if b then replacing_data x (cut_start r x) (cut_end ts r x - cut_start r x) [] else steps_of []) q) q
+    from : (b : Bool) → (b ≡ true → has_data (kind_of q.trees x) ≡ true) →
+        IsCut xs y ((if b then replacing_data x (cut_start r x) (cut_end ts r x - cut_start r x) [] else steps_of []) q) q
     from false k = record { part = i; room = h; children = c; changed = (leads-nothing None q i).changed }
     from true k =
         let n = cut_end ts r x - cut_start r x in
@@ -96,29 +92,40 @@ cut-end xs y ts r x q i h c k = from (has_data (kind_of ts x)) k
         record {
           part = l.changed.part;
           room = room-replacing_data x (cut_start r x) n [] q i (k refl) h;
-          children = (all-then (λ z. IsChild z y q) (λ z. IsChild z y (after q (replacing_data x (cut_start r x) n [] q))) (λ z g. child-replacing_data z y x (cut_start r x) n [] q g) xs c.0, still l.changed y c.1);
+          children = (
+            all-then (λ z. IsChild z y q) (λ z. IsChild z y (after q (replacing_data x (cut_start r x) n [] q)))
+                (λ z g. child-replacing_data z y x (cut_start r x) n [] q g) xs c.0,
+            still l.changed y c.1,
+          );
           changed = l.changed;
         }
 
 -- children stay where contained nodes leave
-children-left : (xs : List NodeName) (y : NodeName) (zs : List NodeName) (q : Part) → IsPart q → AllByRecursion (λ z. AllByRecursion (λ x. IsNot x z) xs) zs → AreChildren xs y q → AreChildren xs y (after q (in_turn (removing observed) zs q))
+children-left : (xs : List NodeName) (y : NodeName) (zs : List NodeName) (q : Part) → IsPart q →
+    AllByRecursion (λ z. AllByRecursion (λ x. IsNot x z) xs) zs → AreChildren xs y q → AreChildren xs y (after q (in_turn (removing observed) zs q))
 children-left xs y zs q i d c = (each xs d c.0, still (leads-removals observed zs q i).changed y c.1)
   where
-    heads : (x : NodeName) (xs zs : List NodeName) → AllByRecursion (λ z. AllByRecursion (λ a. IsNot a z) (x ∷ xs)) zs → AllByRecursion (IsNot x) zs × AllByRecursion (λ z. AllByRecursion (λ a. IsNot a z) xs) zs
+    heads : (x : NodeName) (xs zs : List NodeName) → AllByRecursion (λ z. AllByRecursion (λ a. IsNot a z) (x ∷ xs)) zs →
+        AllByRecursion (IsNot x) zs × AllByRecursion (λ z. AllByRecursion (λ a. IsNot a z) xs) zs
     heads x xs [] d = (tt, tt)
     heads x xs (z ∷ zs) d = let m = heads x xs zs d.1 in ((d.0.0, m.0), (d.0.1, m.1))
 
-    each : (xs : List NodeName) → AllByRecursion (λ z. AllByRecursion (λ x. IsNot x z) xs) zs → AllByRecursion (λ x. IsChild x y q) xs → AllByRecursion (λ x. IsChild x y (after q (in_turn (removing observed) zs q))) xs
+    each : (xs : List NodeName) → AllByRecursion (λ z. AllByRecursion (λ x. IsNot x z) xs) zs → AllByRecursion (λ x. IsChild x y q) xs →
+        AllByRecursion (λ x. IsChild x y (after q (in_turn (removing observed) zs q))) xs
     each [] d h = tt
     each (x ∷ xs) d h = let m = heads x xs zs d in (child-removals x y observed zs q i m.0 h.0, each xs m.1 h.1)
 
 -- what begins behind the start is none of the nodes before which the start does not come
-early-not : (ts : Trees) (r : Range NodeName) (z : NodeName) → is_before ts r.start (at z 0) ≡ true → (xs : List NodeName) → AllByRecursion (λ x. is_before ts r.start (at x 0) ≡ false) xs → AllByRecursion (λ x. IsNot x z) xs
+pub early-not : (ts : Trees) (r : Range NodeName) (z : NodeName) → is_before ts r.start (at z 0) ≡ true → (xs : List NodeName) →
+    AllByRecursion (λ x. is_before ts r.start (at x 0) ≡ false) xs → AllByRecursion (λ x. IsNot x z) xs
 early-not ts r z h xs s =
-    all-then (λ x. is_before ts r.start (at x 0) ≡ false) (λ x. IsNot x z) (λ x g. by_cases (name_eq z x) (λ e. absurd (true≢false (sym h ∙ ap (λ y. is_before ts r.start (at y 0)) (name_eq-true z x e) ∙ g))) (λ e. e)) xs s
+    all-then (λ x. is_before ts r.start (at x 0) ≡ false) (λ x. IsNot x z)
+    (λ x g. by_cases (name_eq z x) (λ e. absurd (true≢false (sym h ∙ ap (λ y. is_before ts r.start (at y 0)) (name_eq-true z x e) ∙ g)))
+    (λ e. e)) xs s
 
 -- The last step: the range gets its new place.
-room-last : (p q : Part) (k : ℕ) (b : Boundary NodeName) → b.offset ≤ length_of q.trees b.node → HasRoom nowhere q → HasRoom nowhere (part_step q (set_range k (both_at b)))
+pub room-last : (p q : Part) (k : ℕ) (b : Boundary NodeName) → b.offset ≤ length_of q.trees b.node → HasRoom nowhere q →
+    HasRoom nowhere (part_step q (set_range k (both_at b)))
 room-last p q k b le h = room-set nowhere q k (both_at b) (omega arith) (omega arith) h
 
 -- a deletion
@@ -141,22 +148,30 @@ room-deleting k r p i g h =
     Done : List Step → Type 0
     Done steps = HasRoom nowhere (after p steps) × ((new_place p.trees r).offset ≤ length_of (after p steps).trees (new_place p.trees r).node)
 
-    in_data : is_in_one_data p.trees r ≡ true → HasRoom nowhere (after p (deleting_contents p.trees r p)) × ((new_place p.trees r).offset ≤ length_of (after p (deleting_contents p.trees r p)).trees (new_place p.trees r).node)
+    in_data : is_in_one_data p.trees r ≡ true → HasRoom nowhere (after p (deleting_contents p.trees r p)) ×
+        ((new_place p.trees r).offset ≤ length_of (after p (deleting_contents p.trees r p)).trees (new_place p.trees r).node)
     in_data e =
         let ts = p.trees in
         let x = r.start.node in
         let both = and_parts (name_eq x r.end.node) (has_data (kind_of ts x)) e in
         let count = cut_end ts r x - cut_start r x in
-        let plan : deleting_contents ts r p ≡ replacing_data x (cut_start r x) count [] p = ap (λ (f : Plan). f p) (cond-true (is_in_one_data ts r) (cutting_data ts r x) (cutting_data ts r x and_then in_turn (removing observed) (outermost_contained ts r) and_then cutting_data ts r r.end.node) e ∙ cond-true (has_data (kind_of ts x)) (replacing_data x (cut_start r x) count []) (steps_of []) both.1) in
+        let plan : deleting_contents ts r p ≡ replacing_data x (cut_start r x) count [] p =
+        ap (λ (f : Plan). f p) (cond-true (is_in_one_data ts r) (cutting_data ts r x)
+        (cutting_data ts r x and_then in_turn (removing observed) (outermost_contained ts r) and_then cutting_data ts r r.end.node) e ∙
+        cond-true (has_data (kind_of ts x)) (replacing_data x (cut_start r x) count []) (steps_of []) both.1) in
         let begins : cut_start r x ≡ r.start.offset = cond-true (name_eq x x) r.start.offset 0 (name_eq-same x) in
-        let place : new_place ts r ≡ r.start = cond-true (is_inclusive_ancestor ts x r.end.node) r.start _ (ap (is_inclusive_ancestor ts x) (sym (name_eq-true x r.end.node both.0)) ∙ self-above ts x g.start) in
+        let place : new_place ts r ≡ r.start =
+        cond-true (is_inclusive_ancestor ts x r.end.node) r.start _
+        (ap (is_inclusive_ancestor ts x) (sym (name_eq-true x r.end.node both.0)) ∙ self-above ts x g.start) in
         let left = data-left p x (cut_start r x) count both.1 (let w = g.within in omega arith) in
         subst (λ steps. HasRoom nowhere (after p steps) × ((new_place ts r).offset ≤ length_of (after p steps).trees (new_place ts r).node)) (sym plan) (
           room-replacing_data x (cut_start r x) count [] p i both.1 h,
-          subst (λ (c : Boundary NodeName). c.offset ≤ length_of (after p (replacing_data x (cut_start r x) count [] p)).trees c.node) (sym place) (omega arith),
+          subst (λ (c : Boundary NodeName). c.offset ≤ length_of (after p (replacing_data x (cut_start r x) count [] p)).trees c.node) (sym place)
+              (omega arith),
         )
 
-    in_trees : is_in_one_data p.trees r ≡ false → HasRoom nowhere (after p (deleting_contents p.trees r p)) × ((new_place p.trees r).offset ≤ length_of (after p (deleting_contents p.trees r p)).trees (new_place p.trees r).node)
+    in_trees : is_in_one_data p.trees r ≡ false → HasRoom nowhere (after p (deleting_contents p.trees r p)) ×
+        ((new_place p.trees r).offset ≤ length_of (after p (deleting_contents p.trees r p)).trees (new_place p.trees r).node)
     in_trees e =
         let ts = p.trees in
         let b = new_place ts r in
@@ -170,191 +185,26 @@ room-deleting k r p i g h =
         let two = in_turn (removing observed) gone q in
         let lq = leads-removals observed gone q a.part in
         let s = after q two in
-        let missing = all-then (λ z. is_contained ts r z ≡ true) (λ z. AllByRecursion (λ x. IsNot x z) xs) (λ z c. early-not ts r z (and_parts (is_before ts r.start (at z 0)) _ c).0 xs room.spared.children) gone
+        let missing = all-then (λ z. is_contained ts r z ≡ true) (λ z. AllByRecursion (λ x. IsNot x z) xs)
+        (λ z c. early-not ts r z (and_parts (is_before ts r.start (at z 0)) _ c).0 xs room.spared.children) gone
         (all-passed (λ z. is_contained ts r z ≡ true) _ (λ z c. (and_parts (is_contained ts r z) _ c).0) (names_of (nodes ts))) in
         let cs = children-left xs y gone q a.part missing a.children in
         let rs = room-removals nowhere observed gone q a.part a.room in
         let sr = after p (one ++ two) in
         let same : sr ≡ s = after-append p one two in
         let kinds : has_data (kind_of ts r.end.node) ≡ true → has_data (kind_of sr.trees r.end.node) ≡ true =
-        λ d. ap (λ (v : Part). has_data (kind_of v.trees r.end.node)) same ∙ ap has_data (lq.changed.kinds r.end.node (still a.changed r.end.node g.end) ∙ a.changed.kinds r.end.node g.end) ∙ d in
-        let c = cut-end xs y ts r r.end.node sr (subst IsPart (sym same) lq.changed.part) (subst (HasRoom nowhere) (sym same) rs) (subst (AreChildren xs y) (sym same) cs) kinds in
+        λ d. ap (λ (v : Part). has_data (kind_of v.trees r.end.node)) same ∙
+        ap has_data (lq.changed.kinds r.end.node (still a.changed r.end.node g.end) ∙ a.changed.kinds r.end.node g.end) ∙ d in
+        let c = cut-end xs y ts r r.end.node sr (subst IsPart (sym same) lq.changed.part) (subst (HasRoom nowhere) (sym same) rs)
+        (subst (AreChildren xs y) (sym same) cs) kinds in
         let three = cutting_data ts r r.end.node sr in
-        let opened : IsOpen (after sr three) y = ap has_data (c.changed.kinds y (subst (λ (v : Part). There v y) (sym same) cs.1) ∙ ap (λ (v : Part). kind_of v.trees y) same ∙ lq.changed.kinds y (still a.changed y room.children.1) ∙ a.changed.kinds y room.children.1) ∙ room.opened in
-        let plan : deleting_contents ts r p ≡ (one ++ two) ++ three = ap (λ (f : Plan). f p) (cond-false (is_in_one_data ts r) (cutting_data ts r r.start.node) (cutting_data ts r r.start.node and_then in_turn (removing observed) gone and_then cutting_data ts r r.end.node) e) in
+        let opened : IsOpen (after sr three) y =
+        ap has_data (c.changed.kinds y (subst (λ (v : Part). There v y) (sym same) cs.1) ∙ ap (λ (v : Part). kind_of v.trees y) same ∙
+        lq.changed.kinds y (still a.changed y room.children.1) ∙ a.changed.kinds y room.children.1) ∙ room.opened in
+        let plan : deleting_contents ts r p ≡ (one ++ two) ++ three =
+        ap (λ (f : Plan). f p) (cond-false (is_in_one_data ts r) (cutting_data ts r r.start.node)
+        (cutting_data ts r r.start.node and_then in_turn (removing observed) gone and_then cutting_data ts r r.end.node) e) in
         let end = after-append p (one ++ two) three in
         subst (λ steps. HasRoom nowhere (after p steps) × (b.offset ≤ length_of (after p steps).trees b.node)) (sym plan)
-        (subst (λ (v : Part). HasRoom nowhere v × (b.offset ≤ length_of v.trees b.node)) (sym end) (c.room, room-at p (after sr three) r b room c.part opened c.children))
-
--- Extraction. Each node of the trees is there, and is the one that is read under its name.
-all-read : (ts : Trees) → IsUnique ts → AllNodes (λ n. (1 ≤ times_in ts n.name) × (n ≡ node_in ts n.name)) ts
-all-read ts u = diagonal ts (nodes-named (λ y. 1 ≤ times_in ts y) ts (λ y m. m)) (λ y t. read-all ts y u t)
-  where
-    diagonal : (us : Trees) → AllNodes (λ n. 1 ≤ times_in ts n.name) us → ((y : NodeName) → 1 ≤ times_in ts y → AllNodes (λ n. name_eq n.name y ≡ true → n ≡ node_in ts y) us) → AllNodes (λ n. (1 ≤ times_in ts n.name) × (n ≡ node_in ts n.name)) us
-    diagonal none h f = tt
-    diagonal (tree n c r) h f = ((h.0, (f n.name h.0).0 (name_eq-same n.name)), diagonal c h.1 (λ y t. (f y t).1), diagonal r h.2 (λ y t. (f y t).2))
-
--- the trees below a node
-below-read : (P : Node → Type 0) (ts : Trees) → AllNodes P ts → AllNodes P (trees_below ts)
-below-read P none h = tt
-below-read P (tree n c r) h = h.1
-
--- so it is with those below the common ancestor of a range's ends
-pub common-read : (ts : Trees) (r : Range NodeName) → IsUnique ts → AllNodes (λ n. (1 ≤ times_in ts n.name) × (n ≡ node_in ts n.name)) (common_below ts r)
-common-read ts r u =
-    let Read : Node → Type 0 = λ n. (1 ≤ times_in ts n.name) × (n ≡ node_in ts n.name) in
-    let a = common_ancestor ts r in
-    below-read Read (subtree ts a) (nodes-subtree Read ts a (all-read ts u))
-
--- A node in a tree whose root is an inclusive ancestor of a range's end node, and not of its start node.
-record IsHeld (ts : Trees) (r : Range NodeName) (z : NodeName) : Type 0 where
-  root : NodeName
-  above : is_inclusive_ancestor ts root r.end.node ≡ true
-  apart : is_inclusive_ancestor ts root r.start.node ≡ false
-  over : is_inclusive_ancestor ts root z ≡ true
-
--- so is each node of the tree that holds the end alone
-all-held : (ts : Trees) (r : Range NodeName) → IsUnique ts → (us : Trees) → ((a z : NodeName) → inside us a z ≤ inside ts a z) → AllNodes (λ n. IsHeld ts r n.name) (tree_holding ts r.end.node r.start.node us)
-all-held ts r u none f = tt
-all-held ts r u (tree n c e) f =
-    let has_end = is_inclusive_ancestor ts n.name r.end.node in
-    let has_start = is_inclusive_ancestor ts n.name r.start.node in
-    which_way (AllNodes (λ m. IsHeld ts r m.name)) (has_end && not has_start) (tree n c none) (tree_holding ts r.end.node r.start.node e)
-    (λ k. let both = and_parts has_end (not has_start) k in
-    nodes-named (IsHeld ts r) (tree n c none) (λ z m. record {
-      root = n.name;
-      above = both.0;
-      apart = not-true has_start both.1;
-      over = inside-ancestor ts n.name z u (let i = inside-here n c e n.name z (name_eq-same n.name) in let j = f n.name z in omega arith);
-    }))
-    (λ k. all-held ts r u e (λ a z. let j = f a z in omega arith))
-
--- where such a node is not above the end, it is none of the children of a node above the start, nor that node
-held-misses : (p : Part) (xs : List NodeName) (y : NodeName) (r : Range NodeName) → IsPart p → AreChildren xs y p → is_inclusive_ancestor p.trees y r.start.node ≡ true → (z : NodeName) → IsHeld p.trees r z → is_inclusive_ancestor p.trees z r.end.node ≡ false → Misses xs y z
-held-misses p xs y r i c above z h g =
-    let ts = p.trees in
-    let root = h.root in
-    let lower : name_eq root z ≡ false = by_cases (name_eq root z) (λ e. absurd (true≢false (sym h.above ∙ ap (λ a. is_inclusive_ancestor ts a r.end.node) (name_eq-true root z e) ∙ g))) (λ e. e) in
-    let not_over : is_inclusive_ancestor ts root y ≡ true → ⊥ = λ k. true≢false (sym (above-above ts root y r.start.node i.unique k above) ∙ h.apart) in (
-      by_cases (name_eq z y) (λ e. absurd (not_over (subst (λ a. is_inclusive_ancestor ts root a ≡ true) (name_eq-true z y e) h.over))) (λ e. e),
-      all-then (λ x. IsChild x y p) (λ x. IsNot x z)
-          (λ x k. by_cases (name_eq z x)
-          (λ e. let same = name_eq-true z x e in
-          absurd (not_over (above-parent ts root x y i.unique (child-parent p x y i k) (subst (λ a. is_inclusive_ancestor ts root a ≡ true) same h.over) (subst (λ a. name_eq root a ≡ false) same lower))))
-          (λ e. e))
-          xs c.0,
-    )
-
--- the pieces of a range
-fit-range : (p : Part) (xs : List NodeName) (y : NodeName) (r : Range NodeName) → IsPart p → There p r.start.node → IsSpared p.trees r y xs → AreChildren xs y p → AreFit (Misses xs y) (IsData p) (IsOpenIn p) (pieces_of p.trees r)
-fit-range p xs y r i t s c =
-    let ts = p.trees in
-    let W = Misses xs y in
-    let a = common_ancestor ts r in
-    let below = common_below ts r in
-    let Read : Node → Type 0 = λ n. (1 ≤ times_in ts n.name) × (n ≡ node_in ts n.name) in
-    let clonable = nodes-then Read (IsClonable (IsData p) (IsOpenIn p)) (λ n h. let kind = sym (ap (λ (m : Node). has_data m.kind) h.1) in ((λ d. (h.0, kind ∙ d)), (λ d. (h.0, kind ∙ d)))) below (common-read ts r i.unique) in
-    let early = nodes-named (λ z. is_before ts r.start (at z 0) ≡ true → W z) below (λ z m k. early-not ts r z k (y ∷ xs) (s.parent, s.children)) in
-    let held = all-held ts r i.unique below (λ x z. let b = inside-below (subtree ts a) x z in let w = inside-without ts a x z in omega arith) in
-    let last = nodes-then (λ n. IsHeld ts r n.name) (λ n. is_inclusive_ancestor ts n.name r.end.node ≡ false → W n.name) (λ n h. held-misses p xs y r i c s.above n.name h) (tree_holding ts r.end.node r.start.node below) held in
-    fit-pieces W (IsData p) (IsOpenIn p) ts r (λ e. (t, (and_parts (name_eq r.start.node r.end.node) (has_data (kind_of ts r.start.node)) e).1)) (fit-apart W (IsData p) (IsOpenIn p) ts r clonable early last)
-
--- pieces that were there before a new node are old
-pieces-old : (p q : Part) → Changed None p q → IsPart p → (pieces : Pieces) → Rattle.dom_isolation.proofs.Plans.AllWhole (There p) pieces → Rattle.dom_isolation.proofs.Plans.AllWhole (OldIn p.node_count q) pieces
-pieces-old p q c i pieces h =
-    whole-then (There p) (OldIn p.node_count q) (λ x t. let o = old-there p i x t in record { there = still c x t; alone = λ z k. c.apart x z t tt (o.alone z k) }) pieces h
-
--- a Text in a part with a new node
-length-made : (p : Part) (n : Node) (x : NodeName) → IsPart p → has_data (kind_of p.trees x) ≡ true → length_of (part_step p (make n)).trees x ≡ length_of p.trees x
-length-made p n x i k =
-    let t = bounds.data-there p.trees x k in
-    let same = node-with_node (with_name (next_name p) n) p.trees x i.unique t (next-not p i x t) in
-    length-data (part_step p (make n)).trees x (ap (λ (m : Node). has_data m.kind) same ∙ k) ∙ ap (λ (m : Node). length m.text) same ∙ sym (length-data p.trees x k)
-
--- and where that went below another one
-length-below : (p : Part) (n : Node) (into x : NodeName) → n.name ≡ next_name p → IsPart p → There p into → has_data (kind_of p.trees x) ≡ true → length_of (after p (making_below into n p)).trees x ≡ length_of p.trees x
-length-below p n into x e i t k =
-    let q = part_step p (make n) in
-    let first = leads-one p (make n) i tt in
-    let there = bounds.data-there p.trees x k in
-    let may : MayGo into q n.name = subst (MayGo into q) (sym e) (new-may p n into i t) in
-    let put = leads-inserting observed n.name into None q first.changed.part may in
-    let texts = texts-inserting observed n.name into None q first.changed.part may x (still first.changed x there) in
-    let kq : has_data (kind_of q.trees x) ≡ true = ap has_data (first.changed.kinds x there) ∙ k in
-    length-data (after q (inserting observed n.name into None q)).trees x (ap has_data (put.changed.kinds x (still first.changed x there)) ∙ kq) ∙ ap (λ (s : DomString). length s) texts ∙ sym (length-data q.trees x kq) ∙ length-made p n x i k
-
--- an extraction
-pub room-extracting : (k : ℕ) (r : Range NodeName) (p : Part) → IsPart p → IsProper p r → HasRoom nowhere p → HasRoom nowhere (after p (extracting k r p))
-room-extracting k r p i g h =
-    let steps = taking into (pieces_of p.trees r) q in
-    let done = by_cases (is_inclusive_ancestor p.trees r.start.node r.end.node)
-    (λ e. by_cases (has_data (kind_of p.trees r.start.node)) (λ d. in_data e d) (λ d. in_trees (λ f. d)))
-    (λ e. in_trees (λ f. absurd (true≢false (sym f ∙ e)))) in
-    room-then nowhere p (make fragment ∷ steps) (set_range k (both_at (new_place p.trees r)) ∷ []) (room-last p (after q steps) k (new_place p.trees r) done.1 done.0)
-  where
-    into : NodeName
-    into = next_name p
-
-    fragment : Node
-    fragment = new_fragment_node (next_name p) (own_document p.trees r.start.node)
-
-    q : Part
-    q = part_step p (make (new_fragment_node (next_name p) (own_document p.trees r.start.node)))
-
-    first : Changed None p (part_step p (make (new_fragment_node (next_name p) (own_document p.trees r.start.node))))
-    first = (leads-one p (make (new_fragment_node (next_name p) (own_document p.trees r.start.node))) i tt).changed
-
-    opened : IsOpen (part_step p (make (new_fragment_node (next_name p) (own_document p.trees r.start.node)))) (next_name p)
-    opened = ap (λ (n : Node). has_data n.kind) (node-new (with_name (next_name p) (new_fragment_node (next_name p) (own_document p.trees r.start.node))) p.trees (next-absent p i))
-
-    in_trees : (is_inclusive_ancestor p.trees r.start.node r.end.node ≡ true → IsOpen p r.start.node) → let q = part_step p (make (new_fragment_node (next_name p) (own_document p.trees r.start.node))) in HasRoom nowhere (after q (taking (next_name p) (pieces_of p.trees r) q)) × ((new_place p.trees r).offset ≤ length_of (after q (taking (next_name p) (pieces_of p.trees r) q)).trees (new_place p.trees r).node)
-    in_trees op =
-        let n = new_fragment_node (next_name p) (own_document p.trees r.start.node) in
-        let q = part_step p (make n) in
-        let c = (leads-one p (make n) i tt).changed in
-        let pieces = pieces_of p.trees r in
-        let room = room-place_new p r i h g.start g.end g.one_tree g.within op in
-        let b = new_place p.trees r in
-        let kc = room.children in
-        let kids_q : AreChildren room.held b.node q = (all-then (λ x. IsChild x b.node p) (λ x. IsChild x b.node q) (λ x m. child-make x b.node n p m) room.held kc.0, still c b.node kc.1) in
-        let old = pieces-old p q c i pieces (pieces-there p r g.start) in
-        let fit = fits-still room.held b.node p q c pieces (fit-range p room.held b.node r i g.start room.spared kc) in
-        let le : p.node_count ≤ (next_name p).number = omega arith in
-        let taken = room-taking room.held b.node p.node_count pieces (next_name p) q c.part c.count (new-there p n) opened le old fit (room-make nowhere p n i h) kids_q in
-        let l = leads-taking p.node_count pieces (next_name p) q c.part c.count (new-there p n) le old in
-        let end = after q (taking (next_name p) pieces q) in
-        (taken.0, room-at p end r b room l.changed.part (ap has_data (l.changed.kinds b.node (still c b.node kc.1) ∙ c.kinds b.node kc.1) ∙ room.opened) taken.1)
-
-    in_data : is_inclusive_ancestor p.trees r.start.node r.end.node ≡ true → has_data (kind_of p.trees r.start.node) ≡ true → let q = part_step p (make (new_fragment_node (next_name p) (own_document p.trees r.start.node))) in HasRoom nowhere (after q (taking (next_name p) (pieces_of p.trees r) q)) × ((new_place p.trees r).offset ≤ length_of (after q (taking (next_name p) (pieces_of p.trees r) q)).trees (new_place p.trees r).node)
-    in_data e d =
-        let ts = p.trees in
-        let x = r.start.node in
-        let n = new_fragment_node (next_name p) (own_document p.trees r.start.node) in
-        let q = part_step p (make n) in
-        let c = (leads-one p (make n) i tt).changed in
-        let le : p.node_count ≤ (next_name p).number = omega arith in
-        let place : new_place ts r ≡ r.start = cond-true (is_inclusive_ancestor ts x r.end.node) r.start _ e in
-        let same : name_eq x r.end.node ≡ true = by_cases (name_eq x r.end.node) (λ s. s) (λ s. absurd (let a = above-kids p x r.end.node i e s in let z = h.leaves x d in zero_one (kids p.trees x) z a)) in
-        let one : is_in_one_data ts r ≡ true = ap (λ b. b && has_data (kind_of ts x)) same ∙ d in
-        let small = cut x r.start.offset r.end.offset nothing in
-        let is : pieces_of ts r ≡ (if is_collapsed name_eq r then nothing else small) = ap (λ (s : Pieces). if is_collapsed name_eq r then nothing else s) (cond-true (is_in_one_data ts r) small _ one) in
-        let kq : has_data (kind_of q.trees x) ≡ true = ap has_data (c.kinds x g.start) ∙ d in
-        let lq = length-made p n x i d in
-        let w = g.within in
-        let m = clone_part (next_name q) r.start.offset r.end.offset (node_in q.trees x) in
-        let below = making_below (next_name p) m q in
-        let s = after q below in
-        let lm = leads-making_below (next_name p) m q refl c.part (new-there p n) in
-        let ls = length-below q m (next_name p) x refl c.part (new-there p n) kq in
-        let ks : has_data (kind_of s.trees x) ≡ true = ap has_data (lm.changed.kinds x (still c x g.start)) ∙ kq in
-        let count = r.end.offset - r.start.offset in
-        let left = data-left s x r.start.offset count ks (omega arith) in
-        let two = replacing_data x r.start.offset count [] s in
-        let old = pieces-old p q c i small (g.start, tt) in
-        let taken = room-taking [] x p.node_count small (next_name p) q c.part c.count (new-there p n) opened le old ((still c x g.start, kq), tt) (room-make nowhere p n i h) (tt, still c x g.start) in
-        let whole_steps = after-append q (below ++ two) [] ∙ after-append q below two in
-        subst (λ pieces. HasRoom nowhere (after q (taking (next_name p) pieces q)) × ((new_place ts r).offset ≤ length_of (after q (taking (next_name p) pieces q)).trees (new_place ts r).node)) (sym is)
-        (subst (λ (b : Boundary NodeName). HasRoom nowhere (after q (taking (next_name p) (if is_collapsed name_eq r then nothing else small) q)) × (b.offset ≤ length_of (after q (taking (next_name p) (if is_collapsed name_eq r then nothing else small) q)).trees b.node)) (sym place)
-        (either_way (λ pieces. HasRoom nowhere (after q (taking (next_name p) pieces q)) × (r.start.offset ≤ length_of (after q (taking (next_name p) pieces q)).trees x)) (is_collapsed name_eq r) nothing small
-        (room-make nowhere p n i h, omega arith)
-        (taken.0, subst (λ (v : Part). r.start.offset ≤ length_of v.trees x) (sym whole_steps) left)))
+        (subst (λ (v : Part). HasRoom nowhere v × (b.offset ≤ length_of v.trees b.node)) (sym end)
+        (c.room, room-at p (after sr three) r b room c.part opened c.children))

@@ -7,7 +7,8 @@ use Rattle.dom_model.specs.Part.{Part}
 use Rattle.dom_model.specs.Turns.{ending_other_turn}
 use Rattle.dom_model.specs.World.{World, part_of}
 use Rattle.dom_isolation.specs.Tables.{EndsIn, HasTables, IsWhole}
-use Rattle.dom_isolation.specs.Wholes.{HasOneRoots, RangesHaveOneRoot, FirstHasOneRoots, StepKeepsOneRoots, EndingKeepsOneRoots, FinishKeepsOneRoots, ScriptsKeepOneRoots}
+use Rattle.dom_isolation.specs.Wholes.{HasOneRoots, RangesHaveOneRoot, FirstHasOneRoots, StepKeepsOneRoots, EndingKeepsOneRoots, FinishKeepsOneRoots}
+use Rattle.dom_isolation.specs.Wholes.{ScriptsKeepOneRoots}
 use Rattle.dom_isolation.proofs.PlanRoots.{ends-at}
 use Rattle.dom_isolation.proofs.TableLines.{first-is_whole, step-keeps_whole, ending-keeps_whole, finish-keeps_whole, scripts-stay_whole}
 

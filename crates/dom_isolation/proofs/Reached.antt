@@ -14,15 +14,18 @@ use Rattle.dom_model.specs.Trace.{line_may_stop, no_component_stops_from}
 use Rattle.dom_model.specs.Turns.{ending_turn, has_other_turn}
 use Rattle.dom_model.specs.World.{World, trees_with, host_of, some_if, root_at, shadow_root_of}
 use Rattle.dom_model.proofs.OwnerLaws.{name_eq-same}
-use Rattle.dom_isolation.specs.Laws.{IsSound, IsReached, FirstIsReached, StepKeepsReached, EndingKeepsReached, FinishKeepsReached, ScriptsReach, QuietScriptsReach, AssignedArePage}
+use Rattle.dom_isolation.specs.Laws.{IsSound, IsReached, FirstIsReached, StepKeepsReached, EndingKeepsReached, FinishKeepsReached, ScriptsReach}
+use Rattle.dom_isolation.specs.Laws.{QuietScriptsReach, AssignedArePage}
 use Rattle.dom_isolation.specs.Worlds.{IsWorld, IsOf, times_in}
 use Rattle.dom_isolation.proofs.ComponentEvents.{host-page}
 use Rattle.dom_isolation.proofs.FirstWorld.{quiet-first}
 use Rattle.dom_isolation.proofs.Hiding.{owned-in}
-use Rattle.dom_isolation.proofs.KindCommands.{all-kinds, kinds-same, kinds-line, kinds-first}
+use Rattle.dom_isolation.proofs.KindCommands.{all-kinds, kinds-same}
+use Rattle.dom_isolation.proofs.KindLines.{kinds-line, kinds-first}
 use Rattle.dom_isolation.proofs.Lists.{all-filter, all-then}
 use Rattle.dom_isolation.proofs.OwnerCommands.{peopled-first, peopled-step}
-use Rattle.dom_isolation.proofs.OwnerSteps.{people, peopled-ending_turn}
+use Rattle.dom_isolation.proofs.OwnerSteps.{people}
+use Rattle.dom_isolation.proofs.OwnerDispatches.{peopled-ending_turn}
 use Rattle.dom_isolation.proofs.Tests.{either_way}
 use Rattle.dom_isolation.proofs.TurnEndings.{quiet-ending_turn, alike-ending_turn}
 use Rattle.std.proofs.lemmas.Bool.{and_parts, not-true}
@@ -50,13 +53,23 @@ pub step-keeps_reached : StepKeepsReached
 step-keeps_reached b w l r h =
     let q = quiet-step w l (sound w r) h in
     let i = people w r in
-    record { world = q.world; kinds = (kinds-line w l (any-sound w r) i (all-kinds w r.kinds)).parts; owners = (peopled-step w l (any-sound w r) i).owners; logs = q.logs }
+    record {
+      world = q.world;
+      kinds = (kinds-line w l (any-sound w r) i (all-kinds w r.kinds)).parts;
+      owners = (peopled-step w l (any-sound w r) i).owners;
+      logs = q.logs;
+    }
 
 -- the ending of a turn
 ending-keeps : {only_log : Bool} (w : World) → IsReached only_log w → IsReached only_log (ending_turn w).0
 ending-keeps w r =
     let q = quiet-ending_turn w (sound w r) in
-    record { world = q.world; kinds = (kinds-same (ending_turn w).0 w (alike-ending_turn w) (all-kinds w r.kinds)).parts; owners = (peopled-ending_turn w (any-sound w r) (people w r)).owners; logs = q.logs }
+    record {
+      world = q.world;
+      kinds = (kinds-same (ending_turn w).0 w (alike-ending_turn w) (all-kinds w r.kinds)).parts;
+      owners = (peopled-ending_turn w (any-sound w r) (people w r)).owners;
+      logs = q.logs;
+    }
 
 -- of another component's turn
 pub ending-keeps_reached : EndingKeepsReached
@@ -91,29 +104,37 @@ module _ {L : Type 0} (read : L → Line) where
 -- The children of a node are of its owner.
 roots-there : (ts : Trees) → AllByRecursion (λ y. 1 ≤ times_in ts y) (names_of (roots ts))
 roots-there none = tt
-roots-there (tree n c r) =
-    ((let g = times-here n c r n.name (name_eq-same n.name) in omega arith), all-then (λ y. 1 ≤ times_in r y) (λ y. 1 ≤ times_in (tree n c r) y) (λ y h. let g = times-more n c r y in omega arith) (names_of (roots r)) (roots-there r))
+roots-there (tree n c r) = (
+  (let g = times-here n c r n.name (name_eq-same n.name) in omega arith),
+  all-then (λ y. 1 ≤ times_in r y) (λ y. 1 ≤ times_in (tree n c r) y)
+      (λ y h. let g = times-more n c r y in omega arith) (names_of (roots r)) (roots-there r),
+)
 
 -- the children in a world
 children-owned : (w : World) → IsWorld w → (x : NodeName) → AllByRecursion (IsOf x.owner) (children_of (trees_with w x) x)
 children-owned w i x =
     let ts = trees_with w x in
     let below = trees_below (subtree ts x) in
-    all-then (λ y. 1 ≤ times_in below y) (IsOf x.owner) (λ y h. owned-in w i x.owner y (let a = times-below (subtree ts x) y in let b = times-subtree ts x y in omega arith)) (names_of (roots below)) (roots-there below)
+    all-then (λ y. 1 ≤ times_in below y) (IsOf x.owner)
+    (λ y h. owned-in w i x.owner y (let a = times-below (subtree ts x) y in let b = times-subtree ts x y in omega arith))
+    (names_of (roots below)) (roots-there below)
 
 -- so the assigned nodes are the page's
 pub assigned-are_page : AssignedArePage
 assigned-are_page b w r s = from (host_of w s.owner) refl
   where
     at_host : (x : NodeName) → x.owner ≡ Page → AllByRecursion (IsOf Page) (assigned_below w s x)
-    at_host x e = all-filter (IsOf Page) (is_assigned_to w s) (children_of (trees_with w x) x) (subst (λ o. AllByRecursion (IsOf o) (children_of (trees_with w x) x)) e (children-owned w r.world x))
+    at_host x e = all-filter (IsOf Page) (is_assigned_to w s) (children_of (trees_with w x) x)
+        (subst (λ o. AllByRecursion (IsOf o) (children_of (trees_with w x) x)) e (children-owned w r.world x))
 
     if_so : (t : Bool) (x : NodeName) → x.owner ≡ Page → AllByRecursion (IsOf Page) (option_map_or (assigned_below w s) (some_if t x) [])
     if_so true x e = at_host x e
     if_so false x e = tt
 
     from : (o : Option NodeName) → host_of w s.owner ≡ o → AllByRecursion (IsOf Page) (assigned w s)
-    from None e = subst (λ o. AllByRecursion (IsOf Page) (option_map_or (assigned_below w s) (option_and_then (some_if (name_eq (root_at w s) (shadow_root_of s.owner))) o) [])) (sym e) tt
+    from None e = subst (λ o. AllByRecursion (IsOf Page)
+        (option_map_or (assigned_below w s) (option_and_then (some_if (name_eq (root_at w s) (shadow_root_of s.owner))) o) [])) (sym e) tt
     from (Some x) e =
-        subst (λ o. AllByRecursion (IsOf Page) (option_map_or (assigned_below w s) (option_and_then (some_if (name_eq (root_at w s) (shadow_root_of s.owner))) o) [])) (sym e)
+        subst (λ o. AllByRecursion (IsOf Page)
+        (option_map_or (assigned_below w s) (option_and_then (some_if (name_eq (root_at w s) (shadow_root_of s.owner))) o) [])) (sym e)
         (if_so (name_eq (root_at w s) (shadow_root_of s.owner)) x (host-page w r.world s.owner x e).1)

@@ -1,5 +1,6 @@
 -- What follows of worlds that the machine reaches: of shadow roots, of hosts, and of who is there.
-use Rattle.std.proofs.Common.{◌≡◌, ℕ, zero, suc, ◌+◌, ◌≤◌, ◌<◌, true, false, not, List, [], ◌∷◌, ◌++◌, length, position, Some, None, option_map, sym, ap, ◌∙◌, arith, true≢false, subst}
+use Rattle.std.proofs.Common.{◌≡◌, ℕ, zero, suc, ◌+◌, ◌≤◌, ◌<◌, true, false, not, List, [], ◌∷◌, ◌++◌, length, position, Some, None, option_map, sym}
+use Rattle.std.proofs.Common.{ap, ◌∙◌, arith, true≢false, subst}
 use Rattle.std.specs.Prelude.{is_some, slice_get, nat_lt, cond, drop}
 use Rattle.std.specs.List.{position_or_len}
 use Rattle.std.proofs.lemmas.Bool.{cond-true, cond-false, false_from_ne_true, lt-ltb}
@@ -12,7 +13,7 @@ use Rattle.dom_model.proofs.PartLaws.{owner-part_of}
 use Rattle.dom_isolation.specs.Laws.{ShadowRootsAreRoots, NoOtherShadowRoots, AttachedAreThere, HostsAreTheirs}
 use Rattle.dom_isolation.specs.Worlds.{IsShadowOf, MayBeShadow, times_among}
 use Rattle.dom_isolation.proofs.Makers.{hosted, hosted-owned}
-use Rattle.dom_isolation.proofs.Insides.{in-later}
+use Rattle.dom_isolation.proofs.InsideAncestors.{in-later}
 use Rattle.dom_isolation.proofs.NodeKinds.{node-read, name-node_in, fragment-no_shadow}
 use Rattle.dom_isolation.proofs.Owners.{hosted-there, there-hosted}
 use Rattle.dom_isolation.proofs.ShadowRoots.{kind-root}
@@ -26,7 +27,8 @@ root-has_node : (ts : Trees) (x : NodeName) → HasRoot ts x → has_node ts x �
 root-has_node none x h = h
 root-has_node (tree n c r) x h =
     by_cases (name_eq x n.name) (λ e. or-first (name_eq x n.name) (is_in name_eq x (names_of (nodes c ++ nodes r))) e)
-    (λ e. or-second (name_eq x n.name) (is_in name_eq x (names_of (nodes c ++ nodes r))) (in-later x (nodes c) (nodes r) (root-has_node r x (or-later (name_eq x n.name) (is_in name_eq x (names_of (roots r))) e h))))
+    (λ e. or-second (name_eq x n.name) (is_in name_eq x (names_of (nodes c ++ nodes r)))
+    (in-later x (nodes c) (nodes r) (root-has_node r x (or-later (name_eq x n.name) (is_in name_eq x (names_of (roots r))) e h))))
 
 -- a root is its only ancestor
 pub root-alone : (ts : Trees) → IsUnique ts → (x : NodeName) → HasRoot ts x → inclusive_ancestors ts x ≡ x ∷ []
@@ -55,7 +57,8 @@ pub no_other_shadow_roots : NoOtherShadowRoots
 no_other_shadow_roots b w r x h =
     let p = part_of w x.owner in
     let k = r.kinds x.owner in
-    let at : MayBeShadow p.owner x = subst (MayBeShadow p.owner) (name-node_in p.trees x) (node-read (IsShadowOf p.owner) x (λ t. absurd (fragment-no_shadow t)) p.trees k.shadows h) in
+    let at : MayBeShadow p.owner x = subst (MayBeShadow p.owner) (name-node_in p.trees x)
+    (node-read (IsShadowOf p.owner) x (λ t. absurd (fragment-no_shadow t)) p.trees k.shadows h) in
     subst (λ o. MayBeShadow o x) (owner-part_of w x.owner) at
 
 -- who is there
@@ -70,7 +73,8 @@ got-among [] k x e = cc
 got-among (y ∷ ys) zero x e =
     let same : Some y ≡ Some x = e in
     let is : y ≡ x = cc in
-    let one : times_among (y ∷ ys) x ≡ 1 + times_among ys x = ap (λ n. n + times_among ys x) (cond-true (name_eq y x) 1 0 (ap (name_eq y) (sym is) ∙ name_eq-same y)) in omega arith
+    let one : times_among (y ∷ ys) x ≡ 1 + times_among ys x =
+    ap (λ n. n + times_among ys x) (cond-true (name_eq y x) 1 0 (ap (name_eq y) (sym is) ∙ name_eq-same y)) in omega arith
 got-among (y ∷ ys) (suc k) x e = let later = got-among ys k x e in omega arith
 
 -- before a host there is no other of its name
@@ -83,9 +87,11 @@ place-of (y ∷ ys) zero x e u =
 place-of (y ∷ ys) (suc k) x e u =
     let later = got-among ys k x e in
     let other : name_eq x y ≡ false =
-    by_cases (name_eq x y) (λ t. absurd (let one : times_among (y ∷ ys) x ≡ 1 + times_among ys x = ap (λ n. n + times_among ys x) (cond-true (name_eq y x) 1 0 (name_eq-sym y x ∙ t)) in omega arith)) (λ t. t) in
+    by_cases (name_eq x y) (λ t. absurd (let one : times_among (y ∷ ys) x ≡ 1 + times_among ys x = ap (λ n. n + times_among ys x)
+    (cond-true (name_eq y x) 1 0 (name_eq-sym y x ∙ t)) in omega arith)) (λ t. t) in
     let at = place-of ys k x e (omega arith) in
-    let next : position_or_len (name_eq x) (y ∷ ys) ≡ 1 + position_or_len (name_eq x) ys = cond-true (not (name_eq x y)) (1 + position_or_len (name_eq x) ys) 0 (ap not other) in
+    let next : position_or_len (name_eq x) (y ∷ ys) ≡ 1 + position_or_len (name_eq x) ys =
+    cond-true (not (name_eq x y)) (1 + position_or_len (name_eq x) ys) 0 (ap not other) in
     (let first = at.0 in omega arith, let second = at.1 in omega arith)
 
 -- so it is found at its place

@@ -1,5 +1,6 @@
 -- An accepted command of a component places no shadow root.
-use Rattle.std.proofs.Common.{◌≡◌, ℕ, ◌≤◌, Bool, true, false, not, ◌&&◌, List, [], ◌∷◌, ◌++◌, find, filter, drop, unwrap_or, Option, Some, None, refl, sym, ap, ◌∙◌, arith, true≢false}
+use Rattle.std.proofs.Common.{◌≡◌, ℕ, ◌≤◌, Bool, true, false, not, ◌&&◌, List, [], ◌∷◌, ◌++◌, find, filter, drop, unwrap_or, Option, Some, None, refl}
+use Rattle.std.proofs.Common.{sym, ap, ◌∙◌, arith, true≢false}
 use Rattle.std.specs.Prelude.{if◌then◌else◌}
 use Rattle.std.specs.List.{AllByRecursion}
 use Rattle.std.specs.Option.{option_map_or, option_or}
@@ -9,7 +10,8 @@ use Rattle.dom_base.specs.declared.Kind.TheVariants.{Shadow}
 use Rattle.dom_base.specs.declared.Refusal.{Refusal}
 use Rattle.dom_base.specs.declared.Refusal.TheVariants.{Hierarchy, NotFound}
 use Rattle.dom_model.specs.Names.{name_eq}
-use Rattle.dom_model.specs.Tree.{Trees, none, tree, Node, nodes, names_of, roots, no_node, kind_of, has_data, is_inclusive_ancestor, child_nodes, subtree, trees_below}
+use Rattle.dom_model.specs.Tree.{Trees, none, tree, Node, nodes, names_of, roots, no_node, kind_of, has_data, is_inclusive_ancestor, child_nodes}
+use Rattle.dom_model.specs.Tree.{subtree, trees_below}
 use Rattle.dom_model.specs.Command.{Command, Spelled}
 use Rattle.dom_model.specs.Part.{Part, range_at}
 use Rattle.dom_model.specs.Ranges.{Range}
@@ -40,7 +42,8 @@ found-absent none x h = refl
 found-absent (tree n c r) x h =
     by_cases (name_eq n.name x) (λ e. absurd (let g = times-here n c r x e in omega arith))
     (λ e. let g = times-elsewhere n c r x e in
-    cond-false (name_eq n.name x) (Some n) (find (λ n. name_eq n.name x) (nodes c ++ nodes r)) e ∙ find-append (λ (n : Node). name_eq n.name x) (nodes c) (nodes r)
+    cond-false (name_eq n.name x) (Some n) (find (λ n. name_eq n.name x) (nodes c ++ nodes r)) e ∙ find-append (λ (n : Node). name_eq n.name x)
+    (nodes c) (nodes r)
     ∙ ap (λ o. option_or o (find (λ n. name_eq n.name x) (nodes r))) (found-absent c x (omega arith)) ∙ found-absent r x (omega arith))
 
 -- a node that is there is found
@@ -49,7 +52,8 @@ found-there none x h = absurd (omega arith)
 found-there (tree n c r) x h =
     by_cases (name_eq n.name x) (λ e. (n, cond-true (name_eq n.name x) (Some n) (find (λ n. name_eq n.name x) (nodes c ++ nodes r)) e))
     (λ e. let g = times-elsewhere n c r x e in
-    let skip = cond-false (name_eq n.name x) (Some n) (find (λ n. name_eq n.name x) (nodes c ++ nodes r)) e ∙ find-append (λ (n : Node). name_eq n.name x) (nodes c) (nodes r) in
+    let skip = cond-false (name_eq n.name x) (Some n) (find (λ n. name_eq n.name x) (nodes c ++ nodes r)) e ∙
+    find-append (λ (n : Node). name_eq n.name x) (nodes c) (nodes r) in
     by_times (times_in c x)
     (λ z. let at = found-there r x (omega arith) in (at.0, skip ∙ ap (λ o. option_or o (find (λ n. name_eq n.name x) (nodes r))) (found-absent c x z) ∙ at.1))
     (λ z. let at = found-there c x z in (at.0, skip ∙ ap (λ o. option_or o (find (λ n. name_eq n.name x) (nodes r))) at.1)))
@@ -58,7 +62,9 @@ found-there (tree n c r) x h =
 found-is : (x : NodeName) (ns : List Node) (m : Node) → AllByRecursion (IsShadowAt x) ns → find (λ n. name_eq n.name x) ns ≡ Some m → m.kind ≡ Shadow
 found-is x [] m h e = cc
 found-is x (n ∷ ns) m h e =
-    by_cases (name_eq n.name x) (λ t. let same : Some n ≡ Some m = sym (cond-true (name_eq n.name x) (Some n) (find (λ n. name_eq n.name x) ns) t) ∙ e in let is : n ≡ m = cc in ap (λ (k : Node). k.kind) (sym is) ∙ h.0 t)
+    by_cases (name_eq n.name x) (λ t. let same : Some n ≡ Some m = sym
+    (cond-true (name_eq n.name x) (Some n) (find (λ n. name_eq n.name x) ns) t) ∙ e in let is : n ≡ m =
+    cc in ap (λ (k : Node). k.kind) (sym is) ∙ h.0 t)
     (λ t. found-is x ns m h.1 (sym (cond-false (name_eq n.name x) (Some n) (find (λ n. name_eq n.name x) ns) t) ∙ e))
 
 -- so it is in a part with its shadow root
@@ -70,10 +76,12 @@ kind-root r p o =
 -- so what may be inserted is another node
 inserted-other : (r : NodeName) (p : Part) → IsOwn r p → (node : NodeName) → may_be_inserted (kind_of p.trees node) ≡ true → IsOther r node
 inserted-other r p o node h =
-    by_cases (name_eq node r) (λ e. absurd (true≢false (sym h ∙ ap (λ x. may_be_inserted (kind_of p.trees x)) (name_eq-true node r e) ∙ ap may_be_inserted (kind-root r p o)))) (λ e. e)
+    by_cases (name_eq node r) (λ e. absurd
+    (true≢false (sym h ∙ ap (λ x. may_be_inserted (kind_of p.trees x)) (name_eq-true node r e) ∙ ap may_be_inserted (kind-root r p o)))) (λ e. e)
 
 -- what passed the tests of a placing
-tested : (ts : Trees) (parent node : NodeName) (is_lost : Bool) (others : List Node) → first_refusal (placing_tests ts parent node is_lost others) ≡ None → may_be_inserted (kind_of ts node) ≡ true
+tested : (ts : Trees) (parent node : NodeName) (is_lost : Bool) (others : List Node) →
+    first_refusal (placing_tests ts parent node is_lost others) ≡ None → may_be_inserted (kind_of ts node) ≡ true
 tested ts parent node is_lost others h =
     let tests = placing_tests ts parent node is_lost others in
     let a = next-test (not (may_be_parent (kind_of ts parent))) Hierarchy (drop 1 tests) h in
@@ -82,12 +90,14 @@ tested ts parent node is_lost others h =
     not-false (may_be_inserted (kind_of ts node)) (next-test (not (may_be_inserted (kind_of ts node))) Hierarchy (drop 4 tests) c.1).0
 
 -- of an insertion
-insertion-tested : (ts : Trees) (parent node : NodeName) (child : Option NodeName) → insertion_refusal ts parent node child ≡ None → may_be_inserted (kind_of ts node) ≡ true
+insertion-tested : (ts : Trees) (parent node : NodeName) (child : Option NodeName) → insertion_refusal ts parent node child ≡ None →
+    may_be_inserted (kind_of ts node) ≡ true
 insertion-tested ts parent node child h = tested ts parent node (option_map_or (λ c. not (has_parent ts parent c)) child false) (child_nodes ts parent) h
 
 -- of a replacement
 replacement-tested : (ts : Trees) (parent node child : NodeName) → replacement_refusal ts parent node child ≡ None → may_be_inserted (kind_of ts node) ≡ true
-replacement-tested ts parent node child h = tested ts parent node (not (has_parent ts parent child)) (filter (λ (n : Node). not (name_eq n.name child)) (child_nodes ts parent)) h
+replacement-tested ts parent node child h =
+    tested ts parent node (not (has_parent ts parent child)) (filter (λ (n : Node). not (name_eq n.name child)) (child_nodes ts parent)) h
 
 -- no refusal at once
 pub not_taken : (b : Bool) (r : Option Refusal) → (if b then Some Hierarchy else r) ≡ None → r ≡ None
@@ -95,12 +105,14 @@ not_taken true r h = cc
 not_taken false r h = h
 
 -- the node of an accepted `insert-node`
-insert_node-other : (r : NodeName) (p : Part) → IsOwn r p → (k : ℕ) (x : Spelled) → own_refusal p (Command.insert_node k x) ≡ None → (range : Range NodeName) → range_at p k ≡ Some range → IsOther r (named p x)
+insert_node-other : (r : NodeName) (p : Part) → IsOwn r p → (k : ℕ) (x : Spelled) → own_refusal p (Command.insert_node k x) ≡ None →
+    (range : Range NodeName) → range_at p k ≡ Some range → IsOther r (named p x)
 insert_node-other r p o k x h range e =
     let tests = λ (q : Range NodeName). option_or (insert_node_refusal p.trees q (named p x)) (limit_on p.node_count (made_by_insert_node p q)) in
     let here : tests range ≡ None = sym (ap (λ a. option_map_or tests a None) e) ∙ h in
     let first = or-none (insert_node_refusal p.trees range (named p x)) (limit_on p.node_count (made_by_insert_node p range)) here in
-    let valid = not_taken (cannot_take_node p.trees range (named p x)) (insertion_refusal p.trees (insertion_parent p.trees range) (named p x) (start_reference p.trees range)) first.0 in
+    let valid = not_taken (cannot_take_node p.trees range (named p x))
+    (insertion_refusal p.trees (insertion_parent p.trees range) (named p x) (start_reference p.trees range)) first.0 in
     inserted-other r p o (named p x) (insertion-tested p.trees (insertion_parent p.trees range) (named p x) (start_reference p.trees range) valid)
 
 -- both ends of a range are in one Text or Comment
@@ -112,14 +124,18 @@ module _ (r : NodeName) where
   -- roots among which r is not
   absent-other : (ts : Trees) → times_in ts r ≡ 0 → AllByRecursion (IsOther r) (names_of (roots ts))
   absent-other none h = tt
-  absent-other (tree n c rest) h =
-      (by_cases (name_eq n.name r) (λ e. absurd (let g = times-here n c rest r e in omega arith)) (λ e. e), absent-other rest (let g = times-more n c rest r in omega arith))
+  absent-other (tree n c rest) h = (
+    by_cases (name_eq n.name r) (λ e. absurd (let g = times-here n c rest r e in omega arith)) (λ e. e),
+    absent-other rest
+        (let g = times-more n c rest r in omega arith),
+  )
 
   -- a Text or a Comment is no shadow root
   data-other : (p : Part) → IsOwn r p → (x y : NodeName) → is_in_data p x y ≡ true → IsOther r x
   data-other p o x y h =
       let data_kind = (and_parts (name_eq x y) (has_data (kind_of p.trees x)) h).1 in
-      by_cases (name_eq x r) (λ e. absurd (true≢false (sym data_kind ∙ ap (λ z. has_data (kind_of p.trees z)) (name_eq-true x r e) ∙ ap has_data (kind-root r p o)))) (λ e. e)
+      by_cases (name_eq x r) (λ e. absurd
+      (true≢false (sym data_kind ∙ ap (λ z. has_data (kind_of p.trees z)) (name_eq-true x r e) ∙ ap has_data (kind-root r p o)))) (λ e. e)
 
   -- the pieces of a range
   whole-of : (p : Part) → IsOwn r p → (range : Range NodeName) → AllWhole (IsOther r) (pieces_of p.trees range)
@@ -128,7 +144,8 @@ module _ (r : NodeName) where
       let below = common_below ts range in
       let absent : times_in below r ≡ 0 = root-below_none ts o.part.unique r o.root.alone (common_ancestor ts range) in
       whole-pieces (IsOther r) ts range (data-other p o range.start.node range.end.node)
-      (nodes-named (IsOther r) below (λ y h. by_cases (name_eq y r) (λ e. absurd (let same = ap (times_in below) (name_eq-true y r e) in omega arith)) (λ e. e)))
+      (nodes-named (IsOther r) below (λ y h. by_cases (name_eq y r)
+      (λ e. absurd (let same = ap (times_in below) (name_eq-true y r e) in omega arith)) (λ e. e)))
 
   -- The rules of plans, for a part with its shadow root r, which no step places.
   pub shadow-rules : IsKept (IsOwn r) (Allowed r) (IsOther r)

@@ -69,7 +69,8 @@ retarget-by_roots b w r a x = by_host (host_above w a) refl
 
     first : (rest : List NodeName) → is_hidden_from w x a ≡ false → host_chain w a ≡ a ∷ rest → retarget w a x ≡ a
     first rest e chain =
-        ap (λ ys. unwrap_or (find (λ z. not (is_hidden_from w x z)) ys) a) chain ∙ ap (λ o. unwrap_or o a) (cond-true (not (is_hidden_from w x a)) (Some a) (find (λ z. not (is_hidden_from w x z)) rest) (ap not e))
+        ap (λ ys. unwrap_or (find (λ z. not (is_hidden_from w x z)) ys) a) chain ∙
+        ap (λ o. unwrap_or o a) (cond-true (not (is_hidden_from w x a)) (Some a) (find (λ z. not (is_hidden_from w x z)) rest) (ap not e))
 
     by_host : (o : Option NodeName) → host_above w a ≡ o → retarget w a x ≡ seen_as o a same
     by_host None e = first [] (hidden-by_roots b w r x a ∙ ap (λ o. is_some o && not same) e) (hosts-alone (owner_depth a.owner) w a e)
@@ -80,6 +81,7 @@ retarget-by_roots b w r a x = by_host (host_above w a) refl
         by_cases same
         (λ t. first (host ∷ []) (hidden ∙ ap not t) chain ∙ sym (cond-true same a host t))
         (λ t. ap (λ ys. unwrap_or (find (λ z. not (is_hidden_from w x z)) ys) a) chain
-        ∙ ap (λ o. unwrap_or o a) (cond-false (not (is_hidden_from w x a)) (Some a) (find (λ z. not (is_hidden_from w x z)) (host ∷ [])) (ap not (hidden ∙ ap not t)))
+        ∙ ap (λ o. unwrap_or o a) (cond-false (not (is_hidden_from w x a)) (Some a) (find (λ z. not (is_hidden_from w x z)) (host ∷ []))
+        (ap not (hidden ∙ ap not t)))
         ∙ ap (λ o. unwrap_or o a) (cond-true (not (is_hidden_from w x host)) (Some host) None (ap not (page-not_hidden w x host page)))
         ∙ sym (cond-false same a host t))

@@ -38,5 +38,6 @@ pub run_then-quiet : (r : Run World) (f : World → Run World) → page_run (f r
 run_then-quiet r f e = run_then-square r f quiet e
 
 -- the page's state of two worlds is the same
-pub same_page_of : (v w : World) → part_of v Page ≡ part_of w Page → filter is_page_task v.tasks ≡ filter is_page_task w.tasks → is_page_turn v.turn ≡ is_page_turn w.turn → page_of v ≡ page_of w
+pub same_page_of : (v w : World) → part_of v Page ≡ part_of w Page → filter is_page_task v.tasks ≡ filter is_page_task w.tasks →
+    is_page_turn v.turn ≡ is_page_turn w.turn → page_of v ≡ page_of w
 same_page_of v w a b c = rw (a, b, c)

@@ -1,6 +1,7 @@
 -- Each line keeps what holds of the worlds.
 use Rattle.std.proofs.lemmas.Bool.{not-false}
-use Rattle.std.proofs.Common.{◌≡◌, ◌≢◌, Bool, true, false, not, ◌&&◌, ◌||◌, [], ◌∷◌, ◌++◌, filter, Option, Some, None, option_map, refl, sym, ap, ◌∙◌, true≢false, subst, append-nil}
+use Rattle.std.proofs.Common.{◌≡◌, ◌≢◌, Bool, true, false, not, ◌&&◌, ◌||◌, [], ◌∷◌, ◌++◌, filter, Option, Some, None, option_map, refl, sym, ap, ◌∙◌}
+use Rattle.std.proofs.Common.{true≢false, subst, append-nil}
 use Rattle.std.specs.Prelude.{IsTrue, is_some, is_none}
 use Rattle.std.specs.List.{AllByRecursion}
 use Rattle.std.proofs.lemmas.List.Elements.{filter-append}
@@ -37,15 +38,18 @@ use Rattle.dom_isolation.proofs.PageCommands.{owner-named}
 use Rattle.dom_isolation.proofs.FirstWorld.{quiet-attaching}
 
 -- Effects.
-logs-with_part : (w : World) (p : Part) (o : Owner) → p.owner ≡ o → (o ≢ Page → AllByRecursion OnlyLogs p.listeners) → ComponentsOnlyLog w → ComponentsOnlyLog (with_part w p)
+logs-with_part : (w : World) (p : Part) (o : Owner) → p.owner ≡ o → (o ≢ Page → AllByRecursion OnlyLogs p.listeners) → ComponentsOnlyLog w →
+    ComponentsOnlyLog (with_part w p)
 logs-with_part w p o e h logs x f =
     by_cases (owner_eq o x)
-    (λ g. let same = owner_eq-true o x g in subst (λ (q : Part). AllByRecursion OnlyLogs q.listeners) (sym (part_of-with_part w p x (e ∙ same))) (h (λ s. f (sym same ∙ s))))
+    (λ g. let same = owner_eq-true o x g in subst (λ (q : Part). AllByRecursion OnlyLogs q.listeners) (sym (part_of-with_part w p x (e ∙ same)))
+    (h (λ s. f (sym same ∙ s))))
     (λ g. subst (λ (q : Part). AllByRecursion OnlyLogs q.listeners) (sym (part_of-with_part-other w p x (λ s. owner_eq-false o x g (sym e ∙ s)))) (logs x f))
 
 module _ {only_log : Bool} where
   -- an effect keeps what holds
-  quiet-effect : (w : World) (o : Owner) (e : Effect) → IsSound only_log w → InTurn w o → KeepsBase (part_of w o) e → (only_log ≡ true → o ≢ Page → KeepsLogs (part_of w o) e) → (IsTrue (is_some (host_of w o)) → SafeEffect (shadow_root_of o) e) →
+  quiet-effect : (w : World) (o : Owner) (e : Effect) → IsSound only_log w → InTurn w o → KeepsBase (part_of w o) e →
+      (only_log ≡ true → o ≢ Page → KeepsLogs (part_of w o) e) → (IsTrue (is_some (host_of w o)) → SafeEffect (shadow_root_of o) e) →
       IsSound only_log (effect_in w o e).0
   quiet-effect w o (tables p lines v) q t base logs safe =
       let mine = base.0 ∙ owner-part_of w o in
@@ -58,30 +62,40 @@ module _ {only_log : Bool} where
 
 module _ {only_log : Bool} where
   -- An accepted command, in its owner's turn.
-  quiet-micro : (w : World) (o : Owner) (label : Word) → IsSound only_log w → InTurn w o → IsSound only_log (record w { tasks = w.tasks ++ micro_task o label ∷ [] })
+  quiet-micro : (w : World) (o : Owner) (label : Word) → IsSound only_log w → InTurn w o →
+      IsSound only_log (record w { tasks = w.tasks ++ micro_task o label ∷ [] })
   quiet-micro w o label q t =
-      record { world = world-alike (record w { tasks = w.tasks ++ micro_task o label ∷ [] }) w (λ x. record { trees = refl; count = refl; attached = refl }) (λ h. h) q.world.signalled (tasks o t) q.world; logs = q.logs }
+      record {
+        world = world-alike (record w { tasks = w.tasks ++ micro_task o label ∷ [] }) w
+            (λ x. record { trees = refl; count = refl; attached = refl }) (λ h. h) q.world.signalled (tasks o t) q.world;
+        logs = q.logs;
+      }
     where
       tasks : (o : Owner) → InTurn w o → is_page_turn w.turn ≡ false → filter is_page_task (w.tasks ++ micro_task o label ∷ []) ≡ []
       tasks Page t h = absurd (true≢false (sym (t refl) ∙ h))
-      tasks (Component k) t h = filter-append is_page_task w.tasks (micro_task (Component k) label ∷ []) ∙ append-nil (filter is_page_task w.tasks) ∙ q.world.tasks h
+      tasks (Component k) t h = filter-append is_page_task w.tasks (micro_task (Component k) label ∷ []) ∙
+          append-nil (filter is_page_task w.tasks) ∙ q.world.tasks h
 
 module _ {only_log : Bool} where
   -- the effect of any command
-  any_effect : (w : World) (o : Owner) (c : Command) → IsSound only_log w → InTurn w o → part_refusal (part_of w o) c ≡ None → (only_log ≡ true → o ≢ Page → AddsLogs c) → IsSound only_log (effect_in w o (effect (part_of w o) c)).0
+  any_effect : (w : World) (o : Owner) (c : Command) → IsSound only_log w → InTurn w o → part_refusal (part_of w o) c ≡ None →
+      (only_log ≡ true → o ≢ Page → AddsLogs c) → IsSound only_log (effect_in w o (effect (part_of w o) c)).0
   any_effect w o c q t r l =
       let p = part_of w o in
       let own = (part-accepted p c r).own in
-      quiet-effect w o (effect p c) q t (base-effect p c) (λ y f. logs-effect p c (l y f)) (λ h. safe-effect (shadow_root_of o) p (own-part w q.world o h) c own)
+      quiet-effect w o (effect p c) q t (base-effect p c) (λ y f. logs-effect p c (l y f))
+      (λ h. safe-effect (shadow_root_of o) p (own-part w q.world o h) c own)
 
 module _ {only_log : Bool} where
   -- attaching, by whoever may
-  quiet-attach_of : (w : World) (o : Owner) (x : Spelled) → is_command_of o (Command.attach x) ≡ true → IsSound only_log w → IsSound only_log (perform w o (Command.attach x)).0
+  quiet-attach_of : (w : World) (o : Owner) (x : Spelled) → is_command_of o (Command.attach x) ≡ true → IsSound only_log w →
+      IsSound only_log (perform w o (Command.attach x)).0
   quiet-attach_of w o x h q = quiet-attaching w o (named (part_of w o) x) (attach-may o x h) (owner-named (part_of w o) x ∙ owner-part_of w o) q
 
 module _ {only_log : Bool} where
   -- every accepted command
-  quiet-perform : (w : World) (o : Owner) (c : Command) → IsSound only_log w → InTurn w o → is_command_of o c ≡ true → part_refusal (part_of w o) c ≡ None → (only_log ≡ true → o ≢ Page → AddsLogs c) → IsSound only_log (perform w o c).0
+  quiet-perform : (w : World) (o : Owner) (c : Command) → IsSound only_log w → InTurn w o → is_command_of o c ≡ true →
+      part_refusal (part_of w o) c ≡ None → (only_log ≡ true → o ≢ Page → AddsLogs c) → IsSound only_log (perform w o c).0
   quiet-perform w o (Command.attach a) q t h r l = quiet-attach_of w o a h q
   quiet-perform w o (Command.connected a) q t h r l = q
   quiet-perform w o (Command.assigned a) q t h r l = q
@@ -96,12 +110,15 @@ in_turn-opening w o h e = subst (λ x. is_page_turn (opening_turn w x).turn ≡ 
 
 module _ {only_log : Bool} where
   -- with the turn that it opens
-  opened : (w : World) (o : Owner) (c : Command) → IsSound only_log w → (o ≡ Page → IsPageTime w) → is_command_of o c ≡ true → part_refusal (part_of w o) c ≡ None → (only_log ≡ true → o ≢ Page → AddsLogs c) → IsSound only_log (perform (opening_turn w o) o c).0
-  opened w o c q t h r l = quiet-perform (opening_turn w o) o c (quiet-opening w q o t) (in_turn-opening w o t) h (ap (λ p. part_refusal p c) (part_of-opening w o o) ∙ r) l
+  opened : (w : World) (o : Owner) (c : Command) → IsSound only_log w → (o ≡ Page → IsPageTime w) → is_command_of o c ≡ true →
+      part_refusal (part_of w o) c ≡ None → (only_log ≡ true → o ≢ Page → AddsLogs c) → IsSound only_log (perform (opening_turn w o) o c).0
+  opened w o c q t h r l = quiet-perform (opening_turn w o) o c (quiet-opening w q o t) (in_turn-opening w o t) h
+      (ap (λ p. part_refusal p c) (part_of-opening w o o) ∙ r) l
 
 module _ {only_log : Bool} where
   -- `.` apart, which opens none
-  quiet-accepted : (w : World) (o : Owner) (c : Command) → IsSound only_log w → (o ≡ Page → IsPageTime w) → is_command_of o c ≡ true → part_refusal (part_of w o) c ≡ None → (only_log ≡ true → o ≢ Page → AddsLogs c) → IsSound only_log (accepted w o c).0
+  quiet-accepted : (w : World) (o : Owner) (c : Command) → IsSound only_log w → (o ≡ Page → IsPageTime w) → is_command_of o c ≡ true →
+      part_refusal (part_of w o) c ≡ None → (only_log ≡ true → o ≢ Page → AddsLogs c) → IsSound only_log (accepted w o c).0
   quiet-accepted w o Command.end_turn q t h r l = quiet-ending_turn w q
   quiet-accepted w o c q t h r l = opened w o c q t h r l
 
@@ -129,14 +146,16 @@ adds-logs w o c h e f = tt
 -- One command, and one line.
 module _ {only_log : Bool} where
   -- refused or accepted
-  quiet-command : (w : World) (o : Owner) (c : Command) → IsSound only_log w → (o ≡ Page → IsPageTime w) → (only_log ≡ true → may_stop w o c ≡ false) → IsSound only_log (run_command o c w).0
+  quiet-command : (w : World) (o : Owner) (c : Command) → IsSound only_log w → (o ≡ Page → IsPageTime w) →
+      (only_log ≡ true → may_stop w o c ≡ false) → IsSound only_log (run_command o c w).0
   quiet-command w o c q t m = from (refusal w o c) refl
     where
       from : (r : Option Refusal) → refusal w o c ≡ r → IsSound only_log (unless_refused o (refusal w o c) w (accepted w o c)).0
       from (Some r) e = subst (λ a. IsSound only_log (unless_refused o a w (accepted w o c)).0) (sym e) q
       from None e =
           let a = accepted-facts w o c e in
-          subst (λ a. IsSound only_log (unless_refused o a w (accepted w o c)).0) (sym e) (quiet-accepted w o c q t a.grammar a.part (λ y. adds-logs w o c (m y) e))
+          subst (λ a. IsSound only_log (unless_refused o a w (accepted w o c)).0) (sym e)
+          (quiet-accepted w o c q t a.grammar a.part (λ y. adds-logs w o c (m y) e))
 
 module _ {only_log : Bool} where
   -- a line keeps what holds

@@ -1,5 +1,6 @@
 -- A step that loses no node keeps the tables of its part, where what it names is there.
-use Rattle.std.proofs.Common.{zero, suc, ◌≡◌, ◌≤◌, ℕ, Bool, true, false, not, ◌&&◌, ◌||◌, List, [], ◌∷◌, map, length, Option, Some, None, option_map, refl, sym, ap, ◌∙◌, arith, subst}
+use Rattle.std.proofs.Common.{zero, suc, ◌≡◌, ◌≤◌, ℕ, Bool, true, false, not, ◌&&◌, ◌||◌, List, [], ◌∷◌, map, length, Option, Some, None, option_map}
+use Rattle.std.proofs.Common.{refl, sym, ap, ◌∙◌, arith, subst}
 use Rattle.std.specs.Prelude.{if◌then◌else◌, IsTrue, ⊤, slice_set, nat_eq, nat_lt, nat_le, ◌+◌, ◌-◌}
 use Rattle.std.specs.List.{AllByRecursion}
 use Rattle.std.specs.Option.{option_map_or}
@@ -13,7 +14,8 @@ use Rattle.dom_model.specs.Ranges.{Range, at, map_ends, boundary_eq, after_inser
 use Rattle.dom_model.specs.Traversal.{Iterator, Walker}
 use Rattle.dom_model.specs.Observers.{Registration, Source, asked_for, copied_from, copied_from_transient}
 use Rattle.dom_model.specs.Part.{Part, next_name}
-use Rattle.dom_model.specs.Steps.{Step, make, place, take_out, set_document, set_attribute, replace_data, split_at, join_at, set_range, part_step, leave, with_ends}
+use Rattle.dom_model.specs.Steps.{Step, make, place, take_out, set_document, set_attribute, replace_data, split_at, join_at, set_range, part_step}
+use Rattle.dom_model.specs.Steps.{leave, with_ends}
 use Rattle.dom_isolation.specs.Worlds.{times_in, IsPart}
 use Rattle.dom_isolation.specs.Tables.{IsNodeIn, EndsIn, IsIteratorIn, IsWalkerIn, IsSourceIn, IsRegistrationIn, IsListenerIn, HasTables}
 use Rattle.dom_isolation.proofs.Lists.{all-then, all-map}
@@ -22,9 +24,10 @@ use Rattle.dom_isolation.proofs.Tests.{either_way, which_way}
 use Rattle.dom_isolation.proofs.Trees.{IsUnique, name_eq-true}
 use Rattle.dom_isolation.proofs.TreeChangeLaws.{times-with_node, times-map_nodes, HasRoot}
 use Rattle.dom_isolation.proofs.PartSteps.{KeepsNames, some-keeps, attribute-keeps, part-step}
-use Rattle.dom_isolation.proofs.KindCommands.{has_node-times}
+use Rattle.dom_isolation.proofs.KindLines.{has_node-times}
 use Rattle.dom_isolation.proofs.Descents.{ancestor-inside, inside-ancestor, inside-placed_all, inside-with_node_all}
-use Rattle.dom_isolation.proofs.Insides.{inside, inside-map_nodes, inside-no_ancestor, parent-there, times-taken_out_all, times-placed_all, times-has_node}
+use Rattle.dom_isolation.proofs.Insides.{inside, inside-map_nodes, times-taken_out_all, times-placed_all}
+use Rattle.dom_isolation.proofs.InsideAncestors.{inside-no_ancestor, parent-there, times-has_node}
 
 -- A node is there, by its count.
 abbrev pub There : Part → NodeName → Type 0
@@ -36,7 +39,8 @@ abbrev pub Fits : Part → Step → Type 0
 Fits p (place x parent before) = There p parent × (inside p.trees x parent ≡ 0) × HasRoot p.trees x
 Fits p (set_document x d) = x.owner ≡ p.owner
 Fits p (split_at x offset new parent index) = There p new × (root_of p.trees new ≡ root_of p.trees x)
-Fits p (join_at first size next parent index) = There p first × (root_of p.trees first ≡ root_of p.trees next) × (root_of p.trees first ≡ root_of p.trees parent)
+Fits p (join_at first size next parent index) = There p first × (root_of p.trees first ≡ root_of p.trees next) ×
+    (root_of p.trees first ≡ root_of p.trees parent)
 Fits p (set_range k r) = There p r.start.node × There p r.end.node × (root_of p.trees r.start.node ≡ root_of p.trees r.end.node)
 Fits p s = ⊤
 
@@ -59,11 +63,14 @@ stays-step p (take_out x) i h y = from (parent_of p.trees x)
     from None = omega arith
     from (Some parent) = let a = times-taken_out_all p.trees x y i.unique in omega arith
 stays-step p (set_document x d) i h y =
-    mapped-stays (λ n. if is_in name_eq n.name (inclusive_descendants p.trees x) then with_document d n else n) (some-keeps (λ (n : Node). is_in name_eq n.name (inclusive_descendants p.trees x)) (with_document d) (λ n. (refl, refl))) p.trees y
+    mapped-stays (λ n. if is_in name_eq n.name (inclusive_descendants p.trees x) then with_document d n else n)
+    (some-keeps (λ (n : Node). is_in name_eq n.name (inclusive_descendants p.trees x)) (with_document d) (λ n. (refl, refl))) p.trees y
 stays-step p (set_attribute x a v) i h y =
-    mapped-stays (λ n. if name_eq n.name x then with_attribute a v n else n) (some-keeps (λ (n : Node). name_eq n.name x) (with_attribute a v) (attribute-keeps a v)) p.trees y
+    mapped-stays (λ n. if name_eq n.name x then with_attribute a v n else n)
+    (some-keeps (λ (n : Node). name_eq n.name x) (with_attribute a v) (attribute-keeps a v)) p.trees y
 stays-step p (replace_data x offset count new) i h y =
-    mapped-stays (λ n. if name_eq n.name x then with_data_replaced offset count new n else n) (some-keeps (λ (n : Node). name_eq n.name x) (with_data_replaced offset count new) (λ n. (refl, refl))) p.trees y
+    mapped-stays (λ n. if name_eq n.name x then with_data_replaced offset count new n else n)
+    (some-keeps (λ (n : Node). name_eq n.name x) (with_data_replaced offset count new) (λ n. (refl, refl))) p.trees y
 stays-step p s i h y = omega arith
 
 -- The trees have the nodes of others, and perhaps more.
@@ -101,11 +108,14 @@ inside-step p (make n) i h t a z = inside-with_node_all (with_name (next_name p)
 inside-step p (place x parent before) i h t a z = inside-placed_all p.trees x parent before a z i.unique h.0 h.1 h.2
 inside-step p (take_out x) i h t a z = absurd t
 inside-step p (set_document x d) i h t a z =
-    mapped-inside (λ n. if is_in name_eq n.name (inclusive_descendants p.trees x) then with_document d n else n) (some-keeps (λ (n : Node). is_in name_eq n.name (inclusive_descendants p.trees x)) (with_document d) (λ n. (refl, refl))) p.trees a z
+    mapped-inside (λ n. if is_in name_eq n.name (inclusive_descendants p.trees x) then with_document d n else n)
+    (some-keeps (λ (n : Node). is_in name_eq n.name (inclusive_descendants p.trees x)) (with_document d) (λ n. (refl, refl))) p.trees a z
 inside-step p (set_attribute x b v) i h t a z =
-    mapped-inside (λ n. if name_eq n.name x then with_attribute b v n else n) (some-keeps (λ (n : Node). name_eq n.name x) (with_attribute b v) (attribute-keeps b v)) p.trees a z
+    mapped-inside (λ n. if name_eq n.name x then with_attribute b v n else n)
+    (some-keeps (λ (n : Node). name_eq n.name x) (with_attribute b v) (attribute-keeps b v)) p.trees a z
 inside-step p (replace_data x offset count new) i h t a z =
-    mapped-inside (λ n. if name_eq n.name x then with_data_replaced offset count new n else n) (some-keeps (λ (n : Node). name_eq n.name x) (with_data_replaced offset count new) (λ n. (refl, refl))) p.trees a z
+    mapped-inside (λ n. if name_eq n.name x then with_data_replaced offset count new n else n)
+    (some-keeps (λ (n : Node). name_eq n.name x) (with_data_replaced offset count new) (λ n. (refl, refl))) p.trees a z
 inside-step p s i h t a z = omega arith
 
 -- ancestors stay
@@ -121,7 +131,9 @@ module _ (ts us : Trees) (g : Grows ts us) where
       record {
         start = g r.start.node h.start;
         end = g r.end.node h.end;
-        one_root = roots-same us r.start.node r.end.node (k r.start.node r.end.node (has_node-times ts r.start.node h.start) (has_node-times ts r.end.node h.end) (roots-equal ts r.start.node r.end.node h.one_root));
+        one_root = roots-same us r.start.node r.end.node
+            (k r.start.node r.end.node (has_node-times ts r.start.node h.start) (has_node-times ts r.end.node h.end)
+            (roots-equal ts r.start.node r.end.node h.one_root));
       }
 
   -- iterators
@@ -143,7 +155,8 @@ module _ (ts us : Trees) (g : Grows ts us) where
   registration-grows k r h = record { node = g r.node h.node; observer = h.observer; source = source-grows r.source h.source }
 
 -- A part with other trees, and another count.
-pub tables-trees : (p : Part) (us : Trees) (count : ℕ) → IsUnique us → Grows p.trees us → Stays p.trees us → HasTables p → HasTables (record p { trees = us; node_count = count })
+pub tables-trees : (p : Part) (us : Trees) (count : ℕ) → IsUnique us → Grows p.trees us → Stays p.trees us → HasTables p →
+    HasTables (record p { trees = us; node_count = count })
 tables-trees p us count u g k h =
     let ts = p.trees in
     record {
@@ -151,7 +164,8 @@ tables-trees p us count u g k h =
       ranges = all-then (EndsIn ts) (EndsIn us) (ends-grow ts us g (roots-stay ts us u k)) p.ranges h.ranges;
       iterators = all-then (IsIteratorIn ts) (IsIteratorIn us) (iterator-grows ts us g k) p.iterators h.iterators;
       walkers = all-then (IsWalkerIn ts) (IsWalkerIn us) (walker-grows ts us g) p.walkers h.walkers;
-      registrations = all-then (IsRegistrationIn ts (length p.record_queues)) (IsRegistrationIn us (length p.record_queues)) (registration-grows ts us g (length p.record_queues)) p.registrations h.registrations;
+      registrations = all-then (IsRegistrationIn ts (length p.record_queues)) (IsRegistrationIn us (length p.record_queues))
+          (registration-grows ts us g (length p.record_queues)) p.registrations h.registrations;
       pending = h.pending;
       listeners = all-then (IsListenerIn ts) (IsListenerIn us) (λ l. g l.node) p.listeners h.listeners;
     }
@@ -165,16 +179,24 @@ abbrev pub MovesIn : Trees → (Boundary NodeName → Boundary NodeName) → Typ
 MovesIn ts f = (b : Boundary NodeName) → IsNodeIn ts b.node → IsUnder ts b.node (f b)
 
 -- the ends of a range
-ends-moved : (ts : Trees) (f : Boundary NodeName → Boundary NodeName) → MovesIn ts f → (r : Option (Range NodeName)) → EndsIn ts r → EndsIn ts (option_map (map_ends f) r)
+ends-moved : (ts : Trees) (f : Boundary NodeName → Boundary NodeName) → MovesIn ts f → (r : Option (Range NodeName)) → EndsIn ts r →
+    EndsIn ts (option_map (map_ends f) r)
 ends-moved ts f m None h = tt
 ends-moved ts f m (Some r) h =
     let a = m r.start h.start in
     let b = m r.end h.end in
-    record { start = a.0; end = b.0; one_root = roots-same ts (f r.start).node (f r.end).node (a.1 ∙ roots-equal ts r.start.node r.end.node h.one_root ∙ sym b.1) }
+    record {
+      start = a.0;
+      end = b.0;
+      one_root = roots-same ts (f r.start).node (f r.end).node
+          (a.1 ∙ roots-equal ts r.start.node r.end.node h.one_root ∙ sym b.1);
+    }
 
 -- of all ranges
-pub ranges-moved : (ts : Trees) (f : Boundary NodeName → Boundary NodeName) → MovesIn ts f → (rs : List (Option (Range NodeName))) → AllByRecursion (EndsIn ts) rs → AllByRecursion (EndsIn ts) (map (option_map (map_ends f)) rs)
-ranges-moved ts f m rs h = all-map (EndsIn ts) (option_map (map_ends f)) rs (all-then (EndsIn ts) (λ r. EndsIn ts (option_map (map_ends f) r)) (ends-moved ts f m) rs h)
+pub ranges-moved : (ts : Trees) (f : Boundary NodeName → Boundary NodeName) → MovesIn ts f → (rs : List (Option (Range NodeName))) →
+    AllByRecursion (EndsIn ts) rs → AllByRecursion (EndsIn ts) (map (option_map (map_ends f)) rs)
+ranges-moved ts f m rs h = all-map (EndsIn ts) (option_map (map_ends f)) rs
+    (all-then (EndsIn ts) (λ r. EndsIn ts (option_map (map_ends f) r)) (ends-moved ts f m) rs h)
 
 -- a part with its boundaries moved
 pub tables-ends : (p : Part) (f : Boundary NodeName → Boundary NodeName) → MovesIn p.trees f → HasTables p → HasTables (with_ends f p)
@@ -194,17 +216,20 @@ pub moves-insert : (ts : Trees) (parent : NodeName) (index count : ℕ) → Move
 moves-insert ts parent index count b h = from (name_eq b.node parent) refl
   where
     from : (t : Bool) → name_eq b.node parent ≡ t → IsUnder ts b.node (if t && nat_lt index b.offset then at parent (b.offset + count) else b)
-    from true e = either_way (IsUnder ts b.node) (nat_lt index b.offset) (at parent (b.offset + count)) b (subst (λ x. IsUnder ts b.node (at x 0)) (name_eq-true b.node parent e) (h, refl)) (h, refl)
+    from true e = either_way (IsUnder ts b.node) (nat_lt index b.offset) (at parent (b.offset + count)) b
+        (subst (λ x. IsUnder ts b.node (at x 0)) (name_eq-true b.node parent e) (h, refl)) (h, refl)
     from false e = (h, refl)
 
 -- at a removal: to where nothing leaves
 pub moves-removal : (ts : Trees) (x parent : NodeName) → IsUnique ts → parent_of ts x ≡ Some parent → (b : Boundary NodeName) → IsNodeIn ts b.node →
     let c = after_removal name_eq (is_inclusive_ancestor ts x) parent (index_of ts x) b in IsUnder ts b.node c × (inside ts x c.node ≡ 0)
 moves-removal ts x parent u e b h =
-    which_way P (is_inclusive_ancestor ts x b.node) (at parent (index_of ts x)) (if name_eq b.node parent && nat_lt (index_of ts x) b.offset then at parent (b.offset - 1) else b)
+    which_way P (is_inclusive_ancestor ts x b.node) (at parent (index_of ts x))
+    (if name_eq b.node parent && nat_lt (index_of ts x) b.offset then at parent (b.offset - 1) else b)
     (λ t. ((times-has_node ts parent (parent-there ts x parent e), root-parent_of ts u x parent e ∙ root-one ts u x b.node t), parent-apart ts x parent u e))
     (λ t. which_way P (name_eq b.node parent && nat_lt (index_of ts x) b.offset) (at parent (b.offset - 1)) b
-    (λ k. subst (λ y. P (at y 0)) (name_eq-true b.node parent (and_parts (name_eq b.node parent) (nat_lt (index_of ts x) b.offset) k).0) (here t)) (λ k. here t))
+    (λ k. subst (λ y. P (at y 0)) (name_eq-true b.node parent (and_parts (name_eq b.node parent) (nat_lt (index_of ts x) b.offset) k).0) (here t))
+    (λ k. here t))
   where
     P : Boundary NodeName → Type 0
     P c = IsUnder ts b.node c × (inside ts x c.node ≡ 0)
@@ -216,25 +241,33 @@ moves-removal ts x parent u e b h =
 pub moves-data : (ts : Trees) (x : NodeName) (offset count size : ℕ) → MovesIn ts (after_replace_data name_eq x offset count size)
 moves-data ts x offset count size b h = from (name_eq b.node x) refl
   where
-    from : (t : Bool) → name_eq b.node x ≡ t → IsUnder ts b.node (if not t || nat_le b.offset offset then b else (if nat_le b.offset (offset + count) then at x offset else at x (b.offset + size - count)))
+    from : (t : Bool) → name_eq b.node x ≡ t →
+        IsUnder ts b.node (if not t || nat_le b.offset offset then b else
+        (if nat_le b.offset (offset + count) then at x offset else at x (b.offset + size - count)))
     from true e =
         let k : IsUnder ts b.node (at x 0) = subst (λ y. IsUnder ts b.node (at y 0)) (name_eq-true b.node x e) (h, refl) in
-        either_way (IsUnder ts b.node) (nat_le b.offset offset) b (if nat_le b.offset (offset + count) then at x offset else at x (b.offset + size - count)) (h, refl)
+        either_way (IsUnder ts b.node) (nat_le b.offset offset) b
+        (if nat_le b.offset (offset + count) then at x offset else at x (b.offset + size - count)) (h, refl)
         (either_way (IsUnder ts b.node) (nat_le b.offset (offset + count)) (at x offset) (at x (b.offset + size - count)) k k)
     from false e = (h, refl)
 
 -- at a split
-pub moves-split : (ts : Trees) (x : NodeName) (offset : ℕ) (new parent : NodeName) (index : ℕ) → IsNodeIn ts new → root_of ts new ≡ root_of ts x → MovesIn ts (after_split name_eq x offset new parent index)
+pub moves-split : (ts : Trees) (x : NodeName) (offset : ℕ) (new parent : NodeName) (index : ℕ) → IsNodeIn ts new → root_of ts new ≡ root_of ts x →
+    MovesIn ts (after_split name_eq x offset new parent index)
 moves-split ts x offset new parent index k e b h =
-    which_way (IsUnder ts b.node) (name_eq b.node x && nat_lt offset b.offset) (at new (b.offset - offset)) (if boundary_eq name_eq b (at parent (index + 1)) then at parent (index + 2) else b)
-    (λ t. (k, e ∙ ap (root_of ts) (sym (name_eq-true b.node x (and_parts (name_eq b.node x) (nat_lt offset b.offset) t).0)))) (λ t. from (name_eq b.node parent) refl)
+    which_way (IsUnder ts b.node) (name_eq b.node x && nat_lt offset b.offset) (at new (b.offset - offset))
+    (if boundary_eq name_eq b (at parent (index + 1)) then at parent (index + 2) else b)
+    (λ t. (k, e ∙ ap (root_of ts) (sym (name_eq-true b.node x (and_parts (name_eq b.node x) (nat_lt offset b.offset) t).0))))
+    (λ t. from (name_eq b.node parent) refl)
   where
     from : (t : Bool) → name_eq b.node parent ≡ t → IsUnder ts b.node (if t && nat_eq b.offset (index + 1) then at parent (index + 2) else b)
-    from true e = either_way (IsUnder ts b.node) (nat_eq b.offset (index + 1)) (at parent (index + 2)) b (subst (λ y. IsUnder ts b.node (at y 0)) (name_eq-true b.node parent e) (h, refl)) (h, refl)
+    from true e = either_way (IsUnder ts b.node) (nat_eq b.offset (index + 1)) (at parent (index + 2)) b
+        (subst (λ y. IsUnder ts b.node (at y 0)) (name_eq-true b.node parent e) (h, refl)) (h, refl)
     from false e = (h, refl)
 
 -- at a join
-pub moves-join : (ts : Trees) (first : NodeName) (size : ℕ) (next parent : NodeName) (index : ℕ) → IsNodeIn ts first → root_of ts first ≡ root_of ts next → root_of ts first ≡ root_of ts parent → MovesIn ts (after_join name_eq first size next parent index)
+pub moves-join : (ts : Trees) (first : NodeName) (size : ℕ) (next parent : NodeName) (index : ℕ) → IsNodeIn ts first →
+    root_of ts first ≡ root_of ts next → root_of ts first ≡ root_of ts parent → MovesIn ts (after_join name_eq first size next parent index)
 moves-join ts first size next parent index k e f b h =
     which_way (IsUnder ts b.node) (name_eq b.node next) (at first (b.offset + size)) (if boundary_eq name_eq b (at parent index) then at first size else b)
     (λ t. (k, e ∙ ap (root_of ts) (sym (name_eq-true b.node next t))))

@@ -13,7 +13,8 @@ use Rattle.dom_isolation.specs.Worlds.{IsThere}
 use Rattle.dom_isolation.proofs.Alike.{AreAlike, alike-with_part}
 use Rattle.dom_isolation.proofs.KindCommands.{all-kinds, kinds-same}
 use Rattle.dom_isolation.proofs.Lists.{all-filter}
-use Rattle.dom_isolation.proofs.OwnerSteps.{IsPeopled, people, same-people, peopled-with_part, peopled-dispatch}
+use Rattle.dom_isolation.proofs.OwnerSteps.{IsPeopled, people, same-people, peopled-with_part}
+use Rattle.dom_isolation.proofs.OwnerDispatches.{peopled-dispatch}
 use Rattle.dom_isolation.proofs.Reached.{sound}
 use Rattle.dom_isolation.proofs.TableLines.{frame-told, frame-dispatch, frame-of, whole-of}
 use Rattle.dom_isolation.proofs.TurnEndings.{quiet-dispatch, quiet-told, quiet-at_end, alike-dispatch}
@@ -34,7 +35,8 @@ at_end-stands w s =
     let r = s.reached in
     let f = frame-of w r s.whole in
     let ended : IsReached false v =
-    reached-alike v w (λ o. record { trees = refl; count = refl; attached = refl }) (quiet-at_end w (sound w r)) (same-people v w (refl, λ x. refl) tt tt r.owners.signalled (people w r)) r in
+    reached-alike v w (λ o. record { trees = refl; count = refl; attached = refl }) (quiet-at_end w (sound w r))
+    (same-people v w (refl, λ x. refl) tt tt r.owners.signalled (people w r)) r in
     record { reached = ended; whole = whole-of v ended (record { tables = f.tables; records = f.records; first = f.first; signalled = f.signalled }) }
 
 -- an owner's signals are taken, and its observers notified
@@ -44,9 +46,11 @@ told-stands w o there s =
     let p = notified (part_of w o) in
     let v = with_part base p in
     let r = s.reached in
-    let calm = same-people base w (refl, λ x. refl) r.owners.turn r.owners.tasks (all-filter (λ x. IsThere w x.owner) (λ x. not (is_owned_by o x)) w.signalled r.owners.signalled) (people w r) in
+    let calm = same-people base w (refl, λ x. refl) r.owners.turn r.owners.tasks
+    (all-filter (λ x. IsThere w x.owner) (λ x. not (is_owned_by o x)) w.signalled r.owners.signalled) (people w r) in
     let told : IsReached false v =
-    reached-alike v w (alike-with_part base p o (owner-part_of w o) (record { trees = refl; count = refl; attached = refl })) (quiet-told w o (sound w r)) (peopled-with_part base p o (owner-part_of w o) there refl calm) r in
+    reached-alike v w (alike-with_part base p o (owner-part_of w o) (record { trees = refl; count = refl; attached = refl }))
+    (quiet-told w o (sound w r)) (peopled-with_part base p o (owner-part_of w o) there refl calm) r in
     record { reached = told; whole = whole-of v told (frame-told w o (frame-of w r s.whole)) }
 
 -- an event is dispatched
@@ -55,5 +59,6 @@ dispatch-stands w x related e s =
     let v = (dispatch_in w x related e).run.0 in
     let r = s.reached in
     let q = sound w r in
-    let done : IsReached false v = reached-alike v w (alike-dispatch w x related e) (quiet-dispatch w x related e q) (peopled-dispatch w q.world x related e (people w r)) r in
+    let done : IsReached false v = reached-alike v w (alike-dispatch w x related e) (quiet-dispatch w x related e q)
+    (peopled-dispatch w q.world x related e (people w r)) r in
     record { reached = done; whole = whole-of v done (frame-dispatch w x related e (frame-of w r s.whole)) }

@@ -11,7 +11,8 @@ use Rattle.dom_model.proofs.OwnerLaws.{name_eq-same}
 use Rattle.dom_isolation.specs.Worlds.{times_in, AllNodes}
 use Rattle.dom_isolation.proofs.Lists.{all-append}
 use Rattle.dom_isolation.proofs.Tests.{by_cases, or-later, or-first, or-second}
-use Rattle.dom_isolation.proofs.Trees.{IsUnique, by_times, times-here, times-elsewhere, times-more, times-parts, times-subtree, times-or_else, subtree-absent, root-there, name_eq-sym, name_eq-true}
+use Rattle.dom_isolation.proofs.Trees.{IsUnique, by_times, times-here, times-elsewhere, times-more, times-parts, times-subtree, times-or_else}
+use Rattle.dom_isolation.proofs.Trees.{subtree-absent, root-there, name_eq-sym, name_eq-true}
 
 -- How often a name is there.
 pub times-followed : (a b : Trees) (x : NodeName) → times_in (followed_by a b) x ≡ times_in a x + times_in b x
@@ -50,11 +51,13 @@ put_where test new none = new
 put_where test new (tree n c r) = if test n.name then followed_by new (tree n c r) else tree n c (put_where test new r)
 
 -- put before this root
-pub where-here : (test : NodeName → Bool) (new : Trees) (n : Node) (c r : Trees) → test n.name ≡ true → put_where test new (tree n c r) ≡ followed_by new (tree n c r)
+pub where-here : (test : NodeName → Bool) (new : Trees) (n : Node) (c r : Trees) → test n.name ≡ true →
+    put_where test new (tree n c r) ≡ followed_by new (tree n c r)
 where-here test new n c r e = cond-true (test n.name) (followed_by new (tree n c r)) (tree n c (put_where test new r)) e
 
 -- put further on
-pub where-later : (test : NodeName → Bool) (new : Trees) (n : Node) (c r : Trees) → test n.name ≡ false → put_where test new (tree n c r) ≡ tree n c (put_where test new r)
+pub where-later : (test : NodeName → Bool) (new : Trees) (n : Node) (c r : Trees) → test n.name ≡ false →
+    put_where test new (tree n c r) ≡ tree n c (put_where test new r)
 where-later test new n c r e = cond-false (test n.name) (followed_by new (tree n c r)) (tree n c (put_where test new r)) e
 
 -- before the node given
@@ -110,10 +113,12 @@ put_below-absent parent before new none h = refl
 put_below-absent parent before new (tree n c r) h =
     by_cases (name_eq n.name parent) (λ e. absurd (let g = times-here n c r parent e in omega arith))
     (λ e. let g = times-elsewhere n c r parent e in
-    put_below-elsewhere parent before new n c r e ∙ ap (λ t. tree n t (put_below parent before new r)) (put_below-absent parent before new c (omega arith)) ∙ ap (tree n c) (put_below-absent parent before new r (omega arith)))
+    put_below-elsewhere parent before new n c r e ∙ ap (λ t. tree n t (put_below parent before new r))
+    (put_below-absent parent before new c (omega arith)) ∙ ap (tree n c) (put_below-absent parent before new r (omega arith)))
 
 -- what is put below a node
-times-put_below : (parent : NodeName) (before : Option NodeName) (new ts : Trees) (x : NodeName) → times_in ts parent ≤ 1 → times_in (put_below parent before new ts) x ≤ times_in new x + times_in ts x
+times-put_below : (parent : NodeName) (before : Option NodeName) (new ts : Trees) (x : NodeName) → times_in ts parent ≤ 1 →
+    times_in (put_below parent before new ts) x ≤ times_in new x + times_in ts x
 times-put_below parent before new none x h = omega arith
 times-put_below parent before new (tree n c r) x h =
     by_cases (name_eq n.name parent)
@@ -126,10 +131,12 @@ times-put_below parent before new (tree n c r) x h =
     let g = times-elsewhere n c r parent e in
     by_times (times_in c parent)
     (λ z. let b = ap (λ t. times_in t x) (put_below-absent parent before new c z) in let d = times-put_below parent before new r x (omega arith) in omega arith)
-    (λ z. let b = ap (λ t. times_in t x) (put_below-absent parent before new r (omega arith)) in let d = times-put_below parent before new c x (omega arith) in omega arith))
+    (λ z. let b = ap (λ t. times_in t x) (put_below-absent parent before new r (omega arith)) in let d = times-put_below parent before new c x
+    (omega arith) in omega arith))
 
 -- a node that is placed
-pub times-placed : (y parent : NodeName) (before : Option NodeName) (ts : Trees) (x : NodeName) → times_in ts parent ≤ 1 → times_in (placed y parent before ts) x ≤ times_in ts x
+pub times-placed : (y parent : NodeName) (before : Option NodeName) (ts : Trees) (x : NodeName) → times_in ts parent ≤ 1 →
+    times_in (placed y parent before ts) x ≤ times_in ts x
 times-placed y parent before ts x h =
     let a = times-without ts y parent in
     let b = times-put_below parent before (subtree ts y) (without y ts) x (omega arith) in
@@ -185,13 +192,15 @@ module _ (P : Node → Type 0) where
   nodes-put_root y new ts h g = subst (AllNodes P) (sym (put_root-where y new ts)) (nodes-where (name_before y) new ts h g)
 
   -- trees put below a node
-  nodes-put_below : (parent : NodeName) (before : Option NodeName) (new ts : Trees) → AllNodes P new → AllNodes P ts → AllNodes P (put_below parent before new ts)
+  nodes-put_below : (parent : NodeName) (before : Option NodeName) (new ts : Trees) → AllNodes P new → AllNodes P ts →
+      AllNodes P (put_below parent before new ts)
   nodes-put_below parent before new none h g = tt
   nodes-put_below parent before new (tree n c r) h g =
       let below = nodes-put_below parent before new c h g.1 in
       let behind = nodes-put_below parent before new r h g.2 in
       by_cases (name_eq n.name parent)
-      (λ e. subst (AllNodes P) (sym (put_below-here parent before new n c r e)) (g.0, nodes-put_before before new (put_below parent before new c) h below, behind))
+      (λ e. subst (AllNodes P) (sym (put_below-here parent before new n c r e))
+      (g.0, nodes-put_before before new (put_below parent before new c) h below, behind))
       (λ e. subst (AllNodes P) (sym (put_below-elsewhere parent before new n c r e)) (g.0, below, behind))
 
   -- a new node
@@ -326,14 +335,16 @@ root-put_below parent before new (tree n c r) x h =
     (λ g. root-second n (if name_eq n.name parent then put_before before new below else below) behind x (root-put_below parent before new r x g))
 
 -- beside another node that is placed
-pub root-placed : (y parent : NodeName) (before : Option NodeName) (ts : Trees) (x : NodeName) → name_eq y x ≡ false → HasRoot ts x → HasRoot (placed y parent before ts) x
+pub root-placed : (y parent : NodeName) (before : Option NodeName) (ts : Trees) (x : NodeName) → name_eq y x ≡ false → HasRoot ts x →
+    HasRoot (placed y parent before ts) x
 root-placed y parent before ts x d h = root-put_below parent before (subtree ts y) (without y ts) x (root-without ts y x d h)
 
 -- of nodes with other contents
 pub root-map_nodes : (f : Node → Node) → ((n : Node) → (f n).name ≡ n.name) → (ts : Trees) (x : NodeName) → HasRoot ts x → HasRoot (map_nodes f ts) x
 root-map_nodes f h none x g = g
 root-map_nodes f h (tree n c r) x g =
-    root-cases n c r x g (λ e. root-first (f n) (map_nodes f c) (map_nodes f r) x (ap (name_eq x) (h n) ∙ e)) (λ k. root-second (f n) (map_nodes f c) (map_nodes f r) x (root-map_nodes f h r x k))
+    root-cases n c r x g (λ e. root-first (f n) (map_nodes f c) (map_nodes f r) x (ap (name_eq x) (h n) ∙ e))
+    (λ k. root-second (f n) (map_nodes f c) (map_nodes f r) x (root-map_nodes f h r x k))
 
 -- a root is below no node
 pub times-below : (ts : Trees) (x : NodeName) → times_in (trees_below ts) x ≤ times_in ts x

@@ -1,5 +1,6 @@
 -- Where the nodes of a list of trees stand, by how often their names are there.
-use Rattle.std.proofs.Common.{eqb, ◌≡◌, ℕ, zero, suc, ◌+◌, ◌≤◌, ◌||◌, Bool, true, false, List, [], ◌∷◌, ◌++◌, Option, Some, unwrap_or, refl, sym, ap, ◌∙◌, arith, true≢false, subst}
+use Rattle.std.proofs.Common.{eqb, ◌≡◌, ℕ, zero, suc, ◌+◌, ◌≤◌, ◌||◌, Bool, true, false, List, [], ◌∷◌, ◌++◌, Option, Some, unwrap_or, refl, sym, ap}
+use Rattle.std.proofs.Common.{◌∙◌, arith, true≢false, subst}
 use Rattle.std.specs.List.{AllByRecursion, last_or}
 use Rattle.std.proofs.lemmas.Bool.{cond-true, cond-false, and_parts, eqb-true}
 use Rattle.dom_base.specs.declared.NodeName.{NodeName}
@@ -14,7 +15,8 @@ use Rattle.dom_isolation.proofs.Tests.{by_cases, or-first, or-later}
 pub name_eq-true : (x y : NodeName) → name_eq x y ≡ true → x ≡ y
 name_eq-true x y h =
     let both = and_parts (owner_eq x.owner y.owner) (eqb x.number y.number) h in
-    ap (λ o. record { owner = o; number = x.number }) (owner_eq-true x.owner y.owner both.0) ∙ ap (λ k. record { owner = y.owner; number = k }) (eqb-true x.number y.number both.1)
+    ap (λ o. record { owner = o; number = x.number }) (owner_eq-true x.owner y.owner both.0) ∙ ap (λ k. record { owner = y.owner; number = k })
+    (eqb-true x.number y.number both.1)
 
 -- What holds of all nodes of a list holds of one of them.
 pub all-in : (P : NodeName → Type 0) (x : NodeName) (ys : List NodeName) → AllByRecursion P ys → is_in name_eq x ys ≡ true → P x
@@ -70,7 +72,8 @@ ancestors-here : (n : Node) (c r : Trees) (x : NodeName) → name_eq n.name x �
 ancestors-here n c r x e = cond-true (name_eq n.name x) (x ∷ []) (on_top (inclusive_ancestors c x) n.name (inclusive_ancestors r x)) e
 
 -- those of another node
-ancestors-elsewhere : (n : Node) (c r : Trees) (x : NodeName) → name_eq n.name x ≡ false → inclusive_ancestors (tree n c r) x ≡ on_top (inclusive_ancestors c x) n.name (inclusive_ancestors r x)
+ancestors-elsewhere : (n : Node) (c r : Trees) (x : NodeName) → name_eq n.name x ≡ false →
+    inclusive_ancestors (tree n c r) x ≡ on_top (inclusive_ancestors c x) n.name (inclusive_ancestors r x)
 ancestors-elsewhere n c r x e = cond-false (name_eq n.name x) (x ∷ []) (on_top (inclusive_ancestors c x) n.name (inclusive_ancestors r x)) e
 
 -- of a node that is there the ancestors begin with it
@@ -80,11 +83,13 @@ ancestors-present (tree n c r) x h =
     by_cases (name_eq n.name x) (λ e. ([], ancestors-here n c r x e))
     (λ e. let g = times-elsewhere n c r x e in
     by_times (times_in c x)
-    (λ z. let at = ancestors-present r x (omega arith) in (at.0, ancestors-elsewhere n c r x e ∙ ap (λ p. on_top p n.name (inclusive_ancestors r x)) (ancestors-absent c x z) ∙ at.1))
+    (λ z. let at = ancestors-present r x (omega arith) in
+    (at.0, ancestors-elsewhere n c r x e ∙ ap (λ p. on_top p n.name (inclusive_ancestors r x)) (ancestors-absent c x z) ∙ at.1))
     (λ z. let at = ancestors-present c x z in (at.0 ++ n.name ∷ [], ancestors-elsewhere n c r x e ∙ ap (λ p. on_top p n.name (inclusive_ancestors r x)) at.1)))
 
 -- each ancestor is there
-all-on_top : (P : NodeName → Type 0) (path : List NodeName) (a : NodeName) (others : List NodeName) → AllByRecursion P path → P a → AllByRecursion P others → AllByRecursion P (on_top path a others)
+all-on_top : (P : NodeName → Type 0) (path : List NodeName) (a : NodeName) (others : List NodeName) → AllByRecursion P path → P a →
+    AllByRecursion P others → AllByRecursion P (on_top path a others)
 all-on_top P [] a others h g k = k
 all-on_top P (x ∷ path) a others h g k = all-append P (x ∷ path) (a ∷ []) h (g, tt)
 
@@ -112,14 +117,16 @@ root-in_tree n c r y h =
     by_cases (name_eq n.name y) (λ e. ap (λ p. unwrap_or (last_of p) y) (ancestors-here n c r y e) ∙ sym (name_eq-true n.name y e))
     (λ e. let g = times-elsewhere n c none y e in
     let at = ancestors-present c y (omega arith) in
-    ap (λ p. unwrap_or (last_of p) y) (ancestors-elsewhere n c r y e ∙ ap (λ p. on_top p n.name (inclusive_ancestors r y)) at.1) ∙ ap (λ o. unwrap_or o y) (last-push (Some y) at.0 n.name))
+    ap (λ p. unwrap_or (last_of p) y) (ancestors-elsewhere n c r y e ∙ ap (λ p. on_top p n.name (inclusive_ancestors r y)) at.1) ∙
+    ap (λ o. unwrap_or o y) (last-push (Some y) at.0 n.name))
 
 -- and of one behind it
 root-in_rest : (n : Node) (c r : Trees) (y : NodeName) → times_in (tree n c none) y ≡ 0 → root_of (tree n c r) y ≡ root_of r y
 root-in_rest n c r y h =
     by_cases (name_eq n.name y) (λ e. absurd (let g = times-here n c none y e in omega arith))
     (λ e. let g = times-elsewhere n c none y e in
-    ap (λ p. unwrap_or (last_of p) y) (ancestors-elsewhere n c r y e ∙ ap (λ p. on_top p n.name (inclusive_ancestors r y)) (ancestors-absent c y (omega arith))))
+    ap (λ p. unwrap_or (last_of p) y) (ancestors-elsewhere n c r y e ∙ ap (λ p. on_top p n.name (inclusive_ancestors r y))
+    (ancestors-absent c y (omega arith))))
 
 -- how often in a first tree and behind it
 pub times-parts : (n : Node) (c r : Trees) (y : NodeName) → times_in (tree n c r) y ≡ times_in (tree n c none) y + times_in r y
@@ -147,12 +154,15 @@ ancestors-root (tree n c r) u s =
     (λ e. let g = times-elsewhere n c none s e in
     subst (AllByRecursion P) (sym (ancestors-elsewhere n c r s e))
     (by_times (times_in c s)
-    (λ z. let there = all-both (λ y. 1 ≤ times_in r y) (λ y. root_of r y ≡ root_of r s) (inclusive_ancestors r s) (ancestors-there r s) (ancestors-root r (unique-rest n c r u) s) in
+    (λ z. let there = all-both (λ y. 1 ≤ times_in r y) (λ y. root_of r y ≡ root_of r s) (inclusive_ancestors r s) (ancestors-there r s)
+    (ancestors-root r (unique-rest n c r u) s) in
     let up : (y : NodeName) → (1 ≤ times_in r y) × (root_of r y ≡ root_of r s) → P y =
     λ y h. let k = u y in let t = times-parts n c r y in root-in_rest n c r y (let h0 = h.0 in omega arith) ∙ h.1 ∙ sym (root-in_rest n c r s (omega arith)) in
-    subst (λ path. AllByRecursion P (on_top path n.name (inclusive_ancestors r s))) (sym (ancestors-absent c s z)) (all-then (λ y. (1 ≤ times_in r y) × (root_of r y ≡ root_of r s)) P up (inclusive_ancestors r s) there))
+    subst (λ path. AllByRecursion P (on_top path n.name (inclusive_ancestors r s))) (sym (ancestors-absent c s z))
+    (all-then (λ y. (1 ≤ times_in r y) × (root_of r y ≡ root_of r s)) P up (inclusive_ancestors r s) there))
     (λ z. let top : root_of (tree n c r) s ≡ n.name = root-in_tree n c r s (omega arith) in
-    let below = all-then (λ y. 1 ≤ times_in c y) P (λ y h. let t = times-more n c none y in root-in_tree n c r y (omega arith) ∙ sym top) (inclusive_ancestors c s) (ancestors-there c s) in
+    let below = all-then (λ y. 1 ≤ times_in c y) P (λ y h. let t = times-more n c none y in root-in_tree n c r y (omega arith) ∙ sym top)
+    (inclusive_ancestors c s) (ancestors-there c s) in
     let at = ancestors-present c s z in
     let own : P n.name = let t = times-here n c none n.name (name_eq-same n.name) in root-in_tree n c r n.name (omega arith) ∙ sym top in
     subst (λ path. AllByRecursion P (on_top path n.name (inclusive_ancestors r s))) (sym at.1)
@@ -183,9 +193,11 @@ pub times-subtree : (ts : Trees) (x y : NodeName) → times_in (subtree ts x) y 
 times-subtree none x y = omega arith
 times-subtree (tree n c r) x y =
     by_cases (name_eq n.name x)
-    (λ e. subst (λ t. times_in t y ≤ times_in (tree n c r) y) (sym (cond-true (name_eq n.name x) (tree n c none) (or_else (subtree c x) (subtree r x)) e)) (omega arith))
+    (λ e. subst (λ t. times_in t y ≤ times_in (tree n c r) y)
+    (sym (cond-true (name_eq n.name x) (tree n c none) (or_else (subtree c x) (subtree r x)) e)) (omega arith))
     (λ e. subst (λ t. times_in t y ≤ times_in (tree n c r) y) (sym (cond-false (name_eq n.name x) (tree n c none) (or_else (subtree c x) (subtree r x)) e))
-    (let a = times-or_else (subtree c x) (subtree r x) y in let b = times-subtree c x y in let d = times-subtree r x y in let g = times-more n c r y in omega arith))
+    (let a = times-or_else (subtree c x) (subtree r x) y in let b = times-subtree c x y in let d = times-subtree r x y in let g = times-more n c r
+    y in omega arith))
 
 -- a root is there
 pub root-there : (ts : Trees) (r : NodeName) → is_in name_eq r (names_of (roots ts)) ≡ true → 1 ≤ times_in ts r
@@ -196,17 +208,20 @@ root-there (tree n c rest) r h =
     let later = root-there rest r (or-later (name_eq r n.name) (is_in name_eq r (names_of (roots rest))) (name_eq-sym r n.name ∙ e) h) in omega arith)
 
 -- the nodes of a root's tree have that root
-pub root-of-root : (ts : Trees) → IsUnique ts → (x : NodeName) → is_in name_eq x (names_of (roots ts)) ≡ true → (s : NodeName) → 1 ≤ times_in (subtree ts x) s → root_of ts s ≡ x
+pub root-of-root : (ts : Trees) → IsUnique ts → (x : NodeName) → is_in name_eq x (names_of (roots ts)) ≡ true → (s : NodeName) →
+    1 ≤ times_in (subtree ts x) s → root_of ts s ≡ x
 root-of-root none u x h s t = absurd (true≢false (sym h))
 root-of-root (tree n c r) u x h s t =
     by_cases (name_eq n.name x)
-    (λ e. root-in_tree n c r s (subst (λ ts. 1 ≤ times_in ts s) (cond-true (name_eq n.name x) (tree n c none) (or_else (subtree c x) (subtree r x)) e) t) ∙ name_eq-true n.name x e)
+    (λ e. root-in_tree n c r s (subst (λ ts. 1 ≤ times_in ts s)
+    (cond-true (name_eq n.name x) (tree n c none) (or_else (subtree c x) (subtree r x)) e) t) ∙ name_eq-true n.name x e)
     (λ e. let later = or-later (name_eq x n.name) (is_in name_eq x (names_of (roots r))) (name_eq-sym x n.name ∙ e) h in
     let there = root-there r x later in
     let once = u x in
     let g = times-elsewhere n c r x e in
     let here : subtree (tree n c r) x ≡ subtree r x =
-    cond-false (name_eq n.name x) (tree n c none) (or_else (subtree c x) (subtree r x)) e ∙ ap (λ t. or_else t (subtree r x)) (subtree-absent c x (omega arith)) in
+    cond-false (name_eq n.name x) (tree n c none) (or_else (subtree c x) (subtree r x)) e ∙
+    ap (λ t. or_else t (subtree r x)) (subtree-absent c x (omega arith)) in
     let t' = subst (λ ts. 1 ≤ times_in ts s) here t in
     let below = times-subtree r x s in
     let parts = times-parts n c r s in

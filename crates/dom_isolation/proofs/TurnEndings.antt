@@ -1,6 +1,7 @@
 -- Notifications and the endings of turns: the tasks of components change nothing of the page, and those of the page do
 -- what they do alone.
-use Rattle.std.proofs.Common.{◌≡◌, ◌≢◌, ℕ, true, false, not, List, [], ◌∷◌, filter, map, fold, flat_map, Option, Some, None, refl, sym, ap, ◌∙◌, true≢false, subst, append-nil, Bool}
+use Rattle.std.proofs.Common.{◌≡◌, ◌≢◌, ℕ, true, false, not, List, [], ◌∷◌, filter, map, fold, flat_map, Option, Some, None, refl, sym, ap, ◌∙◌}
+use Rattle.std.proofs.Common.{true≢false, subst, append-nil, Bool}
 use Rattle.std.specs.List.{AllByRecursion}
 use Rattle.std.proofs.lemmas.Bool.{cond-true, cond-false}
 use Rattle.dom_base.specs.declared.Owner.{Owner}
@@ -15,7 +16,8 @@ use Rattle.dom_model.specs.World.{World, Task, micro_task, notify_task, part_of,
 use Rattle.dom_model.specs.Dispatch.{dispatch_in, world_visit, visits_of}
 use Rattle.dom_model.specs.Listeners.{begun, Visit}
 use Rattle.dom_model.specs.Paths.{views}
-use Rattle.dom_model.specs.Turns.{records_of, notified_lines, notified, slotchange, firing_slotchange, is_owned_by, without_signals, notifying, running_task, ending_turn, is_page_turn}
+use Rattle.dom_model.specs.Turns.{records_of, notified_lines, notified, slotchange, firing_slotchange, is_owned_by, without_signals, notifying}
+use Rattle.dom_model.specs.Turns.{running_task, ending_turn, is_page_turn}
 use Rattle.dom_model.specs.Trace.{outputs_for, owner_of_output, is_of}
 use Rattle.dom_model.specs.PageMachine.{PageState, page_of, page_task, page_turn_end, is_page_task}
 use Rattle.dom_model.proofs.OwnerLaws.{owner_eq-true, ne-owner_eq}
@@ -32,7 +34,8 @@ use Rattle.dom_isolation.proofs.ComponentPaths.{views-kept_in}
 use Rattle.dom_isolation.proofs.Alike.{AreAlike, alike-same, alike-then, world-alike, there-with_part, alike-with_part, logs-same, listeners-with_part}
 
 -- A dispatch keeps it, and the turn.
-pub there-visits : (e : EventWords) (vs : List (Visit NodeName)) (s : InWorld) (o : Owner) → is_there s.0 o ≡ true → is_there (fold (world_visit e) s vs).0 o ≡ true
+pub there-visits : (e : EventWords) (vs : List (Visit NodeName)) (s : InWorld) (o : Owner) → is_there s.0 o ≡ true →
+    is_there (fold (world_visit e) s vs).0 o ≡ true
 there-visits e [] s o h = h
 there-visits e (v ∷ vs) s o h =
     there-visits e vs (world_visit e s v) o
@@ -51,14 +54,19 @@ world-dispatch w x related e i =
     let start : InWorld = (w, begun []) in
     let end = fold (world_visit e) start vs in
     let rest = rest-visits e vs start in
-    world-alike end.0 w (alike-dispatch w x related e) (there-visits e vs start Page) (subst (λ (v : World). AllByRecursion (IsForeignTo Page) v.signalled) (sym rest) i.signalled)
+    world-alike end.0 w (alike-dispatch w x related e) (there-visits e vs start Page)
+    (subst (λ (v : World). AllByRecursion (IsForeignTo Page) v.signalled) (sym rest) i.signalled)
     (subst (λ (v : World). is_page_turn v.turn ≡ false → filter is_page_task v.tasks ≡ []) (sym rest) i.tasks) i
 
 module _ {only_log : Bool} where
   -- and of its listeners
-  pub quiet-dispatch : (w : World) (x : NodeName) (related : Option NodeName) (e : EventWords) → IsSound only_log w → IsSound only_log (dispatch_in w x related e).run.0
+  pub quiet-dispatch : (w : World) (x : NodeName) (related : Option NodeName) (e : EventWords) → IsSound only_log w →
+      IsSound only_log (dispatch_in w x related e).run.0
   quiet-dispatch w x related e q =
-      record { world = world-dispatch w x related e q.world; logs = λ y. logs-visits e (visits_of name_eq e.bubbles (views w x related e.composed)) (w, begun []) (q.logs y) }
+      record {
+        world = world-dispatch w x related e q.world;
+        logs = λ y. logs-visits e (visits_of name_eq e.bubbles (views w x related e.composed)) (w, begun []) (q.logs y);
+      }
 
 -- the turn stays
 pub turn-dispatch : (w : World) (x : NodeName) (related : Option NodeName) (e : EventWords) → (dispatch_in w x related e).run.0.turn ≡ w.turn
@@ -69,11 +77,13 @@ firing-quiet : (w : World) → IsQuiet w → (s : NodeName) → IsForeignTo Page
 firing-quiet w q s f = dispatch-nothing w s None slotchange (q.logs refl) (views-kept_in w q.world s None f)
 
 -- a run and then another that both show nothing
-pub quiet_then : (r : Run World) (s : PageState) (f : World → Run World) → page_run r ≡ quiet s → page_run (f r.0) ≡ quiet (page_of r.0) → page_run (run_then r f) ≡ quiet s
+pub quiet_then : (r : Run World) (s : PageState) (f : World → Run World) → page_run r ≡ quiet s → page_run (f r.0) ≡ quiet (page_of r.0) →
+    page_run (run_then r f) ≡ quiet s
 quiet_then r s f a b = run_then-quiet r f b ∙ ap (λ (x : Run PageState). run_then x quiet) a
 
 -- all of them show nothing
-firings-quiet : (ss : List NodeName) (w : World) → IsQuiet w → AllByRecursion (IsForeignTo Page) ss → page_run (run_each firing_slotchange w ss) ≡ quiet (page_of w)
+firings-quiet : (ss : List NodeName) (w : World) → IsQuiet w → AllByRecursion (IsForeignTo Page) ss →
+    page_run (run_each firing_slotchange w ss) ≡ quiet (page_of w)
 firings-quiet [] w q h = refl
 firings-quiet (s ∷ ss) w q h =
     quiet_then (firing_slotchange w s) (page_of w) (λ v. run_each firing_slotchange v ss) (firing-quiet w q s h.0)
@@ -106,7 +116,8 @@ lines-notified p = each p.pending
 page-notified_lines : (p : Part) → p.owner ≡ Page → outputs_for Page (notified_lines p) ≡ notified_lines p
 page-notified_lines p h =
     filter_all (λ l. is_of (owner_eq Page) (owner_of_output l)) (notified_lines p)
-    (all-then (IsLineOf p.owner) (λ l. is_of (owner_eq Page) (owner_of_output l) ≡ true) (λ l e. ap (is_of (owner_eq Page)) (e ∙ ap Some h)) (notified_lines p) (lines-notified p))
+    (all-then (IsLineOf p.owner) (λ l. is_of (owner_eq Page) (owner_of_output l) ≡ true) (λ l e. ap (is_of (owner_eq Page)) (e ∙ ap Some h))
+    (notified_lines p) (lines-notified p))
 
 -- another owner is not the page
 page_ne : (o : Owner) → o ≢ Page → owner_eq Page o ≡ false
@@ -117,7 +128,8 @@ page_ne (Component k) f = refl
 other-notified_lines : (p : Part) → p.owner ≢ Page → outputs_for Page (notified_lines p) ≡ []
 other-notified_lines p h =
     filter_none (λ l. is_of (owner_eq Page) (owner_of_output l)) (notified_lines p)
-    (all-then (IsLineOf p.owner) (λ l. is_of (owner_eq Page) (owner_of_output l) ≡ false) (λ l e. ap (is_of (owner_eq Page)) e ∙ page_ne p.owner h) (notified_lines p) (lines-notified p))
+    (all-then (IsLineOf p.owner) (λ l. is_of (owner_eq Page) (owner_of_output l) ≡ false)
+    (λ l e. ap (is_of (owner_eq Page)) e ∙ page_ne p.owner h) (notified_lines p) (lines-notified p))
 
 -- The first part of a notification.
 abbrev told_in : World → Owner → World
@@ -134,7 +146,8 @@ module _ {only_log : Bool} where
       let base = without_signals w o in
       let p = notified (part_of w o) in
       record {
-        world = world-alike (told_in w o) w (alike-told w o) (there-with_part base p Page) (all-filter (IsForeignTo Page) (λ s. not (is_owned_by o s)) w.signalled q.world.signalled) q.world.tasks q.world;
+        world = world-alike (told_in w o) w (alike-told w o) (there-with_part base p Page)
+            (all-filter (IsForeignTo Page) (λ s. not (is_owned_by o s)) w.signalled q.world.signalled) q.world.tasks q.world;
         logs = λ y. logs-same (told_in w o) w (listeners-with_part base p o (owner-part_of w o) refl) (q.logs y);
       }
 
@@ -147,14 +160,16 @@ pub notifying-other : (w : World) (o : Owner) → o ≢ Page → IsQuiet w → p
 notifying-other w o f q =
     let first : page_run (told_in w o, notified_lines (part_of w o)) ≡ quiet (page_of w) =
     ap (λ s. (s, outputs_for Page (notified_lines (part_of w o))))
-    (same_page_of (told_in w o) w (part_of-with_part-other (without_signals w o) (notified (part_of w o)) Page (λ e. f (sym (owner-part_of w o) ∙ e))) refl refl)
+    (same_page_of (told_in w o) w (part_of-with_part-other (without_signals w o) (notified (part_of w o)) Page
+    (λ e. f (sym (owner-part_of w o) ∙ e))) refl refl)
     ∙ ap (λ ls. (page_of w, ls)) (other-notified_lines (part_of w o) (λ e. f (sym (owner-part_of w o) ∙ e))) in
     quiet_then (told_in w o, notified_lines (part_of w o)) (page_of w) (λ v. run_each firing_slotchange v (filter (is_owned_by o) w.signalled)) first
     (firings-quiet (filter (is_owned_by o) w.signalled) (told_in w o) (quiet-told w o q) (slots-owned o f w.signalled))
 
 -- the page has no signalled slots
 no_page_slots : (w : World) → IsWorld w → filter (is_owned_by Page) w.signalled ≡ []
-no_page_slots w i = filter_none (is_owned_by Page) w.signalled (all-then (IsForeignTo Page) (λ s. is_owned_by Page s ≡ false) (λ s f. ne-owner_eq s.owner Page f) w.signalled i.signalled)
+no_page_slots w i = filter_none (is_owned_by Page) w.signalled
+    (all-then (IsForeignTo Page) (λ s. is_owned_by Page s ≡ false) (λ s f. ne-owner_eq s.owner Page f) w.signalled i.signalled)
 
 -- the page's notification is the page machine's
 notifying-page : (w : World) → IsQuiet w → page_run (notifying w Page) ≡ page_task (page_of w) (notify_task Page)
@@ -194,8 +209,10 @@ running-all (t ∷ ts) w q =
     let later = running-all ts v (quiet-running w q t) in
     let all = run_then-square (running_task w t) (λ v. run_each running_task v ts) (λ s. run_each page_task s (filter is_page_task ts)) later in
     by_cases (is_page_task t)
-    (λ h. all ∙ ap (λ r. run_then r (λ s. run_each page_task s (filter is_page_task ts))) (running-page w q t h) ∙ ap (run_each page_task (page_of w)) (sym (cond-true (is_page_task t) (t ∷ filter is_page_task ts) (filter is_page_task ts) h)))
-    (λ h. all ∙ ap (λ r. run_then r (λ s. run_each page_task s (filter is_page_task ts))) (running-other w q t h) ∙ ap (run_each page_task (page_of w)) (sym (cond-false (is_page_task t) (t ∷ filter is_page_task ts) (filter is_page_task ts) h)))
+    (λ h. all ∙ ap (λ r. run_then r (λ s. run_each page_task s (filter is_page_task ts))) (running-page w q t h) ∙
+    ap (run_each page_task (page_of w)) (sym (cond-true (is_page_task t) (t ∷ filter is_page_task ts) (filter is_page_task ts) h)))
+    (λ h. all ∙ ap (λ r. run_then r (λ s. run_each page_task s (filter is_page_task ts))) (running-other w q t h) ∙
+    ap (run_each page_task (page_of w)) (sym (cond-false (is_page_task t) (t ∷ filter is_page_task ts) (filter is_page_task ts) h)))
 
 module _ {only_log : Bool} where
   -- and so do all
@@ -211,7 +228,11 @@ module _ {only_log : Bool} where
   -- with the tasks taken out
   pub quiet-at_end : (w : World) → IsSound only_log w → IsSound only_log (at_end w)
   quiet-at_end w q =
-      record { world = world-alike (at_end w) w (λ o. record { trees = refl; count = refl; attached = refl }) (λ h. h) q.world.signalled (λ h. refl) q.world; logs = q.logs }
+      record {
+        world = world-alike (at_end w) w (λ o. record { trees = refl; count = refl; attached = refl }) (λ h. h) q.world.signalled
+            (λ h. refl) q.world;
+        logs = q.logs;
+      }
 
 -- the ending, as the page sees it
 pub ending_turn-page : (w : World) → IsQuiet w → page_run (ending_turn w) ≡ page_turn_end (page_of w)
@@ -231,7 +252,8 @@ alike-firings (s ∷ ss) w =
 -- a task
 alike-running : (w : World) (t : Task) → AreAlike (running_task w t).0 w
 alike-running w (micro_task o label) = alike-same w
-alike-running w (notify_task o) = alike-then (running_task w (notify_task o)).0 (told_in w o) w (alike-firings (filter (is_owned_by o) w.signalled) (told_in w o)) (alike-told w o)
+alike-running w (notify_task o) = alike-then (running_task w (notify_task o)).0 (told_in w o) w
+    (alike-firings (filter (is_owned_by o) w.signalled) (told_in w o)) (alike-told w o)
 
 -- all tasks
 alike-running_all : (ts : List Task) (w : World) → AreAlike (run_each running_task w ts).0 w

@@ -39,7 +39,8 @@ seen-after_action Cancel c d = refl
 
 -- a call, where none was stopped at once
 call : EventWords → Visit NodeName → Going → Listener NodeName → Going
-call e v d l = after_action l.words.action (may_cancel e l.words) (record d { listeners = kept_after name_eq l d.listeners; lines = d.lines ++ line_of v l.words ∷ [] })
+call e v d l = after_action l.words.action (may_cancel e l.words)
+    (record d { listeners = kept_after name_eq l d.listeners; lines = d.lines ++ line_of v l.words ∷ [] })
 
 -- a call, unless the others are stopped
 call-of : (e : EventWords) (v : Visit NodeName) (d : Going) (l : Listener NodeName) → d.stopped_now ≡ false → called name_eq e v d l ≡ call e v d l
@@ -55,18 +56,21 @@ no_call e v d l s = cond-true d.stopped_now d (call e v d l) s
 seen-call : (e : EventWords) (v : Visit NodeName) → v.current.owner ≡ Page → (d : Going) (l : Listener NodeName) → seen (call e v d l) ≡ call e v (seen d) l
 unfolding call
 seen-call e v h d l =
-    seen-after_action l.words.action (may_cancel e l.words) (record d { listeners = kept_after name_eq l d.listeners; lines = d.lines ++ line_of v l.words ∷ [] })
+    seen-after_action l.words.action (may_cancel e l.words)
+    (record d { listeners = kept_after name_eq l d.listeners; lines = d.lines ++ line_of v l.words ∷ [] })
     ∙ ap (λ ls. after_action l.words.action (may_cancel e l.words) (record d { listeners = kept_after name_eq l d.listeners; lines = ls }))
     (filter-append is_page_line d.lines (line_of v l.words ∷ []) ∙ rw h refl)
 
 -- the same, stopped or not
-seen-called : (e : EventWords) (v : Visit NodeName) → v.current.owner ≡ Page → (d : Going) (l : Listener NodeName) → seen (called name_eq e v d l) ≡ called name_eq e v (seen d) l
+seen-called : (e : EventWords) (v : Visit NodeName) → v.current.owner ≡ Page → (d : Going) (l : Listener NodeName) →
+    seen (called name_eq e v d l) ≡ called name_eq e v (seen d) l
 seen-called e v h d l =
     by_cases d.stopped_now (λ s. ap seen (no_call e v d l s) ∙ sym (no_call e v (seen d) l s))
     (λ s. ap seen (call-of e v d l s) ∙ seen-call e v h d l ∙ sym (call-of e v (seen d) l s))
 
 -- calls of all that hear
-seen-calls : (e : EventWords) (v : Visit NodeName) → v.current.owner ≡ Page → (ls : List (Listener NodeName)) (d : Going) → seen (fold (called name_eq e v) d ls) ≡ fold (called name_eq e v) (seen d) ls
+seen-calls : (e : EventWords) (v : Visit NodeName) → v.current.owner ≡ Page → (ls : List (Listener NodeName)) (d : Going) →
+    seen (fold (called name_eq e v) d ls) ≡ fold (called name_eq e v) (seen d) ls
 seen-calls e v h [] d = refl
 seen-calls e v h (l ∷ ls) d = seen-calls e v h ls (called name_eq e v d l) ∙ ap (λ s. fold (called name_eq e v) s ls) (seen-called e v h d l)
 
@@ -74,8 +78,10 @@ seen-calls e v h (l ∷ ls) d = seen-calls e v h ls (called name_eq e v d l) ∙
 seen-visited : (e : EventWords) (v : Visit NodeName) → v.current.owner ≡ Page → (d : Going) → seen (visited name_eq e d v) ≡ visited name_eq e (seen d) v
 seen-visited e v h d =
     let hearing = filter (hears name_eq e v) d.listeners in
-    by_cases d.stopped (λ s. ap seen (cond-true d.stopped d (fold (called name_eq e v) d hearing) s) ∙ sym (cond-true d.stopped (seen d) (fold (called name_eq e v) (seen d) hearing) s))
-    (λ s. ap seen (cond-false d.stopped d (fold (called name_eq e v) d hearing) s) ∙ seen-calls e v h hearing d ∙ sym (cond-false d.stopped (seen d) (fold (called name_eq e v) (seen d) hearing) s))
+    by_cases d.stopped (λ s. ap seen (cond-true d.stopped d (fold (called name_eq e v) d hearing) s) ∙
+    sym (cond-true d.stopped (seen d) (fold (called name_eq e v) (seen d) hearing) s))
+    (λ s. ap seen (cond-false d.stopped d (fold (called name_eq e v) d hearing) s) ∙ seen-calls e v h hearing d ∙
+    sym (cond-false d.stopped (seen d) (fold (called name_eq e v) (seen d) hearing) s))
 
 -- At a component's node, with listeners that only log: the flags stay, and no line is the page's.
 -- what the page sees, but for the listeners, which are another part's
@@ -85,23 +91,28 @@ IsUnseen a b = ((ls : List (Listener NodeName)) → record (seen a) { listeners 
 -- listeners that only log, without one that was for once
 all-kept : (l : Listener NodeName) (ls : List (Listener NodeName)) → AllByRecursion OnlyLogs ls → AllByRecursion OnlyLogs (kept_after name_eq l ls)
 all-kept l ls h =
-    by_cases l.words.once (λ e. rw e (all-filter OnlyLogs (λ k. not (is_listener name_eq l.node l.words.event l.words.label l.words.capture k)) ls h)) (λ e. rw e h)
+    by_cases l.words.once (λ e. rw e (all-filter OnlyLogs (λ k. not (is_listener name_eq l.node l.words.event l.words.label l.words.capture k)) ls
+    h)) (λ e. rw e h)
 
 -- a call at a component's node
-unseen-call : (e : EventWords) (v : Visit NodeName) → IsForeignTo Page v.current → (d : Going) (l : Listener NodeName) → OnlyLogs l → AllByRecursion OnlyLogs d.listeners → IsUnseen (call e v d l) d
+unseen-call : (e : EventWords) (v : Visit NodeName) → IsForeignTo Page v.current → (d : Going) (l : Listener NodeName) → OnlyLogs l →
+    AllByRecursion OnlyLogs d.listeners → IsUnseen (call e v d l) d
 unfolding call
 unseen-call e v f d l log h =
-    let same = filter-append is_page_line d.lines (line_of v l.words ∷ []) ∙ rw (ne-owner_eq v.current.owner Page f) (append-nil (filter is_page_line d.lines)) in
+    let same = filter-append is_page_line d.lines (line_of v l.words ∷ []) ∙
+    rw (ne-owner_eq v.current.owner Page f) (append-nil (filter is_page_line d.lines)) in
     rw log ((λ ls. ap (λ lines. record (seen d) { listeners = ls; lines = lines }) same), all-kept l d.listeners h)
 
 -- the same, stopped or not
-unseen-called : (e : EventWords) (v : Visit NodeName) → IsForeignTo Page v.current → (d : Going) (l : Listener NodeName) → OnlyLogs l → AllByRecursion OnlyLogs d.listeners → IsUnseen (called name_eq e v d l) d
+unseen-called : (e : EventWords) (v : Visit NodeName) → IsForeignTo Page v.current → (d : Going) (l : Listener NodeName) → OnlyLogs l →
+    AllByRecursion OnlyLogs d.listeners → IsUnseen (called name_eq e v d l) d
 unseen-called e v f d l log h =
     by_cases d.stopped_now (λ s. subst (λ c. IsUnseen c d) (sym (no_call e v d l s)) ((λ ls. refl), h))
     (λ s. subst (λ c. IsUnseen c d) (sym (call-of e v d l s)) (unseen-call e v f d l log h))
 
 -- calls of all that hear
-unseen-calls : (e : EventWords) (v : Visit NodeName) → IsForeignTo Page v.current → (ls : List (Listener NodeName)) (d : Going) → AllByRecursion OnlyLogs ls → AllByRecursion OnlyLogs d.listeners →
+unseen-calls : (e : EventWords) (v : Visit NodeName) → IsForeignTo Page v.current → (ls : List (Listener NodeName)) (d : Going) →
+    AllByRecursion OnlyLogs ls → AllByRecursion OnlyLogs d.listeners →
     IsUnseen (fold (called name_eq e v) d ls) d
 unseen-calls e v f [] d logs h = ((λ ls. refl), h)
 unseen-calls e v f (l ∷ ls) d logs h =
@@ -110,11 +121,13 @@ unseen-calls e v f (l ∷ ls) d logs h =
     ((λ ks. later.0 ks ∙ first.0 ks), later.1)
 
 -- a visit at a component's node
-unseen-visited : (e : EventWords) (v : Visit NodeName) → IsForeignTo Page v.current → (d : Going) → AllByRecursion OnlyLogs d.listeners → IsUnseen (visited name_eq e d v) d
+unseen-visited : (e : EventWords) (v : Visit NodeName) → IsForeignTo Page v.current → (d : Going) → AllByRecursion OnlyLogs d.listeners →
+    IsUnseen (visited name_eq e d v) d
 unseen-visited e v f d h =
     let hearing = filter (hears name_eq e v) d.listeners in
     by_cases d.stopped (λ s. subst (λ c. IsUnseen c d) (sym (cond-true d.stopped d (fold (called name_eq e v) d hearing) s)) ((λ ls. refl), h))
-    (λ s. subst (λ c. IsUnseen c d) (sym (cond-false d.stopped d (fold (called name_eq e v) d hearing) s)) (unseen-calls e v f hearing d (all-filter OnlyLogs (hears name_eq e v) d.listeners h) h))
+    (λ s. subst (λ c. IsUnseen c d) (sym (cond-false d.stopped d (fold (called name_eq e v) d hearing) s))
+    (unseen-calls e v f hearing d (all-filter OnlyLogs (hears name_eq e v) d.listeners h) h))
 
 -- The world in a dispatch, as the page sees it: its own listeners, the flags and its lines.
 abbrev pub InWorld : Type 0
@@ -137,7 +150,8 @@ unfolding visit_as
 visit-as o e s v h = ap (λ o. visit_as o e s v) h
 
 -- at a page node
-page_going-visit_as : (e : EventWords) (s : InWorld) (v : Visit NodeName) → v.current.owner ≡ Page → page_going (visit_as Page e s v) ≡ visited name_eq e (page_going s) v
+page_going-visit_as : (e : EventWords) (s : InWorld) (v : Visit NodeName) → v.current.owner ≡ Page →
+    page_going (visit_as Page e s v) ≡ visited name_eq e (page_going s) v
 unfolding visit_as
 page_going-visit_as e s v h =
     let p = part_of s.0 Page in
@@ -146,11 +160,13 @@ page_going-visit_as e s v h =
     ∙ seen-visited e v h (record s.1 { listeners = p.listeners })
 
 -- a visit at a page node does what it does alone
-pub page_going-visit : (e : EventWords) (s : InWorld) (v : Visit NodeName) → v.current.owner ≡ Page → page_going (world_visit e s v) ≡ visited name_eq e (page_going s) v
+pub page_going-visit : (e : EventWords) (s : InWorld) (v : Visit NodeName) → v.current.owner ≡ Page →
+    page_going (world_visit e s v) ≡ visited name_eq e (page_going s) v
 page_going-visit e s v h = ap page_going (visit-as Page e s v h) ∙ page_going-visit_as e s v h
 
 -- at a component's node
-pub page_going-visit_other : (e : EventWords) (s : InWorld) (v : Visit NodeName) → IsForeignTo Page v.current → ComponentsOnlyLog s.0 → page_going (world_visit e s v) ≡ page_going s
+pub page_going-visit_other : (e : EventWords) (s : InWorld) (v : Visit NodeName) → IsForeignTo Page v.current → ComponentsOnlyLog s.0 →
+    page_going (world_visit e s v) ≡ page_going s
 page_going-visit_other e s v f logs =
     let p = part_of s.0 v.current.owner in
     let heard = visited name_eq e (record s.1 { listeners = p.listeners }) v in
@@ -159,7 +175,8 @@ page_going-visit_other e s v f logs =
     ∙ (unseen-visited e v f (record s.1 { listeners = p.listeners }) (logs v.current.owner f)).0 (part_of s.0 Page).listeners
 
 -- A visit changes listeners alone, and those of components still only log.
-pub part_of-visit : (e : EventWords) (s : InWorld) (v : Visit NodeName) (o : Owner) → part_of (world_visit e s v).0 o ≡ with_listeners (part_of s.0 o) (part_of (world_visit e s v).0 o).listeners
+pub part_of-visit : (e : EventWords) (s : InWorld) (v : Visit NodeName) (o : Owner) →
+    part_of (world_visit e s v).0 o ≡ with_listeners (part_of s.0 o) (part_of (world_visit e s v).0 o).listeners
 part_of-visit e s v o =
     let p = part_of s.0 v.current.owner in
     let heard = visited name_eq e (record s.1 { listeners = p.listeners }) v in
@@ -167,7 +184,8 @@ part_of-visit e s v o =
     (λ h. let same = owner_eq-true v.current.owner o h in
     let read = part_of-with_part s.0 (with_listeners p heard.listeners) o (owner-part_of s.0 v.current.owner ∙ same) in
     read ∙ ap (λ o. with_listeners (part_of s.0 o) heard.listeners) same ∙ ap (λ (q : Part). with_listeners (part_of s.0 o) q.listeners) (sym read))
-    (λ h. let read = part_of-with_part-other s.0 (with_listeners p heard.listeners) o (λ same. owner_eq-false v.current.owner o h (sym (owner-part_of s.0 v.current.owner) ∙ same)) in
+    (λ h. let read = part_of-with_part-other s.0 (with_listeners p heard.listeners) o
+    (λ same. owner_eq-false v.current.owner o h (sym (owner-part_of s.0 v.current.owner) ∙ same)) in
     read ∙ ap (λ (q : Part). with_listeners (part_of s.0 o) q.listeners) (sym read))
 
 -- a visit keeps components' listeners as ones that only log
@@ -179,8 +197,10 @@ logs-visit e s v logs o f =
     (λ h. let same = owner_eq-true v.current.owner o h in
     let read = part_of-with_part s.0 (with_listeners p heard.listeners) o (owner-part_of s.0 v.current.owner ∙ same) in
     let g : IsForeignTo Page v.current = λ page. f (sym same ∙ page) in
-    subst (λ (q : Part). AllByRecursion OnlyLogs q.listeners) (sym read) (unseen-visited e v g (record s.1 { listeners = p.listeners }) (logs v.current.owner g)).1)
-    (λ h. let read = part_of-with_part-other s.0 (with_listeners p heard.listeners) o (λ same. owner_eq-false v.current.owner o h (sym (owner-part_of s.0 v.current.owner) ∙ same)) in
+    subst (λ (q : Part). AllByRecursion OnlyLogs q.listeners) (sym read)
+    (unseen-visited e v g (record s.1 { listeners = p.listeners }) (logs v.current.owner g)).1)
+    (λ h. let read = part_of-with_part-other s.0 (with_listeners p heard.listeners) o
+    (λ same. owner_eq-false v.current.owner o h (sym (owner-part_of s.0 v.current.owner) ∙ same)) in
     subst (λ (q : Part). AllByRecursion OnlyLogs q.listeners) (sym read) (logs o f))
 
 -- all visits, as the page sees them
@@ -196,7 +216,8 @@ page_going-visits e (v ∷ vs) s logs =
     ∙ ap (fold (visited name_eq e) (page_going s)) (sym (cond-false (is_page_visit v) (v ∷ filter is_page_visit vs) (filter is_page_visit vs) h)))
 
 -- visits change nothing of a part but its listeners
-pub part_of-visits : (e : EventWords) (vs : List (Visit NodeName)) (s : InWorld) (o : Owner) → part_of (fold (world_visit e) s vs).0 o ≡ with_listeners (part_of s.0 o) (part_of (fold (world_visit e) s vs).0 o).listeners
+pub part_of-visits : (e : EventWords) (vs : List (Visit NodeName)) (s : InWorld) (o : Owner) →
+    part_of (fold (world_visit e) s vs).0 o ≡ with_listeners (part_of s.0 o) (part_of (fold (world_visit e) s vs).0 o).listeners
 part_of-visits e [] s o = refl
 part_of-visits e (v ∷ vs) s o =
     part_of-visits e vs (world_visit e s v) o ∙ ap (λ p. with_listeners p (part_of (fold (world_visit e) s (v ∷ vs)).0 o).listeners) (part_of-visit e s v o)
@@ -219,7 +240,8 @@ fold-skips_components e vs s logs = page_going-visits e vs s logs
 pub visit-unseen : VisitIsUnseen
 visit-unseen w d e v f logs =
     let same = page_going-visit_other e (w, d) v f logs in (
-      part_of-with_part-other w (with_listeners (part_of w v.current.owner) (world_visit e (w, d) v).1.listeners) Page (λ is. f (sym (owner-part_of w v.current.owner) ∙ is)),
+      part_of-with_part-other w (with_listeners (part_of w v.current.owner) (world_visit e (w, d) v).1.listeners) Page
+          (λ is. f (sym (owner-part_of w v.current.owner) ∙ is)),
       ap (λ (g : Going). g.stopped) same,
       ap (λ (g : Going). g.stopped_now) same,
       ap (λ (g : Going). g.cancelled) same,

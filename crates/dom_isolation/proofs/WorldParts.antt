@@ -45,7 +45,8 @@ module _ {Inv : Part → Type 0} {May : Step → Type 0} {IsTask : Task → Type
   holds-with_notify o w h =
       record {
         parts = h.parts;
-        tasks = either_way (AllByRecursion IsTask) (list_any (is_notify_of o) w.tasks) w.tasks (w.tasks ++ notify_task o ∷ []) h.tasks (all-append IsTask w.tasks (notify_task o ∷ []) h.tasks (rules.notify o, tt));
+        tasks = either_way (AllByRecursion IsTask) (list_any (is_notify_of o) w.tasks) w.tasks (w.tasks ++ notify_task o ∷ []) h.tasks
+            (all-append IsTask w.tasks (notify_task o ∷ []) h.tasks (rules.notify o, tt));
       }
 
   -- a signal
@@ -58,14 +59,16 @@ module _ {Inv : Part → Type 0} {May : Step → Type 0} {IsTask : Task → Type
   holds-each_signal (s ∷ ss) w h = holds-each_signal ss (with_signal w s) (holds-with_signal w s h)
 
   -- the signals of a removal
-  holds-removal_signals : (was now : World) (x : NodeName) (parent : Option NodeName) → HoldsIn Inv IsTask now → HoldsIn Inv IsTask (with_removal_signals was now x parent)
+  holds-removal_signals : (was now : World) (x : NodeName) (parent : Option NodeName) → HoldsIn Inv IsTask now →
+      HoldsIn Inv IsTask (with_removal_signals was now x parent)
   holds-removal_signals was now x None h = h
   holds-removal_signals was now x (Some parent) h = holds-each_signal (signals was now x parent true) now h
 
   -- node documents of shadow trees
   holds-documents : (cs : List Owner) (d : NodeName) (w : World) → HoldsIn Inv IsTask w → HoldsIn Inv IsTask (fold (with_shadow_document d) w cs)
   holds-documents [] d w h = h
-  holds-documents (c ∷ cs) d w h = holds-documents cs d (with_shadow_document d w c) (holds-stepped c w (set_document (shadow_root_of c) d) h (rules.document (shadow_root_of c) d))
+  holds-documents (c ∷ cs) d w h = holds-documents cs d (with_shadow_document d w c)
+      (holds-stepped c w (set_document (shadow_root_of c) d) h (rules.document (shadow_root_of c) d))
 
   -- a notification, if so
   holds-notify_if : (b : Bool) (o : Owner) (w : World) → HoldsIn Inv IsTask w → HoldsIn Inv IsTask (with_notify_if b o w)
@@ -76,14 +79,18 @@ module _ {Inv : Part → Type 0} {May : Step → Type 0} {IsTask : Task → Type
   holds-world_step : (o : Owner) (w : World) (s : Step) → HoldsIn Inv IsTask w → May s → HoldsIn Inv IsTask (world_step o w s)
   holds-world_step o w (place x parent before) h g =
       let now = stepped o w (place x parent before) in holds-each_signal (signals w now x parent true) now (holds-stepped o w (place x parent before) h g)
-  holds-world_step o w (take_out x) h g = holds-removal_signals w (stepped o w (take_out x)) x (parent_of (part_of w o).trees x) (holds-stepped o w (take_out x) h g)
+  holds-world_step o w (take_out x) h g =
+      holds-removal_signals w (stepped o w (take_out x)) x (parent_of (part_of w o).trees x) (holds-stepped o w (take_out x) h g)
   holds-world_step o w (set_attribute x a v) h g =
       let now = stepped o w (set_attribute x a v) in holds-each_signal (signals w now x x false) now (holds-stepped o w (set_attribute x a v) h g)
-  holds-world_step o w (set_document x d) h g = holds-documents (components_below max_depth w x) d (stepped o w (set_document x d)) (holds-stepped o w (set_document x d) h g)
-  holds-world_step o w (queue_record c) h g = holds-notify_if (is_taken (part_of w o) c) o (stepped o w (queue_record c)) (holds-stepped o w (queue_record c) h g)
+  holds-world_step o w (set_document x d) h g =
+      holds-documents (components_below max_depth w x) d (stepped o w (set_document x d)) (holds-stepped o w (set_document x d) h g)
+  holds-world_step o w (queue_record c) h g =
+      holds-notify_if (is_taken (part_of w o) c) o (stepped o w (queue_record c)) (holds-stepped o w (queue_record c) h g)
   holds-world_step o w s h g = holds-stepped o w s h g
 
   -- many steps
-  pub holds-world_after : (o : Owner) (steps : List Step) (w : World) → HoldsIn Inv IsTask w → AllByRecursion May steps → HoldsIn Inv IsTask (world_after o w steps)
+  pub holds-world_after : (o : Owner) (steps : List Step) (w : World) → HoldsIn Inv IsTask w → AllByRecursion May steps →
+      HoldsIn Inv IsTask (world_after o w steps)
   holds-world_after o [] w h g = h
   holds-world_after o (s ∷ steps) w h g = holds-world_after o steps (world_step o w s) (holds-world_step o w s h g.0) g.1

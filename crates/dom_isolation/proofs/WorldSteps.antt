@@ -28,14 +28,17 @@ use Rattle.dom_isolation.proofs.PageSteps.{signals-foreign, page_tasks-queued_ot
 use Rattle.dom_isolation.proofs.PartSteps.{Allowed, Safe, IsOwn, part-step, own-step, rest-step}
 
 -- Another part for an owner, with its hosts and listeners.
-pub attached-with_part : (w : World) (p : Part) (o : Owner) → p.owner ≡ o → p.attached ≡ (part_of w o).attached → (other : Owner) → (part_of (with_part w p) other).attached ≡ (part_of w other).attached
+pub attached-with_part : (w : World) (p : Part) (o : Owner) → p.owner ≡ o → p.attached ≡ (part_of w o).attached → (other : Owner) →
+    (part_of (with_part w p) other).attached ≡ (part_of w other).attached
 attached-with_part w p o e a other =
     by_cases (owner_eq o other)
-    (λ h. let same = owner_eq-true o other h in ap (λ (q : Part). q.attached) (part_of-with_part w p other (e ∙ same)) ∙ a ∙ ap (λ x. (part_of w x).attached) same)
+    (λ h. let same = owner_eq-true o other h in ap (λ (q : Part). q.attached) (part_of-with_part w p other (e ∙ same)) ∙ a ∙
+    ap (λ x. (part_of w x).attached) same)
     (λ h. ap (λ (q : Part). q.attached) (part_of-with_part-other w p other (λ g. owner_eq-false o other h (sym e ∙ g))))
 
 -- such a part keeps what holds of the world
-pub world-with_part : (w : World) (p : Part) (o : Owner) → p.owner ≡ o → IsPart p → p.attached ≡ (part_of w o).attached → (IsTrue (is_some (host_of w o)) → IsRoot p.trees (shadow_root_of o)) → IsWorld w → IsWorld (with_part w p)
+pub world-with_part : (w : World) (p : Part) (o : Owner) → p.owner ≡ o → IsPart p → p.attached ≡ (part_of w o).attached →
+    (IsTrue (is_some (host_of w o)) → IsRoot p.trees (shadow_root_of o)) → IsWorld w → IsWorld (with_part w p)
 world-with_part w p o e part a root i =
     let v = with_part w p in
     let same = attached-with_part w p o e a in
@@ -49,8 +52,10 @@ world-with_part w p o e part a root i =
       shadow_roots = λ x h. let g = subst (λ y. is_some y ≡ true) (hosts x) h in
           by_cases (owner_eq o x)
           (λ k. let is = owner_eq-true o x k in
-          subst (λ (q : Part). IsRoot q.trees (shadow_root_of x)) (sym (part_of-with_part w p x (e ∙ is))) (subst (λ y. IsRoot p.trees (shadow_root_of y)) is (root (subst (λ y. is_some (host_of w y) ≡ true) (sym is) g))))
-          (λ k. subst (λ (q : Part). IsRoot q.trees (shadow_root_of x)) (sym (part_of-with_part-other w p x (λ z. owner_eq-false o x k (sym e ∙ z)))) (i.shadow_roots x g));
+          subst (λ (q : Part). IsRoot q.trees (shadow_root_of x)) (sym (part_of-with_part w p x (e ∙ is)))
+          (subst (λ y. IsRoot p.trees (shadow_root_of y)) is (root (subst (λ y. is_some (host_of w y) ≡ true) (sym is) g))))
+          (λ k. subst (λ (q : Part). IsRoot q.trees (shadow_root_of x))
+          (sym (part_of-with_part-other w p x (λ z. owner_eq-false o x k (sym e ∙ z)))) (i.shadow_roots x g));
       signalled = i.signalled;
       tasks = i.tasks;
     }
@@ -88,8 +93,11 @@ module _ {only_log : Bool} where
   quiet-with_signal w s f q =
       record {
         world = world-alike (with_signal w s) w (λ o. record { trees = refl; count = refl; attached = refl }) (λ h. h)
-            (by_cases (is_in name_eq s w.signalled) (λ e. subst (AllByRecursion (IsForeignTo Page)) (sym (cond-true (is_in name_eq s w.signalled) w.signalled (w.signalled ++ s ∷ []) e)) q.world.signalled)
-            (λ e. subst (AllByRecursion (IsForeignTo Page)) (sym (cond-false (is_in name_eq s w.signalled) w.signalled (w.signalled ++ s ∷ []) e)) (all-append (IsForeignTo Page) w.signalled (s ∷ []) q.world.signalled (f, tt))))
+            (by_cases (is_in name_eq s w.signalled)
+            (λ e. subst (AllByRecursion (IsForeignTo Page))
+            (sym (cond-true (is_in name_eq s w.signalled) w.signalled (w.signalled ++ s ∷ []) e)) q.world.signalled)
+            (λ e. subst (AllByRecursion (IsForeignTo Page)) (sym (cond-false (is_in name_eq s w.signalled) w.signalled (w.signalled ++ s ∷ []) e))
+            (all-append (IsForeignTo Page) w.signalled (s ∷ []) q.world.signalled (f, tt))))
             (λ h. page_tasks-queued_other s.owner f w.tasks ∙ q.world.tasks h) q.world;
         logs = q.logs;
       }
@@ -107,7 +115,8 @@ module _ {only_log : Bool} where
 
 module _ {only_log : Bool} where
   -- the signals of a removal
-  quiet-removal_signals : (was now : World) (x : NodeName) (parent : Option NodeName) → IsSound only_log now → IsSound only_log (with_removal_signals was now x parent)
+  quiet-removal_signals : (was now : World) (x : NodeName) (parent : Option NodeName) → IsSound only_log now →
+      IsSound only_log (with_removal_signals was now x parent)
   quiet-removal_signals was now x None q = q
   quiet-removal_signals was now x (Some parent) q = quiet-signals was now x parent true q
 
@@ -120,7 +129,11 @@ module _ {only_log : Bool} where
   quiet-notify : (b : Bool) (o : Owner) (w : World) → InTurn w o → IsSound only_log w → IsSound only_log (with_notify_if b o w)
   quiet-notify false o w t q = q
   quiet-notify true o w t q =
-      record { world = world-alike (with_notify w o) w (λ x. record { trees = refl; count = refl; attached = refl }) (λ h. h) q.world.signalled (tasks o t) q.world; logs = q.logs }
+      record {
+        world = world-alike (with_notify w o) w (λ x. record { trees = refl; count = refl; attached = refl }) (λ h. h) q.world.signalled
+            (tasks o t) q.world;
+        logs = q.logs;
+      }
     where
       tasks : (o : Owner) → InTurn w o → is_page_turn w.turn ≡ false → filter is_page_task (queued_notify o w.tasks) ≡ []
       tasks Page t h = absurd (true≢false (sym (t refl) ∙ h))
@@ -135,11 +148,15 @@ module _ {only_log : Bool} where
 module _ {only_log : Bool} where
   -- a step in the world
   pub quiet-world_step : (o : Owner) (w : World) (s : Step) → InTurn w o → MayStep w o s → IsSound only_log w → IsSound only_log (world_step o w s)
-  quiet-world_step o w (place x parent before) t m q = quiet-signals w (stepped o w (place x parent before)) x parent true (quiet-stepped w o (place x parent before) m q)
-  quiet-world_step o w (take_out x) t m q = quiet-removal_signals w (stepped o w (take_out x)) x (parent_of (part_of w o).trees x) (quiet-stepped w o (take_out x) m q)
-  quiet-world_step o w (set_document x d) t m q = quiet-documents (components_below max_depth w x) d (stepped o w (set_document x d)) (quiet-stepped w o (set_document x d) m q)
+  quiet-world_step o w (place x parent before) t m q =
+      quiet-signals w (stepped o w (place x parent before)) x parent true (quiet-stepped w o (place x parent before) m q)
+  quiet-world_step o w (take_out x) t m q =
+      quiet-removal_signals w (stepped o w (take_out x)) x (parent_of (part_of w o).trees x) (quiet-stepped w o (take_out x) m q)
+  quiet-world_step o w (set_document x d) t m q =
+      quiet-documents (components_below max_depth w x) d (stepped o w (set_document x d)) (quiet-stepped w o (set_document x d) m q)
   quiet-world_step o w (set_attribute x a v) t m q = quiet-signals w (stepped o w (set_attribute x a v)) x x false (quiet-stepped w o (set_attribute x a v) m q)
-  quiet-world_step o w (queue_record c) t m q = quiet-notify (is_taken (part_of w o) c) o (stepped o w (queue_record c)) t (quiet-stepped w o (queue_record c) m q)
+  quiet-world_step o w (queue_record c) t m q =
+      quiet-notify (is_taken (part_of w o) c) o (stepped o w (queue_record c)) t (quiet-stepped w o (queue_record c) m q)
   quiet-world_step o w s t m q = quiet-stepped w o s m q
 
 -- the turn and the hosts stay
@@ -178,27 +195,35 @@ frame-notify false o w = (refl, λ x. refl)
 frame-documents : (cs : List Owner) (d : NodeName) (w : World) → SameFrame (fold (with_shadow_document d) w cs) w
 unfolding SameFrame
 frame-documents [] d w = (refl, λ o. refl)
-frame-documents (c ∷ cs) d w = frame-then (fold (with_shadow_document d) w (c ∷ cs)) (with_shadow_document d w c) w (frame-documents cs d (with_shadow_document d w c)) (frame-stepped w c (set_document (shadow_root_of c) d))
+frame-documents (c ∷ cs) d w = frame-then (fold (with_shadow_document d) w (c ∷ cs)) (with_shadow_document d w c) w
+    (frame-documents cs d (with_shadow_document d w c)) (frame-stepped w c (set_document (shadow_root_of c) d))
 
 -- a step in the world
 frame-world_step : (o : Owner) (w : World) (s : Step) → SameFrame (world_step o w s) w
 frame-world_step o w (place x parent before) =
-    let v = stepped o w (place x parent before) in frame-then (world_step o w (place x parent before)) v w (frame-signals (signals w v x parent true) v) (frame-stepped w o (place x parent before))
+    let v = stepped o w (place x parent before) in frame-then (world_step o w (place x parent before)) v w
+    (frame-signals (signals w v x parent true) v) (frame-stepped w o (place x parent before))
 frame-world_step o w (take_out x) =
-    let v = stepped o w (take_out x) in frame-then (world_step o w (take_out x)) v w (frame-removal_signals w v x (parent_of (part_of w o).trees x)) (frame-stepped w o (take_out x))
+    let v = stepped o w (take_out x) in frame-then (world_step o w (take_out x)) v w
+    (frame-removal_signals w v x (parent_of (part_of w o).trees x)) (frame-stepped w o (take_out x))
 frame-world_step o w (set_document x d) =
-    let v = stepped o w (set_document x d) in frame-then (world_step o w (set_document x d)) v w (frame-documents (components_below max_depth w x) d v) (frame-stepped w o (set_document x d))
+    let v = stepped o w (set_document x d) in frame-then (world_step o w (set_document x d)) v w
+    (frame-documents (components_below max_depth w x) d v) (frame-stepped w o (set_document x d))
 frame-world_step o w (set_attribute x a b) =
-    let v = stepped o w (set_attribute x a b) in frame-then (world_step o w (set_attribute x a b)) v w (frame-signals (signals w v x x false) v) (frame-stepped w o (set_attribute x a b))
+    let v = stepped o w (set_attribute x a b) in frame-then (world_step o w (set_attribute x a b)) v w (frame-signals (signals w v x x false) v)
+    (frame-stepped w o (set_attribute x a b))
 frame-world_step o w (queue_record c) =
-    let v = stepped o w (queue_record c) in frame-then (world_step o w (queue_record c)) v w (frame-notify (is_taken (part_of w o) c) o v) (frame-stepped w o (queue_record c))
+    let v = stepped o w (queue_record c) in frame-then (world_step o w (queue_record c)) v w (frame-notify (is_taken (part_of w o) c) o v)
+    (frame-stepped w o (queue_record c))
 frame-world_step o w s = frame-stepped w o s
 
 module _ {only_log : Bool} where
   -- All steps of a change.
-  pub quiet-world_after : (o : Owner) (steps : List Step) (w : World) → InTurn w o → (IsTrue (is_some (host_of w o)) → Safe (shadow_root_of o) steps) → IsSound only_log w → IsSound only_log (world_after o w steps)
+  pub quiet-world_after : (o : Owner) (steps : List Step) (w : World) → InTurn w o →
+      (IsTrue (is_some (host_of w o)) → Safe (shadow_root_of o) steps) → IsSound only_log w → IsSound only_log (world_after o w steps)
   unfolding SameFrame
   quiet-world_after o [] w t m q = q
   quiet-world_after o (s ∷ steps) w t m q =
       let frame = frame-world_step o w s in
-      quiet-world_after o steps (world_step o w s) (λ e. ap is_page_turn frame.0 ∙ t e) (λ h. (m (subst (λ x. is_some x ≡ true) (frame.1 o) h)).1) (quiet-world_step o w s t (λ h. (m h).0) q)
+      quiet-world_after o steps (world_step o w s) (λ e. ap is_page_turn frame.0 ∙ t e) (λ h. (m (subst (λ x. is_some x ≡ true) (frame.1 o) h)).1)
+      (quiet-world_step o w s t (λ h. (m h).0) q)

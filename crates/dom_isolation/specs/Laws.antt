@@ -19,8 +19,10 @@ use Rattle.dom_model.specs.Dispatch.{Dispatched, dispatch_in, world_visit, visit
 use Rattle.dom_model.specs.Slots.{assigned}
 use Rattle.dom_model.specs.Turns.{notifying, ending_turn, ending_other_turn}
 use Rattle.dom_model.specs.DocumentMachine.{first_world, step, run_lines, perform, finish}
-use Rattle.dom_model.specs.Trace.{is_page, is_of, owner_of_line, outputs_for, outermost_host, outward_dispatch, outward_event, line_may_stop, trace_from, trace_of, no_component_stops}
-use Rattle.dom_model.specs.PageMachine.{PageState, page_of, page_dispatch, page_outward, page_turn_end, page_finish, page_line, first_page, run_page, page_outputs_of}
+use Rattle.dom_model.specs.Trace.{is_page, is_of, owner_of_line, outputs_for, outermost_host, outward_dispatch, outward_event, line_may_stop}
+use Rattle.dom_model.specs.Trace.{trace_from, trace_of, no_component_stops}
+use Rattle.dom_model.specs.PageMachine.{PageState, page_of, page_dispatch, page_outward, page_turn_end, page_finish, page_line, first_page, run_page}
+use Rattle.dom_model.specs.PageMachine.{page_outputs_of}
 use Rattle.dom_isolation.specs.Worlds.{IsOf, IsWorld, MayBeShadow, HasKinds, HasOwners, ComponentsOnlyLog}
 
 -- A world of which the laws speak; where only_log, no listener of a component stops or cancels.
@@ -77,7 +79,8 @@ FoldSkipsComponents =
 -- out of a shadow tree, which is the page machine's at the outermost host.
 abbrev pub PageVisitsAgree : Type 0
 PageVisitsAgree =
-    (w : World) → IsQuiet w → (x : NodeName) (related : Option NodeName) (bubbles composed : Bool) → x.owner ≡ Page → AllByRecursion (IsOf Page) (option_to_list related) →
+    (w : World) → IsQuiet w → (x : NodeName) (related : Option NodeName) (bubbles composed : Bool) → x.owner ≡ Page →
+    AllByRecursion (IsOf Page) (option_to_list related) →
     filter is_page_visit (visits_of name_eq bubbles (views w x related composed)) ≡ visits_of name_eq bubbles (plain_views (part_of w Page).trees x related)
 
 -- of one that goes out
@@ -89,7 +92,8 @@ OutwardVisitsAgree =
 -- One dispatch: one of the page is the page machine's; one of a component is nothing, or its outward event.
 abbrev pub PageDispatchAgrees : Type 0
 PageDispatchAgrees =
-    (w : World) → IsQuiet w → (x : NodeName) (related : Option NodeName) (e : EventWords) → x.owner ≡ Page → AllByRecursion (IsOf Page) (option_to_list related) →
+    (w : World) → IsQuiet w → (x : NodeName) (related : Option NodeName) (e : EventWords) → x.owner ≡ Page →
+    AllByRecursion (IsOf Page) (option_to_list related) →
     page_dispatched (dispatch_in w x related e) ≡ page_dispatch (page_of w) x related e
 
 -- one of a component
@@ -155,7 +159,8 @@ FirstIsReached = (only_log : Bool) → IsReached only_log first_world
 
 -- each line
 abbrev pub StepKeepsReached : Type 0
-StepKeepsReached = (only_log : Bool) (w : World) (l : Line) → IsReached only_log w → (only_log ≡ true → line_may_stop w l ≡ false) → IsReached only_log (step w l).0
+StepKeepsReached = (only_log : Bool) (w : World) (l : Line) → IsReached only_log w → (only_log ≡ true → line_may_stop w l ≡ false) →
+    IsReached only_log (step w l).0
 
 -- The ending of another component's turn keeps it, and so does the end of input, behind which further lines may come.
 abbrev pub EndingKeepsReached : Type 0

@@ -60,7 +60,8 @@ IsNodeIf ts (Some x) = IsNodeIn ts x
 
 -- what a record names are nodes (DOM Standard, interface MutationRecord)
 abbrev pub IsRecordIn : Trees → Change NodeName → Type 0
-IsRecordIn ts (child_list x added removed before behind) = IsNodeIn ts x × AllByRecursion (IsNodeIn ts) added × AllByRecursion (IsNodeIn ts) removed × IsNodeIf ts before × IsNodeIf ts behind
+IsRecordIn ts (child_list x added removed before behind) = IsNodeIn ts x × AllByRecursion (IsNodeIn ts) added ×
+    AllByRecursion (IsNodeIn ts) removed × IsNodeIf ts before × IsNodeIf ts behind
 IsRecordIn ts (attributes x a old) = IsNodeIn ts x
 IsRecordIn ts (character_data x old) = IsNodeIn ts x
 

@@ -1,5 +1,6 @@
 -- What holds of every world that the document machine reaches.
-use Rattle.std.specs.Prelude.{◌≡◌, ◌≢◌, ◌≤◌, ◌<◌, ℕ, Bool, true, false, [], IsTrue, Some, is_some, is_none, filter, if◌then◌else◌, ◌+◌, ⊤, zero, suc, List, ◌∷◌, ◌++◌, map, length, option_to_list}
+use Rattle.std.specs.Prelude.{◌≡◌, ◌≢◌, ◌≤◌, ◌<◌, ℕ, Bool, true, false, [], IsTrue, Some, is_some, is_none, filter, if◌then◌else◌, ◌+◌, ⊤, zero, suc}
+use Rattle.std.specs.Prelude.{List, ◌∷◌, ◌++◌, map, length, option_to_list}
 use Rattle.std.specs.List.{AllByRecursion}
 use Rattle.std.specs.Option.{option_map_or}
 use Rattle.dom_base.specs.declared.Owner.{Owner}

@@ -3,7 +3,9 @@ use Rattle.std.proofs.Common.{◌≡◌, ℕ, ◌+◌, ◌-◌, Bool, true, fals
 use Rattle.std.specs.Prelude.{if◌then◌else◌}
 use Rattle.std.specs.Option.{option_map_or}
 use Rattle.dom_base.specs.declared.NodeName.{NodeName}
-use Rattle.dom_model.specs.Changes.{Plan, ◌and_then◌, in_turn, doing, steps_of, Observing, observed, suppressed, telling, removing, changing_document, adopting, document_below, placed_nodes, emptying, making_room, placing, sibling_before, inserting_nodes, inserting, reference_for, pre_inserting}
+use Rattle.dom_model.specs.Changes.{Plan, ◌and_then◌, in_turn, doing, steps_of, Observing, observed, suppressed, telling, removing, changing_document}
+use Rattle.dom_model.specs.Changes.{adopting, document_below, placed_nodes, emptying, making_room, placing, sibling_before, inserting_nodes}
+use Rattle.dom_model.specs.Changes.{inserting, reference_for, pre_inserting}
 use Rattle.dom_model.specs.Names.{is_empty}
 use Rattle.dom_model.specs.Output.{child_list}
 use Rattle.dom_model.specs.Part.{Part, next_name}
@@ -46,9 +48,11 @@ bare-placing parent before x p =
 -- insertions
 bare-emptying : (node : NodeName) (children : List NodeName) → IsBare (emptying node children)
 bare-emptying node children =
-    bare-then (in_turn (removing suppressed) children) (doing (queue_record (child_list node [] children None None))) (bare-turn (removing suppressed) (λ x p. refl) children) (λ p. refl)
+    bare-then (in_turn (removing suppressed) children) (doing (queue_record (child_list node [] children None None)))
+    (bare-turn (removing suppressed) (λ x p. refl) children) (λ p. refl)
 
-bare-inserting_nodes : (how : Observing) (node : NodeName) (moved : List NodeName) (parent : NodeName) (before : Option NodeName) → IsBare (inserting_nodes how node moved parent before)
+bare-inserting_nodes : (how : Observing) (node : NodeName) (moved : List NodeName) (parent : NodeName) (before : Option NodeName) →
+    IsBare (inserting_nodes how node moved parent before)
 bare-inserting_nodes how node moved parent before p =
     let told = child_list parent moved [] (sibling_before p.trees parent before) before in
     let emptied : Plan = if is_fragment (kind_of p.trees node) then emptying node moved else steps_of [] in
@@ -56,7 +60,8 @@ bare-inserting_nodes how node moved parent before p =
     let each = in_turn (placing parent before) moved in
     bare-then (emptied and_then room and_then each) (steps_of (telling how told))
     (bare-then (emptied and_then room) each
-    (bare-then emptied room (bare-if (is_fragment (kind_of p.trees node)) (emptying node moved) (steps_of []) (bare-emptying node moved) (λ q. refl)) (λ q. refl))
+    (bare-then emptied room (bare-if (is_fragment (kind_of p.trees node)) (emptying node moved) (steps_of []) (bare-emptying node moved)
+    (λ q. refl)) (λ q. refl))
     (bare-turn (placing parent before) (bare-placing parent before) moved)) (λ q. refl) p
 
 bare-inserting : (how : Observing) (node parent : NodeName) (before : Option NodeName) → IsBare (inserting how node parent before)
@@ -71,7 +76,8 @@ bare-pre_inserting node parent child p = bare-inserting observed node parent (re
 bare-tail : (x : NodeName) (offset : ℕ) (new : NodeName) (parent : Option NodeName) → IsBare (placing_tail x offset new parent)
 bare-tail x offset new None p = refl
 bare-tail x offset new (Some parent) p =
-    bare-then (inserting observed new parent (next_sibling p.trees x)) (doing (split_at x offset new parent (index_of p.trees x))) (bare-inserting observed new parent (next_sibling p.trees x)) (λ q. refl) p
+    bare-then (inserting observed new parent (next_sibling p.trees x)) (doing (split_at x offset new parent (index_of p.trees x)))
+    (bare-inserting observed new parent (next_sibling p.trees x)) (λ q. refl) p
 
 bare-splitting : (x : NodeName) (offset : ℕ) → IsBare (splitting x offset)
 bare-splitting x offset p =
@@ -79,7 +85,8 @@ bare-splitting x offset p =
     let new = next_name p in
     let made = doing (make (new_text_node new old.document (drop offset old.text))) in
     let tail = placing_tail x offset new (parent_of p.trees x) in
-    bare-then (made and_then tail) (replacing_data x offset (length old.text - offset) []) (bare-then made tail (λ q. refl) (bare-tail x offset new (parent_of p.trees x))) (λ q. refl) p
+    bare-then (made and_then tail) (replacing_data x offset (length old.text - offset) [])
+    (bare-then made tail (λ q. refl) (bare-tail x offset new (parent_of p.trees x))) (λ q. refl) p
 
 -- an insertion into a range
 bare-before : (k : ℕ) (node parent : NodeName) (reference : Option NodeName) → IsBare (inserting_before k node parent reference)
@@ -93,12 +100,14 @@ bare-at k node parent child p =
     let reference = reference_for p.trees node child in
     bare-then (removing observed node) (inserting_before k node parent reference) (λ q. refl) (bare-before k node parent reference) p
 
-pub bare-inserting_into_range : (k : ℕ) (r : Range NodeName) (node : NodeName) (p : Part) → inserting_into_range k r node (bare p) ≡ inserting_into_range k r node p
+pub bare-inserting_into_range : (k : ℕ) (r : Range NodeName) (node : NodeName) (p : Part) →
+    inserting_into_range k r node (bare p) ≡ inserting_into_range k r node p
 bare-inserting_into_range k r node p =
     let parent = insertion_parent p.trees r in
     let split = splitting r.start.node r.start.offset and_then inserting_at k node parent (Some (next_name p)) in
     by (is_text (kind_of p.trees r.start.node))
-    (bare-then (splitting r.start.node r.start.offset) (inserting_at k node parent (Some (next_name p))) (bare-splitting r.start.node r.start.offset) (bare-at k node parent (Some (next_name p))) p)
+    (bare-then (splitting r.start.node r.start.offset) (inserting_at k node parent (Some (next_name p)))
+    (bare-splitting r.start.node r.start.offset) (bare-at k node parent (Some (next_name p))) p)
     (bare-at k node parent (start_reference p.trees r) p)
   where
     by : (b : Bool) {xs ys zs us : List Step} → xs ≡ ys → zs ≡ us → (if b then xs else zs) ≡ (if b then ys else us)

@@ -43,7 +43,8 @@ if-answered P (Ok x) f p = f x p
 if-answered P (Err e) f p = tt
 
 -- where a call was done no test refused it
-pub if-unrefused : {X : Type 0} {P Q : Type 0} (m : Result X Fault) (o : Option Refusal) → ((r : Refusal) → (m ≡ Err (Refused r)) ↔ (o ≡ Some r)) → (o ≡ None → P → Q) → OnOk m P → OnOk m Q
+pub if-unrefused : {X : Type 0} {P Q : Type 0} (m : Result X Fault) (o : Option Refusal) →
+    ((r : Refusal) → (m ≡ Err (Refused r)) ↔ (o ≡ Some r)) → (o ≡ None → P → Q) → OnOk m P → OnOk m Q
 if-unrefused (Err e) o h f p = tt
 if-unrefused (Ok x) None h f p = f refl p
 if-unrefused (Ok x) (Some r) h f p = let e : Ok x ≡ Err (Refused r) = (h r).1 refl in absurd cc
@@ -58,7 +59,8 @@ own-documents o p (s ∷ steps) e m = (mine p s e m.0, own-documents o (part_ste
     mine p s e f = tt
 
 -- A call of which both endings leave what is said.
-pub either-call : {X E : Type 0} (m : Result X E) (b d e f : DocState) → b ≡ d → OnOk m (e ≡ f) → OnErr m (e ≡ b) → (IsReady b → IsReady f) → IsReady d → IsReady e
+pub either-call : {X E : Type 0} (m : Result X E) (b d e f : DocState) → b ≡ d → OnOk m (e ≡ f) → OnErr m (e ≡ b) → (IsReady b → IsReady f) →
+    IsReady d → IsReady e
 either-call {X = X} {E = E} m b d e f same ok err keep h = by m ok err
   where
     shown : IsReady b
@@ -75,29 +77,35 @@ pub record HasLaws (d : DocState) : Type 0 where
   pub stand : (k : ℕ) → k < length d.names → has_node (trees_in d k) (name_in d k) ≡ true
 
 -- The world after the plan of an owner of nodes.
-pub ready-planned : (d : DocState) (k : ℕ) (o : Owner) (plan : Plan) (now : World) → HasLaws d → k < length d.names → owner_in d k ≡ o → now ≡ made o plan d.world → IsReady d →
+pub ready-planned : (d : DocState) (k : ℕ) (o : Owner) (plan : Plan) (now : World) → HasLaws d → k < length d.names → owner_in d k ≡ o →
+    now ≡ made o plan d.world → IsReady d →
     (IsPart (part_of d.world o) → IsReadyPart (part_of d.world o) → KeepReady (part_of d.world o) (plan (part_of d.world o))) → AreReady now
 ready-planned d k o plan now laws there mine e h keep =
     let p = part_of d.world o in
     subst AreReady (sym e)
     (ready-made d.world o plan laws.parts h
-    (λ m. (subst (IsAlone d.world) mine (laws.alone k there)).steps (plan p) (own-documents o p (plan p) (owner-part_of d.world o) m)) (keep (laws.parts o) (h o)))
+    (λ m. (subst (IsAlone d.world) mine (laws.alone k there)).steps (plan p) (own-documents o p (plan p) (owner-part_of d.world o) m))
+    (keep (laws.parts o) (h o)))
 
 -- and the owner's part is what the plan leaves of it
-pub part-planned : (d : DocState) (k : ℕ) (o : Owner) (plan : Plan) (now : World) → HasLaws d → k < length d.names → owner_in d k ≡ o → now ≡ made o plan d.world → MadeIn (part_of d.world o) (plan (part_of d.world o)) →
+pub part-planned : (d : DocState) (k : ℕ) (o : Owner) (plan : Plan) (now : World) → HasLaws d → k < length d.names → owner_in d k ≡ o →
+    now ≡ made o plan d.world → MadeIn (part_of d.world o) (plan (part_of d.world o)) →
     part_of now o ≡ after (part_of d.world o) (plan (part_of d.world o))
 part-planned d k o plan now laws there mine e m =
     let p = part_of d.world o in
-    ap (λ (w : World). part_of w o) e ∙ (subst (IsAlone d.world) mine (laws.alone k there)).steps (plan p) (own-documents o p (plan p) (owner-part_of d.world o) m)
+    ap (λ (w : World). part_of w o) e ∙ (subst (IsAlone d.world) mine (laws.alone k there)).steps (plan p)
+    (own-documents o p (plan p) (owner-part_of d.world o) m)
 
 -- A node stands in its owner's trees.
-pub stands-in : (d : DocState) (k : ℕ) (o : Owner) → HasLaws d → k < length d.names → owner_in d k ≡ o → IsTrue (has_node (part_of d.world o).trees (name_in d k))
+pub stands-in : (d : DocState) (k : ℕ) (o : Owner) → HasLaws d → k < length d.names → owner_in d k ≡ o →
+    IsTrue (has_node (part_of d.world o).trees (name_in d k))
 stands-in d k o laws there mine = subst (λ (q : Owner). IsTrue (has_node (part_of d.world q).trees (name_in d k))) mine (laws.stand k there)
 
 -- A call begins with b, which is what the `Doc` shows as d, and leaves e. Here it makes a plan of a node's owner.
 module _ (b d e : DocState) (same : b ≡ d) (laws : HasLaws b) (k : ℕ) (there : k < length d.names) (plan : DocState → Plan) where
   abbrev Keeps : Type 0
-  Keeps = HasLaws d → IsPart (part_of d.world (owner_in d k)) → IsReadyPart (part_of d.world (owner_in d k)) → KeepReady (part_of d.world (owner_in d k)) (plan d (part_of d.world (owner_in d k)))
+  Keeps = HasLaws d → IsPart (part_of d.world (owner_in d k)) → IsReadyPart (part_of d.world (owner_in d k)) →
+      KeepReady (part_of d.world (owner_in d k)) (plan d (part_of d.world (owner_in d k)))
 
   left : Keeps → e.world ≡ made (owner_in b k) (plan b) b.world → IsReady d → IsReady e
   left keep w h =
@@ -109,7 +117,9 @@ module _ (b d e : DocState) (same : b ≡ d) (laws : HasLaws b) (k : ℕ) (there
   plan-call m w keep h = if-done m (λ v. left keep v h) w
 
   -- where no test refuses it
-  pub tested-call : {X : Type 0} (m : Result X Fault) (test : DocState → Option Refusal) → ((r : Refusal) → (m ≡ Err (Refused r)) ↔ (test b ≡ Some r)) → OnOk m (e.world ≡ made (owner_in b k) (plan b) b.world) → (test d ≡ None → Keeps) → IsReady d → OnOk m (IsReady e)
+  pub tested-call : {X : Type 0} (m : Result X Fault) (test : DocState → Option Refusal) →
+      ((r : Refusal) → (m ≡ Err (Refused r)) ↔ (test b ≡ Some r)) → OnOk m (e.world ≡ made (owner_in b k) (plan b) b.world) →
+      (test d ≡ None → Keeps) → IsReady d → OnOk m (IsReady e)
   tested-call m test refused w keep h = if-unrefused m (test b) refused (λ none v. left (keep (ap test (sym same) ∙ none)) v h) w
 
 -- Here it changes an owner's tables alone.
@@ -125,7 +135,8 @@ module _ (b d e : DocState) (same : b ≡ d) (o : Owner) (c : Command) where
   table-done m v w keep h = if-done m (λ n. table-call [] v n keep h) w
 
   -- and from what it answers then
-  pub table-answered : {X E : Type 0} (m : Result X E) (v : X → Value) → IfOk m (λ x. Makes o c (v x) b.world e.world) → KeepsTables → IsReady d → OnOk m (IsReady e)
+  pub table-answered : {X E : Type 0} (m : Result X E) (v : X → Value) → IfOk m (λ x. Makes o c (v x) b.world e.world) → KeepsTables → IsReady d →
+      OnOk m (IsReady e)
   table-answered m v w keep h = if-answered (λ x. Makes o c (v x) b.world e.world) m (λ x n. table-call [] (v x) n keep h) w
 
 -- a node is spelled by its number
@@ -133,43 +144,56 @@ named-own : (w : World) (o : Owner) (x : NodeName) → x.owner ≡ o → named (
 named-own w o x is = ap (λ (q : Owner). node_of q x.number) (owner-part_of w o ∙ sym is)
 
 -- A new range stands at its owner's first node.
-pub range-made : (b d e : DocState) → b ≡ d → HasLaws b → (o : Owner) (first : ℕ) → first < length d.names → name_in d first ≡ node_of o 0 → {X E : Type 0} (m : Result X E) (v : X → Value) → IfOk m (λ x. Makes o Command.range_new (v x) b.world e.world) → IsReady d → OnOk m (IsReady e)
+pub range-made : (b d e : DocState) → b ≡ d → HasLaws b → (o : Owner) (first : ℕ) → first < length d.names → name_in d first ≡ node_of o 0 →
+    {X E : Type 0} (m : Result X E) (v : X → Value) → IfOk m (λ x. Makes o Command.range_new (v x) b.world e.world) → IsReady d → OnOk m (IsReady e)
 range-made b d e same laws o first there is m v w h =
     let stand = (subst HasLaws same laws).stand first there in
     let at : IsNodeIn (part_of d.world o).trees (node_of o 0) = subst (λ (y : NodeName). IsNodeIn (part_of d.world y.owner).trees y) is stand in
-    let mine : IsNodeIn (part_of d.world o).trees (first_node (part_of d.world o)) = subst (λ (q : Owner). IsNodeIn (part_of d.world o).trees (node_of q 0)) (sym (owner-part_of d.world o)) at in
-    table-answered b d e same o Command.range_new m v w (λ r. range_new-ready (part_of b.world o) r (subst (λ (a : DocState). IsNodeIn (part_of a.world o).trees (first_node (part_of a.world o))) (sym same) mine)) h
+    let mine : IsNodeIn (part_of d.world o).trees (first_node (part_of d.world o)) =
+    subst (λ (q : Owner). IsNodeIn (part_of d.world o).trees (node_of q 0)) (sym (owner-part_of d.world o)) at in
+    table-answered b d e same o Command.range_new m v w
+    (λ r. range_new-ready (part_of b.world o) r
+    (subst (λ (a : DocState). IsNodeIn (part_of a.world o).trees (first_node (part_of a.world o))) (sym same) mine)) h
 
 -- A range gets another end where the offset is not past the node's end.
-pub within-done : {X : Type 0} {P Q : Type 0} (m : Result X Refusal) (past : Bool) → (m ≡ Err IndexSize) ↔ (past ≡ true) → (past ≡ false → P → Q) → OnOk m P → OnOk m Q
+pub within-done : {X : Type 0} {P Q : Type 0} (m : Result X Refusal) (past : Bool) → (m ≡ Err IndexSize) ↔ (past ≡ true) →
+    (past ≡ false → P → Q) → OnOk m P → OnOk m Q
 within-done (Err r) past h f p = tt
 within-done (Ok x) false h f p = f refl p
 within-done (Ok x) true h f p = let e : Ok x ≡ Err IndexSize = h.1 refl in absurd cc
 
 -- the node is there, and the offset not past its end, as the command names them
-pub named-there : (b d : DocState) → b ≡ d → HasLaws b → (o : Owner) (k : ℕ) → k < length d.names → owner_in d k ≡ o → IsNodeIn (part_of b.world o).trees (named (part_of b.world o) (own (name_in b k).number))
+pub named-there : (b d : DocState) → b ≡ d → HasLaws b → (o : Owner) (k : ℕ) → k < length d.names → owner_in d k ≡ o →
+    IsNodeIn (part_of b.world o).trees (named (part_of b.world o) (own (name_in b k).number))
 named-there b d same laws o k there own_node =
     subst (λ (a : DocState). IsNodeIn (part_of a.world o).trees (named (part_of a.world o) (own (name_in a k).number))) (sym same)
     (subst (IsNodeIn (part_of d.world o).trees) (sym (named-own d.world o (name_in d k) own_node)) (stands-in d k o (subst HasLaws same laws) there own_node))
 
-pub named-within : (b d : DocState) → b ≡ d → (o : Owner) (k offset : ℕ) → owner_in d k ≡ o → past_end (part_of b.world o) (name_in b k) offset ≡ false → past_end (part_of b.world o) (named (part_of b.world o) (own (name_in b k).number)) offset ≡ false
+pub named-within : (b d : DocState) → b ≡ d → (o : Owner) (k offset : ℕ) → owner_in d k ≡ o →
+    past_end (part_of b.world o) (name_in b k) offset ≡ false →
+    past_end (part_of b.world o) (named (part_of b.world o) (own (name_in b k).number)) offset ≡ false
 named-within b d same o k offset own_node low =
     ap (λ x. past_end (part_of b.world o) x offset) (named-own b.world o (name_in b k) (ap (λ (a : DocState). owner_in a k) same ∙ own_node)) ∙ low
 
 -- A range gets ends that may stand.
-pub range-put : (b d e : DocState) → b ≡ d → HasLaws b → (o : Owner) (k : ℕ) (r : DocState → Range NodeName) → e ≡ stepped o (set_range k (r b)) b → IsReady d → MayStand (part_of d.world o).trees (r d) → IsReady e
+pub range-put : (b d e : DocState) → b ≡ d → HasLaws b → (o : Owner) (k : ℕ) (r : DocState → Range NodeName) →
+    e ≡ stepped o (set_range k (r b)) b → IsReady d → MayStand (part_of d.world o).trees (r d) → IsReady e
 range-put b d e same laws o k r is h may =
     let plan : Plan = doing (set_range k (r d)) in
     let shown = subst HasLaws same laws in
-    let w : e.world ≡ made o plan d.world = subst (λ (a : DocState). e.world ≡ (stepped o (set_range k (r a)) a).world) same (ap (λ (s : DocState). s.world) is) in
+    let w : e.world ≡ made o plan d.world =
+    subst (λ (a : DocState). e.world ≡ (stepped o (set_range k (r a)) a).world) same (ap (λ (s : DocState). s.world) is) in
     subst AreReady (sym w)
-    (ready-made d.world o plan shown.parts h (λ m. part_of-stepped d.world o (set_range k (r d))) (ready-set_range (part_of d.world o) (shown.parts o) (h o) k (r d) may.ends may.start may.end))
+    (ready-made d.world o plan shown.parts h (λ m. part_of-stepped d.world o (set_range k (r d)))
+    (ready-set_range (part_of d.world o) (shown.parts o) (h o) k (r d) may.ends may.start may.end))
 
 -- A new node of an owner, no shadow root.
-pub node-made : (b d e : DocState) → b ≡ d → HasLaws b → (o : Owner) (n : DocState → Node) → is_shadow (n d).kind ≡ false → {X E : Type 0} (m : Result X E) → OnOk m (e.world ≡ made o (doing (make (n b))) b.world) → IsReady d → OnOk m (IsReady e)
+pub node-made : (b d e : DocState) → b ≡ d → HasLaws b → (o : Owner) (n : DocState → Node) → is_shadow (n d).kind ≡ false →
+    {X E : Type 0} (m : Result X E) → OnOk m (e.world ≡ made o (doing (make (n b))) b.world) → IsReady d → OnOk m (IsReady e)
 node-made b d e same laws o n plain m w h =
     let plan : Plan = doing (make (n d)) in
     let shown = subst HasLaws same laws in
     if-done m
     (λ v. subst AreReady (sym (subst (λ (a : DocState). e.world ≡ made o (doing (make (n a))) a.world) same v))
-    (ready-made d.world o plan shown.parts h (λ g. part_of-stepped d.world o (make (n d))) (ready-make (part_of d.world o) (shown.parts o) (h o) (n d) plain))) w
+    (ready-made d.world o plan shown.parts h (λ g. part_of-stepped d.world o (make (n d)))
+    (ready-make (part_of d.world o) (shown.parts o) (h o) (n d) plain))) w

@@ -9,7 +9,8 @@ use Rattle.dom_model.specs.Names.{name_eq, distinct, append_once}
 use Rattle.dom_model.specs.Observers.{Registration, target_of, registrations_on, interested, fits, transients_for, copied_source}
 use Rattle.dom_model.specs.Output.{Change}
 use Rattle.dom_model.specs.Part.{Part, queue_of}
-use Rattle.dom_model.specs.Steps.{Step, make, make_room, place, take_out, set_document, set_attribute, replace_data, split_at, join_at, set_range, queue_record, part_step, leave, after, record_in}
+use Rattle.dom_model.specs.Steps.{Step, make, make_room, place, take_out, set_document, set_attribute, replace_data, split_at, join_at, set_range}
+use Rattle.dom_model.specs.Steps.{queue_record, part_step, leave, after, record_in}
 use Rattle.dom_model.specs.Tree.{inclusive_ancestors, parent_of}
 use Rattle.dom_isolation.specs.Bounds.{HasBounds}
 use Rattle.dom_isolation.specs.Tables.{EndsIn, HasTables}
@@ -28,11 +29,14 @@ none-on (x ∷ path) = none-on path
 
 -- so nobody is interested, and nothing is copied
 none-interested : (path : List NodeName) (c : Change NodeName) → interested name_eq path [] c ≡ []
-none-interested path c = ap (λ (rs : List (Registration NodeName)). distinct nat_eq (map (λ (r : Registration NodeName). r.observer) (filter (fits name_eq c) rs))) (none-on path)
+none-interested path c = ap (λ (rs : List (Registration NodeName)). distinct nat_eq
+    (map (λ (r : Registration NodeName). r.observer) (filter (fits name_eq c) rs))) (none-on path)
 
 none-copied : (x : NodeName) (path : List NodeName) → transients_for name_eq x path [] ≡ []
 none-copied x path =
-    ap (λ (rs : List (Registration NodeName)). map (λ (r : Registration NodeName). record { node = x; observer = r.observer; options = r.options; source = copied_source name_eq r }) (filter (λ (r : Registration NodeName). r.options.subtree) rs)) (none-on path)
+    ap (λ (rs : List (Registration NodeName)). map
+    (λ (r : Registration NodeName). record { node = x; observer = r.observer; options = r.options; source = copied_source name_eq r })
+    (filter (λ (r : Registration NodeName). r.options.subtree) rs)) (none-on path)
 
 -- a step does the same with the others left out
 pub bare-step : (p : Part) (s : Step) → part_step (bare p) s ≡ bare (part_step p s)
@@ -40,10 +44,13 @@ bare-step p (take_out x) = by (parent_of p.trees x)
   where
     by : (o : Option NodeName) → option_map_or (leave (bare p) x) o (bare p) ≡ bare (option_map_or (leave p x) o p)
     by None = refl
-    by (Some parent) = ap (λ (rs : List (Registration NodeName)). record (bare (leave p x parent)) { registrations = rs }) (none-copied x (inclusive_ancestors p.trees parent))
+    by (Some parent) = ap (λ (rs : List (Registration NodeName)). record (bare (leave p x parent)) { registrations = rs })
+        (none-copied x (inclusive_ancestors p.trees parent))
 bare-step p (queue_record c) =
-    let add : List (List (Change NodeName)) → ℕ → List (List (Change NodeName)) = λ queues k. slice_set queues k (queue_of queues k ++ record_in (bare p) c k ∷ []) in
-    ap (λ (ks : List ℕ). record (bare p) { record_queues = fold add [] ks; pending = fold (append_once nat_eq) [] ks }) (none-interested (inclusive_ancestors p.trees (target_of c)) c)
+    let add : List (List (Change NodeName)) → ℕ → List (List (Change NodeName)) =
+    λ queues k. slice_set queues k (queue_of queues k ++ record_in (bare p) c k ∷ []) in
+    ap (λ (ks : List ℕ). record (bare p) { record_queues = fold add [] ks; pending = fold (append_once nat_eq) [] ks })
+    (none-interested (inclusive_ancestors p.trees (target_of c)) c)
 bare-step p (make n) = refl
 bare-step p (make_room parent index count) = refl
 bare-step p (place x parent before) = refl
@@ -99,6 +106,8 @@ pub bare-tables : (p : Part) → AllByRecursion (EndsIn p.trees) p.ranges → Ha
 bare-tables p h = record { hosts = tt; ranges = h; iterators = tt; walkers = tt; registrations = tt; pending = tt; listeners = tt }
 
 -- So steps that fit keep the ends of live ranges.
-pub ends-after : (p : Part) (steps : List Step) → IsPart p → MadeIn p steps → AllByRecursion (EndsIn p.trees) p.ranges → AllByRecursion (EndsIn (after p steps).trees) (after p steps).ranges
+pub ends-after : (p : Part) (steps : List Step) → IsPart p → MadeIn p steps → AllByRecursion (EndsIn p.trees) p.ranges →
+    AllByRecursion (EndsIn (after p steps).trees) (after p steps).ranges
 ends-after p steps i m h =
-    let t : HasTables (bare (after p steps)) = subst HasTables (bare-after p steps) (tables-after (bare p) steps (bare-part p i) (bare-made p steps m) (bare-tables p h)) in t.ranges
+    let t : HasTables (bare (after p steps)) =
+    subst HasTables (bare-after p steps) (tables-after (bare p) steps (bare-part p i) (bare-made p steps m) (bare-tables p h)) in t.ranges

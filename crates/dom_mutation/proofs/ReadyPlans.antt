@@ -7,7 +7,8 @@ use Rattle.dom_base.specs.declared.Kind.{Kind}
 use Rattle.dom_base.specs.declared.Kind.TheVariants.{Document, Fragment, Shadow, Element, Text, Comment}
 use Rattle.dom_base.specs.declared.NodeName.{NodeName}
 use Rattle.dom_base.specs.declared.Refusal.TheVariants.{Hierarchy, NotFound}
-use Rattle.dom_model.specs.Changes.{Plan, observed, removing, adopting, inserting, pre_inserting, reference_for, replacing, setting_attribute, unsetting_attribute}
+use Rattle.dom_model.specs.Changes.{Plan, observed, removing, adopting, inserting, pre_inserting, reference_for, replacing, setting_attribute}
+use Rattle.dom_model.specs.Changes.{unsetting_attribute}
 use Rattle.dom_model.specs.CommandRefusals.{of_range}
 use Rattle.dom_model.specs.Effects.{plan_of_range}
 use Rattle.dom_model.specs.Extract.{extracting}
@@ -25,17 +26,22 @@ use Rattle.dom_isolation.specs.Worlds.{IsPart}
 use Rattle.dom_isolation.proofs.Acceptance.{next-test}
 use Rattle.dom_isolation.proofs.BoundLines.{under-at}
 use Rattle.dom_isolation.proofs.Bounds.{RangeUnder, reach, nowhere}
-use Rattle.dom_isolation.proofs.KeptOffsets.{room-of, make-keeps, set_document-keeps, set_range-keeps, removal-keeps, adoption-keeps, insertion-keeps, replacement-keeps, attribute-keeps, attribute_removal-keeps, data-keeps, split-keeps, normalization-keeps, text_content-keeps, deletion-keeps, extraction-keeps, range_insertion-keeps}
-use Rattle.dom_isolation.proofs.Insides.{inside-no_ancestor, times-has_node}
-use Rattle.dom_isolation.proofs.KindCommands.{has_node-times}
-use Rattle.dom_isolation.proofs.Plans.{Keeps, keeps-removing, keeps-adopting, keeps-inserting, keeps-replacing, keeps-setting_attribute, keeps-unsetting_attribute, keeps-replacing_data, keeps-splitting, keeps-normalizing, keeps-setting_text, keeps-extracting, keeps-deleting, keeps-inserting_into_range}
+use Rattle.dom_isolation.proofs.KeptOffsets.{room-of, make-keeps, set_document-keeps, set_range-keeps, removal-keeps, adoption-keeps, insertion-keeps}
+use Rattle.dom_isolation.proofs.KeptOffsets.{replacement-keeps, attribute-keeps, attribute_removal-keeps, data-keeps, split-keeps}
+use Rattle.dom_isolation.proofs.KeptOffsets.{normalization-keeps, text_content-keeps, deletion-keeps, extraction-keeps, range_insertion-keeps}
+use Rattle.dom_isolation.proofs.InsideAncestors.{inside-no_ancestor, times-has_node}
+use Rattle.dom_isolation.proofs.KindLines.{has_node-times}
+use Rattle.dom_isolation.proofs.Plans.{Keeps, keeps-removing, keeps-adopting, keeps-inserting, keeps-replacing, keeps-setting_attribute}
+use Rattle.dom_isolation.proofs.Plans.{keeps-unsetting_attribute, keeps-replacing_data, keeps-splitting, keeps-normalizing, keeps-setting_text}
+use Rattle.dom_isolation.proofs.Plans.{keeps-extracting, keeps-deleting, keeps-inserting_into_range}
 use Rattle.dom_isolation.proofs.PlanContents.{leads-deleting, leads-extracting, leads-inserting_into_range}
 use Rattle.dom_isolation.proofs.PlanPlaces.{MayGo, leads-removing, leads-adopting, leads-inserting}
 use Rattle.dom_isolation.proofs.PlanRoots.{ends-at}
-use Rattle.dom_isolation.proofs.PlanTexts.{leads-replacing, leads-setting_attribute, leads-unsetting_attribute, leads-replacing_data, leads-splitting, leads-normalizing, leads-setting_text}
+use Rattle.dom_isolation.proofs.PlanTexts.{leads-replacing, leads-setting_attribute, leads-unsetting_attribute, leads-replacing_data, leads-splitting}
+use Rattle.dom_isolation.proofs.PlanTexts.{leads-normalizing, leads-setting_text}
 use Rattle.dom_isolation.proofs.Roots.{roots-equal}
 use Rattle.dom_isolation.proofs.ShadowRoots.{not_taken}
-use Rattle.dom_isolation.proofs.TableCommands.{parent-of_range}
+use Rattle.dom_isolation.proofs.TableRegisters.{parent-of_range}
 use Rattle.dom_isolation.proofs.TableSteps.{MadeIn}
 use Rattle.dom_mutation.specs.Ready.{IsReadyPart}
 use Rattle.dom_mutation.proofs.ReadyEnds.{bare, bare-part, bare-bounds, bounds-bare, bare-tables, bare-after, made-bare, ends-after}
@@ -76,7 +82,8 @@ inserted-plain Text h = refl
 inserted-plain Comment h = refl
 
 -- by the tests
-tested : (ts : Trees) (parent x : NodeName) (is_lost : Bool) (others : List Node) → first_refusal (placing_tests ts parent x is_lost others) ≡ None → MayPlace ts parent x
+tested : (ts : Trees) (parent x : NodeName) (is_lost : Bool) (others : List Node) →
+    first_refusal (placing_tests ts parent x is_lost others) ≡ None → MayPlace ts parent x
 tested ts parent x is_lost others h =
     let tests = placing_tests ts parent x is_lost others in
     let a = next-test (not (may_be_parent (kind_of ts parent))) Hierarchy (drop 1 tests) h in
@@ -94,7 +101,8 @@ insertion-tested : (ts : Trees) (parent x : NodeName) (child : Option NodeName) 
 insertion-tested ts parent x child h = tested ts parent x (option_map_or (λ c. not (has_parent ts parent c)) child false) (child_nodes ts parent) h
 
 replacement-tested : (ts : Trees) (parent x child : NodeName) → replacement_refusal ts parent x child ≡ None → MayPlace ts parent x
-replacement-tested ts parent x child h = tested ts parent x (not (has_parent ts parent child)) (filter (λ (n : Node). not (name_eq n.name child)) (child_nodes ts parent)) h
+replacement-tested ts parent x child h =
+    tested ts parent x (not (has_parent ts parent child)) (filter (λ (n : Node). not (name_eq n.name child)) (child_nodes ts parent)) h
 
 -- In a part that is ready.
 module _ (p : Part) (i : IsPart p) (h : IsReadyPart p) where
@@ -103,7 +111,8 @@ module _ (p : Part) (i : IsPart p) (h : IsReadyPart p) where
   lone-plan f k = lone-after p (f p) i h.roots (k p (lone-before p i h.roots))
 
   -- what goes below a node: it is there, and no inclusive ancestor of that
-  may-go : (x parent : NodeName) → IsTrue (has_node p.trees x) → IsTrue (has_node p.trees parent) → is_inclusive_ancestor p.trees x parent ≡ false → MayGo parent p x
+  may-go : (x parent : NodeName) → IsTrue (has_node p.trees x) → IsTrue (has_node p.trees parent) →
+      is_inclusive_ancestor p.trees x parent ≡ false → MayGo parent p x
   may-go x parent t s a =
       let there = has_node-times p.trees x t in
       record { there = there; owner = i.owned x there; below = has_node-times p.trees parent s; apart = inside-no_ancestor p.trees x parent i.unique a }
@@ -118,20 +127,36 @@ module _ (p : Part) (i : IsPart p) (h : IsReadyPart p) where
 
   -- a node document
   pub ready-document : (x d : NodeName) → x.owner ≡ p.owner → KeepReady p (set_document x d ∷ [])
-  ready-document x d e = record { made = (e, tt); bounds = set_document-keeps p x d i h.bounds; roots = lone-after p (set_document x d ∷ []) i h.roots (tt, tt) }
+  ready-document x d e = record {
+    made = (e, tt);
+    bounds = set_document-keeps p x d i h.bounds;
+    roots = lone-after p (set_document x d ∷ []) i h.roots (tt, tt);
+  }
 
   -- a range that gets ends within their nodes, which are in one tree
   pub ready-set_range : (k : ℕ) (r : Range NodeName) → HasEnds p.trees r → IsWithin p.trees r.start → IsWithin p.trees r.end → KeepReady p (set_range k r ∷ [])
   ready-set_range k r e a b =
       record {
-        made = ((has_node-times p.trees r.start.node e.start, has_node-times p.trees r.end.node e.end, roots-equal p.trees r.start.node r.end.node e.one_root), tt);
+        made = (
+          (
+            has_node-times p.trees r.start.node e.start,
+            has_node-times p.trees r.end.node e.end,
+            roots-equal p.trees r.start.node r.end.node
+                e.one_root,
+          ),
+          tt,
+        );
         bounds = set_range-keeps p k r i a b h.bounds;
         roots = lone-after p (set_range k r ∷ []) i h.roots (tt, tt);
       }
 
   -- a removal
   pub ready-removing : (x : NodeName) → KeepReady p (removing observed x p)
-  ready-removing x = record { made = (leads-removing observed x p i).made; bounds = removal-keeps observed x p i h.bounds; roots = lone-plan (removing observed x) (keeps-removing (lone-rules p) observed x) }
+  ready-removing x = record {
+    made = (leads-removing observed x p i).made;
+    bounds = removal-keeps observed x p i h.bounds;
+    roots = lone-plan (removing observed x) (keeps-removing (lone-rules p) observed x);
+  }
 
   -- an adoption
   pub ready-adopting : (d x : NodeName) → IsTrue (has_node p.trees x) → KeepReady p (adopting d x p)
@@ -143,7 +168,8 @@ module _ (p : Part) (i : IsPart p) (h : IsReadyPart p) where
       }
 
   -- an insertion
-  pub ready-inserting : (x parent : NodeName) (before : Option NodeName) → IsTrue (has_node p.trees x) → IsTrue (has_node p.trees parent) → is_inclusive_ancestor p.trees x parent ≡ false → has_data (kind_of p.trees parent) ≡ false → is_shadow (kind_of p.trees x) ≡ false →
+  pub ready-inserting : (x parent : NodeName) (before : Option NodeName) → IsTrue (has_node p.trees x) → IsTrue (has_node p.trees parent) →
+      is_inclusive_ancestor p.trees x parent ≡ false → has_data (kind_of p.trees parent) ≡ false → is_shadow (kind_of p.trees x) ≡ false →
       KeepReady p (inserting observed x parent before p)
   ready-inserting x parent before t s a o m =
       record {
@@ -153,12 +179,14 @@ module _ (p : Part) (i : IsPart p) (h : IsReadyPart p) where
       }
 
   -- one that is tested
-  pub ready-pre_inserting : (x parent : NodeName) (child : Option NodeName) → IsTrue (has_node p.trees x) → IsTrue (has_node p.trees parent) → insertion_refusal p.trees parent x child ≡ None → KeepReady p (pre_inserting x parent child p)
+  pub ready-pre_inserting : (x parent : NodeName) (child : Option NodeName) → IsTrue (has_node p.trees x) → IsTrue (has_node p.trees parent) →
+      insertion_refusal p.trees parent x child ≡ None → KeepReady p (pre_inserting x parent child p)
   ready-pre_inserting x parent child t s r =
       let m = insertion-tested p.trees parent x child r in ready-inserting x parent (reference_for p.trees x child) t s m.apart m.opened m.plain
 
   -- a replacement
-  pub ready-replacing : (parent x child : NodeName) → IsTrue (has_node p.trees x) → IsTrue (has_node p.trees parent) → replacement_refusal p.trees parent x child ≡ None → KeepReady p (replacing parent x child p)
+  pub ready-replacing : (parent x child : NodeName) → IsTrue (has_node p.trees x) → IsTrue (has_node p.trees parent) →
+      replacement_refusal p.trees parent x child ≡ None → KeepReady p (replacing parent x child p)
   ready-replacing parent x child t s r =
       let m = replacement-tested p.trees parent x child r in
       record {
@@ -170,40 +198,66 @@ module _ (p : Part) (i : IsPart p) (h : IsReadyPart p) where
   -- attributes
   pub ready-attribute : (x : NodeName) (a : Word) (v : DomString) → KeepReady p (setting_attribute x a v p)
   ready-attribute x a v =
-      record { made = (leads-setting_attribute x a v p i).made; bounds = attribute-keeps x a v p i h.bounds; roots = lone-plan (setting_attribute x a v) (keeps-setting_attribute (lone-rules p) x a v (λ old. tt) tt) }
+      record {
+        made = (leads-setting_attribute x a v p i).made;
+        bounds = attribute-keeps x a v p i h.bounds;
+        roots = lone-plan (setting_attribute x a v) (keeps-setting_attribute (lone-rules p) x a v (λ old. tt) tt);
+      }
 
   pub ready-no_attribute : (x : NodeName) (a : Word) → KeepReady p (unsetting_attribute x a p)
   ready-no_attribute x a =
-      record { made = (leads-unsetting_attribute x a p i).made; bounds = attribute_removal-keeps x a p i h.bounds; roots = lone-plan (unsetting_attribute x a) (keeps-unsetting_attribute (lone-rules p) x a (λ old. tt) tt) }
+      record {
+        made = (leads-unsetting_attribute x a p i).made;
+        bounds = attribute_removal-keeps x a p i h.bounds;
+        roots = lone-plan (unsetting_attribute x a) (keeps-unsetting_attribute (lone-rules p) x a (λ old. tt) tt);
+      }
 
   -- data of a Text or a Comment
   pub ready-data : (x : NodeName) (offset count : ℕ) (new : DomString) → has_data (kind_of p.trees x) ≡ true → KeepReady p (replacing_data x offset count new p)
   ready-data x offset count new k =
-      record { made = (leads-replacing_data x offset count new p i).made; bounds = data-keeps x offset count new p i k h.bounds; roots = lone-plan (replacing_data x offset count new) (keeps-replacing_data (lone-rules p) x offset count new) }
+      record {
+        made = (leads-replacing_data x offset count new p i).made;
+        bounds = data-keeps x offset count new p i k h.bounds;
+        roots = lone-plan (replacing_data x offset count new) (keeps-replacing_data (lone-rules p) x offset count new);
+      }
 
   -- a split of a Text
   pub ready-splitting : (x : NodeName) (offset : ℕ) → IsTrue (has_node p.trees x) → is_text (kind_of p.trees x) ≡ true → KeepReady p (splitting x offset p)
   ready-splitting x offset t k =
-      record { made = (leads-splitting x offset p i).made; bounds = split-keeps x offset p i t k h.bounds; roots = lone-plan (splitting x offset) (keeps-splitting (lone-rules p) x offset) }
+      record {
+        made = (leads-splitting x offset p i).made;
+        bounds = split-keeps x offset p i t k h.bounds;
+        roots = lone-plan (splitting x offset) (keeps-splitting (lone-rules p) x offset);
+      }
 
   -- normalize()
   pub ready-normalizing : (x : NodeName) → KeepReady p (normalizing x p)
-  ready-normalizing x = record { made = (leads-normalizing x p i).made; bounds = normalization-keeps x p i h.bounds; roots = lone-plan (normalizing x) (keeps-normalizing (lone-rules p) x) }
+  ready-normalizing x = record {
+    made = (leads-normalizing x p i).made;
+    bounds = normalization-keeps x p i h.bounds;
+    roots = lone-plan (normalizing x) (keeps-normalizing (lone-rules p) x);
+  }
 
   -- text content
   pub ready-text : (x : NodeName) (new : DomString) → IsTrue (has_node p.trees x) → KeepReady p (setting_text x new p)
   ready-text x new t =
-      record { made = (leads-setting_text x new p i (has_node-times p.trees x t)).made; bounds = text_content-keeps x new p i t h.bounds; roots = lone-plan (setting_text x new) (keeps-setting_text (lone-rules p) x new) }
+      record {
+        made = (leads-setting_text x new p i (has_node-times p.trees x t)).made;
+        bounds = text_content-keeps x new p i t h.bounds;
+        roots = lone-plan (setting_text x new) (keeps-setting_text (lone-rules p) x new);
+      }
 
   -- The contents of ranges. Both ends of a range that is there are at nodes of one tree, and its start is within its node.
   range-ends : (k : ℕ) (r : Range NodeName) → range_at p k ≡ Some r → HasEnds p.trees r
   range-ends k r e = let ends : EndsIn p.trees (Some r) = subst (EndsIn p.trees) e (ends-at (bare p) k (bare-tables p h.ends)) in ends
 
   range-within : (k : ℕ) (r : Range NodeName) → range_at p k ≡ Some r → IsWithin p.trees r.start
-  range-within k r e = let under : RangeUnder (reach nowhere p) (Some r) = subst (RangeUnder (reach nowhere p)) e (under-at p k (room-of p i h.bounds)) in let a = under.0 in omega arith
+  range-within k r e = let under : RangeUnder (reach nowhere p) (Some r) =
+      subst (RangeUnder (reach nowhere p)) e (under-at p k (room-of p i h.bounds)) in let a = under.0 in omega arith
 
   -- a plan for a range, if it is there
-  ready-of_range : (k : ℕ) (f : Range NodeName → Plan) → ((r : Range NodeName) → range_at p k ≡ Some r → KeepReady p (f r p)) → KeepReady p (plan_of_range p k f)
+  ready-of_range : (k : ℕ) (f : Range NodeName → Plan) → ((r : Range NodeName) → range_at p k ≡ Some r → KeepReady p (f r p)) →
+      KeepReady p (plan_of_range p k f)
   ready-of_range k f g = from (range_at p k) refl
     where
       from : (o : Option (Range NodeName)) → range_at p k ≡ o → KeepReady p (of_range p k [] (λ r. f r p))
@@ -233,11 +287,14 @@ module _ (p : Part) (i : IsPart p) (h : IsReadyPart p) where
       })
 
   -- an insertion of a node that a live range can take
-  pub ready-inserting_into_range : (k : ℕ) (x : NodeName) → IsTrue (has_node p.trees x) → ((r : Range NodeName) → range_at p k ≡ Some r → insert_node_refusal p.trees r x ≡ None) → KeepReady p (plan_of_range p k (λ r. inserting_into_range k r x))
+  pub ready-inserting_into_range : (k : ℕ) (x : NodeName) → IsTrue (has_node p.trees x) →
+      ((r : Range NodeName) → range_at p k ≡ Some r → insert_node_refusal p.trees r x ≡ None) →
+      KeepReady p (plan_of_range p k (λ r. inserting_into_range k r x))
   ready-inserting_into_range k x t valid =
       ready-of_range k (λ r. inserting_into_range k r x)
       (λ r e. let refused = insertion_refusal p.trees (insertion_parent p.trees r) x (start_reference p.trees r) in
-      let m = insertion-tested p.trees (insertion_parent p.trees r) x (start_reference p.trees r) (not_taken (cannot_take_node p.trees r x) refused (valid r e)) in
+      let m = insertion-tested p.trees (insertion_parent p.trees r) x (start_reference p.trees r)
+      (not_taken (cannot_take_node p.trees r x) refused (valid r e)) in
       let start = has_node-times p.trees r.start.node (range-ends k r e).start in
       let g = may-go x (insertion_parent p.trees r) t (times-has_node p.trees (insertion_parent p.trees r) (parent-of_range p r start)) m.apart in
       let tables = bare-tables p h.ends in
@@ -245,7 +302,10 @@ module _ (p : Part) (i : IsPart p) (h : IsReadyPart p) where
       let steps = inserting_into_range k r x p in
       record {
         made = made-bare p steps (subst (MadeIn (bare p)) same
-            (leads-inserting_into_range k r x (bare p) (bare-part p i) tables e (record { there = g.there; owner = g.owner; below = g.below; apart = g.apart })).made);
-        bounds = bounds-bare (after p steps) (subst HasBounds (ap (after (bare p)) same ∙ bare-after p steps) (range_insertion-keeps k r x (bare p) (bare-part p i) tables e t (valid r e) (bare-bounds p h.bounds)));
+            (leads-inserting_into_range k r x (bare p) (bare-part p i) tables e
+            (record { there = g.there; owner = g.owner; below = g.below; apart = g.apart })).made);
+        bounds = bounds-bare (after p steps)
+            (subst HasBounds (ap (after (bare p)) same ∙ bare-after p steps)
+            (range_insertion-keeps k r x (bare p) (bare-part p i) tables e t (valid r e) (bare-bounds p h.bounds)));
         roots = lone-plan (inserting_into_range k r x) (keeps-inserting_into_range (lone-rules p) k r x m.plain);
       })

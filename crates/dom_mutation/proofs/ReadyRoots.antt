@@ -11,13 +11,14 @@ use Rattle.dom_model.specs.Extract.{common_ancestor}
 use Rattle.dom_model.specs.Names.{name_eq, is_in, first_of}
 use Rattle.dom_model.specs.Part.{Part, next_name}
 use Rattle.dom_model.specs.Steps.{Step, make, place, take_out, set_document, set_attribute, replace_data, part_step, leave, after}
-use Rattle.dom_model.specs.Tree.{Trees, none, tree, Node, no_node, node_in, kind_of, is_shadow, has_data, parent_of, children_of, subtree, trees_below, inclusive_descendants}
+use Rattle.dom_model.specs.Tree.{Trees, none, tree, Node, no_node, node_in, kind_of, is_shadow, has_data, parent_of, children_of, subtree}
+use Rattle.dom_model.specs.Tree.{trees_below, inclusive_descendants}
 use Rattle.dom_model.specs.TreeChanges.{map_nodes, with_name, with_document, with_data_replaced, with_attribute}
 use Rattle.dom_model.proofs.OwnerLaws.{name_eq-same}
 use Rattle.dom_isolation.specs.Worlds.{times_in, IsPart, AllNodes, IsShadowAt}
 use Rattle.dom_isolation.proofs.FitPieces.{common_below, whole-pieces}
 use Rattle.dom_isolation.proofs.FollowPaths.{shadow-kind}
-use Rattle.dom_isolation.proofs.Insides.{roots-there, no_parent-root}
+use Rattle.dom_isolation.proofs.InsideAncestors.{roots-there, no_parent-root}
 use Rattle.dom_isolation.proofs.Lists.{all-then}
 use Rattle.dom_isolation.proofs.NodeKinds.{node-read, name-node_in, fragment-no_shadow}
 use Rattle.dom_isolation.proofs.NodesRead.{read-all}
@@ -59,7 +60,8 @@ module _ (p0 : Part) where
 
   -- they place none of them
   none-placed : (s : Step) → MakesNone s → (r : NodeName) → IsShadowHere r → Allowed r s
-  none-placed (place x parent before) m r is = by_cases (name_eq x r) (λ e. absurd (true≢false (sym is ∙ ap (λ y. is_shadow (kind_of p0.trees y)) (sym (name_eq-true x r e)) ∙ m))) (λ e. e)
+  none-placed (place x parent before) m r is =
+      by_cases (name_eq x r) (λ e. absurd (true≢false (sym is ∙ ap (λ y. is_shadow (kind_of p0.trees y)) (sym (name_eq-true x r e)) ∙ m))) (λ e. e)
   none-placed s m r is = tt
 
   -- nodes with other contents
@@ -76,17 +78,21 @@ module _ (p0 : Part) where
       from None = i
       from (Some parent) = nodes-taken_out WasShadow x p.trees i
   shadows-step p (set_document x d) m i =
-      shadows-mapped (λ n. if is_in name_eq n.name (inclusive_descendants p.trees x) then with_document d n else n) (some-keeps (λ (n : Node). is_in name_eq n.name (inclusive_descendants p.trees x)) (with_document d) (λ n. (refl, refl))) p.trees i
+      shadows-mapped (λ n. if is_in name_eq n.name (inclusive_descendants p.trees x) then with_document d n else n)
+      (some-keeps (λ (n : Node). is_in name_eq n.name (inclusive_descendants p.trees x)) (with_document d) (λ n. (refl, refl))) p.trees i
   shadows-step p (set_attribute x a v) m i =
-      shadows-mapped (λ n. if name_eq n.name x then with_attribute a v n else n) (some-keeps (λ (n : Node). name_eq n.name x) (with_attribute a v) (attribute-keeps a v)) p.trees i
+      shadows-mapped (λ n. if name_eq n.name x then with_attribute a v n else n)
+      (some-keeps (λ (n : Node). name_eq n.name x) (with_attribute a v) (attribute-keeps a v)) p.trees i
   shadows-step p (replace_data x offset count new) m i =
-      shadows-mapped (λ n. if name_eq n.name x then with_data_replaced offset count new n else n) (some-keeps (λ (n : Node). name_eq n.name x) (with_data_replaced offset count new) (λ n. (refl, refl))) p.trees i
+      shadows-mapped (λ n. if name_eq n.name x then with_data_replaced offset count new n else n)
+      (some-keeps (λ (n : Node). name_eq n.name x) (with_data_replaced offset count new) (λ n. (refl, refl))) p.trees i
   shadows-step p s m i = i
 
   -- a shadow root was one
   was-shadow : (p : Part) → StayLone p → (x : NodeName) → is_shadow (kind_of p.trees x) ≡ true → IsShadowHere x
   was-shadow p h x is =
-      subst IsShadowHere (name-node_in p.trees x) (node-read WasShadow x (λ e. absurd (fragment-no_shadow e)) p.trees h.shadows (shadow-kind (kind_of p.trees x) is))
+      subst IsShadowHere (name-node_in p.trees x)
+      (node-read WasShadow x (λ e. absurd (fragment-no_shadow e)) p.trees h.shadows (shadow-kind (kind_of p.trees x) is))
 
   -- a node that was none is none
   no-shadow : (p : Part) → StayLone p → (x : NodeName) → IsNoShadow x → is_shadow (kind_of p.trees x) ≡ false
@@ -95,13 +101,18 @@ module _ (p0 : Part) where
   -- what stands below a node is none
   below-no_shadow : (p : Part) → StayLone p → (x y : NodeName) → 1 ≤ times_in (trees_below (subtree p.trees x)) y → IsNoShadow y
   below-no_shadow p h x y t =
-      by_cases (is_shadow (kind_of p0.trees y)) (λ e. absurd (let z = root-below_none p.trees h.part.unique y (h.roots y e).root.alone x in omega arith)) (λ e. e)
+      by_cases (is_shadow (kind_of p0.trees y))
+      (λ e. absurd (let z = root-below_none p.trees h.part.unique y (h.roots y e).root.alone x in omega arith)) (λ e. e)
 
   -- The rules of plans.
   pub lone-rules : IsKept StayLone MakesNone IsNoShadow
   lone-rules =
       record {
-        step = λ p s h m. record { part = part-step p s h.part; roots = λ r is. own-step r p s (h.roots r is) (none-placed s m r is); shadows = shadows-step p s m h.shadows };
+        step = λ p s h m. record {
+          part = part-step p s h.part;
+          roots = λ r is. own-step r p s (h.roots r is) (none-placed s m r is);
+          shadows = shadows-step p s m h.shadows;
+        };
         placing = λ x parent before h. h;
         making_room = λ parent index count. tt;
         taking_out = λ x. tt;
@@ -116,27 +127,38 @@ module _ (p0 : Part) where
         new_fragment = λ x d. refl;
         clone = λ p x y h m. no-shadow p h x m;
         clone_part = λ p x y from to h m. no-shadow p h x m;
-        new_node = λ p h. by_cases (is_shadow (kind_of p0.trees (next_name p))) (λ e. absurd (true≢false (sym (name_eq-same (next_name p)) ∙ next-other (next_name p) p (h.roots (next_name p) e)))) (λ e. e);
-        children = λ p h x. all-then (λ y. 1 ≤ times_in (trees_below (subtree p.trees x)) y) IsNoShadow (below-no_shadow p h x) (children_of p.trees x) (roots-there (trees_below (subtree p.trees x)));
+        new_node = λ p h. by_cases (is_shadow (kind_of p0.trees (next_name p)))
+            (λ e. absurd (true≢false (sym (name_eq-same (next_name p)) ∙ next-other (next_name p) p (h.roots (next_name p) e)))) (λ e. e);
+        children = λ p h x. all-then (λ y. 1 ≤ times_in (trees_below (subtree p.trees x)) y) IsNoShadow (below-no_shadow p h x)
+            (children_of p.trees x) (roots-there (trees_below (subtree p.trees x)));
         wholes = λ p h range. whole-pieces IsNoShadow p.trees range
             (λ e. by_cases (is_shadow (kind_of p0.trees range.start.node))
-            (λ is. absurd (true≢false (sym (and_parts (name_eq range.start.node range.end.node) (has_data (kind_of p.trees range.start.node)) e).1 ∙ ap has_data (kind-root range.start.node p (h.roots range.start.node is))))) (λ is. is))
+            (λ is. absurd (true≢false (sym
+            (and_parts (name_eq range.start.node range.end.node) (has_data (kind_of p.trees range.start.node)) e).1 ∙
+            ap has_data (kind-root range.start.node p (h.roots range.start.node is))))) (λ is. is))
             (nodes-named IsNoShadow (common_below p.trees range) (below-no_shadow p h (common_ancestor p.trees range)));
       }
 
   -- a shadow root is there
   shadow-there : (x : NodeName) → IsShadowHere x → 1 ≤ times_in p0.trees x
   shadow-there x is =
-      by_times (times_in p0.trees x) (λ z. absurd (true≢false (sym is ∙ ap (λ (o : Option Node). is_shadow (Rattle.std.specs.Prelude.unwrap_or o (no_node x)).kind) (found-absent p0.trees x z)))) (λ z. z)
+      by_times (times_in p0.trees x) (λ z. absurd
+      (true≢false (sym is ∙ ap (λ (o : Option Node). is_shadow (Rattle.std.specs.Prelude.unwrap_or o (no_node x)).kind)
+      (found-absent p0.trees x z)))) (λ z. z)
 
   -- each node is the one that is read under its name
   shadows-here : IsPart p0 → AllNodes WasShadow p0.trees
   shadows-here i = by p0.trees (nodes-named (λ y. 1 ≤ times_in p0.trees y) p0.trees (λ y m. m)) (λ y t. read-all p0.trees y i.unique t)
     where
-      by : (us : Trees) → AllNodes (λ n. 1 ≤ times_in p0.trees n.name) us → ((y : NodeName) → 1 ≤ times_in p0.trees y → AllNodes (λ n. name_eq n.name y ≡ true → n ≡ node_in p0.trees y) us) → AllNodes WasShadow us
+      by : (us : Trees) → AllNodes (λ n. 1 ≤ times_in p0.trees n.name) us →
+          ((y : NodeName) → 1 ≤ times_in p0.trees y → AllNodes (λ n. name_eq n.name y ≡ true → n ≡ node_in p0.trees y) us) → AllNodes WasShadow us
       by none h f = tt
-      by (tree n c r) h f =
-          ((λ e. ap (λ (m : Node). is_shadow m.kind) (sym ((f n.name h.0).0 (name_eq-same n.name))) ∙ ap is_shadow e), by c h.1 (λ y t. (f y t).1), by r h.2 (λ y t. (f y t).2))
+      by (tree n c r) h f = (
+        (λ e. ap (λ (m : Node). is_shadow m.kind) (sym ((f n.name h.0).0 (name_eq-same n.name))) ∙ ap is_shadow e),
+        by c h.1
+            (λ y t. (f y t).1),
+        by r h.2 (λ y t. (f y t).2),
+      )
 
   -- before the steps it is so
   pub lone-before : IsPart p0 → LoneRoots p0.trees → StayLone p0
@@ -147,7 +169,9 @@ module _ (p0 : Part) where
           part = i;
           root = record {
             alone = no_parent-root p0.trees r (shadow-there r is) (h r is);
-            shadow = nodes-then (λ n. name_eq n.name r ≡ true → n ≡ node_in p0.trees r) (IsShadowAt r) (λ n f e. ap (λ (m : Node). m.kind) (f e) ∙ shadow-kind (kind_of p0.trees r) is) p0.trees (read-all p0.trees r i.unique (shadow-there r is));
+            shadow = nodes-then (λ n. name_eq n.name r ≡ true → n ≡ node_in p0.trees r) (IsShadowAt r)
+                (λ n f e. ap (λ (m : Node). m.kind) (f e) ∙ shadow-kind (kind_of p0.trees r) is) p0.trees
+                (read-all p0.trees r i.unique (shadow-there r is));
           };
         };
         shadows = shadows-here i;

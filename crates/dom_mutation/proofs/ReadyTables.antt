@@ -46,10 +46,12 @@ ready-same p q t r h =
     record {
       bounds = record {
         ranges = ends EndsWithin h.bounds.ranges;
-        leaves = subst (λ ts. (x : NodeName) → IsTrue (Rattle.dom_model.specs.Tree.has_data (Rattle.dom_model.specs.Tree.kind_of ts x)) → Rattle.dom_model.specs.Tree.children_of ts x ≡ []) (sym t) h.bounds.leaves;
+        leaves = subst (λ ts. (x : NodeName) → IsTrue (Rattle.dom_model.specs.Tree.has_data (Rattle.dom_model.specs.Tree.kind_of ts x)) →
+            Rattle.dom_model.specs.Tree.children_of ts x ≡ []) (sym t) h.bounds.leaves;
       };
       ends = ends EndsIn h.ends;
-      roots = subst (λ ts. (x : NodeName) → Rattle.dom_model.specs.Tree.is_shadow (Rattle.dom_model.specs.Tree.kind_of ts x) ≡ true → Rattle.dom_model.specs.Tree.parent_of ts x ≡ None) (sym t) h.roots;
+      roots = subst (λ ts. (x : NodeName) → Rattle.dom_model.specs.Tree.is_shadow (Rattle.dom_model.specs.Tree.kind_of ts x) ≡ true →
+          Rattle.dom_model.specs.Tree.parent_of ts x ≡ None) (sym t) h.roots;
     }
 
 -- what tables an effect leaves
@@ -58,7 +60,8 @@ ReadyEffect (tables q lines v) = IsReadyPart q
 ReadyEffect (changes steps v) = Unit {0}
 
 -- The world after a command that changes tables alone.
-pub ready-makes : (o : Owner) (c : Command) (lines : List Said) (v : Value) (was now : World) → MakesSaying o c lines v was now → AreReady was → ReadyEffect (effect (part_of was o) c) → AreReady now
+pub ready-makes : (o : Owner) (c : Command) (lines : List Said) (v : Value) (was now : World) → MakesSaying o c lines v was now → AreReady was →
+    ReadyEffect (effect (part_of was o) c) → AreReady now
 ready-makes o c lines v was now m h e =
     subst AreReady (sym m.1) (ready-written was (part_of now o) o (owner-part_of now o) (subst ReadyEffect m.0 e) h)
 
@@ -81,10 +84,12 @@ module _ (p : Part) (h : IsReadyPart p) where
   walker_new-ready x f = ready-same p _ refl refl h
 
   pub iterator_next-ready : (k : ℕ) → ReadyEffect (effect p (Command.iterator_next k))
-  iterator_next-ready k = some-ready (slice_get p.iterators k) (λ i. moves_iterator p k false i (iterator_next_node p.trees i)) (answers p nothing) (λ i. ready-same p _ refl refl h) h
+  iterator_next-ready k = some-ready (slice_get p.iterators k) (λ i. moves_iterator p k false i (iterator_next_node p.trees i))
+      (answers p nothing) (λ i. ready-same p _ refl refl h) h
 
   pub iterator_previous-ready : (k : ℕ) → ReadyEffect (effect p (Command.iterator_previous k))
-  iterator_previous-ready k = some-ready (slice_get p.iterators k) (λ i. moves_iterator p k true i (iterator_previous_node p.trees i)) (answers p nothing) (λ i. ready-same p _ refl refl h) h
+  iterator_previous-ready k = some-ready (slice_get p.iterators k) (λ i. moves_iterator p k true i (iterator_previous_node p.trees i))
+      (answers p nothing) (λ i. ready-same p _ refl refl h) h
 
   pub walk-ready : (k : ℕ) (m : Move) → ReadyEffect (effect p (Command.walk k m))
   walk-ready k m =
@@ -92,7 +97,8 @@ module _ (p : Part) (h : IsReadyPart p) where
       (λ w. walker-ready k w (walker_move p.trees w m) (node_or_null (walker_move p.trees w m))) h
 
   pub walker_set-ready : (k : ℕ) (x : Spelled) → ReadyEffect (effect p (Command.walker_set k x))
-  walker_set-ready k x = some-ready (slice_get p.walkers k) (λ w. sets_walker p k w (Some (named p x)) nothing) (answers p nothing) (λ w. walker-ready k w (Some (named p x)) nothing) h
+  walker_set-ready k x = some-ready (slice_get p.walkers k) (λ w. sets_walker p k w (Some (named p x)) nothing) (answers p nothing)
+      (λ w. walker-ready k w (Some (named p x)) nothing) h
 
   -- observers
   pub observer-ready : ReadyEffect (effect p Command.observer)
@@ -120,10 +126,14 @@ module _ (p : Part) (h : IsReadyPart p) where
       }
 
   -- with other ends
-  mapped-ready : (k : ℕ) (f : Range NodeName → Range NodeName) → IsPart p → ((r : Range NodeName) → HasEnds p.trees r → EndsWithin p.trees (Some r) → HasEnds p.trees (f r) × EndsWithin p.trees (Some (f r))) → IsReadyPart (with_range p k (option_map f (range_at p k)))
-  mapped-ready k f i g = let both = by (range_at p k) (ends-at (bare p) k (bare-tables p h.ends)) (under-at p k (room-of p i h.bounds)) in range-ready k (option_map f (range_at p k)) both.0 both.1
+  mapped-ready : (k : ℕ) (f : Range NodeName → Range NodeName) → IsPart p →
+      ((r : Range NodeName) → HasEnds p.trees r → EndsWithin p.trees (Some r) → HasEnds p.trees (f r) × EndsWithin p.trees (Some (f r))) →
+      IsReadyPart (with_range p k (option_map f (range_at p k)))
+  mapped-ready k f i g = let both = by (range_at p k) (ends-at (bare p) k (bare-tables p h.ends)) (under-at p k (room-of p i h.bounds)) in
+      range-ready k (option_map f (range_at p k)) both.0 both.1
     where
-      by : (o : Option (Range NodeName)) → EndsIn p.trees o → RangeUnder (reach nowhere p) o → EndsIn p.trees (option_map f o) × EndsWithin p.trees (option_map f o)
+      by : (o : Option (Range NodeName)) → EndsIn p.trees o → RangeUnder (reach nowhere p) o → EndsIn p.trees (option_map f o) ×
+          EndsWithin p.trees (option_map f o)
       by None e u = (tt, tt)
       by (Some r) e u = g r e (let a = u.0 in omega arith, let b = u.1 in omega arith)
 
@@ -146,25 +156,39 @@ module _ (p : Part) (h : IsReadyPart p) where
       }
 
   -- another start, and another end
-  pub range_start-ready : (k : ℕ) (x : Spelled) (j : ℕ) → IsPart p → IsNodeIn p.trees (named p x) → past_end p (named p x) j ≡ false → ReadyEffect (effect p (Command.range_start k x j))
+  pub range_start-ready : (k : ℕ) (x : Spelled) (j : ℕ) → IsPart p → IsNodeIn p.trees (named p x) → past_end p (named p x) j ≡ false →
+      ReadyEffect (effect p (Command.range_start k x j))
   range_start-ready k x j i t low =
       let b = at (named p x) j in
       let point : IsPoint b = (t, ltb-false _ j low) in
       mapped-ready k (with_start p.trees b) i
-      (λ r e w. which_way (λ (q : Range NodeName). HasEnds p.trees q × EndsWithin p.trees (Some q)) (same_root p.trees b.node r.end.node && not (is_before p.trees r.end b)) (from_to b r.end) (from_to b b)
-      (λ s. (record { start = t; end = e.end; one_root = (and_parts (same_root p.trees b.node r.end.node) (not (is_before p.trees r.end b)) s).0 }, (point.1, w.1))) (λ s. one-place b point))
+      (λ r e w. which_way (λ (q : Range NodeName). HasEnds p.trees q × EndsWithin p.trees (Some q))
+      (same_root p.trees b.node r.end.node && not (is_before p.trees r.end b)) (from_to b r.end) (from_to b b)
+      (λ s. (
+        record {
+          start = t;
+          end = e.end;
+          one_root = (and_parts (same_root p.trees b.node r.end.node) (not (is_before p.trees r.end b)) s).0;
+        },
+        (point.1, w.1),
+      ))
+      (λ s. one-place b point))
 
-  pub range_end-ready : (k : ℕ) (x : Spelled) (j : ℕ) → IsPart p → IsNodeIn p.trees (named p x) → past_end p (named p x) j ≡ false → ReadyEffect (effect p (Command.range_end k x j))
+  pub range_end-ready : (k : ℕ) (x : Spelled) (j : ℕ) → IsPart p → IsNodeIn p.trees (named p x) → past_end p (named p x) j ≡ false →
+      ReadyEffect (effect p (Command.range_end k x j))
   range_end-ready k x j i t low =
       let b = at (named p x) j in
       let point : IsPoint b = (t, ltb-false _ j low) in
       mapped-ready k (with_end p.trees b) i
-      (λ r e w. which_way (λ (q : Range NodeName). HasEnds p.trees q × EndsWithin p.trees (Some q)) (same_root p.trees b.node r.start.node && not (is_before p.trees b r.start)) (from_to r.start b) (from_to b b)
+      (λ r e w. which_way (λ (q : Range NodeName). HasEnds p.trees q × EndsWithin p.trees (Some q))
+      (same_root p.trees b.node r.start.node && not (is_before p.trees b r.start)) (from_to r.start b) (from_to b b)
       (λ s. (
         record {
           start = e.start;
           end = t;
-          one_root = roots-same p.trees r.start.node b.node (sym (roots-equal p.trees b.node r.start.node (and_parts (same_root p.trees b.node r.start.node) (not (is_before p.trees b r.start)) s).0));
+          one_root = roots-same p.trees r.start.node b.node
+              (sym (roots-equal p.trees b.node r.start.node
+              (and_parts (same_root p.trees b.node r.start.node) (not (is_before p.trees b r.start)) s).0));
         },
         (w.0, point.1),
       )) (λ s. one-place b point))
@@ -173,7 +197,8 @@ module _ (p : Part) (h : IsReadyPart p) where
   pub range_collapse-ready : (k : ℕ) (to_start : Bool) → IsPart p → ReadyEffect (effect p (Command.range_collapse k to_start))
   range_collapse-ready k to_start i = mapped-ready k (collapsed_to to_start) i (λ r e w. by to_start r e w)
     where
-      by : (b : Bool) (r : Range NodeName) → HasEnds p.trees r → EndsWithin p.trees (Some r) → HasEnds p.trees (collapsed_to b r) × EndsWithin p.trees (Some (collapsed_to b r))
+      by : (b : Bool) (r : Range NodeName) → HasEnds p.trees r → EndsWithin p.trees (Some r) → HasEnds p.trees (collapsed_to b r) ×
+          EndsWithin p.trees (Some (collapsed_to b r))
       by true r e w = one-place r.start (e.start, w.0)
       by false r e w = one-place r.end (e.end, w.1)
 

@@ -30,7 +30,10 @@ record IsReadyOne (p : Part) : Type 0 where
 -- a node document leaves it so
 one-document : (p : Part) (x d : NodeName) → x.owner ≡ p.owner → IsReadyOne p → IsReadyOne (part_step p (set_document x d))
 one-document p x d e h =
-    record { part = part-step p (set_document x d) h.part; ready = ready-after p (set_document x d ∷ []) h.part h.ready (ready-document p h.part h.ready x d e) }
+    record {
+      part = part-step p (set_document x d) h.part;
+      ready = ready-after p (set_document x d ∷ []) h.part h.ready (ready-document p h.part h.ready x d e);
+    }
 
 module _ (o : Owner) where
   -- the parts of the others
@@ -72,7 +75,8 @@ module _ (o : Owner) where
   others-step w (take_out x) h = others-removal w (stepped o w (take_out x)) x (parent_of (part_of w o).trees x) (others-stepped w (take_out x) h)
   others-step w (set_attribute x a v) h =
       let now = stepped o w (set_attribute x a v) in others-signals (signals w now x x false) now (others-stepped w (set_attribute x a v) h)
-  others-step w (set_document x d) h = others-documents d (components_below max_depth w x) (stepped o w (set_document x d)) (others-stepped w (set_document x d) h)
+  others-step w (set_document x d) h = others-documents d (components_below max_depth w x) (stepped o w (set_document x d))
+      (others-stepped w (set_document x d) h)
   others-step w (queue_record c) h = others-notify (is_taken (part_of w o) c) (stepped o w (queue_record c)) (others-stepped w (queue_record c) h)
   others-step w s h = others-stepped w s h
 
@@ -82,13 +86,15 @@ module _ (o : Owner) where
   others-after (s ∷ steps) w h = others-after steps (world_step o w s) (others-step w s h)
 
 -- A plan of an owner, which does in its part what it does there alone.
-pub ready-made : (w : World) (o : Owner) (plan : Plan) → ((x : Owner) → IsPart (part_of w x)) → AreReady w → (MadeIn (part_of w o) (plan (part_of w o)) → part_of (world_after o w (plan (part_of w o))) o ≡ after (part_of w o) (plan (part_of w o))) →
+pub ready-made : (w : World) (o : Owner) (plan : Plan) → ((x : Owner) → IsPart (part_of w x)) → AreReady w →
+    (MadeIn (part_of w o) (plan (part_of w o)) → part_of (world_after o w (plan (part_of w o))) o ≡ after (part_of w o) (plan (part_of w o))) →
     KeepReady (part_of w o) (plan (part_of w o)) → AreReady (world_after o w (plan (part_of w o)))
 ready-made w o plan i h own k x =
     let p = part_of w o in
     let steps = plan p in
     by_cases (owner_eq x o)
-    (λ e. subst (λ y. IsReadyPart (part_of (world_after o w steps) y)) (sym (owner_eq-true x o e)) (subst IsReadyPart (sym (own k.made)) (ready-after p steps (i o) (h o) k)))
+    (λ e. subst (λ y. IsReadyPart (part_of (world_after o w steps) y)) (sym (owner_eq-true x o e))
+    (subst IsReadyPart (sym (own k.made)) (ready-after p steps (i o) (h o) k)))
     (λ e. (others-after o steps w (λ y f. record { part = i y; ready = h y }) x (owner_eq-false x o e)).ready)
 
 -- A part that is written.

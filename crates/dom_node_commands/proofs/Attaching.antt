@@ -29,7 +29,8 @@ use Rattle.dom_admission.proofs.Handling.{handled_own, faulted, finished, opened
 use Rattle.dom_admission.proofs.Namings.{naming-attach}
 
 -- In a state, a line of the page that passes: it names this host.
-module _ (t : Option Owner) (d s : DocState) (seen : turned t d ≡ s) (x : line.Spelled) (key : ℕ) (host_is : name_at d.names key ≡ named (part_of d.world Page) (spelled_view x))
+module _ (t : Option Owner) (d s : DocState) (seen : turned t d ≡ s) (x : line.Spelled) (key : ℕ)
+    (host_is : name_at d.names key ≡ named (part_of d.world Page) (spelled_view x))
     (pass : let_pass (early_refusal s.world Page (Element x ∷ [])) ≡ Ok tt) where
   abbrev y : NodeName
   y = name_at d.names key
@@ -42,17 +43,20 @@ module _ (t : Option Owner) (d s : DocState) (seen : turned t d ≡ s) (x : line
 
   -- what is done in the world of its documents is done in its world
   in_world : (new : World) (before after : List ℕ) (r : Result (Unit {0}) Fault) →
-      IsDone (own_refusal (part_of d.world Page) c) (accepted (with_turn t d.world) Page c) (with_turn t d.world) new before after r → IsHandled Page c s.world new before after r
+      IsDone (own_refusal (part_of d.world Page) c) (accepted (with_turn t d.world) Page c) (with_turn t d.world) new before after r →
+      IsHandled Page c s.world new before after r
   in_world new before after r h =
       let Done : DocState → Type 0 = λ u. IsDone (own_refusal (part_of u.world Page) c) (accepted u.world Page c) u.world new before after r in
       handled_own s.world new Page c (Element x ∷ []) before after r (naming-attach x) pass (subst Done seen h)
 
   -- the attaching is refused, which changed nothing, or memory was refused
-  pub attach-faults : (mid : World) (text : List ℕ) (f : Fault) → ((r : Refusal) → f ≡ Refused r → (attaching_refusal (part_of d.world Page) y ≡ Some r) × (mid ≡ d.world)) →
+  pub attach-faults : (mid : World) (text : List ℕ) (f : Fault) →
+      ((r : Refusal) → f ≡ Refused r → (attaching_refusal (part_of d.world Page) y ≡ Some r) × (mid ≡ d.world)) →
       IsHandled Page c s.world (with_turn t mid) text text (Err f)
   attach-faults mid text f h =
       in_world (with_turn t mid) text text (Err f)
-      (faulted (own_refusal (part_of d.world Page) c) (accepted (with_turn t d.world) Page c) (with_turn t d.world) (with_turn t mid) text f (λ r e. (sym own_is ∙ (h r e).0, ap (with_turn t) (h r e).1)))
+      (faulted (own_refusal (part_of d.world Page) c) (accepted (with_turn t d.world) Page c) (with_turn t d.world) (with_turn t mid) text f
+      (λ r e. (sym own_is ∙ (h r e).0, ap (with_turn t) (h r e).1)))
 
   -- the run, with the turn open after it
   attached : (mid : World) (o : Owner) → mid ≡ (attaching d.world Page y).0 → o ≡ component_made Page (length (part_of d.world Page).attached) →
@@ -60,21 +64,26 @@ module _ (t : Option Owner) (d s : DocState) (seen : turned t d ≡ s) (x : line
   attached mid o e is =
       let run : World → Owner → Run World = λ u v. (opening_turn (with_turn t u) Page, says Page (replied (a_component v)) ∷ []) in
       let last : World → Run World = λ u. (u, says Page (replied (a_component (component_made Page (length (part_of d.world Page).attached)))) ∷ []) in
-      ap (λ (u : World). run u o) (e ∙ ap (λ (z : NodeName). (attaching d.world Page z).0) host_is) ∙ ap (run (attaching d.world Page (named (part_of d.world Page) (spelled_view x))).0) is
+      ap (λ (u : World). run u o) (e ∙ ap (λ (z : NodeName). (attaching d.world Page z).0) host_is) ∙
+      ap (run (attaching d.world Page (named (part_of d.world Page) (spelled_view x))).0) is
       ∙ ap last (opened t (attaching d.world Page (named (part_of d.world Page) (spelled_view x))).0 Page)
       ∙ sym (ap (λ (u : World). attaching u Page (named (part_of u Page) (spelled_view x))) (opened t d.world Page))
 
   -- a component is made, and answered
-  pub attach-done : (mid new : World) (o : Owner) (before after : List ℕ) (r : Result (Unit {0}) Fault) → attaching_refusal (part_of d.world Page) y ≡ None → mid ≡ (attaching d.world Page y).0 →
-      o ≡ component_made Page (length (part_of d.world Page).attached) → IsDone None (opening_turn (with_turn t mid) Page, says Page (replied (a_component o)) ∷ []) (with_turn t mid) new before after r →
+  pub attach-done : (mid new : World) (o : Owner) (before after : List ℕ) (r : Result (Unit {0}) Fault) →
+      attaching_refusal (part_of d.world Page) y ≡ None → mid ≡ (attaching d.world Page y).0 →
+      o ≡ component_made Page (length (part_of d.world Page).attached) →
+      IsDone None (opening_turn (with_turn t mid) Page, says Page (replied (a_component o)) ∷ []) (with_turn t mid) new before after r →
       IsHandled Page c s.world new before after r
   attach-done mid new o before after r none e is ending =
       in_world new before after r
-      (finished (own_refusal (part_of d.world Page) c) (opening_turn (with_turn t mid) Page, says Page (replied (a_component o)) ∷ []) (accepted (with_turn t d.world) Page c) (with_turn t d.world) (with_turn t mid) new before after r
+      (finished (own_refusal (part_of d.world Page) c) (opening_turn (with_turn t mid) Page, says Page (replied (a_component o)) ∷ [])
+      (accepted (with_turn t d.world) Page c) (with_turn t d.world) (with_turn t mid) new before after r
       (sym own_is ∙ none) (attached mid o e is) ending)
 
 -- what is assigned to a slot that a line names, when its turn is open
-pub assigned-opened : (w : World) (o : Owner) (s : Spelled) → assigned w (named (part_of w o) s) ≡ assigned (opening_turn w o) (named (part_of (opening_turn w o) o) s)
+pub assigned-opened : (w : World) (o : Owner) (s : Spelled) →
+    assigned w (named (part_of w o) s) ≡ assigned (opening_turn w o) (named (part_of (opening_turn w o) o) s)
 assigned-opened w o s = cases w.turn ∙ ap (λ (p : Part). assigned (opening_turn w o) (named p s)) (opened-part w o)
   where
     cases : (t : Option Owner) → assigned w (named (part_of w o) s) ≡ assigned (if is_some t then w else record w { turn = Some o }) (named (part_of w o) s)

@@ -31,15 +31,18 @@ use Rattle.dom_admission.proofs.Refusing.{IsNaming}
 
 module _ (names : List NodeName) (w : World) (o : Owner) where
   pub append-refused : (a x : Spelled) (parent node : ℕ) → IsKey names w o parent a → IsKey names w o node x →
-      insertion_refusal (part_of w (name_at names parent).owner).trees (name_at names parent) (name_at names node) None ≡ own_refusal (part_of w o) (Command.append a x)
+      insertion_refusal (part_of w (name_at names parent).owner).trees (name_at names parent) (name_at names node) None ≡ own_refusal
+      (part_of w o) (Command.append a x)
   append-refused a x parent node parent_is node_is = rw (parent_is, node_is, owner-named w o a) refl
 
   pub append-made : (a x : Spelled) (parent node : ℕ) → IsKey names w o parent a → IsKey names w o node x → (new : World) →
-      new ≡ made (name_at names parent).owner (pre_inserting (name_at names node) (name_at names parent) None) w → new ≡ made o (λ p. pre_inserting (named p x) (named p a) None p) w
+      new ≡ made (name_at names parent).owner (pre_inserting (name_at names node) (name_at names parent) None) w →
+      new ≡ made o (λ p. pre_inserting (named p x) (named p a) None p) w
   append-made a x parent node parent_is node_is new e = rw (parent_is, node_is, owner-named w o a) at e
 
   pub insert-refused : (a x b : Spelled) (parent node child : ℕ) → IsKey names w o parent a → IsKey names w o node x → IsKey names w o child b →
-      insertion_refusal (part_of w (name_at names parent).owner).trees (name_at names parent) (name_at names node) (Some (name_at names child)) ≡ own_refusal (part_of w o) (Command.insert a x b)
+      insertion_refusal (part_of w (name_at names parent).owner).trees (name_at names parent) (name_at names node)
+      (Some (name_at names child)) ≡ own_refusal (part_of w o) (Command.insert a x b)
   insert-refused a x b parent node child parent_is node_is child_is = rw (parent_is, node_is, child_is, owner-named w o a) refl
 
   pub insert-made : (a x b : Spelled) (parent node child : ℕ) → IsKey names w o parent a → IsKey names w o node x → IsKey names w o child b → (new : World) →
@@ -48,7 +51,8 @@ module _ (names : List NodeName) (w : World) (o : Owner) where
   insert-made a x b parent node child parent_is node_is child_is new e = rw (parent_is, node_is, child_is, owner-named w o a) at e
 
   pub replace-refused : (a x b : Spelled) (parent node child : ℕ) → IsKey names w o parent a → IsKey names w o node x → IsKey names w o child b →
-      replacement_refusal (part_of w (name_at names parent).owner).trees (name_at names parent) (name_at names node) (name_at names child) ≡ own_refusal (part_of w o) (Command.replace a x b)
+      replacement_refusal (part_of w (name_at names parent).owner).trees (name_at names parent) (name_at names node)
+      (name_at names child) ≡ own_refusal (part_of w o) (Command.replace a x b)
   replace-refused a x b parent node child parent_is node_is child_is = rw (parent_is, node_is, child_is, owner-named w o a) refl
 
   pub replace-made : (a x b : Spelled) (parent node child : ℕ) → IsKey names w o parent a → IsKey names w o node x → IsKey names w o child b → (new : World) →
@@ -57,10 +61,12 @@ module _ (names : List NodeName) (w : World) (o : Owner) where
   replace-made a x b parent node child parent_is node_is child_is new e = rw (parent_is, node_is, child_is, owner-named w o a) at e
 
   -- a plan for one node
-  pub node-made : (plan : NodeName → Plan) (x : Spelled) (node : ℕ) → IsKey names w o node x → (new : World) → new ≡ made (name_at names node).owner (plan (name_at names node)) w → new ≡ made o (λ p. plan (named p x) p) w
+  pub node-made : (plan : NodeName → Plan) (x : Spelled) (node : ℕ) → IsKey names w o node x → (new : World) →
+      new ≡ made (name_at names node).owner (plan (name_at names node)) w → new ≡ made o (λ p. plan (named p x) p) w
   node-made plan x node node_is new e = rw (node_is, owner-named w o x) at e
 
-  pub adopt-refused : (a x : Spelled) (node : ℕ) → IsKey names w o node x → adoption_refusal (kind_of (part_of w (name_at names node).owner).trees (name_at names node)) ≡ own_refusal (part_of w o) (Command.adopt a x)
+  pub adopt-refused : (a x : Spelled) (node : ℕ) → IsKey names w o node x →
+      adoption_refusal (kind_of (part_of w (name_at names node).owner).trees (name_at names node)) ≡ own_refusal (part_of w o) (Command.adopt a x)
   adopt-refused a x node node_is = rw (node_is, owner-named w o x) (by (kind_of (part_of w o).trees (named (part_of w o) x)))
     where
       by : (k : Kind) → adoption_refusal k ≡ first_refusal ((is_shadow k, Hierarchy) ∷ (is_document k, NotSupported) ∷ [])
@@ -72,25 +78,32 @@ module _ (names : List NodeName) (w : World) (o : Owner) where
       by Comment = refl
 
   pub adopt-made : (a x : Spelled) (document node : ℕ) → IsKey names w o document a → IsKey names w o node x → (new : World) →
-      new ≡ made (name_at names node).owner (adopting (name_at names document) (name_at names node)) w → new ≡ made o (λ p. adopting (named p a) (named p x) p) w
+      new ≡ made (name_at names node).owner (adopting (name_at names document) (name_at names node)) w →
+      new ≡ made o (λ p. adopting (named p a) (named p x) p) w
   adopt-made a x document node document_is node_is new e =
       let d = named (part_of w o) a in
       let first = subst (λ (y : NodeName). new ≡ made (name_at names node).owner (adopting y (name_at names node)) w) document_is e in
       let second = subst (λ (y : NodeName). new ≡ made y.owner (adopting d y) w) node_is first in
       subst (λ (q : Owner). new ≡ made q (adopting d (named (part_of w o) x)) w) (owner-named w o x) second
 
-  pub has_data-key : (x : Spelled) (node : ℕ) → IsKey names w o node x → has_data (kind_of (part_of w (name_at names node).owner).trees (name_at names node)) ≡ has_data (kind_of (part_of w o).trees (named (part_of w o) x))
+  pub has_data-key : (x : Spelled) (node : ℕ) → IsKey names w o node x →
+      has_data (kind_of (part_of w (name_at names node).owner).trees (name_at names node)) ≡ has_data
+      (kind_of (part_of w o).trees (named (part_of w o) x))
   has_data-key x node node_is = rw (node_is, owner-named w o x) refl
 
-  pub past_end-key : (x : Spelled) (node offset : ℕ) → IsKey names w o node x → past_end (part_of w (name_at names node).owner) (name_at names node) offset ≡ past_end (part_of w o) (named (part_of w o) x) offset
+  pub past_end-key : (x : Spelled) (node offset : ℕ) → IsKey names w o node x →
+      past_end (part_of w (name_at names node).owner) (name_at names node) offset ≡ past_end (part_of w o) (named (part_of w o) x) offset
   past_end-key x node offset node_is = rw (node_is, owner-named w o x) refl
 
   -- the refusals of a split, and of a change of text
-  pub split-refused : (x : Spelled) (node offset : ℕ) → IsKey names w o node x → splitting_refusal (part_of w (name_at names node).owner) (name_at names node) offset ≡ own_refusal (part_of w o) (Command.split x offset)
+  pub split-refused : (x : Spelled) (node offset : ℕ) → IsKey names w o node x →
+      splitting_refusal (part_of w (name_at names node).owner) (name_at names node) offset ≡ own_refusal (part_of w o) (Command.split x offset)
   split-refused x node offset node_is = rw (node_is, owner-named w o x) refl
 
   pub text-limit : (x : Spelled) (node : ℕ) (s : DomString) → IsKey names w o node x →
-      past_limit (part_of w (name_at names node).owner).node_count (made_by_text (part_of w (name_at names node).owner) (name_at names node) s) ≡ past_limit (part_of w o).node_count (made_by_text (part_of w o) (named (part_of w o) x) s)
+      past_limit (part_of w (name_at names node).owner).node_count
+      (made_by_text (part_of w (name_at names node).owner) (name_at names node) s) ≡ past_limit (part_of w o).node_count
+      (made_by_text (part_of w o) (named (part_of w o) x) s)
   text-limit x node s node_is = rw (node_is, owner-named w o x) refl
 
   -- the owner's next name is that of a node made for one of its nodes
@@ -111,10 +124,13 @@ lacks_none true r h = refl
 lacks_none false r h = absurd (h refl)
 
 -- a command that makes a node
-pub makes_node : (w new : World) (o : Owner) (c : Command) (k : Kind) (a e : Word) (s u : DomString) (before after : List ℕ) (r : Result (Unit {0}) Fault) → IsNaming c [] →
-    let_pass (early_refusal w o []) ≡ Ok tt → own_refusal (part_of w o) c ≡ limit_on (part_of w o).node_count 1 → accepted w o c ≡ making o k e u w → a ≡ e → s ≡ u →
+pub makes_node : (w new : World) (o : Owner) (c : Command) (k : Kind) (a e : Word) (s u : DomString) (before after : List ℕ)
+    (r : Result (Unit {0}) Fault) → IsNaming c [] →
+    let_pass (early_refusal w o []) ≡ Ok tt → own_refusal (part_of w o) c ≡ limit_on (part_of w o).node_count 1 →
+    accepted w o c ≡ making o k e u w → a ≡ e → s ≡ u →
     IsDone (limit_on (part_of w o).node_count 1) (making o k a s w) w new before after r → IsHandled o c w new before after r
 makes_node w new o c k a e s u before after r is pass own runs element text done =
     let run : making o k a s w ≡ accepted w o c = ap (λ (b : Word). making o k b s w) element ∙ ap (λ (v : DomString). making o k e v w) text ∙ sym runs in
     handled w new o c [] before after r is pass
-    (subst (λ q. IsDone q (accepted w o c) w new before after r) (sym own) (subst (λ (q : Run World). IsDone (limit_on (part_of w o).node_count 1) q w new before after r) run done))
+    (subst (λ q. IsDone q (accepted w o c) w new before after r) (sym own)
+    (subst (λ (q : Run World). IsDone (limit_on (part_of w o).node_count 1) q w new before after r) run done))

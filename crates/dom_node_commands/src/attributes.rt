@@ -23,7 +23,8 @@ pub fn set_attribute(
     value: DomStr,
     out: &mut Vec<u8>,
 ) -> Result<(), Fault>
-    ensures handled { IsHandled owner (set_attribute (spelled_view element) (string_bytes name) value.items) state.old.world state.new.world out.old.items out.new.items result }
+    ensures handled { IsHandled owner (set_attribute (spelled_view element) (string_bytes name) value.items) state.old.world state.new.world
+        out.old.items out.new.items result }
     ensures names { KeepsNames state.old.names state.new.names result }
 {
     state.admit(owner, &[Operand::Element(element)])?;
@@ -40,7 +41,8 @@ pub fn unset_attribute(
     name: String,
     out: &mut Vec<u8>,
 ) -> Result<(), Fault>
-    ensures handled { IsHandled owner (unset_attribute (spelled_view element) (string_bytes name)) state.old.world state.new.world out.old.items out.new.items result }
+    ensures handled { IsHandled owner (unset_attribute (spelled_view element) (string_bytes name)) state.old.world state.new.world out.old.items
+        out.new.items result }
     ensures names { KeepsNames state.old.names state.new.names result }
 {
     state.admit(owner, &[Operand::Element(element)])?;
@@ -57,7 +59,8 @@ pub fn attribute(
     name: String,
     out: &mut Vec<u8>,
 ) -> Result<(), Fault>
-    ensures handled { IsHandled owner (attribute (spelled_view element) (string_bytes name)) state.old.world state.new.world out.old.items out.new.items result }
+    ensures handled { IsHandled owner (attribute (spelled_view element) (string_bytes name)) state.old.world state.new.world out.old.items
+        out.new.items result }
     ensures names { KeepsNames state.old.names state.new.names result }
 {
     state.admit(owner, &[Operand::Element(element)])?;
@@ -69,7 +72,8 @@ pub fn attribute(
 /// The value of an attribute of a node that is there, for a reply.
 fn attribute_value<'a>(state: &'a State, owner: Owner, node: Spelled, name: &str) -> Value<'a>
     requires { has_node (part_of state.now.world owner).trees (named (part_of state.now.world owner) (spelled_view node)) ≡ true }
-    ensures { value_view result ≡ string_or_null (attribute_value (node_in (part_of state.now.world owner).trees (named (part_of state.now.world owner) (spelled_view node))) name.now) }
+    ensures { value_view result ≡ string_or_null
+        (attribute_value (node_in (part_of state.now.world owner).trees (named (part_of state.now.world owner) (spelled_view node))) name.now) }
 {
     match state.doc.forest().attr(state.key(owner, node), name) {
         Some(value) => Value::Str(value),

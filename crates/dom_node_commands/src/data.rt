@@ -38,7 +38,8 @@ pub fn replace_data(
     out: &mut Vec<u8>,
 ) -> Result<(), Fault>
     requires bounds { IsBounded state.old.world }
-    ensures handled { IsHandled owner (replace_data (spelled_view node) offset count text.items) state.old.world state.new.world out.old.items out.new.items result }
+    ensures handled { IsHandled owner (replace_data (spelled_view node) offset count text.items) state.old.world state.new.world out.old.items
+        out.new.items result }
     ensures names { KeepsNames state.old.names state.new.names result }
 {
     state.admit(owner, &[Operand::Data(node)])?;

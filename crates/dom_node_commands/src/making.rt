@@ -104,7 +104,8 @@ fn make(
 ) -> Result<(), Fault>
     requires owner_is_there { is_there state.old.world owner ≡ true }
     requires no_shadow { is_shadow kind ≡ false }
-    ensures done { IsDone (limit_on (part_of state.old.world owner).node_count 1) (making owner kind (string_bytes element) text.items state.old.world) state.old.world state.new.world out.old.items out.new.items result }
+    ensures done { IsDone (limit_on (part_of state.old.world owner).node_count 1)
+        (making owner kind (string_bytes element) text.items state.old.world) state.old.world state.new.world out.old.items out.new.items result }
     ensures names { KeepsNames state.old.names state.new.names result }
 {
     let node = NodeData {

@@ -37,7 +37,8 @@ pub fn insert(
     out: &mut Vec<u8>,
 ) -> Result<(), Fault>
     requires bounds { IsBounded state.old.world }
-    ensures handled { IsHandled owner (insert (spelled_view parent) (spelled_view node) (spelled_view child)) state.old.world state.new.world out.old.items out.new.items result }
+    ensures handled { IsHandled owner (insert (spelled_view parent) (spelled_view node) (spelled_view child)) state.old.world state.new.world
+        out.old.items out.new.items result }
     ensures names { KeepsNames state.old.names state.new.names result }
 {
     let named = [
@@ -62,7 +63,8 @@ pub fn replace(
     out: &mut Vec<u8>,
 ) -> Result<(), Fault>
     requires bounds { IsBounded state.old.world }
-    ensures handled { IsHandled owner (replace (spelled_view parent) (spelled_view node) (spelled_view child)) state.old.world state.new.world out.old.items out.new.items result }
+    ensures handled { IsHandled owner (replace (spelled_view parent) (spelled_view node) (spelled_view child)) state.old.world state.new.world
+        out.old.items out.new.items result }
     ensures names { KeepsNames state.old.names state.new.names result }
 {
     let named = [

@@ -1,5 +1,6 @@
 -- The shadow roots of the hosts in the tree of a node, listed in tree order.
-use Rattle.std.proofs.Common.{◌≡◌, ℕ, ◌<◌, ◌≤◌, true, ◌||◌, List, [], ◌∷◌, ◌++◌, All, map, filter_map, length, Option, Some, None, option_map, sym, ap, subst, ◌∙◌}
+use Rattle.std.proofs.Common.{◌≡◌, ℕ, ◌<◌, ◌≤◌, true, ◌||◌, List, [], ◌∷◌, ◌++◌, All, map, filter_map, length, Option, Some, None, option_map, sym}
+use Rattle.std.proofs.Common.{ap, subst, ◌∙◌}
 use Rattle.std.specs.List.{cons_option}
 use Rattle.std.specs.Option.{ForSome}
 use Rattle.std.proofs.lemmas.Bool.{cond-true}
@@ -24,7 +25,8 @@ module _ (f : NamedTrees) (hosts : List ShadowHost) (top : ℕ) where
 
   -- how far the loop has come that lists them
   pub record Lists (keys : List ℕ) (at : Option ℕ) : Type 0 where
-    pub listed : map (name_at f.names) keys ≡ filter_map (root_named f.names hosts) (walked (inclusive_descendants f.trees (name_at f.names top)) (option_map (name_at f.names) at))
+    pub listed : map (name_at f.names) keys ≡ filter_map (root_named f.names hosts)
+        (walked (inclusive_descendants f.trees (name_at f.names top)) (option_map (name_at f.names) at))
     pub stands : StandsIn (inclusive_descendants f.trees (name_at f.names top)) (option_map (name_at f.names) at)
     pub nodes : All (λ k. k < length f.names) keys
     pub here : ForSome at (λ k. k < length f.names)
@@ -34,7 +36,8 @@ module _ (f : NamedTrees) (hosts : List ShadowHost) (top : ℕ) where
       let x = name_at f.names top in
       let first = first_inside f.trees x there in
       record {
-        listed = ap (filter_map (root_named f.names hosts)) (sym (ap (items_before name_eq x) first.1 ∙ cond-true (name_eq x x) [] (x ∷ items_before name_eq x first.0) (name_eq-same x)));
+        listed = ap (filter_map (root_named f.names hosts))
+            (sym (ap (items_before name_eq x) first.1 ∙ cond-true (name_eq x x) [] (x ∷ items_before name_eq x first.0) (name_eq-same x)));
         stands = ap (is_in name_eq x) first.1 ∙ ap (λ b. b || is_in name_eq x first.0) (name_eq-same x);
         nodes = All-nil (λ k. k < length f.names);
         here = λ j e. let same : top ≡ j = cc in subst (λ i. i < length f.names) same within;
@@ -51,26 +54,32 @@ module _ (f : NamedTrees) (hosts : List ShadowHost) (top : ℕ) where
     pub lists_above : is_inclusive_ancestor f.trees (name_at f.names top) (name_at f.names k) ≡ true
     lists_above = above_inside f.trees once (name_at f.names top) y stands_at
 
-    module _ (next : Option ℕ) (found : option_map (name_at f.names) next ≡ first_of (items_after name_eq (name_at f.names k) (inclusive_descendants f.trees (name_at f.names top)))) where
+    module _ (next : Option ℕ) (found : option_map (name_at f.names) next ≡ first_of
+        (items_after name_eq (name_at f.names k) (inclusive_descendants f.trees (name_at f.names top)))) where
       walk : Walks below y (option_map (name_at f.names) next)
-      walk = subst (λ o. Walks below y o) (sym found) (walks below (names_once (subtree f.trees (name_at f.names top)) (once_subtree f.trees (name_at f.names top) once)) y stands_at)
+      walk = subst (λ o. Walks below y o) (sym found)
+          (walks below (names_once (subtree f.trees (name_at f.names top)) (once_subtree f.trees (name_at f.names top) once)) y stands_at)
 
       pub lists_fewer : left below (option_map (name_at f.names) next) < left below (option_map (name_at f.names) at)
       lists_fewer = subst (λ (o : Option ℕ). left below (option_map (name_at f.names) next) < left below (option_map (name_at f.names) o)) (sym is) walk.fewer
 
       module _ (distinct : AreDistinct f.names) (nodes : HostsAreNodes f.names hosts) (near : ForSome next (λ j. j < length f.names)) where
         before : map (name_at f.names) keys ≡ filter_map (root_named f.names hosts) (items_before name_eq y below)
-        before = subst (λ (o : Option ℕ). map (name_at f.names) keys ≡ filter_map (root_named f.names hosts) (walked below (option_map (name_at f.names) o))) is lists.listed
+        before = subst (λ (o : Option ℕ). map (name_at f.names) keys ≡ filter_map (root_named f.names hosts)
+            (walked below (option_map (name_at f.names) o))) is lists.listed
 
-        more : filter_map (root_named f.names hosts) (walked below (option_map (name_at f.names) next)) ≡ map (name_at f.names) keys ++ cons_option (option_map (name_at f.names) (root_of_host hosts k)) []
+        more : filter_map (root_named f.names hosts) (walked below (option_map (name_at f.names) next)) ≡ map (name_at f.names) keys ++
+            cons_option (option_map (name_at f.names) (root_of_host hosts k)) []
         more =
             ap (filter_map (root_named f.names hosts)) walk.more
             ∙ (filter_map-append (root_named f.names hosts) (items_before name_eq y below) (y ∷ [])
-            ∙ (ap (λ xs. xs ++ filter_map (root_named f.names hosts) (y ∷ [])) (sym before) ∙ ap (λ m. map (name_at f.names) keys ++ cons_option m []) (sym (root-named f.names distinct hosts nodes k (lists.here k is)))))
+            ∙ (ap (λ xs. xs ++ filter_map (root_named f.names hosts) (y ∷ [])) (sym before) ∙
+            ap (λ m. map (name_at f.names) keys ++ cons_option m []) (sym (root-named f.names distinct hosts nodes k (lists.here k is)))))
 
         pub lists_root : (r : ℕ) → root_of_host hosts k ≡ Some r → Lists (keys ++ r ∷ []) next
         lists_root r root = record {
-          listed = map-append (name_at f.names) keys (r ∷ []) ∙ sym (more ∙ ap (λ (m : Option ℕ). map (name_at f.names) keys ++ cons_option (option_map (name_at f.names) m) []) root);
+          listed = map-append (name_at f.names) keys (r ∷ []) ∙
+              sym (more ∙ ap (λ (m : Option ℕ). map (name_at f.names) keys ++ cons_option (option_map (name_at f.names) m) []) root);
           stands = walk.stands;
           nodes = All-push (λ j. j < length f.names) keys r lists.nodes (root-node f.names hosts nodes k r root);
           here = near;
@@ -78,7 +87,8 @@ module _ (f : NamedTrees) (hosts : List ShadowHost) (top : ℕ) where
 
         pub lists_none : root_of_host hosts k ≡ None → Lists keys next
         lists_none root = record {
-          listed = sym (more ∙ (ap (λ (m : Option ℕ). map (name_at f.names) keys ++ cons_option (option_map (name_at f.names) m) []) root ∙ append-nil (map (name_at f.names) keys)));
+          listed = sym (more ∙ (ap (λ (m : Option ℕ). map (name_at f.names) keys ++ cons_option (option_map (name_at f.names) m) []) root ∙
+              append-nil (map (name_at f.names) keys)));
           stands = walk.stands;
           nodes = lists.nodes;
           here = near;

@@ -12,7 +12,8 @@ module _ (names : List NodeName) (distinct : AreDistinct names) where
   -- a slot more is signalled, by keys as by names
   pub signalled_key : (keys : List ℕ) (k : ℕ) → All (λ j. j < length names) keys → k < length names
       → map (name_at names) (append_once nat_eq keys k) ≡ append_once name_eq (map (name_at names) keys) (name_at names k)
-  signalled_key keys k nodes node = by (is_in nat_eq k keys) ∙ ap (λ (b : Bool). if b then map (name_at names) keys else map (name_at names) keys ++ name_at names k ∷ []) (among keys nodes)
+  signalled_key keys k nodes node = by (is_in nat_eq k keys) ∙
+      ap (λ (b : Bool). if b then map (name_at names) keys else map (name_at names) keys ++ name_at names k ∷ []) (among keys nodes)
     where
       among : (ks : List ℕ) → All (λ j. j < length names) ks → is_in nat_eq k ks ≡ is_in name_eq (name_at names k) (map (name_at names) ks)
       among [] all = refl
@@ -21,7 +22,8 @@ module _ (names : List NodeName) (distinct : AreDistinct names) where
           let rest = among ks (All-tail (λ i. i < length names) j ks all) in
           λ i. here i || rest i
 
-      by : (b : Bool) → map (name_at names) (if b then keys else keys ++ k ∷ []) ≡ (if b then map (name_at names) keys else map (name_at names) keys ++ name_at names k ∷ [])
+      by : (b : Bool) → map (name_at names)
+          (if b then keys else keys ++ k ∷ []) ≡ (if b then map (name_at names) keys else map (name_at names) keys ++ name_at names k ∷ [])
       by true = refl
       by false = map-append (name_at names) keys (k ∷ [])
 

@@ -1,5 +1,6 @@
 -- Slots that are signalled, one after another, by their keys as by their names.
-use Rattle.std.proofs.Common.{◌≡◌, ℕ, ◌+◌, ◌<◌, Bool, true, false, ◌||◌, inl, inr, List, [], ◌∷◌, ◌++◌, All, map, fold, take, length, get_or, nat_eq, Option, Some, None, refl, sym, ap, subst, ◌∙◌}
+use Rattle.std.proofs.Common.{◌≡◌, ℕ, ◌+◌, ◌<◌, Bool, true, false, ◌||◌, inl, inr, List, [], ◌∷◌, ◌++◌, All, map, fold, take, length, get_or, nat_eq}
+use Rattle.std.proofs.Common.{Option, Some, None, refl, sym, ap, subst, ◌∙◌}
 use Rattle.std.specs.Prelude.{if◌then◌else◌}
 use Rattle.std.specs.List.{AllByRecursion}
 use Rattle.std.proofs.lemmas.Bool.{cases_Bool}
@@ -26,17 +27,21 @@ abbrev pub queued_by : List NodeName → List Task → ℕ → List Task
 queued_by names tasks slot = queued_notify (name_at names slot).owner tasks
 
 -- one item more of a fold
-pub fold_next : {X Y : Type 0} (f : Y → X → Y) (z : Y) (xs : List X) (i : ℕ) (x : X) → i < length xs → x ≡ get_or xs i x → fold f z (take (i + 1) xs) ≡ f (fold f z (take i xs)) x
+pub fold_next : {X Y : Type 0} (f : Y → X → Y) (z : Y) (xs : List X) (i : ℕ) (x : X) → i < length xs → x ≡ get_or xs i x →
+    fold f z (take (i + 1) xs) ≡ f (fold f z (take i xs)) x
 fold_next f z xs i x within is = fold_more f z xs i x within ∙ ap (f (fold f z (take i xs))) (sym is)
 
-queued_names : (names : List NodeName) (tasks : List Task) (keys : List ℕ) → fold (queued_by names) tasks keys ≡ fold (λ (ts : List Task) (s : NodeName). queued_notify s.owner ts) tasks (map (name_at names) keys)
+queued_names : (names : List NodeName) (tasks : List Task) (keys : List ℕ) →
+    fold (queued_by names) tasks keys ≡ fold (λ (ts : List Task) (s : NodeName). queued_notify s.owner ts) tasks (map (name_at names) keys)
 queued_names names tasks [] = refl
 queued_names names tasks (k ∷ keys) = queued_names names (queued_by names tasks k) keys
 
-nodes_fold : (names : List NodeName) → AreDistinct names → (keys more : List ℕ) → All (λ j. j < length names) keys → All (λ j. j < length names) more → All (λ j. j < length names) (fold (append_once nat_eq) keys more)
+nodes_fold : (names : List NodeName) → AreDistinct names → (keys more : List ℕ) → All (λ j. j < length names) keys →
+    All (λ j. j < length names) more → All (λ j. j < length names) (fold (append_once nat_eq) keys more)
 nodes_fold names distinct keys [] nodes all = nodes
 nodes_fold names distinct keys (k ∷ more) nodes all =
-    nodes_fold names distinct (append_once nat_eq keys k) more (signalled_nodes names distinct keys k nodes (All-head (λ j. j < length names) k more all)) (All-tail (λ j. j < length names) k more all)
+    nodes_fold names distinct (append_once nat_eq keys k) more
+    (signalled_nodes names distinct keys k nodes (All-head (λ j. j < length names) k more all)) (All-tail (λ j. j < length names) k more all)
 
 -- what holds of all of some names and others, each once, holds of both
 module _ (P : NodeName → Type 0) where
@@ -65,31 +70,47 @@ module _ (P : NodeName → Type 0) where
       let here = appended xs x rest.0 in (here.0, (here.1, rest.1))
 
 -- what holds of the names of nodes holds of those of some keys
-pub all_named : (P : NodeName → Type 0) (names : List NodeName) → ((k : ℕ) → k < length names → P (name_at names k)) → (keys : List ℕ) → All (λ k. k < length names) keys → AllByRecursion P (map (name_at names) keys)
+pub all_named : (P : NodeName → Type 0) (names : List NodeName) → ((k : ℕ) → k < length names → P (name_at names k)) → (keys : List ℕ) →
+    All (λ k. k < length names) keys → AllByRecursion P (map (name_at names) keys)
 all_named P names each [] all = tt
-all_named P names each (k ∷ keys) all = (each k (All-head (λ j. j < length names) k keys all), all_named P names each keys (All-tail (λ j. j < length names) k keys all))
+all_named P names each (k ∷ keys) all = (
+  each k (All-head (λ j. j < length names) k keys all),
+  all_named P names each keys
+      (All-tail (λ j. j < length names) k keys all),
+)
 
 -- all the slots of a step
-pub all_signalled : (names : List NodeName) → AreDistinct names → (was now : Trees) (step : Step) (left : Option ℕ) (slots kept : SlotsNow) (signalled : List ℕ) (tasks : List Task) (keys : List ℕ)
-    → kept.hosts ≡ slots.hosts → kept.begun ≡ None → AreSlotsOf (record { names = names; trees = now }) kept → All (λ k. k < length names) signalled → All (λ k. k < length names) keys
+pub all_signalled : (names : List NodeName) → AreDistinct names →
+    (was now : Trees) (step : Step) (left : Option ℕ) (slots kept : SlotsNow) (signalled : List ℕ) (tasks : List Task) (keys : List ℕ)
+    → kept.hosts ≡ slots.hosts → kept.begun ≡ None → AreSlotsOf (record { names = names; trees = now }) kept →
+    All (λ k. k < length names) signalled → All (λ k. k < length names) keys
     → map (name_at names) keys ≡ step_signals names (shadow_trees names was slots.hosts) (shadow_trees names now slots.hosts) step left
     → (more : List ℕ) (later : List Task) → more ≡ fold (append_once nat_eq) signalled keys → later ≡ fold (queued_by names) tasks keys
     → HasSignalled names was now step left (signal_tables slots signalled tasks) (signal_tables kept more later)
 all_signalled names distinct was now step left slots kept signalled tasks keys hosts free are nodes keys_nodes told more later is_more is_later = record {
   hosts = hosts;
-  held = record { free = free; slots = are; nodes = subst (All (λ k. k < length names)) (sym is_more) (nodes_fold names distinct signalled keys nodes keys_nodes) };
-  signalled = ap (map (name_at names)) is_more ∙ (signalled_keys names distinct signalled keys nodes keys_nodes ∙ ap (fold (append_once name_eq) (map (name_at names) signalled)) told);
+  held = record {
+    free = free;
+    slots = are;
+    nodes = subst (All (λ k. k < length names)) (sym is_more) (nodes_fold names distinct signalled keys nodes keys_nodes);
+  };
+  signalled = ap (map (name_at names)) is_more ∙
+      (signalled_keys names distinct signalled keys nodes keys_nodes ∙ ap (fold (append_once name_eq) (map (name_at names) signalled)) told);
   tasks = is_later ∙ (queued_names names tasks keys ∙ ap (fold (λ (ts : List Task) (s : NodeName). queued_notify s.owner ts) tasks) told);
 }
 
 -- A step that was begun with some slots, and is done.
-module _ (f g : NamedTrees) (slots middle : SlotsNow) (step : Step) (begun : (b : BegunStep) × (middle.begun ≡ Some b) × IsBegun f slots.hosts step b) (names : g.names ≡ f.names) (hosts : middle.hosts ≡ slots.hosts) where
+module _ (f g : NamedTrees) (slots middle : SlotsNow) (step : Step)
+    (begun : (b : BegunStep) × (middle.begun ≡ Some b) × IsBegun f slots.hosts step b) (names : g.names ≡ f.names)
+    (hosts : middle.hosts ≡ slots.hosts) where
   -- it can be ended
-  pub ends : StepHasNodes f.names step → AreSlotsOf f slots → middle.table ≡ slots.table → IsStepFrom f.names f.trees g.trees step begun.0.left → IsEndOf f.trees g middle begun.0
+  pub ends : StepHasNodes f.names step → AreSlotsOf f slots → middle.table ≡ slots.table → IsStepFrom f.names f.trees g.trees step begun.0.left →
+      IsEndOf f.trees g middle begun.0
   ends nodes are table is = step-ends f g slots middle step begun.0 names nodes are hosts table begun.1 begun.2 is
 
   -- and its signals are those of the step
-  pub told : (signalled : List ℕ) (tasks : List Task) (after : SignalTables) → HasSignalled g.names f.trees g.trees begun.0.step begun.0.left (signal_tables middle signalled tasks) after
+  pub told : (signalled : List ℕ) (tasks : List Task) (after : SignalTables) →
+      HasSignalled g.names f.trees g.trees begun.0.step begun.0.left (signal_tables middle signalled tasks) after
       → HasSignalled f.names f.trees g.trees step begun.0.left (signal_tables slots signalled tasks) after
   told signalled tasks after h =
       let left = begun.0.left in
@@ -99,7 +120,9 @@ module _ (f g : NamedTrees) (slots middle : SlotsNow) (step : Step) (begun : (b 
         hosts = here.hosts ∙ hosts;
         held = here.held;
         signalled = subst (λ (hs : List ShadowHost). map (name_at f.names) after.signalled
-            ≡ fold (append_once name_eq) (map (name_at f.names) signalled) (step_signals f.names (shadow_trees f.names f.trees hs) (shadow_trees f.names g.trees hs) step left)) hosts here.signalled;
+            ≡ fold (append_once name_eq) (map (name_at f.names) signalled)
+            (step_signals f.names (shadow_trees f.names f.trees hs) (shadow_trees f.names g.trees hs) step left)) hosts here.signalled;
         tasks = subst (λ (hs : List ShadowHost). after.tasks
-            ≡ fold (λ (ts : List Task) (s : NodeName). queued_notify s.owner ts) tasks (step_signals f.names (shadow_trees f.names f.trees hs) (shadow_trees f.names g.trees hs) step left)) hosts here.tasks;
+            ≡ fold (λ (ts : List Task) (s : NodeName). queued_notify s.owner ts) tasks
+            (step_signals f.names (shadow_trees f.names f.trees hs) (shadow_trees f.names g.trees hs) step left)) hosts here.tasks;
       }

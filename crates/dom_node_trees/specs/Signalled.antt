@@ -33,8 +33,10 @@ pub record HasSignalled (names : List NodeName) (was now : Trees) (step : Step) 
   pub hosts : after.slots.hosts ≡ before.slots.hosts
   pub held : AreSignals names now after
   pub signalled : map (name_at names) after.signalled
-      ≡ fold (append_once name_eq) (map (name_at names) before.signalled) (step_signals names (shadow_trees names was before.slots.hosts) (shadow_trees names now before.slots.hosts) step left)
-  pub tasks : after.tasks ≡ fold (λ (ts : List Task) (s : NodeName). queued_notify s.owner ts) before.tasks (step_signals names (shadow_trees names was before.slots.hosts) (shadow_trees names now before.slots.hosts) step left)
+      ≡ fold (append_once name_eq) (map (name_at names) before.signalled)
+      (step_signals names (shadow_trees names was before.slots.hosts) (shadow_trees names now before.slots.hosts) step left)
+  pub tasks : after.tasks ≡ fold (λ (ts : List Task) (s : NodeName). queued_notify s.owner ts) before.tasks
+      (step_signals names (shadow_trees names was before.slots.hosts) (shadow_trees names now before.slots.hosts) step left)
 
 -- a node left its parent, if it had one, and the slots were signalled
 pub record HasLeft (names : List NodeName) (was now : Trees) (node : ℕ) (before after : SignalTables) : Type 0 where

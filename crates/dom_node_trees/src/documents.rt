@@ -47,7 +47,8 @@ pub fn roots_below(
 ) -> Result<Vec<Key>, AllocError>
     requires top_is_node { top < length forest.now.names }
     requires hosts { HostsAreNodes forest.now.names slots.now.hosts }
-    ensures names { IfOk result (λ keys. map (name_at forest.now.names) keys.items ≡ filter_map (root_named forest.now.names slots.now.hosts) (inclusive_descendants forest.now.trees (name_at forest.now.names top))) }
+    ensures names { IfOk result (λ keys. map (name_at forest.now.names) keys.items ≡ filter_map (root_named forest.now.names slots.now.hosts)
+        (inclusive_descendants forest.now.trees (name_at forest.now.names top))) }
     ensures nodes { IfOk result (λ keys. All (λ k. k < length forest.now.names) keys.items) }
 {
     forest.nodes_stand_once();

@@ -35,8 +35,10 @@ pub fn link(
     requires before_is_child { ForSome before (λ b. parent_of forest.old.trees (name_at forest.old.names b) ≡ Some (name_at forest.old.names parent)) }
     requires signals { AreSignals forest.old.names forest.old.trees (signal_tables slots.old signalled.old.items queue.old) }
     ensures names { OnOk result (forest.new.names ≡ forest.old.names) }
-    ensures trees { OnOk result (forest.new.trees ≡ placed (name_at forest.old.names node) (name_at forest.old.names parent) (option_map (name_at forest.old.names) before) forest.old.trees) }
-    ensures signals { OnOk result (HasSignalled forest.old.names forest.old.trees forest.new.trees (Place node parent before) None (signal_tables slots.old signalled.old.items queue.old) (signal_tables slots.new signalled.new.items queue.new)) }
+    ensures trees { OnOk result (forest.new.trees ≡ placed (name_at forest.old.names node) (name_at forest.old.names parent)
+        (option_map (name_at forest.old.names) before) forest.old.trees) }
+    ensures signals { OnOk result (HasSignalled forest.old.names forest.old.trees forest.new.trees (Place node parent before) None
+        (signal_tables slots.old signalled.old.items queue.old) (signal_tables slots.new signalled.new.items queue.new)) }
 {
     let child = before;
     slots.begin(forest, Step::Place(node, parent, child))?;
@@ -56,7 +58,8 @@ pub fn unlink(
     requires signals { AreSignals forest.old.names forest.old.trees (signal_tables slots.old signalled.old.items queue.old) }
     ensures names { OnOk result (forest.new.names ≡ forest.old.names) }
     ensures trees { OnOk result (forest.new.trees ≡ taken_out (name_at forest.old.names node) forest.old.trees) }
-    ensures signals { OnOk result (HasLeft forest.old.names forest.old.trees forest.new.trees node (signal_tables slots.old signalled.old.items queue.old) (signal_tables slots.new signalled.new.items queue.new)) }
+    ensures signals { OnOk result (HasLeft forest.old.names forest.old.trees forest.new.trees node
+        (signal_tables slots.old signalled.old.items queue.old) (signal_tables slots.new signalled.new.items queue.new)) }
 {
     slots.begin(forest, Step::Removal(node))?;
     forest.unlink(node);
@@ -77,7 +80,8 @@ pub fn set_attr(
     requires signals { AreSignals forest.old.names forest.old.trees (signal_tables slots.old signalled.old.items queue.old) }
     ensures names { OnOk result (forest.new.names ≡ forest.old.names) }
     ensures trees { OnOk result (forest.new.trees ≡ change_node (with_attribute name.now (Some value.items)) (name_at forest.old.names node) forest.old.trees) }
-    ensures signals { OnOk result (HasSignalled forest.old.names forest.old.trees forest.new.trees (Attribute node) None (signal_tables slots.old signalled.old.items queue.old) (signal_tables slots.new signalled.new.items queue.new)) }
+    ensures signals { OnOk result (HasSignalled forest.old.names forest.old.trees forest.new.trees (Attribute node) None
+        (signal_tables slots.old signalled.old.items queue.old) (signal_tables slots.new signalled.new.items queue.new)) }
 {
     slots.begin(forest, Step::Attribute(node))?;
     forest.set_attr(node, name, value)?;
@@ -97,7 +101,8 @@ pub fn remove_attr(
     requires signals { AreSignals forest.old.names forest.old.trees (signal_tables slots.old signalled.old.items queue.old) }
     ensures names { OnOk result (forest.new.names ≡ forest.old.names) }
     ensures trees { OnOk result (forest.new.trees ≡ change_node (with_attribute name.now None) (name_at forest.old.names node) forest.old.trees) }
-    ensures signals { OnOk result (HasSignalled forest.old.names forest.old.trees forest.new.trees (Attribute node) None (signal_tables slots.old signalled.old.items queue.old) (signal_tables slots.new signalled.new.items queue.new)) }
+    ensures signals { OnOk result (HasSignalled forest.old.names forest.old.trees forest.new.trees (Attribute node) None
+        (signal_tables slots.old signalled.old.items queue.old) (signal_tables slots.new signalled.new.items queue.new)) }
 {
     slots.begin(forest, Step::Attribute(node))?;
     let _ = forest.remove_attr(node, name);
@@ -113,7 +118,9 @@ fn end(
 ) -> Result<(), AllocError>
     requires step { (was : TreesOf) × (b : BegunStep) × IsEndOf was forest.now slots.old b }
     requires nodes { All (λ k. k < length forest.now.names) signalled.old.items }
-    ensures { (was : TreesOf) (b : BegunStep) → IsEndOf was forest.now slots.old b → OnOk result (HasSignalled forest.now.names was forest.now.trees b.step b.left (signal_tables slots.old signalled.old.items queue.old) (signal_tables slots.new signalled.new.items queue.new)) }
+    ensures { (was : TreesOf) (b : BegunStep) → IsEndOf was forest.now slots.old b →
+        OnOk result (HasSignalled forest.now.names was forest.now.trees b.step b.left (signal_tables slots.old signalled.old.items queue.old)
+        (signal_tables slots.new signalled.new.items queue.new)) }
 {
     forest.nodes_stand_once();
     let keys = slots.end(forest)?;

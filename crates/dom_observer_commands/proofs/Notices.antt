@@ -29,10 +29,12 @@ map_twice g h [] = refl
 map_twice g h (x ∷ xs) = ap (λ zs. h (g x) ∷ zs) (map_twice g h xs)
 
 -- are those of the notification
-pub notice_lines_are : {Z : Type 0} (d : DocState) (w : World) (o : Owner) (list : List (ℕ × Vec KeyedChange Z)) → map (notice_in d) list ≡ notices_of (part_of w o) → notice_lines d.names o list ≡ notified_lines (part_of w o)
+pub notice_lines_are : {Z : Type 0} (d : DocState) (w : World) (o : Owner) (list : List (ℕ × Vec KeyedChange Z)) →
+    map (notice_in d) list ≡ notices_of (part_of w o) → notice_lines d.names o list ≡ notified_lines (part_of w o)
 unfolding told_lines
 notice_lines_are {Z} d w o list is =
-    lines_same (λ (n : ℕ × Vec KeyedChange Z). record_lines d.names o n.0 n.1.items) (λ (n : ℕ × Vec KeyedChange Z). told_lines o (notice_in d n)) (λ n. sym (map_twice (change_in d) (λ c. says o (recorded n.0 c)) n.1.items)) list
+    lines_same (λ (n : ℕ × Vec KeyedChange Z). record_lines d.names o n.0 n.1.items) (λ (n : ℕ × Vec KeyedChange Z). told_lines o (notice_in d n))
+    (λ n. sym (map_twice (change_in d) (λ c. says o (recorded n.0 c)) n.1.items)) list
     ∙ sym (lines_mapped (told_lines o) (notice_in d) list) ∙ ap (flat_map (told_lines o)) is
     ∙ lines_mapped (told_lines o) (λ k. (k, queue_of (part_of w o).record_queues k)) (part_of w o).pending
     ∙ ap (λ q. flat_map (λ k. map (λ c. says q (recorded k c)) (queue_of (part_of w o).record_queues k)) (part_of w o).pending) (sym (owner-part_of w o))

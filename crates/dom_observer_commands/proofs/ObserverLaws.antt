@@ -20,15 +20,18 @@ use Rattle.dom_model.specs.Turns.{opening_turn}
 use Rattle.dom_admission.specs.Turned.{with_turn}
 
 -- a registration
-pub observe-made : (names : List NodeName) (w now : World) (o : Owner) (s : Spelled) (key : ℕ) → IsKey names w o key s → (k : ℕ) (words said : ObserveWords) (v : Value) → words ≡ said →
+pub observe-made : (names : List NodeName) (w now : World) (o : Owner) (s : Spelled) (key : ℕ) → IsKey names w o key s →
+    (k : ℕ) (words said : ObserveWords) (v : Value) → words ≡ said →
     Makes o (Command.observe k (own (name_at names key).number) words) v w now → Makes o (Command.observe k s said) v w now
 observe-made names w now o s key is k words said v same h =
     let p = part_of w o in
-    let registers : NodeName → ObserveWords → Effect = λ x e. keeps (record p { registrations = with_registration name_eq k x (options_of e) p.registrations }) nothing in
+    let registers : NodeName → ObserveWords → Effect =
+    λ x e. keeps (record p { registrations = with_registration name_eq k x (options_of e) p.registrations }) nothing in
     (sym (ap (λ (x : NodeName). registers x words) (numbered p s (name_at names key) is) ∙ ap (registers (named p s)) same) ∙ h.0, h.1)
 
 -- the lines of an observer's records
-pub record_lines_are : (d : DocState) (o : Owner) (k : ℕ) (records : List Change) → record_lines d.names o k records ≡ map (says o) (map (λ r. recorded k (change_in d r)) records)
+pub record_lines_are : (d : DocState) (o : Owner) (k : ℕ) (records : List Change) →
+    record_lines d.names o k records ≡ map (says o) (map (λ r. recorded k (change_in d r)) records)
 record_lines_are d o k records = sym (map_twice (λ r. recorded k (change_in d r)) (says o) records)
 
 -- a world with other tasks
@@ -37,6 +40,7 @@ tasked w ts = record { parts = w.parts; signalled = w.signalled; tasks = ts; tur
 
 -- the turn may be opened after a label is queued
 pub micro_queued : (t : Option Owner) (w : World) (o : Owner) (label : Word) →
-    (opening_turn (with_turn t (tasked w (w.tasks ++ micro_task o label ∷ []))) o, says o (replied nothing) ∷ []) ≡ accepted (with_turn t w) o (Command.micro label)
+    (opening_turn (with_turn t (tasked w (w.tasks ++ micro_task o label ∷ []))) o, says o (replied nothing) ∷ []) ≡ accepted (with_turn t w) o
+    (Command.micro label)
 micro_queued None w o label = refl
 micro_queued (Some x) w o label = refl

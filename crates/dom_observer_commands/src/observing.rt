@@ -31,7 +31,8 @@ pub fn observe(
     words: ObserveWords,
     out: &mut Vec<u8>,
 ) -> Result<(), Fault>
-    ensures handled { IsHandled owner (observe number (spelled_view node) (observe_view words)) state.old.world state.new.world out.old.items out.new.items result }
+    ensures handled { IsHandled owner (observe number (spelled_view node) (observe_view words)) state.old.world state.new.world out.old.items
+        out.new.items result }
     ensures names { KeepsNames state.old.names state.new.names result }
 {
     state.admit(owner, &[Operand::Any(node), Operand::Observer(number)])?;

@@ -1,5 +1,6 @@
 -- The keys of a node's inclusive ancestors, from the node upwards.
-use Rattle.std.proofs.Common.{inl, inr, ◌≡◌, ℕ, zero, suc, ◌<◌, Bool, true, false, List, [], ◌∷◌, ◌++◌, length, map, Option, Some, None, refl, sym, ap, ◌∙◌, subst, arith}
+use Rattle.std.proofs.Common.{inl, inr, ◌≡◌, ℕ, zero, suc, ◌<◌, Bool, true, false, List, [], ◌∷◌, ◌++◌, length, map, Option, Some, None, refl, sym}
+use Rattle.std.proofs.Common.{ap, ◌∙◌, subst, arith}
 use Rattle.std.specs.Prelude.{option_map, slice_get}
 use Rattle.std.proofs.lemmas.Option.{same_Some, none-some}
 use Rattle.std.specs.Option.{ForSome, option_map_or}
@@ -30,7 +31,9 @@ key_of-name (y ∷ ys) apart (suc k) short =
 -- and so have the names of many
 pub keys_of-names : (names : List NodeName) → TellApart names → (ks : List ℕ) → AreAll (IsKey names) ks → map (key_of names) (map (name_at names) ks) ≡ ks
 keys_of-names names apart [] all = refl
-keys_of-names names apart (k ∷ ks) all = ap (λ j. j ∷ map (key_of names) (map (name_at names) ks)) (key_of-name names apart k all.0) ∙ ap (λ js. k ∷ js) (keys_of-names names apart ks all.1)
+keys_of-names names apart (k ∷ ks) all =
+    ap (λ j. j ∷ map (key_of names) (map (name_at names) ks)) (key_of-name names apart k all.0) ∙
+    ap (λ js. k ∷ js) (keys_of-names names apart ks all.1)
 
 -- the inclusive ancestors of a node that is there
 pub above : NamedTrees → Option ℕ → List NodeName
@@ -43,11 +46,13 @@ pub record HasClimbed (f : NamedTrees) (key : ℕ) (path : List ℕ) (at : Optio
   pub whole : map (name_at f.names) path ++ above f at ≡ inclusive_ancestors f.trees (name_at f.names key)
 
 -- a node and those above its parent
-climbs : (f : NamedTrees) → StandOnce f → StandAlone f → (k : ℕ) (next : Option ℕ) → k < length f.names → option_map (name_at f.names) next ≡ parent_of f.trees (name_at f.names k)
+climbs : (f : NamedTrees) → StandOnce f → StandAlone f → (k : ℕ) (next : Option ℕ) → k < length f.names →
+    option_map (name_at f.names) next ≡ parent_of f.trees (name_at f.names k)
     → above f (Some k) ≡ name_at f.names k ∷ above f next
 unfolding above
 climbs f once only k None node is = above-root f.trees (name_at f.names k) (Has-forest f once k node) (sym is)
-climbs f once only k (Some p) node is = (above-parent f.trees (name_at f.names k) (name_at f.names p) (Once-forest f once only) (Has-forest f once k node) (sym is)).0
+climbs f once only k (Some p) node is = (above-parent f.trees (name_at f.names k) (name_at f.names p) (Once-forest f once only)
+    (Has-forest f once k node) (sym is)).0
 
 -- one item more
 AreAll-push : {M : Type 0} (P : M → Type 0) (xs : List M) (x : M) → AreAll P xs → P x → AreAll P (xs ++ x ∷ [])
@@ -61,7 +66,8 @@ climbs-first f key node =
     record { nodes = tt; next = λ k e. (let same : key ≡ k = cc in subst (IsKey f.names) same node); whole = refl }
 
 -- a step
-pub climbs-more : (f : NamedTrees) → StandOnce f → StandAlone f → (key k : ℕ) (path : List ℕ) (next : Option ℕ) → HasClimbed f key path (Some k) → k < length f.names
+pub climbs-more : (f : NamedTrees) → StandOnce f → StandAlone f → (key k : ℕ) (path : List ℕ) (next : Option ℕ) → HasClimbed f key path (Some k) →
+    k < length f.names
     → option_map (name_at f.names) next ≡ parent_of f.trees (name_at f.names k) → ForSome next (IsKey f.names) → HasClimbed f key (path ++ k ∷ []) next
 climbs-more f once only key k path next done node is nodes =
     record {
@@ -74,7 +80,8 @@ climbs-more f once only key k path next done node is nodes =
     }
 
 -- fewer are left above
-pub climbs-fewer : (f : NamedTrees) → StandOnce f → StandAlone f → (k : ℕ) (next : Option ℕ) → k < length f.names → option_map (name_at f.names) next ≡ parent_of f.trees (name_at f.names k)
+pub climbs-fewer : (f : NamedTrees) → StandOnce f → StandAlone f → (k : ℕ) (next : Option ℕ) → k < length f.names →
+    option_map (name_at f.names) next ≡ parent_of f.trees (name_at f.names k)
     → length (above f next) < length (above f (Some k))
 climbs-fewer f once only k next node is = let longer = ap (length {A = NodeName}) (climbs f once only k next node is) in omega (arith, longer)
 
@@ -86,7 +93,8 @@ climbs-all f apart key path done =
     ∙ ap (map (key_of f.names)) (sym (append-nil (map (name_at f.names) path)) ∙ done.whole)
 
 -- what it has done is the beginning of the whole way
-pub climbs-through : (f : NamedTrees) → StandOnce f → TellApart f.names → (key k : ℕ) (path : List ℕ) → HasClimbed f key path (Some k) → (rest : List ℕ) × (path_keys f key ≡ path ++ k ∷ rest)
+pub climbs-through : (f : NamedTrees) → StandOnce f → TellApart f.names → (key k : ℕ) (path : List ℕ) → HasClimbed f key path (Some k) →
+    (rest : List ℕ) × (path_keys f key ≡ path ++ k ∷ rest)
 unfolding above
 climbs-through f once apart key k path done =
     let node = done.next k refl in
@@ -111,7 +119,8 @@ keyed (y ∷ ys) x zero e =
     (ap (name_at (y ∷ ys)) at ∙ same_Some y x e, omega (arith, at))
 keyed (y ∷ ys) x (suc j) e = by (name_eq x y) refl (keyed ys x j e)
   where
-    by : (b : Bool) → name_eq x y ≡ b → (name_at ys (key_of ys x) ≡ x) × (key_of ys x < length ys) → (name_at (y ∷ ys) (key_of (y ∷ ys) x) ≡ x) × (key_of (y ∷ ys) x < length (y ∷ ys))
+    by : (b : Bool) → name_eq x y ≡ b → (name_at ys (key_of ys x) ≡ x) × (key_of ys x < length ys) → (name_at (y ∷ ys) (key_of (y ∷ ys) x) ≡ x) ×
+        (key_of (y ∷ ys) x < length (y ∷ ys))
     by true h rest =
         let at : key_of (y ∷ ys) x ≡ zero = cond-true (name_eq x y) zero (suc (key_of ys x)) h in
         (ap (name_at (y ∷ ys)) at ∙ sym (name_eq-true x y h), omega (arith, at))
@@ -120,7 +129,8 @@ keyed (y ∷ ys) x (suc j) e = by (name_eq x y) refl (keyed ys x j e)
         (ap (name_at (y ∷ ys)) at ∙ rest.0, omega (arith, at, rest.1))
 
 -- and many
-all_keyed : (names xs : List NodeName) → ((x : NodeName) → In x xs → (j : ℕ) × (slice_get names j ≡ Some x)) → (map (name_at names) (map (key_of names) xs) ≡ xs) × AreAll (IsKey names) (map (key_of names) xs)
+all_keyed : (names xs : List NodeName) → ((x : NodeName) → In x xs → (j : ℕ) × (slice_get names j ≡ Some x)) →
+    (map (name_at names) (map (key_of names) xs) ≡ xs) × AreAll (IsKey names) (map (key_of names) xs)
 all_keyed names [] found = (refl, tt)
 all_keyed names (x ∷ xs) found =
     let first = found x (inl refl) in
@@ -132,4 +142,5 @@ pub path_keys-named : (f : NamedTrees) → StandOnce f → StandAlone f → (k :
     → (map (name_at f.names) (path_keys f k) ≡ inclusive_ancestors f.trees (name_at f.names k)) × AreAll (IsKey f.names) (path_keys f k)
 path_keys-named f once only k node =
     all_keyed f.names (inclusive_ancestors f.trees (name_at f.names k))
-    (λ x i. only x (is_in-from x (names_of (nodes f.trees)) (In-names f.trees x (Has-above f.trees x (name_at f.names k) (Once-forest f once only) (Has-forest f once k node) i))))
+    (λ x i. only x (is_in-from x (names_of (nodes f.trees))
+    (In-names f.trees x (Has-above f.trees x (name_at f.names k) (Once-forest f once only) (Has-forest f once k node) i))))

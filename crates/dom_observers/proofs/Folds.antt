@@ -1,11 +1,13 @@
 -- Folds and filters, and sets of numbers in order.
-use Rattle.std.proofs.Common.{◌≡◌, ℕ, ◌+◌, ◌<◌, ◌≤◌, Bool, true, false, not, ◌&&◌, ◌||◌, cond, eqb, List, [], ◌∷◌, ◌++◌, length, map, get_or, take, inl, inr, refl, sym, ap, ◌∙◌, subst, arith}
+use Rattle.std.proofs.Common.{◌≡◌, ℕ, ◌+◌, ◌<◌, ◌≤◌, Bool, true, false, not, ◌&&◌, ◌||◌, cond, eqb, List, [], ◌∷◌, ◌++◌, length, map, get_or, take}
+use Rattle.std.proofs.Common.{inl, inr, refl, sym, ap, ◌∙◌, subst, arith}
 use Rattle.std.specs.List.{fold, filter, list_any, flat_map}
 use Rattle.std.proofs.lemmas.List.{append_assoc, append-nil, length-map, get_or-map, take_all, map-append}
 use Rattle.std.proofs.lemmas.List.Sums.{fold_more}
 use Rattle.std.proofs.lemmas.List.Elements.{filter-append, filter_agree, filter_more}
 use Rattle.std.proofs.lemmas.List.Folds.{list_any-append}
-use Rattle.std.proofs.lemmas.Bool.{cond-true, cond-false, eqb-true, eq-eqb, ne_eqb, cases_eq, or_left, and_from, and_left, and_right, not_from_true, not_from_false}
+use Rattle.std.proofs.lemmas.Bool.{cond-true, cond-false, eqb-true, eq-eqb, ne_eqb, cases_eq, or_left, and_from, and_left, and_right, not_from_true}
+use Rattle.std.proofs.lemmas.Bool.{not_from_false}
 use Rattle.dom_model.specs.Names.{is_in, append_once, distinct}
 
 -- a fold over two lists, one after the other
@@ -27,7 +29,8 @@ pub filter-filter : {A : Type 0} (p q : A → Bool) (xs : List A) → filter p (
 filter-filter p q [] = refl
 filter-filter p q (x ∷ xs) = by (q x) (p x) refl refl (filter-filter p q xs)
   where
-    by : (b c : Bool) → q x ≡ b → p x ≡ c → filter p (filter q xs) ≡ filter (λ y. q y && p y) xs → filter p (filter q (x ∷ xs)) ≡ filter (λ y. q y && p y) (x ∷ xs)
+    by : (b c : Bool) → q x ≡ b → p x ≡ c → filter p (filter q xs) ≡ filter (λ y. q y && p y) xs →
+        filter p (filter q (x ∷ xs)) ≡ filter (λ y. q y && p y) (x ∷ xs)
     by true true e g rest =
         ap (filter p) (cond-true (q x) (x ∷ filter q xs) (filter q xs) e)
         ∙ (cond-true (p x) (x ∷ filter p (filter q xs)) (filter p (filter q xs)) g
@@ -98,7 +101,9 @@ fold-append_once ks (x ∷ xs) = by (is_in eqb x ks) refl (fold-append_once ks x
     by true e rest more =
         ap (λ js. fold (append_once eqb) js xs) (cond-true (is_in eqb x ks) ks (ks ++ x ∷ []) e)
         ∙ (rest
-        ∙ ap (λ js. ks ++ js) (sym (cond-false (not (is_in eqb x ks)) (x ∷ filter (λ y. not (is_in eqb y ks)) (filter (λ y. not (eqb x y)) (distinct eqb xs))) (filter (λ y. not (is_in eqb y ks)) (filter (λ y. not (eqb x y)) (distinct eqb xs))) (not_from_true _ e)
+        ∙ ap (λ js. ks ++ js) (sym (cond-false (not (is_in eqb x ks))
+        (x ∷ filter (λ y. not (is_in eqb y ks)) (filter (λ y. not (eqb x y)) (distinct eqb xs)))
+        (filter (λ y. not (is_in eqb y ks)) (filter (λ y. not (eqb x y)) (distinct eqb xs))) (not_from_true _ e)
         ∙ (filter-filter (λ y. not (is_in eqb y ks)) (λ y. not (eqb x y)) (distinct eqb xs)
         ∙ filter_agree (λ y. not (eqb x y) && not (is_in eqb y ks)) (λ y. not (is_in eqb y ks)) (λ y. another x y ks e) (distinct eqb xs)))))
     by false e rest more =
@@ -110,7 +115,8 @@ fold-append_once ks (x ∷ xs) = by (is_in eqb x ks) refl (fold-append_once ks x
         (filter_agree (λ y. not (is_in eqb y (ks ++ x ∷ []))) (λ y. not (eqb x y) && not (is_in eqb y ks))
         (λ y. ap not (list_any-append (eqb y) ks (x ∷ [])) ∙ neither (is_in eqb y ks) (eqb y x) (eqb x y) (eqb-turned y x)) (distinct eqb xs)
         ∙ sym (filter-filter (λ y. not (is_in eqb y ks)) (λ y. not (eqb x y)) (distinct eqb xs)))
-        ∙ sym (cond-true (not (is_in eqb x ks)) (x ∷ filter (λ y. not (is_in eqb y ks)) (filter (λ y. not (eqb x y)) (distinct eqb xs))) (filter (λ y. not (is_in eqb y ks)) (filter (λ y. not (eqb x y)) (distinct eqb xs))) (not_from_false _ e)))))
+        ∙ sym (cond-true (not (is_in eqb x ks)) (x ∷ filter (λ y. not (is_in eqb y ks)) (filter (λ y. not (eqb x y)) (distinct eqb xs)))
+        (filter (λ y. not (is_in eqb y ks)) (filter (λ y. not (eqb x y)) (distinct eqb xs))) (not_from_false _ e)))))
 
 -- so the set of a list is its numbers, each once
 pub fold-distinct : (xs : List ℕ) → fold (append_once eqb) [] xs ≡ distinct eqb xs
@@ -142,5 +148,6 @@ pub filter-view_more : {X Y Z : Type 0} (p : Y → Bool) (g : Y → Z) (view : X
     → map g (filter p (take (i + 1) (map view xs))) ≡ map g (filter p (take i (map view xs))) ++ map g (cond (p (view x)) (view x ∷ []) [])
 filter-view_more p g view xs i x short is =
     let item : get_or (map view xs) i (view x) ≡ view x = get_or-map view xs i x (view x) short ∙ ap view (sym is) in
-    ap (map g) (filter_more p (map view xs) i (view x) (let same = length-map xs view in omega (arith, same, short)) ∙ ap (λ y. filter p (take i (map view xs)) ++ cond (p y) (y ∷ []) []) item)
+    ap (map g) (filter_more p (map view xs) i (view x) (let same = length-map xs view in omega (arith, same, short)) ∙
+    ap (λ y. filter p (take i (map view xs)) ++ cond (p y) (y ∷ []) []) item)
     ∙ map-append g (filter p (take i (map view xs))) (cond (p (view x)) (view x ∷ []) [])

@@ -43,14 +43,16 @@ abbrev adds : Change ℕ → Found → Registration ℕ → Found
 adds c f r = and_found f r.observer (asks_for_old r.options c)
 
 -- the walk goes over the fitting registrations
-walk-fitting : (rs : List (Registration ℕ)) (c : Change ℕ) (path : List ℕ) → fold (found_on rs c) none_found path ≡ fold (adds c) none_found (fitting eqb path rs c)
+walk-fitting : (rs : List (Registration ℕ)) (c : Change ℕ) (path : List ℕ) →
+    fold (found_on rs c) none_found path ≡ fold (adds c) none_found (fitting eqb path rs c)
 walk-fitting rs c path =
     fold-agree (found_on rs c) (λ f x. fold (adds c) f (filter (fits eqb c) (filter (λ r. eqb r.node x) rs)))
     (λ f x. fold_both (found_by c x) (adds c) (fits eqb c) (λ r. eqb r.node x) (λ g r. refl) f rs) none_found path
     ∙ sym (fold-flat_map (adds c) (fits eqb c) (λ x. filter (λ r. eqb r.node x) rs) none_found path)
 
 -- the observers that it finds
-found-observers : (c : Change ℕ) (f : Found) (rs : List (Registration ℕ)) → (fold (adds c) f rs).observers ≡ fold (append_once eqb) f.observers (map (λ r. r.observer) rs)
+found-observers : (c : Change ℕ) (f : Found) (rs : List (Registration ℕ)) →
+    (fold (adds c) f rs).observers ≡ fold (append_once eqb) f.observers (map (λ r. r.observer) rs)
 found-observers c f [] = refl
 found-observers c f (r ∷ rs) = found-observers c (adds c f r) rs
 
@@ -80,7 +82,8 @@ or-assoc : (x y z : Bool) → ((x || y) || z) ≡ (x || (y || z))
 or-assoc true y z = refl
 or-assoc false y z = refl
 
-found-with_old : (c : Change ℕ) (k : ℕ) (f : Found) (rs : List (Registration ℕ)) → is_in eqb k (fold (adds c) f rs).with_old ≡ (is_in eqb k f.with_old || list_any (wants_old c k) rs)
+found-with_old : (c : Change ℕ) (k : ℕ) (f : Found) (rs : List (Registration ℕ)) →
+    is_in eqb k (fold (adds c) f rs).with_old ≡ (is_in eqb k f.with_old || list_any (wants_old c k) rs)
 found-with_old c k f [] = sym (or_no (is_in eqb k f.with_old) false refl)
 found-with_old c k f (r ∷ rs) =
     found-with_old c k (adds c f r) rs
@@ -101,8 +104,10 @@ fold-behind f ys (x ∷ xs) = fold-behind f (ys ++ f x ∷ []) xs ∙ append_ass
 -- the copies are those of the rule
 pub walk-copies : (rs : List (Registration ℕ)) (node : ℕ) (path : List ℕ) → fold (copied_on node rs) [] path ≡ transients_for eqb node path rs
 walk-copies rs node path =
-    fold-agree (copied_on node rs) (λ copies x. fold (λ zs r. zs ++ transient_copy node r ∷ []) copies (filter (λ r. r.options.subtree) (filter (λ r. eqb r.node x) rs)))
-    (λ copies x. fold_both (copied_by node x) (λ zs r. zs ++ transient_copy node r ∷ []) (λ r. r.options.subtree) (λ r. eqb r.node x) (λ zs r. refl) copies rs) [] path
+    fold-agree (copied_on node rs) (λ copies x. fold (λ zs r. zs ++ transient_copy node r ∷ []) copies
+    (filter (λ r. r.options.subtree) (filter (λ r. eqb r.node x) rs)))
+    (λ copies x. fold_both (copied_by node x) (λ zs r. zs ++ transient_copy node r ∷ []) (λ r. r.options.subtree) (λ r. eqb r.node x)
+    (λ zs r. refl) copies rs) [] path
     ∙ (sym (fold-flat_map (λ zs r. zs ++ transient_copy node r ∷ []) (λ r. r.options.subtree) (λ x. filter (λ r. eqb r.node x) rs) [] path)
     ∙ fold-behind (transient_copy node) [] (filter (λ r. r.options.subtree) (registrations_on eqb path rs)))
 

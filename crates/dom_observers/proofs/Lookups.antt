@@ -26,11 +26,13 @@ same_owner (Component j) Page = refl
 same_owner (Component j) (Component k) = refl
 
 -- a look-up among images, by a test that agrees
-lookup-map : {K X Y : Type 0} (f : X → Y) (p q : K → Bool) → ((k : K) → p k ≡ q k) → (es : List (K × X)) → lookup p (map (λ e. (e.0, f e.1)) es) ≡ option_map f (lookup q es)
+lookup-map : {K X Y : Type 0} (f : X → Y) (p q : K → Bool) → ((k : K) → p k ≡ q k) → (es : List (K × X)) →
+    lookup p (map (λ e. (e.0, f e.1)) es) ≡ option_map f (lookup q es)
 lookup-map f p q same [] = refl
 lookup-map f p q same (e ∷ es) = by (p e.0) (q e.0) (same e.0) (lookup-map f p q same es)
   where
-    by : (b c : Bool) → b ≡ c → lookup p (map (λ d. (d.0, f d.1)) es) ≡ option_map f (lookup q es) → cond b (Some (f e.1)) (lookup p (map (λ d. (d.0, f d.1)) es)) ≡ option_map f (cond c (Some e.1) (lookup q es))
+    by : (b c : Bool) → b ≡ c → lookup p (map (λ d. (d.0, f d.1)) es) ≡ option_map f (lookup q es) →
+        cond b (Some (f e.1)) (lookup p (map (λ d. (d.0, f d.1)) es)) ≡ option_map f (cond c (Some e.1) (lookup q es))
     by true true i rest = refl
     by true false i rest = cc
     by false true i rest = cc
@@ -54,7 +56,8 @@ pub tables_of-none : (q : Inside) (o : Owner) → get OwnerImpl.ghosts.eq q.tabl
 tables_of-none q o e = tables_of-get q o ∙ ap (λ found. option_map_or table_of found no_tables) e
 
 -- a table that is written for an owner
-pub written : (q r : Inside) (o : Owner) (t : Table) → ((p : Owner) → get OwnerImpl.ghosts.eq r.tables p ≡ cond (OwnerImpl.ghosts.eq o p) (Some t) (get OwnerImpl.ghosts.eq q.tables p))
+pub written : (q r : Inside) (o : Owner) (t : Table) →
+    ((p : Owner) → get OwnerImpl.ghosts.eq r.tables p ≡ cond (OwnerImpl.ghosts.eq o p) (Some t) (get OwnerImpl.ghosts.eq q.tables p))
     → ChangesTables o (table_of t) (all_tables q) (all_tables r)
 written q r o t at p = by (OwnerImpl.ghosts.eq o p) refl
   where
@@ -92,8 +95,10 @@ changes-kept o old new changes p = by (owner_eq o p) refl
     by false e = changes p ∙ cond-false (owner_eq o p) (tables_of old o) (tables_of old p) e
 
 -- what a call on an owner's table does to all, where the owner has a table
-pub rewritten : (q r : Inside) (all : AllTables) (o : Owner) (t w : Table) (f : TablesOf ℕ → TablesOf ℕ) → all_tables q ≡ all → Some t ≡ get OwnerImpl.ghosts.eq q.tables o
-    → (IsSome (get OwnerImpl.ghosts.eq q.tables o) → (p : Owner) → get OwnerImpl.ghosts.eq r.tables p ≡ cond (OwnerImpl.ghosts.eq o p) (Some w) (get OwnerImpl.ghosts.eq q.tables p))
+pub rewritten : (q r : Inside) (all : AllTables) (o : Owner) (t w : Table) (f : TablesOf ℕ → TablesOf ℕ) → all_tables q ≡ all →
+    Some t ≡ get OwnerImpl.ghosts.eq q.tables o
+    → (IsSome (get OwnerImpl.ghosts.eq q.tables o) → (p : Owner) →
+    get OwnerImpl.ghosts.eq r.tables p ≡ cond (OwnerImpl.ghosts.eq o p) (Some w) (get OwnerImpl.ghosts.eq q.tables p))
     → table_of w ≡ f (table_of t) → ChangesTables o (f (tables_of all o)) all (all_tables r)
 rewritten q r all o t w f view there at e =
     subst (λ (old : AllTables). ChangesTables o (f (tables_of old o)) old (all_tables r)) view
@@ -102,7 +107,8 @@ rewritten q r all o t w f view there at e =
     (written q r o w (at (subst IsSome there refl))))
 
 -- what is read of the owner's table
-pub had : (q : Inside) (all : AllTables) (o : Owner) (t : Table) → all_tables q ≡ all → Some t ≡ get OwnerImpl.ghosts.eq q.tables o → tables_of all o ≡ table_of t
+pub had : (q : Inside) (all : AllTables) (o : Owner) (t : Table) → all_tables q ≡ all → Some t ≡ get OwnerImpl.ghosts.eq q.tables o →
+    tables_of all o ≡ table_of t
 had q all o t view there = ap (λ (v : AllTables). tables_of v o) (sym view) ∙ tables_of-some q o t (sym there)
 
 pub had-none : (q : Inside) (all : AllTables) (o : Owner) → all_tables q ≡ all → None ≡ get OwnerImpl.ghosts.eq q.tables o → tables_of all o ≡ no_tables
@@ -113,20 +119,25 @@ pub untouched : (q r : Inside) (all : AllTables) → all_tables q ≡ all → r.
 untouched q r all view e p = ap (λ (v : AllTables). tables_of v p) (ap (λ m. map (λ d. (d.0, table_of d.1)) m.entries) e ∙ view)
 
 -- and does nothing to one who has nothing
-pub untouched-changes : (q r : Inside) (all : AllTables) (o : Owner) (f : TablesOf ℕ → TablesOf ℕ) → all_tables q ≡ all → None ≡ get OwnerImpl.ghosts.eq q.tables o → r.tables ≡ q.tables → f no_tables ≡ no_tables
+pub untouched-changes : (q r : Inside) (all : AllTables) (o : Owner) (f : TablesOf ℕ → TablesOf ℕ) → all_tables q ≡ all →
+    None ≡ get OwnerImpl.ghosts.eq q.tables o → r.tables ≡ q.tables → f no_tables ≡ no_tables
     → ChangesTables o (f (tables_of all o)) all (all_tables r)
 untouched-changes q r all o f view off e stays =
     let none = had-none q all o view off in
-    changes-same o (tables_of all o) (f (tables_of all o)) all (all_tables r) (none ∙ sym (ap f none ∙ stays)) (kept-changes o all (all_tables r) (untouched q r all view e))
+    changes-same o (tables_of all o) (f (tables_of all o)) all (all_tables r) (none ∙ sym (ap f none ∙ stays))
+    (kept-changes o all (all_tables r) (untouched q r all view e))
 
 -- an owner that is there has an entry
 pub lookup-get : (q : Inside) (o : Owner) → is_some (lookup (owner_eq o) (all_tables q)) ≡ is_some (get OwnerImpl.ghosts.eq q.tables o)
 lookup-get q o =
-    ap is_some (lookup-map table_of (owner_eq o) (OwnerImpl.ghosts.eq o) (λ p. sym (same_owner o p)) q.tables.entries) ∙ is_some-map table_of (get OwnerImpl.ghosts.eq q.tables o)
+    ap is_some (lookup-map table_of (owner_eq o) (OwnerImpl.ghosts.eq o) (λ p. sym (same_owner o p)) q.tables.entries) ∙
+    is_some-map table_of (get OwnerImpl.ghosts.eq q.tables o)
 
 -- a new table says nothing new
-pub written-none : (q r : Inside) (all : AllTables) (o : Owner) (t : Table) → all_tables q ≡ all → is_some (get OwnerImpl.ghosts.eq q.tables o) ≡ false → table_of t ≡ no_tables
-    → ((p : Owner) → get OwnerImpl.ghosts.eq r.tables p ≡ cond (OwnerImpl.ghosts.eq o p) (Some t) (get OwnerImpl.ghosts.eq q.tables p)) → KeepsTables all (all_tables r)
+pub written-none : (q r : Inside) (all : AllTables) (o : Owner) (t : Table) → all_tables q ≡ all →
+    is_some (get OwnerImpl.ghosts.eq q.tables o) ≡ false → table_of t ≡ no_tables
+    → ((p : Owner) → get OwnerImpl.ghosts.eq r.tables p ≡ cond (OwnerImpl.ghosts.eq o p) (Some t) (get OwnerImpl.ghosts.eq q.tables p)) →
+    KeepsTables all (all_tables r)
 written-none q r all o t view off new at =
     subst (λ (old : AllTables). KeepsTables old (all_tables r)) view
     (changes-kept o (all_tables q) (all_tables r)
@@ -138,6 +149,7 @@ pub below_none : (k : ℕ) → ltb k 0 ≡ false
 below_none k = false_from_ne_true (ltb k 0) (λ e. let h = ltb-true k 0 e in omega arith)
 
 -- what changes after a call that keeps all changes what was there before it
-pub changes-before : (o : Owner) (f : TablesOf ℕ → TablesOf ℕ) (old mid new : AllTables) → KeepsTables old mid → ChangesTables o (f (tables_of mid o)) mid new → ChangesTables o (f (tables_of old o)) old new
+pub changes-before : (o : Owner) (f : TablesOf ℕ → TablesOf ℕ) (old mid new : AllTables) → KeepsTables old mid →
+    ChangesTables o (f (tables_of mid o)) mid new → ChangesTables o (f (tables_of old o)) old new
 changes-before o f old mid new kept h p =
     h p ∙ (ap (λ t. cond (owner_eq o p) (f t) (tables_of mid p)) (kept o) ∙ ap (cond (owner_eq o p) (f (tables_of old o))) (kept p))

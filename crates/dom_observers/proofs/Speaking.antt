@@ -7,7 +7,9 @@ use Rattle.std.specs.Option.{ForSome}
 use Rattle.dom_model.specs.Names.{is_in}
 use Rattle.dom_model.specs.Command.{ObserveWords}
 use Rattle.dom_model.specs.Output.{Change, child_list, attributes, character_data}
-use Rattle.dom_model.specs.Observers.{Registration, Source, asked_for, copied_from, copied_from_transient, is_transient, without_old, registrations_on, record_for, interested, transients_for, copied_source, options_of, is_asked_for, stems_from, with_options, with_registration, fitting, asks_for_old}
+use Rattle.dom_model.specs.Observers.{Registration, Source, asked_for, copied_from, copied_from_transient, is_transient, without_old}
+use Rattle.dom_model.specs.Observers.{registrations_on, record_for, interested, transients_for, copied_source, options_of, is_asked_for, stems_from}
+use Rattle.dom_model.specs.Observers.{with_options, with_registration, fitting, asks_for_old}
 use Rattle.dom_observers.specs.Tables.{TablesOf, no_tables, queue_at, with_observer, emptied, disconnected, observing, told, left, notified}
 use Rattle.dom_observers.specs.Naming.{named_change, named_source, named_registration, named_tables, IsSourceOf, AreRegistered, AreAll, IsChangeAt, SpeaksOf}
 
@@ -53,24 +55,29 @@ module _ {M : Type 0} (P : M → Type 0) where
   registered_on : (same : M → M → Bool) (path : List M) (rs : List (Registration M)) → AreRegistered P rs → AreRegistered P (registrations_on same path rs)
   registered_on same [] rs all = tt
   registered_on same (x ∷ path) rs all =
-      registered_append (filter (λ (r : Registration M). same r.node x) rs) (registrations_on same path rs) (registered_filter (λ (r : Registration M). same r.node x) rs all) (registered_on same path rs all)
+      registered_append (filter (λ (r : Registration M). same r.node x) rs) (registrations_on same path rs)
+      (registered_filter (λ (r : Registration M). same r.node x) rs all) (registered_on same path rs all)
 
   -- one with other options
-  renewed : (same : M → M → Bool) (k : ℕ) (x : M) (o : ObserveWords) (rs : List (Registration M)) → AreRegistered P rs → AreRegistered P (map (with_options same k x o) rs)
+  renewed : (same : M → M → Bool) (k : ℕ) (x : M) (o : ObserveWords) (rs : List (Registration M)) → AreRegistered P rs →
+      AreRegistered P (map (with_options same k x o) rs)
   renewed same k x o [] all = tt
   renewed same k x o (r ∷ rs) all = by (is_asked_for same k x r) (renewed same k x o rs all.2)
     where
-      by : (b : Bool) → AreRegistered P (map (with_options same k x o) rs) → AreRegistered P ((if b then record r { options = o } else r) ∷ map (with_options same k x o) rs)
+      by : (b : Bool) → AreRegistered P (map (with_options same k x o) rs) →
+          AreRegistered P ((if b then record r { options = o } else r) ∷ map (with_options same k x o) rs)
       by true rest = (all.0, all.1, rest)
       by false rest = (all.0, all.1, rest)
 
-  registered_new : (same : M → M → Bool) (k : ℕ) (x : M) (o : ObserveWords) (rs : List (Registration M)) → AreRegistered P rs → P x → AreRegistered P (with_registration same k x o rs)
+  registered_new : (same : M → M → Bool) (k : ℕ) (x : M) (o : ObserveWords) (rs : List (Registration M)) → AreRegistered P rs → P x →
+      AreRegistered P (with_registration same k x o rs)
   registered_new same k x o rs all one = by (list_any (is_asked_for same k x) rs)
     where
       stays : Registration M → Bool
       stays r = not ((r.observer == k) && stems_from same x r.source)
 
-      by : (b : Bool) → AreRegistered P (if b then map (with_options same k x o) (filter stays rs) else rs ++ record { node = x; observer = k; options = o; source = asked_for } ∷ [])
+      by : (b : Bool) → AreRegistered P (if b then map (with_options same k x o) (filter stays rs) else rs ++
+          record { node = x; observer = k; options = o; source = asked_for } ∷ [])
       by true = renewed same k x o (filter stays rs) (registered_filter stays rs all)
       by false = registered_append rs (record { node = x; observer = k; options = o; source = asked_for } ∷ []) all (one, tt, tt)
 
@@ -98,9 +105,11 @@ module _ {M : Type 0} (P : M → Type 0) where
   given_all add each [] queues all = all
   given_all add each (k ∷ ks) queues all =
       given_all add each ks (slice_set queues k (queue_at queues k ++ add k ∷ []))
-      (all_set (AreAll (IsChangeAt P)) queues k (queue_at queues k ++ add k ∷ []) all (all_pushed (IsChangeAt P) (queue_at queues k) (add k) (all_queued (IsChangeAt P) queues k all) (each k)))
+      (all_set (AreAll (IsChangeAt P)) queues k (queue_at queues k ++ add k ∷ []) all
+      (all_pushed (IsChangeAt P) (queue_at queues k) (add k) (all_queued (IsChangeAt P) queues k all) (each k)))
 
-  emptied_all : (ks : List ℕ) (queues : List (List (Change M))) → AreAll (AreAll (IsChangeAt P)) queues → AreAll (AreAll (IsChangeAt P)) (fold (λ qs k. slice_set qs k []) queues ks)
+  emptied_all : (ks : List ℕ) (queues : List (List (Change M))) → AreAll (AreAll (IsChangeAt P)) queues →
+      AreAll (AreAll (IsChangeAt P)) (fold (λ qs k. slice_set qs k []) queues ks)
   emptied_all [] queues all = all
   emptied_all (k ∷ ks) queues all = emptied_all ks (slice_set queues k []) (all_set (AreAll (IsChangeAt P)) queues k [] all tt)
 
@@ -123,12 +132,16 @@ module _ {M : Type 0} (P : M → Type 0) where
 
   pub speaks_notified : (t : TablesOf M) → SpeaksOf P t → SpeaksOf P (notified t)
   speaks_notified t h = record {
-    registrations = registered_filter (λ (r : Registration M). not (is_transient r.source && is_in nat_eq r.observer t.pending)) t.registrations h.registrations;
+    registrations = registered_filter (λ (r : Registration M). not (is_transient r.source && is_in nat_eq r.observer t.pending)) t.registrations
+        h.registrations;
     records = emptied_all t.pending t.record_queues h.records;
   }
 
   pub speaks_observing : (same : M → M → Bool) (k : ℕ) (x : M) (w : ObserveWords) (t : TablesOf M) → SpeaksOf P t → P x → SpeaksOf P (observing same k x w t)
-  speaks_observing same k x w t h one = record { registrations = registered_new same k x (options_of w) t.registrations h.registrations one; records = h.records }
+  speaks_observing same k x w t h one = record {
+    registrations = registered_new same k x (options_of w) t.registrations h.registrations one;
+    records = h.records;
+  }
 
   pub speaks_left : (same : M → M → Bool) (x : M) (path : List M) (t : TablesOf M) → SpeaksOf P t → P x → SpeaksOf P (left same x path t)
   speaks_left same x path t h one =
@@ -174,9 +187,11 @@ module _ {M N : Type 0} (P : M → Type 0) (f g : M → N) (same : (x : M) → P
   same_queue [] all = refl
   same_queue (c ∷ cs) all = ap (λ d. d ∷ map (named_change f) cs) (same_change c all.0) ∙ ap (λ ds. named_change g c ∷ ds) (same_queue cs all.1)
 
-  same_queues : (queues : List (List (Change M))) → AreAll (AreAll (IsChangeAt P)) queues → map (map (named_change f)) queues ≡ map (map (named_change g)) queues
+  same_queues : (queues : List (List (Change M))) → AreAll (AreAll (IsChangeAt P)) queues →
+      map (map (named_change f)) queues ≡ map (map (named_change g)) queues
   same_queues [] all = refl
-  same_queues (q ∷ queues) all = ap (λ r. r ∷ map (map (named_change f)) queues) (same_queue q all.0) ∙ ap (λ rs. map (named_change g) q ∷ rs) (same_queues queues all.1)
+  same_queues (q ∷ queues) all = ap (λ r. r ∷ map (map (named_change f)) queues) (same_queue q all.0) ∙
+      ap (λ rs. map (named_change g) q ∷ rs) (same_queues queues all.1)
 
   same_source : (s : Source M) → IsSourceOf P s → named_source f s ≡ named_source g s
   same_source asked_for h = refl
@@ -205,7 +220,8 @@ module _ {M : Type 0} (P Q : M → Type 0) (more : (x : M) → P x → Q x) wher
   more_all (x ∷ xs) all = (more x all.0, more_all xs all.1)
 
   more_change : (c : Change M) → IsChangeAt P c → IsChangeAt Q c
-  more_change (child_list x added removed before after) h = (more x h.0, more_all added h.1, more_all removed h.2, λ y e. more y (h.3 y e), λ y e. more y (h.4 y e))
+  more_change (child_list x added removed before after) h =
+      (more x h.0, more_all added h.1, more_all removed h.2, λ y e. more y (h.3 y e), λ y e. more y (h.4 y e))
   more_change (attributes x a old) h = more x h
   more_change (character_data x old) h = more x h
 

@@ -1,5 +1,6 @@
 -- What becomes of tables: records given one after the other, queues emptied, and registrations that are kept.
-use Rattle.std.proofs.Common.{◌≡◌, ℕ, zero, suc, ◌<◌, Bool, true, false, not, eqb, List, [], ◌∷◌, ◌++◌, length, map, get_or, set, take, Option, Some, None, refl, sym, ap, ◌∙◌, arith}
+use Rattle.std.proofs.Common.{◌≡◌, ℕ, zero, suc, ◌<◌, Bool, true, false, not, eqb, List, [], ◌∷◌, ◌++◌, length, map, get_or, set, take, Option, Some}
+use Rattle.std.proofs.Common.{None, refl, sym, ap, ◌∙◌, arith}
 use Rattle.std.specs.Prelude.{slice_get, unwrap_or, option_map, is_some, Vec}
 use Rattle.std.specs.List.{fold, filter, IsDistinct}
 use Rattle.std.proofs.lemmas.Bool.{cond-true, cond-false, or_parts, or_from, eq-eqb, ne_eqb, true≢false}
@@ -19,7 +20,10 @@ use Rattle.dom_observers.proofs.Gathering.{fold-agree}
 -- one after the other, the queues and the pending observers go their own ways
 given-all : (rec : ℕ → Changed ℕ) (t : TablesOf ℕ) (ks : List ℕ)
     → fold (λ s k. given (rec k) s k) t ks
-    ≡ record t { record_queues = fold (λ queues k. set queues k (queue_at queues k ++ rec k ∷ [])) t.record_queues ks; pending = fold (append_once eqb) t.pending ks }
+    ≡ record t {
+      record_queues = fold (λ queues k. set queues k (queue_at queues k ++ rec k ∷ [])) t.record_queues ks;
+      pending = fold (append_once eqb) t.pending ks;
+    }
 given-all rec t [] = refl
 given-all rec t (k ∷ ks) = given-all rec (given (rec k) t k) ks
 
@@ -27,7 +31,8 @@ given-all rec t (k ∷ ks) = given-all rec (given (rec k) t k) ks
 pub told-fold : (path : List ℕ) (c : Changed ℕ) (t : TablesOf ℕ) (rec : ℕ → Changed ℕ) → ((k : ℕ) → rec k ≡ record_for eqb path t.registrations c k)
     → fold (λ s k. given (rec k) s k) t (interested eqb path t.registrations c) ≡ told eqb path c t
 told-fold path c t rec same =
-    fold-agree (λ s k. given (rec k) s k) (λ s k. given (record_for eqb path t.registrations c k) s k) (λ s k. ap (λ r. given r s k) (same k)) t (interested eqb path t.registrations c)
+    fold-agree (λ s k. given (rec k) s k) (λ s k. given (record_for eqb path t.registrations c k) s k) (λ s k. ap (λ r. given r s k) (same k)) t
+    (interested eqb path t.registrations c)
     ∙ given-all (record_for eqb path t.registrations c) t (interested eqb path t.registrations c)
 
 -- a list with a last item has one
@@ -49,10 +54,12 @@ slice_get-set_other [] j k x e = refl
 slice_get-set_other (y ∷ ys) zero zero x e = absurd (true≢false (sym (eq-eqb zero zero refl) ∙ e))
 slice_get-set_other (y ∷ ys) zero (suc k) x e = refl
 slice_get-set_other (y ∷ ys) (suc j) zero x e = refl
-slice_get-set_other (y ∷ ys) (suc j) (suc k) x e = slice_get-set_other ys j k x (ne_eqb k j (λ same. true≢false (sym (eq-eqb (suc k) (suc j) (ap suc same)) ∙ e)))
+slice_get-set_other (y ∷ ys) (suc j) (suc k) x e =
+    slice_get-set_other ys j k x (ne_eqb k j (λ same. true≢false (sym (eq-eqb (suc k) (suc j) (ap suc same)) ∙ e)))
 
 -- the queues of others stay as they are
-pub queue_at-emptied : (queues : List (List (Changed ℕ))) (ks : List ℕ) (k : ℕ) → is_in eqb k ks ≡ false → queue_at (fold (λ qs j. set qs j []) queues ks) k ≡ queue_at queues k
+pub queue_at-emptied : (queues : List (List (Changed ℕ))) (ks : List ℕ) (k : ℕ) → is_in eqb k ks ≡ false →
+    queue_at (fold (λ qs j. set qs j []) queues ks) k ≡ queue_at queues k
 queue_at-emptied queues [] k e = refl
 queue_at-emptied queues (j ∷ ks) k e =
     let parts = or_parts (eqb k j) (is_in eqb k ks) e in
@@ -111,7 +118,11 @@ not_taken path c t e = ap (λ ks. not (is_empty ks)) e
 pub not_told : (path : List ℕ) (c : Changed ℕ) (t : TablesOf ℕ) → interested eqb path t.registrations c ≡ [] → told eqb path c t ≡ t
 not_told path c t e =
     let rec = record_for eqb path t.registrations c in
-    let after = λ (ks : List ℕ). let s : TablesOf ℕ = record t { record_queues = fold (λ queues k. set queues k (queue_at queues k ++ rec k ∷ [])) t.record_queues ks; pending = fold (append_once eqb) t.pending ks } in s in
+    let after = λ (ks : List ℕ). let s : TablesOf ℕ =
+    record t {
+      record_queues = fold (λ queues k. set queues k (queue_at queues k ++ rec k ∷ [])) t.record_queues ks;
+      pending = fold (append_once eqb) t.pending ks;
+    } in s in
     ap after e
 
 pub none_left : (node : ℕ) (path : List ℕ) (t : TablesOf ℕ) → transients_for eqb node path t.registrations ≡ [] → left eqb node path t ≡ t

@@ -1,10 +1,12 @@
 -- What is noted of an owner's registrations, what is known of nodes of which nothing is noted, and the walk upwards that looks for
 -- noted nodes.
-use Rattle.std.proofs.Common.{◌≡◌, ℕ, ◌<◌, Bool, true, false, ◌&&◌, ◌||◌, cond, eqb, List, [], ◌∷◌, ◌++◌, length, map, Option, Some, None, refl, sym, ap, ◌∙◌, subst, arith}
+use Rattle.std.proofs.Common.{◌≡◌, ℕ, ◌<◌, Bool, true, false, ◌&&◌, ◌||◌, cond, eqb, List, [], ◌∷◌, ◌++◌, length, map, Option, Some, None, refl, sym}
+use Rattle.std.proofs.Common.{ap, ◌∙◌, subst, arith}
 use Rattle.std.specs.Prelude.{option_map}
 use Rattle.std.specs.Option.{ForSome}
 use Rattle.std.specs.List.{All, list_any, filter, fold}
-use Rattle.std.proofs.lemmas.Bool.{cond-true, cond-false, or_parts, or_from, or_left, or_right, and_left, and_right, eq-eqb, eqb-true, false_from_ne_true, true≢false}
+use Rattle.std.proofs.lemmas.Bool.{cond-true, cond-false, or_parts, or_from, or_left, or_right, and_left, and_right, eq-eqb, eqb-true}
+use Rattle.std.proofs.lemmas.Bool.{false_from_ne_true, true≢false}
 use Rattle.std.proofs.lemmas.List.{length-map, get_or-map}
 use Rattle.std.proofs.lemmas.List.Elements.{All-map, All-filter, All-weaker, filter-append, filter_passes}
 use Rattle.std.proofs.lemmas.List.Folds.{list_any-append, list_any_none}
@@ -30,7 +32,8 @@ pub noted-added : (w v : Watched) (node : ℕ) (below : Bool) (r : Registration 
 noted-added w v node below r targets above on is =
     let same = eq-eqb r.node node on in
     record {
-      target = ap (is_in eqb r.node) targets ∙ (is_in-append_once r.node node w.targets.keys ∙ or_right (is_in eqb r.node w.targets.keys) (eqb r.node node) same);
+      target = ap (is_in eqb r.node) targets ∙
+          (is_in-append_once r.node node w.targets.keys ∙ or_right (is_in eqb r.node w.targets.keys) (eqb r.node node) same);
       above = λ e. ap (is_in eqb r.node) (above ∙ cond-true below (append_once eqb w.above.keys node) w.above.keys (sym is ∙ e))
           ∙ (is_in-append_once r.node node w.above.keys ∙ or_right (is_in eqb r.node w.above.keys) (eqb r.node node) same);
     }
@@ -48,7 +51,8 @@ pub noted-filter : (w : Watched) (p : Registered → Bool) (items kept : List Re
 noted-filter w p items kept is all = subst (AreNoted w) (sym is) (All-filter p (λ r. IsNoted w (registration_of r)) items all)
 
 -- transient copies for a node that was added
-pub noted-copies : (w v : Watched) (node : ℕ) (path : List ℕ) (rs : List (Registration ℕ)) (copies : List Registered) → v.targets.keys ≡ append_once eqb w.targets.keys node
+pub noted-copies : (w v : Watched) (node : ℕ) (path : List ℕ) (rs : List (Registration ℕ)) (copies : List Registered) →
+    v.targets.keys ≡ append_once eqb w.targets.keys node
     → v.above.keys ≡ append_once eqb w.above.keys node → map registration_of copies ≡ transients_for eqb node path rs → AreNoted v copies
 noted-copies w v node path rs copies targets above is =
     λ k d short.
@@ -56,8 +60,10 @@ noted-copies w v node path rs copies targets above is =
     subst (IsNoted v) (get_or-map registration_of copies k d (registration_of d) short)
     (subst (All (IsNoted v)) (sym is)
     (All-map (IsNoted v) (transient_copy node) (filter (λ r. r.options.subtree) (registrations_on eqb path rs))
-    (All-weaker (λ r. r.options.subtree ≡ true) (λ r. IsNoted v (transient_copy node r)) (λ r e. noted-added w v node true (transient_copy node r) targets above refl e)
-    (filter (λ r. r.options.subtree) (registrations_on eqb path rs)) (filter_passes (λ (r : Registration ℕ). r.options.subtree) (registrations_on eqb path rs))))
+    (All-weaker (λ r. r.options.subtree ≡ true) (λ r. IsNoted v (transient_copy node r))
+    (λ r e. noted-added w v node true (transient_copy node r) targets above refl e)
+    (filter (λ r. r.options.subtree) (registrations_on eqb path rs))
+    (filter_passes (λ (r : Registration ℕ). r.options.subtree) (registrations_on eqb path rs))))
     k (registration_of d) (omega (arith, same, short)))
 
 -- ---- nodes of which nothing is noted
@@ -67,7 +73,8 @@ elsewhere : (ks : List ℕ) (x y : ℕ) → is_in eqb x ks ≡ false → (eqb y 
 elsewhere ks x y off on = false_from_ne_true (eqb y x) (λ e. true≢false (sym (on e) ∙ (ap (λ z. is_in eqb z ks) (eqb-true y x e) ∙ off)))
 
 -- a node that is no target has no registration
-pub unnoted-target : (w : Watched) (rs : List (Registration ℕ)) (x : ℕ) → All (IsNoted w) rs → is_in eqb x w.targets.keys ≡ false → list_any (λ r. eqb r.node x) rs ≡ false
+pub unnoted-target : (w : Watched) (rs : List (Registration ℕ)) (x : ℕ) → All (IsNoted w) rs → is_in eqb x w.targets.keys ≡ false →
+    list_any (λ r. eqb r.node x) rs ≡ false
 unnoted-target w rs x all off =
     list_any_none (λ r. eqb r.node x) rs
     (All-weaker (IsNoted w) (λ r. eqb r.node x ≡ false) (λ r h. elsewhere w.targets.keys x r.node off (λ e. h.target)) rs all)
@@ -87,7 +94,8 @@ unnoted-above w rs x all off =
     (All-weaker (IsNoted w) (λ r. (eqb r.node x && r.options.subtree) ≡ false) (λ r h. not_below w r x h off) rs all)
 
 -- and none there fits a change of a node that is no target
-not_fitting : (w : Watched) (c : Change ℕ) (r : Registration ℕ) (x : ℕ) → IsNoted w r → is_in eqb (target_of c) w.targets.keys ≡ false → is_in eqb x w.above.keys ≡ false
+not_fitting : (w : Watched) (c : Change ℕ) (r : Registration ℕ) (x : ℕ) → IsNoted w r → is_in eqb (target_of c) w.targets.keys ≡ false →
+    is_in eqb x w.above.keys ≡ false
     → (eqb r.node x && fits eqb c r) ≡ false
 not_fitting w c r x h off past =
     ap (λ b. eqb r.node x && (asks_for r.options c && (b || r.options.subtree))) (elsewhere w.targets.keys (target_of c) r.node off (λ _. h.target))
@@ -108,7 +116,8 @@ nothing_passes p (x ∷ xs) e =
     cond-false (p x) (x ∷ filter p xs) (filter p xs) parts.0 ∙ nothing_passes p xs parts.1
 
 -- a fold that does nothing
-nothing_folds : {A B : Type 0} (f : B → A → B) (p : A → Bool) → ((b : B) (x : A) → p x ≡ false → f b x ≡ b) → (b : B) (xs : List A) → list_any p xs ≡ false → fold f b xs ≡ b
+nothing_folds : {A B : Type 0} (f : B → A → B) (p : A → Bool) → ((b : B) (x : A) → p x ≡ false → f b x ≡ b) → (b : B) (xs : List A) →
+    list_any p xs ≡ false → fold f b xs ≡ b
 nothing_folds f p stays b [] e = refl
 nothing_folds f p stays b (x ∷ xs) e =
     let parts = or_parts (p x) (list_any p xs) e in
@@ -116,24 +125,30 @@ nothing_folds f p stays b (x ∷ xs) e =
 
 pub found_on-none : (rs : List (Registration ℕ)) (c : Change ℕ) (f : Found) (x : ℕ) → list_any (λ r. eqb r.node x) rs ≡ false → found_on rs c f x ≡ f
 found_on-none rs c f x e =
-    nothing_folds (found_by c x) (λ r. eqb r.node x) (λ g r off. cond-false (eqb r.node x && fits eqb c r) _ g (and_left (eqb r.node x) (fits eqb c r) off)) f rs e
+    nothing_folds (found_by c x) (λ r. eqb r.node x)
+    (λ g r off. cond-false (eqb r.node x && fits eqb c r) _ g (and_left (eqb r.node x) (fits eqb c r) off)) f rs e
 
-pub copied_on-none : (node : ℕ) (rs copies : List (Registration ℕ)) (x : ℕ) → list_any (λ r. eqb r.node x && r.options.subtree) rs ≡ false → copied_on node rs copies x ≡ copies
+pub copied_on-none : (node : ℕ) (rs copies : List (Registration ℕ)) (x : ℕ) → list_any (λ r. eqb r.node x && r.options.subtree) rs ≡ false →
+    copied_on node rs copies x ≡ copies
 copied_on-none node rs copies x e =
-    nothing_folds (copied_by node x) (λ r. eqb r.node x && r.options.subtree) (λ list r off. cond-false (eqb r.node x && r.options.subtree) _ list off) copies rs e
+    nothing_folds (copied_by node x) (λ r. eqb r.node x && r.options.subtree)
+    (λ list r off. cond-false (eqb r.node x && r.options.subtree) _ list off) copies rs e
 
 -- on a whole path
-none_on_path : (rs : List (Registration ℕ)) (p : Registration ℕ → Bool) (keys path : List ℕ) → ((x : ℕ) → is_in eqb x keys ≡ false → list_any (λ r. eqb r.node x && p r) rs ≡ false)
+none_on_path : (rs : List (Registration ℕ)) (p : Registration ℕ → Bool) (keys path : List ℕ) →
+    ((x : ℕ) → is_in eqb x keys ≡ false → list_any (λ r. eqb r.node x && p r) rs ≡ false)
     → list_any (λ x. is_in eqb x keys) path ≡ false → filter p (registrations_on eqb path rs) ≡ []
 none_on_path rs p keys [] none e = refl
 none_on_path rs p keys (x ∷ path) none e =
     let parts = or_parts (is_in eqb x keys) (list_any (λ y. is_in eqb y keys) path) e in
     filter-append p (filter (λ r. eqb r.node x) rs) (registrations_on eqb path rs)
-    ∙ (ap (λ more. more ++ filter p (registrations_on eqb path rs)) (filter-filter p (λ r. eqb r.node x) rs ∙ nothing_passes (λ r. eqb r.node x && p r) rs (none x parts.0))
+    ∙ (ap (λ more. more ++ filter p (registrations_on eqb path rs))
+    (filter-filter p (λ r. eqb r.node x) rs ∙ nothing_passes (λ r. eqb r.node x && p r) rs (none x parts.0))
     ∙ none_on_path rs p keys path none parts.1)
 
 -- nobody is interested
-pub interested-unnoted : (w : Watched) (rs : List (Registration ℕ)) (path : List ℕ) (c : Change ℕ) → All (IsNoted w) rs → is_in eqb (target_of c) w.targets.keys ≡ false
+pub interested-unnoted : (w : Watched) (rs : List (Registration ℕ)) (path : List ℕ) (c : Change ℕ) → All (IsNoted w) rs →
+    is_in eqb (target_of c) w.targets.keys ≡ false
     → list_any (λ x. is_in eqb x w.above.keys) path ≡ false → interested eqb path rs c ≡ []
 interested-unnoted w rs path c all off past =
     ap (λ list. distinct eqb (map (λ (r : Registration ℕ). r.observer) list))
@@ -142,7 +157,8 @@ interested-unnoted w rs path c all off past =
     (All-weaker (IsNoted w) (λ r. (eqb r.node x && fits eqb c r) ≡ false) (λ r h. not_fitting w c r x h off none) rs all)) past)
 
 -- and nothing is copied
-pub copies-unnoted : (w : Watched) (rs : List (Registration ℕ)) (path : List ℕ) (node : ℕ) → All (IsNoted w) rs → list_any (λ x. is_in eqb x w.above.keys) path ≡ false
+pub copies-unnoted : (w : Watched) (rs : List (Registration ℕ)) (path : List ℕ) (node : ℕ) → All (IsNoted w) rs →
+    list_any (λ x. is_in eqb x w.above.keys) path ≡ false
     → transients_for eqb node path rs ≡ []
 copies-unnoted w rs path node all past =
     ap (map (transient_copy node)) (none_on_path rs (λ r. r.options.subtree) w.above.keys path (λ x none. unnoted-above w rs x all none) past)
@@ -160,7 +176,8 @@ pub passes-first : (f : NamedTrees) (key : ℕ) (sought : List ℕ) → key < le
 passes-first f key sought node = record { path = []; climbed = climbs-first f key node; none = refl }
 
 -- a step
-pub passes-more : (f : NamedTrees) → StandOnce f → StandAlone f → (key k : ℕ) (sought : List ℕ) (next : Option ℕ) → HasPassed f key sought (Some k) → is_in eqb k sought ≡ false
+pub passes-more : (f : NamedTrees) → StandOnce f → StandAlone f → (key k : ℕ) (sought : List ℕ) (next : Option ℕ) →
+    HasPassed f key sought (Some k) → is_in eqb k sought ≡ false
     → option_map (name_at f.names) next ≡ parent_of f.trees (name_at f.names k) → ForSome next (IsKey f.names) → HasPassed f key sought next
 passes-more f once only key k sought next done off is nodes =
     record {
@@ -172,7 +189,8 @@ passes-more f once only key k sought next done off is nodes =
     }
 
 -- the end: none is
-pub passes-all : (f : NamedTrees) → TellApart f.names → (key : ℕ) (sought : List ℕ) → HasPassed f key sought None → list_any (λ k. is_in eqb k sought) (path_keys f key) ≡ false
+pub passes-all : (f : NamedTrees) → TellApart f.names → (key : ℕ) (sought : List ℕ) → HasPassed f key sought None →
+    list_any (λ k. is_in eqb k sought) (path_keys f key) ≡ false
 passes-all f apart key sought done = ap (list_any (λ k. is_in eqb k sought)) (sym (climbs-all f apart key done.path done.climbed)) ∙ done.none
 
 -- one is found

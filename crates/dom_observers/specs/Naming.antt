@@ -75,22 +75,27 @@ TellApart names = (j k : ℕ) → j < length names → k < length names → name
 
 -- observe()
 abbrev pub ObservingLaw : Type 0
-ObservingLaw = (names : List NodeName) → TellApart names → (t : TablesOf ℕ) (k x : ℕ) (w : ObserveWords) → AreRegistered (IsKey names) t.registrations → IsKey names x
+ObservingLaw = (names : List NodeName) → TellApart names → (t : TablesOf ℕ) (k x : ℕ) (w : ObserveWords) →
+    AreRegistered (IsKey names) t.registrations → IsKey names x
     → named_tables (name_at names) (observing nat_eq k x w t) ≡ observing name_eq k (name_at names x) w (named_tables (name_at names) t)
 
 -- whether a record is taken
 abbrev pub TakenLaw : Type 0
-TakenLaw = (names : List NodeName) → TellApart names → (t : TablesOf ℕ) (path : List ℕ) (c : Change ℕ) → AreRegistered (IsKey names) t.registrations → AreAll (IsKey names) path → IsKey names (target_of c)
+TakenLaw = (names : List NodeName) → TellApart names → (t : TablesOf ℕ) (path : List ℕ) (c : Change ℕ) →
+    AreRegistered (IsKey names) t.registrations → AreAll (IsKey names) path → IsKey names (target_of c)
     → is_taken nat_eq path t c ≡ is_taken name_eq (map (name_at names) path) (named_tables (name_at names) t) (named_change (name_at names) c)
 
 -- a record that is queued
 abbrev pub ToldLaw : Type 0
-ToldLaw = (names : List NodeName) → TellApart names → (t : TablesOf ℕ) (path : List ℕ) (c : Change ℕ) → AreRegistered (IsKey names) t.registrations → AreAll (IsKey names) path → IsKey names (target_of c)
-    → named_tables (name_at names) (told nat_eq path c t) ≡ told name_eq (map (name_at names) path) (named_change (name_at names) c) (named_tables (name_at names) t)
+ToldLaw = (names : List NodeName) → TellApart names → (t : TablesOf ℕ) (path : List ℕ) (c : Change ℕ) →
+    AreRegistered (IsKey names) t.registrations → AreAll (IsKey names) path → IsKey names (target_of c)
+    → named_tables (name_at names) (told nat_eq path c t) ≡ told name_eq (map (name_at names) path) (named_change (name_at names) c)
+    (named_tables (name_at names) t)
 
 -- transient registrations of a removed node
 abbrev pub LeftLaw : Type 0
-LeftLaw = (names : List NodeName) → TellApart names → (t : TablesOf ℕ) (x : ℕ) (path : List ℕ) → AreRegistered (IsKey names) t.registrations → AreAll (IsKey names) path → IsKey names x
+LeftLaw = (names : List NodeName) → TellApart names → (t : TablesOf ℕ) (x : ℕ) (path : List ℕ) → AreRegistered (IsKey names) t.registrations →
+    AreAll (IsKey names) path → IsKey names x
     → named_tables (name_at names) (left nat_eq x path t) ≡ left name_eq (name_at names x) (map (name_at names) path) (named_tables (name_at names) t)
 
 -- the calls that compare no nodes: a new observer, takeRecords(), disconnect() and a notification
@@ -101,10 +106,12 @@ abbrev pub EmptiedLaw : Type 0
 EmptiedLaw = (names : List NodeName) (k : ℕ) (t : TablesOf ℕ) → named_tables (name_at names) (emptied k t) ≡ emptied k (named_tables (name_at names) t)
 
 abbrev pub DisconnectedLaw : Type 0
-DisconnectedLaw = (names : List NodeName) (k : ℕ) (t : TablesOf ℕ) → named_tables (name_at names) (disconnected k t) ≡ disconnected k (named_tables (name_at names) t)
+DisconnectedLaw = (names : List NodeName) (k : ℕ) (t : TablesOf ℕ) →
+    named_tables (name_at names) (disconnected k t) ≡ disconnected k (named_tables (name_at names) t)
 
 abbrev pub NotifiedLaw : Type 0
 NotifiedLaw = (names : List NodeName) (t : TablesOf ℕ) → named_tables (name_at names) (notified t) ≡ notified (named_tables (name_at names) t)
 
 abbrev pub NoticesLaw : Type 0
-NoticesLaw = (names : List NodeName) (t : TablesOf ℕ) → map (λ n. (n.0, map (named_change (name_at names)) n.1)) (notices t) ≡ notices (named_tables (name_at names) t)
+NoticesLaw = (names : List NodeName) (t : TablesOf ℕ) →
+    map (λ n. (n.0, map (named_change (name_at names)) n.1)) (notices t) ≡ notices (named_tables (name_at names) t)

@@ -69,8 +69,12 @@ module _ {N : Type 0} (same : N → N → Bool) where
   -- record)
   abbrev pub told : List N → Change N → TablesOf N → TablesOf N
   told path c t =
-      let add : List (List (Change N)) → ℕ → List (List (Change N)) = λ queues k. slice_set queues k (queue_at queues k ++ record_for same path t.registrations c k ∷ []) in
-      record t { record_queues = fold add t.record_queues (interested same path t.registrations c); pending = fold (append_once nat_eq) t.pending (interested same path t.registrations c) }
+      let add : List (List (Change N)) → ℕ → List (List (Change N)) =
+      λ queues k. slice_set queues k (queue_at queues k ++ record_for same path t.registrations c k ∷ []) in
+      record t {
+        record_queues = fold add t.record_queues (interested same path t.registrations c);
+        pending = fold (append_once nat_eq) t.pending (interested same path t.registrations c);
+      }
 
   -- a removed node x with its transient registrations, of a parent with these inclusive ancestors (DOM Standard, concept:
   -- remove)

@@ -2,7 +2,8 @@
 ghost use Rattle.std.specs.Prelude.{◌≡◌, ◌<◌, length, map};
 ghost use Rattle.dom_model.specs.Tree.{inclusive_ancestors};
 ghost use Rattle.dom_tree.specs.Forest.{name_at};
-ghost use Rattle.dom_observers.specs.Naming.{MakingLaw, ObservingLaw, DisconnectedLaw, EmptiedLaw, TakenLaw, ToldLaw, LeftLaw, NotifiedLaw, NoticesLaw, IsKey, AreAll};
+ghost use Rattle.dom_observers.specs.Naming.{MakingLaw, ObservingLaw, DisconnectedLaw, EmptiedLaw, TakenLaw, ToldLaw, LeftLaw, NotifiedLaw};
+ghost use Rattle.dom_observers.specs.Naming.{NoticesLaw, IsKey, AreAll};
 ghost use Rattle.dom_observers.specs.Paths.{path_keys};
 
 use dom_tree::Forest;

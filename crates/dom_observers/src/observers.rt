@@ -1,5 +1,6 @@
 //! The mutation observers of all owners.
-ghost use Rattle.std.specs.Prelude.{◌≡◌, ◌<◌, ◌↔◌, ◌⊎◌, nat_eq, nat_lt, true, false, not, map, length, option_map, slice_get, is_some, IfOk, IfErr, OnOk, OnErr, if◌then◌else◌};
+ghost use Rattle.std.specs.Prelude.{◌≡◌, ◌<◌, ◌↔◌, ◌⊎◌, nat_eq, nat_lt, true, false, not, map, length, option_map, slice_get, is_some, IfOk, IfErr};
+ghost use Rattle.std.specs.Prelude.{OnOk, OnErr, if◌then◌else◌};
 ghost use Rattle.std.specs.Map.{lookup};
 ghost use Rattle.dom_base.specs.declared.Owner.{Owner as Owners};
 ghost use Rattle.dom_model.specs.Names.{owner_eq, is_empty};
@@ -91,7 +92,8 @@ impl Observers {
     ) -> Result<(), Fault>
         ensures tables { OnOk result (ChangesTables owner (observing nat_eq observer node (words_of options) (tables_of self.old owner)) self.old self.new) }
         ensures unknown { (result ≡ Err (Fault.Refused Refusal.Unknown)) ↔ (nat_lt observer (length (tables_of self.old owner).record_queues) ≡ false) }
-        ensures no_kind { (result ≡ Err (Fault.Refused Refusal.TypeFault)) ↔ ((nat_lt observer (length (tables_of self.old owner).record_queues) ≡ true) × (asks_for_nothing (options_of (words_of options)) ≡ true)) }
+        ensures no_kind { (result ≡ Err (Fault.Refused Refusal.TypeFault)) ↔
+            ((nat_lt observer (length (tables_of self.old owner).record_queues) ≡ true) × (asks_for_nothing (options_of (words_of options)) ≡ true)) }
         ensures other { IfErr result (λ fault. (fault ≡ Fault.Refused Refusal.Unknown) ⊎ ((fault ≡ Fault.Refused Refusal.TypeFault) ⊎ (fault ≡ Fault.Memory))) }
         ensures err { OnErr result (KeepsTables self.old self.new) }
     {
@@ -151,8 +153,11 @@ impl Observers {
     /// unless registrations have gone since the last change. After a refusal of memory some may have it and others not.
     pub fn queue_record(&mut self, forest: &Forest, change: Change) -> Result<bool, AllocError>
         requires { target_of (change_of change) < length forest.now.names }
-        ensures taken { IfOk result (λ taken. taken ≡ is_taken nat_eq (path_keys forest.now (target_of (change_of change))) (tables_of self.old (name_at forest.now.names (target_of (change_of change))).owner) (change_of change)) }
-        ensures tables { OnOk result (ChangesTables (name_at forest.now.names (target_of (change_of change))).owner (told nat_eq (path_keys forest.now (target_of (change_of change))) (change_of change) (tables_of self.old (name_at forest.now.names (target_of (change_of change))).owner)) self.old self.new) }
+        ensures taken { IfOk result (λ taken. taken ≡ is_taken nat_eq (path_keys forest.now (target_of (change_of change)))
+            (tables_of self.old (name_at forest.now.names (target_of (change_of change))).owner) (change_of change)) }
+        ensures tables { OnOk result (ChangesTables (name_at forest.now.names (target_of (change_of change))).owner
+            (told nat_eq (path_keys forest.now (target_of (change_of change))) (change_of change)
+            (tables_of self.old (name_at forest.now.names (target_of (change_of change))).owner)) self.old self.new) }
     {
         let target = change.target();
         let owner = forest.name(target).owner;
@@ -168,7 +173,8 @@ impl Observers {
     pub fn transient(&mut self, forest: &Forest, parent: Key, node: Key) -> Result<(), AllocError>
         requires parent_is_node { parent < length forest.now.names }
         requires node_is_node { node < length forest.now.names }
-        ensures { OnOk result (ChangesTables (name_at forest.now.names node).owner (left nat_eq node (path_keys forest.now parent) (tables_of self.old (name_at forest.now.names node).owner)) self.old self.new) }
+        ensures { OnOk result (ChangesTables (name_at forest.now.names node).owner
+            (left nat_eq node (path_keys forest.now parent) (tables_of self.old (name_at forest.now.names node).owner)) self.old self.new) }
     {
         let owner = forest.name(node).owner;
         let Some(table) = self.tables.get_mut(&owner) else {

@@ -3,7 +3,8 @@ ghost use Rattle.std.specs.Prelude.{◌≡◌, ◌<◌, ℕ, false, not, nat_eq,
 ghost use Rattle.std.specs.List.{list_any};
 ghost use Rattle.dom_model.specs.Names.{is_empty};
 ghost use Rattle.dom_model.specs.Output.{Change as Changed};
-ghost use Rattle.dom_model.specs.Observers.{is_asked_for, stems_from, with_options, with_registration, without_observer, without_transients, transients_for, interested, target_of};
+ghost use Rattle.dom_model.specs.Observers.{is_asked_for, stems_from, with_options, with_registration, without_observer, without_transients};
+ghost use Rattle.dom_model.specs.Observers.{transients_for, interested, target_of};
 ghost use Rattle.dom_observers.specs.Paths.{path_keys};
 ghost use Rattle.dom_observers.specs.Views.{words_of, registration_of};
 ghost use Rattle.dom_observers.specs.Taking.{copied_on};
@@ -148,7 +149,8 @@ impl Registrations {
         node: Key,
         options: &Rc<Options>,
     ) -> Result<Vec<Registered>, AllocError>
-        ensures { IfOk result (λ rs. map registration_of rs.items ≡ map (with_options nat_eq observer node (words_of options.now.value)) (filter (λ r. not ((r.observer == observer) && stems_from nat_eq node r.source)) self.now)) }
+        ensures { IfOk result (λ rs. map registration_of rs.items ≡ map (with_options nat_eq observer node (words_of options.now.value))
+            (filter (λ r. not ((r.observer == observer) && stems_from nat_eq node r.source)) self.now)) }
     {
         let mut renewed = Vec::new(self.alloc);
         for registered in &self.list {
@@ -207,7 +209,8 @@ fn copy_on(
     node: Key,
     copies: &mut Vec<Registered>,
 ) -> Result<(), AllocError>
-    ensures { OnOk result (map registration_of copies.new.items ≡ copied_on node (map registration_of registrations.now) (map registration_of copies.old.items) above) }
+    ensures { OnOk result (map registration_of copies.new.items ≡ copied_on node (map registration_of registrations.now)
+        (map registration_of copies.old.items) above) }
 {
     for registered in registrations {
         if registered.observes_below(above) {

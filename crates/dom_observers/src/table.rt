@@ -1,9 +1,11 @@
 //! What one owner has of observers.
-ghost use Rattle.std.specs.Prelude.{◌≡◌, ◌<◌, ◌↔◌, ◌⊎◌, nat_eq, nat_lt, true, false, map, fold, length, option_map, slice_get, is_some, IfOk, IfErr, OnOk, OnErr, if◌then◌else◌};
+ghost use Rattle.std.specs.Prelude.{◌≡◌, ◌<◌, ◌↔◌, ◌⊎◌, nat_eq, nat_lt, true, false, map, fold, length, option_map, slice_get, is_some, IfOk, IfErr};
+ghost use Rattle.std.specs.Prelude.{OnOk, OnErr, if◌then◌else◌};
 ghost use Rattle.dom_model.specs.Names.{is_empty};
 ghost use Rattle.dom_model.specs.CommandRefusals.{past_limit};
 ghost use Rattle.dom_model.specs.Observers.{options_of, asks_for_nothing, target_of};
-ghost use Rattle.dom_observers.specs.Tables.{no_tables, with_observer, observing, disconnected, emptied, appended, given, is_taken, told, left, notices, notified};
+ghost use Rattle.dom_observers.specs.Tables.{no_tables, with_observer, observing, disconnected, emptied, appended, given, is_taken, told, left};
+ghost use Rattle.dom_observers.specs.Tables.{notices, notified};
 ghost use Rattle.dom_observers.specs.Views.{words_of, change_of, notice_of};
 ghost use Rattle.dom_observers.specs.TableView.{table_of};
 ghost use Rattle.dom_observers.specs.Paths.{path_keys};
@@ -84,7 +86,8 @@ impl Table {
     ) -> Result<(), Fault>
         ensures tables { OnOk result (table_of self.new ≡ observing nat_eq observer node (words_of options) (table_of self.old)) }
         ensures unknown { (result ≡ Err (Fault.Refused Refusal.Unknown)) ↔ (nat_lt observer (length (table_of self.old).record_queues) ≡ false) }
-        ensures no_kind { (result ≡ Err (Fault.Refused Refusal.TypeFault)) ↔ ((nat_lt observer (length (table_of self.old).record_queues) ≡ true) × (asks_for_nothing (options_of (words_of options)) ≡ true)) }
+        ensures no_kind { (result ≡ Err (Fault.Refused Refusal.TypeFault)) ↔
+            ((nat_lt observer (length (table_of self.old).record_queues) ≡ true) × (asks_for_nothing (options_of (words_of options)) ≡ true)) }
         ensures other { IfErr result (λ fault. (fault ≡ Fault.Refused Refusal.Unknown) ⊎ ((fault ≡ Fault.Refused Refusal.TypeFault) ⊎ (fault ≡ Fault.Memory))) }
         ensures err { OnErr result (table_of self.new ≡ table_of self.old) }
     {
@@ -131,8 +134,10 @@ impl Table {
         change: Change,
     ) -> Result<bool, AllocError>
         requires { target_of (change_of change) < length forest.now.names }
-        ensures taken { IfOk result (λ taken. taken ≡ is_taken nat_eq (path_keys forest.now (target_of (change_of change))) (table_of self.old) (change_of change)) }
-        ensures tables { OnOk result (table_of self.new ≡ told nat_eq (path_keys forest.now (target_of (change_of change))) (change_of change) (table_of self.old)) }
+        ensures taken { IfOk result (λ taken. taken ≡ is_taken nat_eq (path_keys forest.now (target_of (change_of change))) (table_of self.old)
+            (change_of change)) }
+        ensures tables { OnOk result (table_of self.new ≡ told nat_eq (path_keys forest.now (target_of (change_of change))) (change_of change)
+            (table_of self.old)) }
     {
         let target = change.target();
         self.registrations.refresh()?;

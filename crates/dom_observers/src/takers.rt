@@ -30,7 +30,9 @@ impl Takers {
         change: &Change,
     ) -> Result<Takers, AllocError>
         ensures observers { IfOk result (λ t. t.observers.keys ≡ interested nat_eq path.now registrations.now (change_of change.now)) }
-        ensures with_old { IfOk result (λ t. (k : ℕ) → list_any (nat_eq k) t.with_old.keys ≡ list_any (λ r. (r.observer == k) && asks_for_old r.options (change_of change.now)) (fitting nat_eq path.now registrations.now (change_of change.now))) }
+        ensures with_old { IfOk result (λ t. (k : ℕ) →
+            list_any (nat_eq k) t.with_old.keys ≡ list_any (λ r. (r.observer == k) && asks_for_old r.options (change_of change.now))
+            (fitting nat_eq path.now registrations.now (change_of change.now))) }
     {
         let mut takers = Takers {
             observers: IndexSet::new(alloc),

@@ -1,5 +1,6 @@
 -- Whether a shadow root may be attached to a node of the page, and the raw parts from which one is attached.
-use Rattle.std.proofs.Common.{◌≡◌, ℕ, ◌+◌, ◌<◌, ◌≤◌, inl, inr, Bool, true, false, not, ◌||◌, List, [], ◌∷◌, ◌++◌, Option, Some, None, length, refl, sym, ap, subst, ◌∙◌, arith}
+use Rattle.std.proofs.Common.{◌≡◌, ℕ, ◌+◌, ◌<◌, ◌≤◌, inl, inr, Bool, true, false, not, ◌||◌, List, [], ◌∷◌, ◌++◌, Option, Some, None, length, refl}
+use Rattle.std.proofs.Common.{sym, ap, subst, ◌∙◌, arith}
 use Rattle.std.specs.Prelude.{nat_eq, nat_lt, find, option_map, is_some, if◌then◌else◌}
 use Rattle.std.proofs.lemmas.Bool.{cases_Bool, lt-ltb, le-ltb, ltb-false}
 use Rattle.std.proofs.lemmas.List.{length-map}
@@ -33,14 +34,17 @@ use Rattle.dom_parts.proofs.HostedWorlds.{page_hosted}
 use Rattle.dom_parts.proofs.Worlds.{part_at}
 
 -- a node is a host by its key where it is one by its name
-hosted_key : (names : List NodeName) → AreDistinct names → (hosts : List ShadowHost) → HostsAreNodes names hosts → (k : ℕ) → k < length names → is_some (root_of_host hosts k) ≡ is_in name_eq (name_at names k) (host_names names hosts)
+hosted_key : (names : List NodeName) → AreDistinct names → (hosts : List ShadowHost) → HostsAreNodes names hosts → (k : ℕ) → k < length names →
+    is_some (root_of_host hosts k) ≡ is_in name_eq (name_at names k) (host_names names hosts)
 hosted_key names distinct [] nodes k at = refl
 hosted_key names distinct (h ∷ hosts) nodes k at =
-    ap (λ (b : Bool). is_some (option_map (λ (g : ShadowHost). g.root) (if b then Some h else find (λ (g : ShadowHost). nat_eq k g.host) hosts))) (key-test names distinct k h.host at nodes.0)
+    ap (λ (b : Bool). is_some (option_map (λ (g : ShadowHost). g.root) (if b then Some h else find (λ (g : ShadowHost). nat_eq k g.host) hosts)))
+    (key-test names distinct k h.host at nodes.0)
     ∙ pick (name_eq (name_at names k) (name_at names h.host)) (hosted_key names distinct hosts nodes.2 k at)
   where
     pick : (b : Bool) → is_some (root_of_host hosts k) ≡ is_in name_eq (name_at names k) (host_names names hosts)
-        → is_some (option_map (λ (g : ShadowHost). g.root) (if b then Some h else find (λ (g : ShadowHost). nat_eq k g.host) hosts)) ≡ b || is_in name_eq (name_at names k) (host_names names hosts)
+        → is_some (option_map (λ (g : ShadowHost). g.root) (if b then Some h else find (λ (g : ShadowHost). nat_eq k g.host) hosts)) ≡ b ||
+        is_in name_eq (name_at names k) (host_names names hosts)
     pick true rest = refl
     pick false rest = rest
 
@@ -57,7 +61,8 @@ accepted_parts true may n e = cc
 accepted_parts false false n e = cc
 accepted_parts false true n e = elim (cases_Bool (nat_lt 1000 n)) [ inl h ↦ (refl, absurd (let more = rw h at e in cc)) | inr h ↦ (refl, ltb-false 1000 n h) ]
 
-module _ (f : NamedTrees) (was : AllTables) (held : IsHeld f.names f.trees was) (distinct : AreDistinct f.names) (d : DocState) (is_d : state_from f.names f.trees was ≡ d) (host : ℕ)
+module _ (f : NamedTrees) (was : AllTables) (held : IsHeld f.names f.trees was) (distinct : AreDistinct f.names) (d : DocState)
+    (is_d : state_from f.names f.trees was ≡ d) (host : ℕ)
     (within : host < length d.names) (own : owner_in d host ≡ Page) where
   abbrev hosted : Bool
   hosted = is_some (root_of_host was.slots.hosts host)
@@ -87,8 +92,10 @@ module _ (f : NamedTrees) (was : AllTables) (held : IsHeld f.names f.trees was) 
       by : refusal_from hosted may (length was.each) ≡ attaching_refusal (part_of (world_from f.names f.trees was) Page) (name_at f.names host)
       by =
           ap (λ b. refusal_from b may (length was.each)) (hosted_key f.names distinct was.slots.hosts held.signals.slots.hosts host within_names)
-          ∙ (ap (λ (n : Node). refusal_from (is_in name_eq (name_at f.names host) (host_names f.names was.slots.hosts)) (may_be_host n.element) (length was.each)) (read_own f.trees held.owned Page (name_at f.names host) own_name).node
-          ∙ (ap (λ n. refusal_from (is_in name_eq (name_at f.names host) (host_names f.names was.slots.hosts)) (may_be_host (node_in (trees_of_owner Page f.trees) (name_at f.names host)).element) n) count
+          ∙ (ap (λ (n : Node). refusal_from (is_in name_eq (name_at f.names host) (host_names f.names was.slots.hosts)) (may_be_host n.element)
+          (length was.each)) (read_own f.trees held.owned Page (name_at f.names host) own_name).node
+          ∙ (ap (λ n. refusal_from (is_in name_eq (name_at f.names host) (host_names f.names was.slots.hosts))
+          (may_be_host (node_in (trees_of_owner Page f.trees) (name_at f.names host)).element) n) count
           ∙ ap (λ (p : Part). attaching_refusal p (name_at f.names host)) (sym page_part)))
 
   pub accepted : None ≡ attaching_refusal (part_of d.world Page) (name_in d host) → (root_of_host was.slots.hosts host ≡ None) × (length was.each ≤ 1000)
@@ -102,11 +109,13 @@ module _ (f : NamedTrees) (was : AllTables) (held : IsHeld f.names f.trees was) 
 
   pub refused_limit : hosted ≡ false → may ≡ true → 1000 < length was.each → Some Limit ≡ attaching_refusal (part_of d.world Page) (name_in d host)
   refused_limit e m more =
-      ap (λ (b : Bool). if b then Some Limit else None) (sym (lt-ltb 1000 (length was.each) more)) ∙ (ap (λ b. refusal_from false b (length was.each)) (sym m) ∙ (ap (λ b. refusal_from b may (length was.each)) (sym e) ∙ refusal_is))
+      ap (λ (b : Bool). if b then Some Limit else None) (sym (lt-ltb 1000 (length was.each) more)) ∙
+      (ap (λ b. refusal_from false b (length was.each)) (sym m) ∙ (ap (λ b. refusal_from b may (length was.each)) (sym e) ∙ refusal_is))
 
   pub taken : hosted ≡ false → may ≡ true → length was.each ≤ 1000 → None ≡ attaching_refusal (part_of d.world Page) (name_in d host)
   taken e m few =
-      ap (λ (b : Bool). if b then Some Limit else None) (sym (le-ltb 1000 (length was.each) few)) ∙ (ap (λ b. refusal_from false b (length was.each)) (sym m) ∙ (ap (λ b. refusal_from b may (length was.each)) (sym e) ∙ refusal_is))
+      ap (λ (b : Bool). if b then Some Limit else None) (sym (le-ltb 1000 (length was.each) few)) ∙
+      (ap (λ b. refusal_from false b (length was.each)) (sym m) ∙ (ap (λ b. refusal_from b may (length was.each)) (sym e) ∙ refusal_is))
 
 -- ---- the new owner
 
@@ -129,8 +138,10 @@ module _ (f : NamedTrees) (was : AllTables) (held : IsHeld f.names f.trees was) 
 
   -- the parts of a `Doc` then
   module _ (g : NamedTrees) (each : List KeyedTables) (slots : SlotsNow) (host : ℕ) (document : Option NodeName)
-      (names : g.names ≡ f.names ++ next_name (Component n) f.names ∷ []) (trees : g.trees ≡ with_node (new_root (next_name (Component n) f.names) Shadow document) f.trees)
-      (tables : each ≡ was.each ++ no_keyed_tables ∷ []) (hosts : slots.hosts ≡ was.slots.hosts ++ record { host = host; root = length f.names; owner = Component n } ∷ [])
+      (names : g.names ≡ f.names ++ next_name (Component n) f.names ∷ [])
+      (trees : g.trees ≡ with_node (new_root (next_name (Component n) f.names) Shadow document) f.trees)
+      (tables : each ≡ was.each ++ no_keyed_tables ∷ [])
+      (hosts : slots.hosts ≡ was.slots.hosts ++ record { host = host; root = length f.names; owner = Component n } ∷ [])
       (free : slots.begun ≡ None) (of : AreSlotsOf g slots) where
     abbrev now : AllTables
     now = record was { each = each; slots = slots }
@@ -152,7 +163,8 @@ module _ (f : NamedTrees) (was : AllTables) (held : IsHeld f.names f.trees was) 
     module _ (d : DocState) (is_d : state_from f.names f.trees was ≡ d) (within : host < length d.names) (own : owner_in d host ≡ Page) where
       pub held_then : length was.each ≤ 1000 → IsHeld g.names g.trees (record was { each = each; slots = slots })
       held_then few =
-          attached_held f g was now host document held (subst (λ (e : DocState). host < length e.names) (sym is_d) within) (subst (λ (e : DocState). owner_in e host ≡ Page) (sym is_d) own) host_more
+          attached_held f g was now host document held (subst (λ (e : DocState). host < length e.names) (sym is_d) within)
+          (subst (λ (e : DocState). owner_in e host ≡ Page) (sym is_d) own) host_more
           (let counted = held.counted in omega (arith, counted, few))
 
       pub names_then : g.names ≡ d.names ++ shadow_root_of (component_made Page (length (part_of d.world Page).attached)) ∷ []
@@ -160,8 +172,13 @@ module _ (f : NamedTrees) (was : AllTables) (held : IsHeld f.names f.trees was) 
           (host_more.names ∙ ap (λ k. f.names ++ shadow_root_of (component_made Page k) ∷ []) count)
         where
           count : length was.slots.hosts ≡ length (part_of (world_from f.names f.trees was) Page).attached
-          count = sym (ap (λ (p : Part). length p.attached) (part_at (contents f.names f.trees was) Page (page_hosted (contents f.names f.trees was) was.slots.hosts (are_hosts f.names f.trees was held))) ∙ length-map was.slots.hosts (λ h. name_at f.names h.host))
+          count = sym (ap (λ (p : Part). length p.attached)
+              (part_at (contents f.names f.trees was) Page
+              (page_hosted (contents f.names f.trees was) was.slots.hosts (are_hosts f.names f.trees was held))) ∙
+              length-map was.slots.hosts (λ h. name_at f.names h.host))
 
-      pub world_then : document ≡ (node_in f.trees (name_at f.names host)).document → world_from g.names g.trees (record was { each = each; slots = slots }) ≡ (attaching d.world Page (name_in d host)).0
+      pub world_then : document ≡ (node_in f.trees (name_at f.names host)).document →
+          world_from g.names g.trees (record was { each = each; slots = slots }) ≡ (attaching d.world Page (name_in d host)).0
       world_then same = subst (λ (e : DocState). world_from g.names g.trees now ≡ (attaching e.world Page (name_in e host)).0) is_d
-          (attached_state f g was now host document held (subst (λ (e : DocState). host < length e.names) (sym is_d) within) (subst (λ (e : DocState). owner_in e host ≡ Page) (sym is_d) own) host_more same)
+          (attached_state f g was now host document held (subst (λ (e : DocState). host < length e.names) (sym is_d) within)
+          (subst (λ (e : DocState). owner_in e host ≡ Page) (sym is_d) own) host_more same)

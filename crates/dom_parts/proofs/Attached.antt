@@ -1,6 +1,7 @@
 -- A shadow root is attached: what is held has one host more, so it is still a legal `Doc`, and its world is that of the
 -- definitions.
-use Rattle.std.proofs.Common.{◌≡◌, ◌≢◌, ℕ, zero, suc, ◌<◌, ◌≤◌, ◌⊎◌, inl, inr, true, false, All, List, [], ◌∷◌, ◌++◌, Option, Some, None, map, length, unwrap_or, refl, sym, ap, subst, ◌∙◌, arith}
+use Rattle.std.proofs.Common.{◌≡◌, ◌≢◌, ℕ, zero, suc, ◌<◌, ◌≤◌, ◌⊎◌, inl, inr, true, false, All, List, [], ◌∷◌, ◌++◌, Option, Some, None, map, length}
+use Rattle.std.proofs.Common.{unwrap_or, refl, sym, ap, subst, ◌∙◌, arith}
 use Rattle.std.specs.Prelude.{slice_get}
 use Rattle.std.specs.List.{AllByRecursion}
 use Rattle.std.proofs.lemmas.Bool.{cases_Bool, false_from_ne_true}
@@ -110,7 +111,8 @@ module _ (f g : NamedTrees) (was now : AllTables) (host : ℕ) (d : Option NodeN
   view_rest : (q : Owner) → tables_view grown (own_tables was q) (was.observers q) ≡ tables_view f.names (own_tables was q) (was.observers q)
   view_rest q = by (table_of was.each q) refl
     where
-      by : (m : Option KeyedTables) → table_of was.each q ≡ m → tables_view grown (unwrap_or m no_keyed_tables) (was.observers q) ≡ tables_view f.names (unwrap_or m no_keyed_tables) (was.observers q)
+      by : (m : Option KeyedTables) → table_of was.each q ≡ m →
+          tables_view grown (unwrap_or m no_keyed_tables) (was.observers q) ≡ tables_view f.names (unwrap_or m no_keyed_tables) (was.observers q)
       by None e = view_same f.names (shadow_root_of c) f.trees q no_keyed_tables (was.observers q) (no_cursors (named_trees f.names f.trees) q) (held.speaks q)
       by (Some t) e = view_same f.names (shadow_root_of c) f.trees q t (was.observers q) (held.own q t e) (held.speaks q)
 
@@ -125,7 +127,8 @@ module _ (f g : NamedTrees) (was now : AllTables) (host : ℕ) (d : Option NodeN
       ∙ (ap (λ ns. named_ranges ns (ranges_of was.ranges q)) more.names ∙ named_grown f.names (shadow_root_of c) was.ranges held.ranges.own q)
 
   live_new : named_ranges g.names (ranges_of now.ranges c) ≡ []
-  live_new = live_now c ∙ ap (named_ranges f.names) (held.ranges.absent c (component_new (contents f.names f.trees was) hosts_were (are_hosts f.names f.trees was held)))
+  live_new = live_now c ∙ ap (named_ranges f.names)
+      (held.ranges.absent c (component_new (contents f.names f.trees was) hosts_were (are_hosts f.names f.trees was held)))
 
   view_now : (q : Owner) → q ≢ c → tables_view g.names (own_tables now q) (now.observers q) ≡ tables_view f.names (own_tables was q) (was.observers q)
   view_now q other =
@@ -134,7 +137,8 @@ module _ (f g : NamedTrees) (was now : AllTables) (host : ℕ) (d : Option NodeN
       ∙ (ap (λ t. tables_view grown t (was.observers q)) (own_rest q other) ∙ view_rest q))
 
   unobserved_new : now.observers c ≡ no_observers
-  unobserved_new = ap (λ (os : Owner → TablesOf ℕ). os c) more.observers ∙ held.unobserved c (component_new (contents f.names f.trees was) hosts_were (are_hosts f.names f.trees was held))
+  unobserved_new = ap (λ (os : Owner → TablesOf ℕ). os c) more.observers ∙
+      held.unobserved c (component_new (contents f.names f.trees was) hosts_were (are_hosts f.names f.trees was held))
 
   hosts_now : host_names g.names now.slots.hosts ≡ host_names f.names hosts_were ++ name_at f.names host ∷ []
   hosts_now =
@@ -142,7 +146,8 @@ module _ (f g : NamedTrees) (was now : AllTables) (host : ℕ) (d : Option NodeN
       ap (λ ns. host_names ns now.slots.hosts) more.names
       ∙ (ap (host_names grown) more.hosts
       ∙ (map-append (λ (h : ShadowHost). name_at grown h.host) hosts_were _
-      ∙ (ap (λ xs. xs ++ name_at grown host ∷ []) (sym (names_renamed f.names grown kept hosts_were held.signals.slots.hosts)) ∙ ap (λ x. host_names f.names hosts_were ++ x ∷ []) (kept.same host within))))
+      ∙ (ap (λ xs. xs ++ name_at grown host ∷ []) (sym (names_renamed f.names grown kept hosts_were held.signals.slots.hosts)) ∙
+      ap (λ x. host_names f.names hosts_were ++ x ∷ []) (kept.same host within))))
 
   names_stay : (ks : List ℕ) → All (λ k. k < length f.names) ks → map (name_at grown) ks ≡ map (name_at f.names) ks
   names_stay [] all = refl
@@ -157,8 +162,10 @@ module _ (f g : NamedTrees) (was now : AllTables) (host : ℕ) (d : Option NodeN
     names = more.names;
     trees = more.trees;
     page = (λ i. with_those (view_now Page (λ e. cc) i) (hosts_now i) (live_now Page i));
-    new = ap (λ t. with_those (tables_view g.names (unwrap_or t no_keyed_tables) (now.observers c)) [] (named_ranges g.names (ranges_of now.ranges c))) table_new
-        ∙ (ap (λ (r : TablesOf ℕ). with_those (tables_view g.names no_keyed_tables r) [] (named_ranges g.names (ranges_of now.ranges c))) unobserved_new ∙ ap (with_those (tables_view g.names no_keyed_tables no_observers) []) live_new);
+    new = ap (λ t. with_those (tables_view g.names (unwrap_or t no_keyed_tables) (now.observers c)) []
+        (named_ranges g.names (ranges_of now.ranges c))) table_new
+        ∙ (ap (λ (r : TablesOf ℕ). with_those (tables_view g.names no_keyed_tables r) [] (named_ranges g.names (ranges_of now.ranges c)))
+        unobserved_new ∙ ap (with_those (tables_view g.names no_keyed_tables no_observers) []) live_new);
     rest = λ q page other. by q page other;
     signalled = ap (λ ns. map (name_at ns) now.signalled) more.names ∙ (ap (map (name_at grown)) more.signalled ∙ names_stay was.signalled held.signals.nodes);
     tasks = more.tasks;
@@ -168,7 +175,8 @@ module _ (f g : NamedTrees) (was now : AllTables) (host : ℕ) (d : Option NodeN
       long = let pushed = length_push was.each no_keyed_tables in omega (arith, pushed)
 
       by : (q : Owner) → q ≢ Page → q ≢ c
-          → shown_tables g.names now.slots.hosts q (own_tables now q) (now.observers q) (ranges_of now.ranges q) ≡ shown_tables f.names hosts_were q (own_tables was q) (was.observers q) (ranges_of was.ranges q)
+          → shown_tables g.names now.slots.hosts q (own_tables now q) (now.observers q) (ranges_of now.ranges q) ≡ shown_tables f.names hosts_were
+          q (own_tables was q) (was.observers q) (ranges_of was.ranges q)
       by Page page other = absurd (page refl)
       by (Component k) page other = (λ i. with_those (view_now (Component k) other i) [] (live_now (Component k) i))
 
@@ -177,11 +185,13 @@ module _ (f g : NamedTrees) (was now : AllTables) (host : ℕ) (d : Option NodeN
 
   hosts_after : AreHostsOf (contents g.names g.trees now) new_hosts
   hosts_after =
-      attached_hosts (contents f.names f.trees was) hosts_were (are_hosts f.names f.trees was held) held.present (contents g.names g.trees now) (name_at f.names host) d one host within refl own
+      attached_hosts (contents f.names f.trees was) hosts_were (are_hosts f.names f.trees was held) held.present (contents g.names g.trees now)
+      (name_at f.names host) d one host within refl own
 
   -- who was there still is
   there_after : (q : Owner) → is_there (world_from f.names f.trees was) q ≡ true → is_there (world_from g.names g.trees now) q ≡ true
-  there_after q on = in_there (contents g.names g.trees now) q (subst (In q) (sym one.owners) (In-push q (owners_up_to (length was.each)) c (there_in (contents f.names f.trees was) q on)))
+  there_after q on = in_there (contents g.names g.trees now) q
+      (subst (In q) (sym one.owners) (In-push q (owners_up_to (length was.each)) c (there_in (contents f.names f.trees was) q on)))
 
   absent_before : (q : Owner) → is_there (world_from g.names g.trees now) q ≡ false → is_there (world_from f.names f.trees was) q ≡ false
   absent_before q off = false_from_ne_true (is_there (world_from f.names f.trees was) q) (λ on. let now_on = sym (there_after q on) ∙ off in cc)
@@ -189,11 +199,13 @@ module _ (f g : NamedTrees) (was now : AllTables) (host : ℕ) (d : Option NodeN
   present_after : (k : ℕ) → k < length g.names → is_there (world_from g.names g.trees now) (name_at g.names k).owner ≡ true
   present_after k k< =
       ap (λ ns. is_there (world_from g.names g.trees now) (name_at ns k).owner) more.names
-      ∙ at (let shorter = ap length more.names in let pushed = length_push f.names (shadow_root_of c) in let low : k ≤ length f.names = omega (arith, k<, shorter, pushed) in eq-or-lt_of_le low)
+      ∙ at (let shorter = ap length more.names in let pushed = length_push f.names (shadow_root_of c) in let low : k ≤ length f.names = omega
+      (arith, k<, shorter, pushed) in eq-or-lt_of_le low)
     where
       at : (k ≡ length f.names) ⊎ (k < length f.names) → is_there (world_from g.names g.trees now) (name_at grown k).owner ≡ true
       at (inl same) =
-          ap (λ (y : NodeName). is_there (world_from g.names g.trees now) y.owner) (ap (name_at grown) same ∙ get_or-append_seam f.names (shadow_root_of c) [] (node_of Page 0))
+          ap (λ (y : NodeName). is_there (world_from g.names g.trees now) y.owner)
+          (ap (name_at grown) same ∙ get_or-append_seam f.names (shadow_root_of c) [] (node_of Page 0))
           ∙ in_there (contents g.names g.trees now) c (subst (In c) (sym one.owners) (In-end (owners_up_to (length was.each)) c))
       at (inr h) =
           ap (λ (y : NodeName). is_there (world_from g.names g.trees now) y.owner) (get_or-append f.names (shadow_root_of c ∷ []) (node_of Page 0) k h)
@@ -202,21 +214,30 @@ module _ (f g : NamedTrees) (was now : AllTables) (host : ℕ) (d : Option NodeN
   limited_after : (p : Owner) → count_of p g.names ≤ 1000000
   limited_after p = elim (cases_Bool (owner_eq p c)) [
     | inl e ↦
-        let count = counted_new (contents f.names f.trees was) hosts_were (are_hosts f.names f.trees was held) held.present (contents g.names g.trees now) (name_at f.names host) d one in
+        let count = counted_new (contents f.names f.trees was) hosts_were (are_hosts f.names f.trees was held) held.present
+        (contents g.names g.trees now) (name_at f.names host) d one in
         let same = ap (λ (q : Owner). count_of q g.names) (owner_eq-true p c e) in omega (arith, count, same)
     | inr e ↦
-        let count = counted_other (contents f.names f.trees was) hosts_were (are_hosts f.names f.trees was held) held.present (contents g.names g.trees now) (name_at f.names host) d one p (owner_eq-false p c e) in
+        let count = counted_other (contents f.names f.trees was) hosts_were (are_hosts f.names f.trees was held) held.present
+        (contents g.names g.trees now) (name_at f.names host) d one p (owner_eq-false p c e) in
         let few = held.limited p in omega (arith, count, few)
   ]
 
   own_after : (q : Owner) (t : KeyedTables) → table_of now.each q ≡ Some t → AreTablesOf (named_trees g.names g.trees) q t
   own_after q t e = elim (cases_Bool (owner_eq q c)) [
     | inl same ↦
-        subst (AreTablesOf (named_trees g.names g.trees) q) (same_Some no_keyed_tables t (sym table_new ∙ (ap (table_of now.each) (sym (owner_eq-true q c same)) ∙ e)))
-        record { iterators = λ k i is. absurd (none-some i is); walkers = λ k w is. absurd (none-some w is); few_iterators = omega arith; few_walkers = omega arith }
+        subst (AreTablesOf (named_trees g.names g.trees) q)
+        (same_Some no_keyed_tables t (sym table_new ∙ (ap (table_of now.each) (sym (owner_eq-true q c same)) ∙ e)))
+        record {
+          iterators = λ k i is. absurd (none-some i is);
+          walkers = λ k w is. absurd (none-some w is);
+          few_iterators = omega arith;
+          few_walkers = omega arith;
+        }
     | inr other ↦
         subst (λ (h : NamedTrees). AreTablesOf h q t) (λ i. named_trees (sym more.names i) (sym more.trees i))
-        (tables_more f.names (shadow_root_of c) f.trees (new_root (shadow_root_of c) Shadow d) refl new_name q t (held.own q t (sym (table_rest q (owner_eq-false q c other)) ∙ e)))
+        (tables_more f.names (shadow_root_of c) f.trees (new_root (shadow_root_of c) Shadow d) refl new_name q t
+        (held.own q t (sym (table_rest q (owner_eq-false q c other)) ∙ e)))
   ]
 
   -- none of its nodes was there before
@@ -234,23 +255,34 @@ module _ (f g : NamedTrees) (was now : AllTables) (host : ℕ) (d : Option NodeN
     absent = hosts_after.absent;
     limited = limited_after;
     own = own_after;
-    counted = ap length more.each ∙ (let pushed = length_push was.each no_keyed_tables in let counted = held.counted in let hosts = ap length more.hosts in let longer = length_push hosts_were (record { host = host; root = length f.names; owner = c }) in omega (arith, pushed, counted, hosts, longer));
-    few = let hosts = ap length more.hosts in let longer = length_push hosts_were (record { host = host; root = length f.names; owner = c }) in omega (arith, hosts, longer, room);
+    counted = ap length more.each ∙ (let pushed = length_push was.each no_keyed_tables in let counted = held.counted in let hosts = ap length
+        more.hosts in let longer = length_push hosts_were (record { host = host; root = length f.names; owner = c }) in omega
+        (arith, pushed, counted, hosts, longer));
+    few = let hosts = ap length more.hosts in let longer =
+        length_push hosts_were (record { host = host; root = length f.names; owner = c }) in omega (arith, hosts, longer, room);
     made = subst (AreMadeFrom g.names 0) (sym more.hosts) hosts_after.made;
     signals = record { free = more.free; slots = more.slots; nodes = nodes_after };
-    speaks = λ p. subst (λ ns. SpeaksOf (IsKey ns) (now.observers p)) (sym more.names) (subst (λ (os : Owner → TablesOf ℕ). SpeaksOf (IsKey grown) (os p)) (sym more.observers) (speaks_grown f.names (shadow_root_of c) (was.observers p) (held.speaks p)));
+    speaks = λ p. subst (λ ns. SpeaksOf (IsKey ns) (now.observers p)) (sym more.names)
+        (subst (λ (os : Owner → TablesOf ℕ). SpeaksOf (IsKey grown) (os p)) (sym more.observers)
+        (speaks_grown f.names (shadow_root_of c) (was.observers p) (held.speaks p)));
     unobserved = λ p off. ap (λ (os : Owner → TablesOf ℕ). os p) more.observers ∙ held.unobserved p (absent_before p off);
-    due = subst (λ (ts : List Task). AllByRecursion (IsDue (world_from g.names g.trees now)) ts) (sym more.tasks) (due_kept (world_from f.names f.trees was) (world_from g.names g.trees now) there_after was.tasks held.due);
+    due = subst (λ (ts : List Task). AllByRecursion (IsDue (world_from g.names g.trees now)) ts) (sym more.tasks)
+        (due_kept (world_from f.names f.trees was) (world_from g.names g.trees now) there_after was.tasks held.due);
     ranges = subst (AreRangesOf (contents g.names g.trees now)) (sym more.ranges)
-        (ranges_attached (contents f.names f.trees was) (contents g.names g.trees now) was.ranges c (name_at f.names host) d (component_new (contents f.names f.trees was) hosts_were (are_hosts f.names f.trees was held)) one held.ranges);
+        (ranges_attached (contents f.names f.trees was) (contents g.names g.trees now) was.ranges c (name_at f.names host) d
+        (component_new (contents f.names f.trees was) hosts_were (are_hosts f.names f.trees was held)) one held.ranges);
     numbered = subst AreNumbered (sym more.names)
         (subst (λ n. AreNumbered (f.names ++ node_of c n ∷ [])) (count_none c f.names uncounted) (numbered_more f.names c held.numbered));
   }
     where
       nodes_after : All (λ k. k < length g.names) now.signalled
-      nodes_after = subst (All (λ k. k < length g.names)) (sym more.signalled) (λ k i h. let less = held.signals.nodes k i h in let long = ap length more.names in let pushed = length_push f.names (shadow_root_of c) in omega (arith, less, long, pushed))
+      nodes_after = subst (All (λ k. k < length g.names)) (sym more.signalled)
+          (λ k i h. let less = held.signals.nodes k i h in let long = ap length more.names in let pushed = length_push f.names
+          (shadow_root_of c) in omega (arith, less, long, pushed))
 
   -- and its world is the one after the command
-  pub attached_state : d ≡ (node_in f.trees (name_at f.names host)).document → world_from g.names g.trees now ≡ (attaching (world_from f.names f.trees was) Page (name_at f.names host)).0
+  pub attached_state : d ≡ (node_in f.trees (name_at f.names host)).document →
+      world_from g.names g.trees now ≡ (attaching (world_from f.names f.trees was) Page (name_at f.names host)).0
   attached_state document =
-      attached_world (contents f.names f.trees was) hosts_were (are_hosts f.names f.trees was held) held.present (contents g.names g.trees now) (name_at f.names host) d one own document
+      attached_world (contents f.names f.trees was) hosts_were (are_hosts f.names f.trees was held) held.present (contents g.names g.trees now)
+      (name_at f.names host) d one own document

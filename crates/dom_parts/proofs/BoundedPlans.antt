@@ -14,10 +14,10 @@ use Rattle.dom_model.specs.Tree.{Trees, node_in, has_node, has_data, is_text, ki
 use Rattle.dom_isolation.specs.Bounds.{HasBounds}
 use Rattle.dom_isolation.specs.Worlds.{IsPart}
 use Rattle.dom_isolation.proofs.Bounds.{nowhere}
-use Rattle.dom_isolation.proofs.Insides.{times-has_node}
+use Rattle.dom_isolation.proofs.InsideAncestors.{times-has_node}
 use Rattle.dom_isolation.proofs.Kids.{index-below, length-children}
 use Rattle.dom_isolation.proofs.KeptOffsets.{room-of, bounds-of, queue_record-keeps}
-use Rattle.dom_isolation.proofs.KindCommands.{has_node-times}
+use Rattle.dom_isolation.proofs.KindLines.{has_node-times}
 use Rattle.dom_isolation.proofs.PlanBounds.{room-removals}
 use Rattle.dom_isolation.proofs.PlanPlaces.{after-append, still}
 use Rattle.dom_isolation.proofs.PlanTexts.{leads-removals, leads-normalizing_text}
@@ -29,7 +29,8 @@ use Rattle.dom_parts.proofs.OwnParts.{children_few}
 
 -- a node without data has at most as many children as its owner has nodes
 pub length_few : (p : Part) → IsPart p → (x : NodeName) → has_data (kind_of p.trees x) ≡ false → length_of p.trees x ≤ p.node_count
-length_few p i x plain = let is = cond-false (has_data (kind_of p.trees x)) (length (node_in p.trees x).text) (length (children_of p.trees x)) plain in let few = children_few p i x in omega arith
+length_few p i x plain = let is = cond-false (has_data (kind_of p.trees x)) (length (node_in p.trees x).text) (length (children_of p.trees x))
+    plain in let few = children_few p i x in omega arith
 
 -- the index of a child is below that count
 pub index_few : (p : Part) → IsPart p → (x parent : NodeName) → parent_of p.trees x ≡ Some parent → index_of p.trees x < p.node_count
@@ -40,7 +41,8 @@ index_few p i x parent up =
 
 -- nodes leave their parents, one after another
 pub removals-keep : (how : Observing) (xs : List NodeName) (p : Part) → IsPart p → HasBounds p → HasBounds (after p (in_turn (removing how) xs p))
-removals-keep how xs p i h = bounds-of (after p (in_turn (removing how) xs p)) (leads-removals how xs p i).changed.part (room-removals nowhere how xs p i (room-of p i h))
+removals-keep how xs p i h = bounds-of (after p (in_turn (removing how) xs p)) (leads-removals how xs p i).changed.part
+    (room-removals nowhere how xs p i (room-of p i h))
 
 pub removals-part : (how : Observing) (xs : List NodeName) (p : Part) → IsPart p → IsPart (after p (in_turn (removing how) xs p))
 removals-part how xs p i = (leads-removals how xs p i).changed.part
@@ -50,18 +52,22 @@ pub emptying-keeps : (node : NodeName) (moved : List NodeName) (p : Part) → Is
 emptying-keeps node moved p i h =
     let gone = in_turn (removing suppressed) moved p in
     let told = queue_record (child_list node [] moved None None) in
-    subst HasBounds (sym (after-append p gone (told ∷ []))) (queue_record-keeps (after p gone) (child_list node [] moved None None) (removals-part suppressed moved p i) (removals-keep suppressed moved p i h))
+    subst HasBounds (sym (after-append p gone (told ∷ [])))
+    (queue_record-keeps (after p gone) (child_list node [] moved None None) (removals-part suppressed moved p i)
+    (removals-keep suppressed moved p i h))
 
 -- ---- texts
 
 -- a Text is normalized: so the next one may be
-pub normalized_text-keeps : (x : NodeName) (p : Part) → IsPart p → IsTrue (has_node p.trees x) → is_text (kind_of p.trees x) ≡ true → HasBounds p → HasBounds (after p (normalizing_text x p))
+pub normalized_text-keeps : (x : NodeName) (p : Part) → IsPart p → IsTrue (has_node p.trees x) → is_text (kind_of p.trees x) ≡ true →
+    HasBounds p → HasBounds (after p (normalizing_text x p))
 normalized_text-keeps x p i there text h =
     let t = has_node-times p.trees x there in
     bounds-of (after p (normalizing_text x p)) (leads-normalizing_text p x i t).changed.part (room-normalizing_text p x i (t, text) (room-of p i h))
 
 -- and a Text that is there is one then
-pub normalized_text-leaves : (x y : NodeName) (p : Part) → IsPart p → IsTrue (has_node p.trees x) → IsTrue (has_node p.trees y) → is_text (kind_of p.trees y) ≡ true
+pub normalized_text-leaves : (x y : NodeName) (p : Part) → IsPart p → IsTrue (has_node p.trees x) → IsTrue (has_node p.trees y) →
+    is_text (kind_of p.trees y) ≡ true
     → IsTrue (has_node (after p (normalizing_text x p)).trees y) × (is_text (kind_of (after p (normalizing_text x p)).trees y) ≡ true)
 normalized_text-leaves x y p i there there_y text =
     let changed = (leads-normalizing_text p x i (has_node-times p.trees x there)).changed in
@@ -69,13 +75,19 @@ normalized_text-leaves x y p i there there_y text =
     (times-has_node (after p (normalizing_text x p)).trees y (still changed y t), ap is_text (changed.kinds y t) ∙ text)
 
 -- each of some Texts may be joined to a first one
-joins-fit : (ts us : Trees) (first : NodeName) (size : ℕ) (ys : List NodeName) → size + total ts ys ≤ length_of us first → AllByRecursion (λ y. length_of us y ≡ length_of ts y) ys → JoinsFit us first size ys
+joins-fit : (ts us : Trees) (first : NodeName) (size : ℕ) (ys : List NodeName) → size + total ts ys ≤ length_of us first →
+    AllByRecursion (λ y. length_of us y ≡ length_of ts y) ys → JoinsFit us first size ys
 joins-fit ts us first size [] few same = tt
 joins-fit ts us first size (y ∷ ys) few same =
-    let is = same.0 in (omega arith, subst (λ k. JoinsFit us first (size + k) ys) (sym is) (joins-fit ts us first (size + length_of ts y) ys (omega arith) same.1))
+    let is = same.0 in (
+      omega arith,
+      subst (λ k. JoinsFit us first (size + k) ys) (sym is)
+          (joins-fit ts us first (size + length_of ts y) ys (omega arith) same.1),
+    )
 
 -- so it is where a Text got the data of those directly after it
-pub joining-joins_fit : (x parent : NodeName) (p : Part) → IsPart p → IsTrue (has_node p.trees x) → is_text (kind_of p.trees x) ≡ true → parent_of p.trees x ≡ Some parent →
+pub joining-joins_fit : (x parent : NodeName) (p : Part) → IsPart p → IsTrue (has_node p.trees x) → is_text (kind_of p.trees x) ≡ true →
+    parent_of p.trees x ≡ Some parent →
     let nexts = texts_after p.trees x in
     JoinsFit (after p (replacing_data x (length_of p.trees x) 0 (flat_map (λ y. (node_in p.trees y).text) nexts) p)).trees x (length_of p.trees x) nexts
 joining-joins_fit x parent p i there text up =

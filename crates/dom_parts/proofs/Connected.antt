@@ -1,6 +1,7 @@
 -- A node is connected where the root of its tree is a document, or where that root has a host and the root of the host's tree
 -- is one: hosts are the page's, so none stands above that.
-use Rattle.std.proofs.Common.{◌≡◌, ℕ, ◌≤◌, zero, suc, Bool, true, false, List, [], ◌∷◌, ◌++◌, Option, Some, None, flat_map, unwrap_or, refl, sym, ap, ◌∙◌, inl, inr, arith}
+use Rattle.std.proofs.Common.{◌≡◌, ℕ, ◌≤◌, zero, suc, Bool, true, false, List, [], ◌∷◌, ◌++◌, Option, Some, None, flat_map, unwrap_or, refl, sym, ap}
+use Rattle.std.proofs.Common.{◌∙◌, inl, inr, arith}
 use Rattle.std.specs.Prelude.{option_to_list}
 use Rattle.std.specs.Option.{option_and_then}
 use Rattle.std.proofs.lemmas.Bool.{cases_Bool, true≢false}
@@ -71,12 +72,14 @@ module _ (w : World) (x : NodeName) where
       (ap (flat_map (ancestors_at w)) (chain_alone alone (owner_depth x.owner)) ∙ append-nil (ancestors_at w x))
 
   -- with a host it is that of the host
-  connected-host : (h a : NodeName) (path : List NodeName) → host_above w x ≡ Some h → ancestors_at w h ≡ a ∷ path → is_connected w x ≡ is_document (kind_at w (root_at w h))
+  connected-host : (h a : NodeName) (path : List NodeName) → host_above w x ≡ Some h → ancestors_at w h ≡ a ∷ path →
+      is_connected w x ≡ is_document (kind_at w (root_at w h))
   connected-host h a path above stands =
       ap (λ (hs : List NodeName). is_document (kind_at w (unwrap_or (last_of (flat_map (ancestors_at w) hs)) x))) (by x.owner refl)
       ∙ (ap (λ (p : List NodeName). is_document (kind_at w (unwrap_or (last_of (ancestors_at w x ++ p)) x))) (append-nil (ancestors_at w h) ∙ stands)
       ∙ (ap (λ (o : Option NodeName). is_document (kind_at w (unwrap_or o x))) (last_behind None (ancestors_at w x) a path)
-      ∙ (ap (λ y. is_document (kind_at w y)) (last_same a path x h) ∙ sym (ap (λ (p : List NodeName). is_document (kind_at w (unwrap_or (last_of p) h))) stands))))
+      ∙ (ap (λ y. is_document (kind_at w y)) (last_same a path x h) ∙
+      sym (ap (λ (p : List NodeName). is_document (kind_at w (unwrap_or (last_of p) h))) stands))))
     where
       by : (o : Owner) → x.owner ≡ o → hosts_from (owner_depth x.owner) w x ≡ x ∷ h ∷ []
       by Page e =
@@ -90,7 +93,8 @@ module _ (f : NamedTrees) {tables : AllTables} (held : IsHeld f.names f.trees ta
   abbrev here : World
   here = world_from f.names f.trees tables
 
-  root_kind : (x : NodeName) → is_document (kind_at (world_from f.names f.trees tables) (root_at (world_from f.names f.trees tables) x)) ≡ is_document (kind_of f.trees (root_of f.trees x))
+  root_kind : (x : NodeName) → is_document (kind_at (world_from f.names f.trees tables) (root_at (world_from f.names f.trees tables) x)) ≡
+      is_document (kind_of f.trees (root_of f.trees x))
   root_kind x =
       let w = world_from f.names f.trees tables in
       let o = x.owner in
@@ -105,18 +109,23 @@ module _ (f : NamedTrees) {tables : AllTables} (held : IsHeld f.names f.trees ta
       ∙ ap is_document (sym kind)
 
   above : (x : NodeName) → host_above (world_from f.names f.trees tables) x ≡ host_named f.names tables.slots.hosts (root_of f.trees x)
-  above x = host_shown (shadow_trees f.names f.trees tables.slots.hosts) (world_from f.names f.trees tables) (world_shown (contents f.names f.trees tables) tables.slots.hosts (are_hosts f.names f.trees tables held)) x
+  above x = host_shown (shadow_trees f.names f.trees tables.slots.hosts) (world_from f.names f.trees tables)
+      (world_shown (contents f.names f.trees tables) tables.slots.hosts (are_hosts f.names f.trees tables held)) x
 
   -- without a host above, and with one that stands in the trees
-  pub connected_alone : (x : NodeName) → host_named f.names tables.slots.hosts (root_of f.trees x) ≡ None → is_connected (world_from f.names f.trees tables) x ≡ is_document (kind_of f.trees (root_of f.trees x))
+  pub connected_alone : (x : NodeName) → host_named f.names tables.slots.hosts (root_of f.trees x) ≡ None →
+      is_connected (world_from f.names f.trees tables) x ≡ is_document (kind_of f.trees (root_of f.trees x))
   connected_alone x none = connected-root (world_from f.names f.trees tables) x (above x ∙ none) ∙ root_kind x
 
-  pub connected_hosted : (x h : NodeName) → host_named f.names tables.slots.hosts (root_of f.trees x) ≡ Some h → 1 ≤ times_in f.trees h → is_connected (world_from f.names f.trees tables) x ≡ is_document (kind_of f.trees (root_of f.trees h))
+  pub connected_hosted : (x h : NodeName) → host_named f.names tables.slots.hosts (root_of f.trees x) ≡ Some h → 1 ≤ times_in f.trees h →
+      is_connected (world_from f.names f.trees tables) x ≡ is_document (kind_of f.trees (root_of f.trees h))
   connected_hosted x h some there = by (inclusive_ancestors f.trees h) refl
     where
-      by : (path : List NodeName) → inclusive_ancestors f.trees h ≡ path → is_connected (world_from f.names f.trees tables) x ≡ is_document (kind_of f.trees (root_of f.trees h))
+      by : (path : List NodeName) → inclusive_ancestors f.trees h ≡ path →
+          is_connected (world_from f.names f.trees tables) x ≡ is_document (kind_of f.trees (root_of f.trees h))
       by [] e = let gone = path_gone f.trees h e in absurd (omega arith)
       by (a ∷ path) e =
           connected-host (world_from f.names f.trees tables) x h a path (above x ∙ some)
-          (ap (λ (ts : Trees). inclusive_ancestors ts h) (sym (own_in_part f.names f.trees held h.owner)) ∙ (sym (read_own f.trees held.owned h.owner h refl).path ∙ e))
+          (ap (λ (ts : Trees). inclusive_ancestors ts h) (sym (own_in_part f.names f.trees held h.owner)) ∙
+          (sym (read_own f.trees held.owned h.owner h refl).path ∙ e))
           ∙ root_kind h

@@ -1,5 +1,6 @@
 -- An owner's tables written: what holds then, the world then, and that it is what a command of the model does.
-use Rattle.std.proofs.Common.{◌≡◌, ℕ, zero, suc, inl, inr, Bool, true, false, List, [], ◌∷◌, ◌++◌, length, Option, Some, None, option_map, unwrap_or, map, refl, sym, ap, subst, ◌∙◌}
+use Rattle.std.proofs.Common.{◌≡◌, ℕ, zero, suc, inl, inr, Bool, true, false, List, [], ◌∷◌, ◌++◌, length, Option, Some, None, option_map, unwrap_or}
+use Rattle.std.proofs.Common.{map, refl, sym, ap, subst, ◌∙◌}
 use Rattle.std.specs.Prelude.{is_some, slice_get, slice_set}
 use Rattle.std.specs.Option.{option_map_or}
 use Rattle.std.proofs.lemmas.Bool.{cases_Bool, true≢false}
@@ -28,7 +29,7 @@ use Rattle.dom_parts.specs.AllTables.{AreTablesOf, AllTables, with_table}
 use Rattle.dom_parts.specs.Doc.{named_trees, own_tables, shown_tables, contents, world_from, IsHeld, Makes}
 use Rattle.dom_parts.proofs.Worlds.{part_at, part_off, changed}
 use Rattle.dom_parts.proofs.Places.{single_owners, table_set, table_set_other}
-use Rattle.dom_parts.proofs.Own.{next_own, previous_own, move_own}
+use Rattle.dom_parts.proofs.OwnNodes.{next_own, previous_own, move_own}
 use Rattle.dom_ranges.specs.Tables.{ranges_of}
 use Rattle.dom_parts.proofs.Held.{held_with, there_table}
 use Rattle.dom_parts.proofs.RangedKeeping.{ranges_stay}
@@ -64,40 +65,47 @@ module _ (names : List NodeName) (ts : Trees) (tables : AllTables) (o : Owner) w
   pub iterators_in : (part_of (world_from names ts tables) o).iterators ≡ map (iterator_view names) (own_tables tables o).iterators
   iterators_in = elim (cases_Bool (is_there (world_from names ts tables) o)) [
     | inl there ↦ ap (λ (p : Part). p.iterators) (part_at (contents names ts tables) o there)
-    | inr off ↦ ap (λ (p : Part). p.iterators) (part_off (contents names ts tables) o off) ∙ ap (λ (t : KeyedTables). map (iterator_view names) t.iterators) (sym (no_items tables o (off_tables off)))
+    | inr off ↦ ap (λ (p : Part). p.iterators) (part_off (contents names ts tables) o off) ∙
+        ap (λ (t : KeyedTables). map (iterator_view names) t.iterators) (sym (no_items tables o (off_tables off)))
   ]
 
   pub walkers_in : (part_of (world_from names ts tables) o).walkers ≡ map (walker_view names) (own_tables tables o).walkers
   walkers_in = elim (cases_Bool (is_there (world_from names ts tables) o)) [
     | inl there ↦ ap (λ (p : Part). p.walkers) (part_at (contents names ts tables) o there)
-    | inr off ↦ ap (λ (p : Part). p.walkers) (part_off (contents names ts tables) o off) ∙ ap (λ (t : KeyedTables). map (walker_view names) t.walkers) (sym (no_items tables o (off_tables off)))
+    | inr off ↦ ap (λ (p : Part). p.walkers) (part_off (contents names ts tables) o off) ∙
+        ap (λ (t : KeyedTables). map (walker_view names) t.walkers) (sym (no_items tables o (off_tables off)))
   ]
 
   -- a number that an iterator has in one has one in the other
   pub has_iterator : (k : ℕ) → is_some (slice_get (part_of (world_from names ts tables) o).iterators k) ≡ is_some (slice_get (own_tables tables o).iterators k)
   has_iterator k =
       ap (λ is. is_some (slice_get is k)) iterators_in
-      ∙ (ap is_some (slice_get-map (iterator_view names) (own_tables tables o).iterators k) ∙ is_some_map (iterator_view names) (slice_get (own_tables tables o).iterators k))
+      ∙ (ap is_some (slice_get-map (iterator_view names) (own_tables tables o).iterators k) ∙
+      is_some_map (iterator_view names) (slice_get (own_tables tables o).iterators k))
 
   pub has_walker : (k : ℕ) → is_some (slice_get (part_of (world_from names ts tables) o).walkers k) ≡ is_some (slice_get (own_tables tables o).walkers k)
   has_walker k =
       ap (λ ws. is_some (slice_get ws k)) walkers_in
-      ∙ (ap is_some (slice_get-map (walker_view names) (own_tables tables o).walkers k) ∙ is_some_map (walker_view names) (slice_get (own_tables tables o).walkers k))
+      ∙ (ap is_some (slice_get-map (walker_view names) (own_tables tables o).walkers k) ∙
+      is_some_map (walker_view names) (slice_get (own_tables tables o).walkers k))
 
   -- and then the owner is there
-  there_by : {X : Type 0} (read : KeyedTables → List X) → read no_keyed_tables ≡ [] → (k : ℕ) → is_some (slice_get (read (own_tables tables o)) k) ≡ true → is_there (world_from names ts tables) o ≡ true
+  there_by : {X : Type 0} (read : KeyedTables → List X) → read no_keyed_tables ≡ [] → (k : ℕ) →
+      is_some (slice_get (read (own_tables tables o)) k) ≡ true → is_there (world_from names ts tables) o ≡ true
   there_by read none k h = elim (cases_Bool (is_there (world_from names ts tables) o)) [
     | inl there ↦ there
     | inr off ↦ absurd (true≢false (sym h ∙ ap (λ xs. is_some (slice_get xs k)) (ap read (no_items tables o (off_tables off)) ∙ none)))
   ]
 
-  pub there_iterator : (k : ℕ) → is_some (slice_get (part_of (world_from names ts tables) o).iterators k) ≡ true → is_there (world_from names ts tables) o ≡ true
+  pub there_iterator : (k : ℕ) → is_some (slice_get (part_of (world_from names ts tables) o).iterators k) ≡ true →
+      is_there (world_from names ts tables) o ≡ true
   there_iterator k h = there_by (λ t. t.iterators) refl k (sym (has_iterator k) ∙ h)
 
   pub there_walker : (k : ℕ) → is_some (slice_get (part_of (world_from names ts tables) o).walkers k) ≡ true → is_there (world_from names ts tables) o ≡ true
   there_walker k h = there_by (λ t. t.walkers) refl k (sym (has_walker k) ∙ h)
 
-module _ (names : List NodeName) (ts : Trees) (tables : AllTables) (held : IsHeld names ts tables) (o : Owner) (t : KeyedTables) (at : table_of tables.each o ≡ Some t) where
+module _ (names : List NodeName) (ts : Trees) (tables : AllTables) (held : IsHeld names ts tables) (o : Owner) (t : KeyedTables)
+    (at : table_of tables.each o ≡ Some t) where
   pub there : is_there (world_from names ts tables) o ≡ true
   there = there_table names ts tables o t at
 
@@ -109,10 +117,12 @@ module _ (names : List NodeName) (ts : Trees) (tables : AllTables) (held : IsHel
   part_was = part_at (contents names ts tables) o there ∙ ap (λ m. with_own (unwrap_or m no_keyed_tables)) at
 
   -- what a command reads and does not change
-  pub makes_read : (c : Command) (v : Value) → effect (with_own t) c ≡ Effect.tables (with_own t) [] v → Makes o c v (world_from names ts tables) (world_from names ts tables)
+  pub makes_read : (c : Command) (v : Value) → effect (with_own t) c ≡ Effect.tables (with_own t) [] v →
+      Makes o c v (world_from names ts tables) (world_from names ts tables)
   makes_read c v is = (
     ap (λ p. effect p c) part_was ∙ is ∙ ap (λ p. Effect.tables p [] v) (sym part_was),
-    changed (contents names ts tables) (contents names ts tables) o (part_in (contents names ts tables) o) (single_owners (length tables.each)) there (record { owners = refl; signalled = refl; tasks = refl; own = refl; others = λ q other. refl })
+    changed (contents names ts tables) (contents names ts tables) o (part_in (contents names ts tables) o) (single_owners (length tables.each))
+        there (record { owners = refl; signalled = refl; tasks = refl; own = refl; others = λ q other. refl })
         ∙ ap (with_part (world_from names ts tables)) (sym (part_at (contents names ts tables) o there)),
   )
 
@@ -126,12 +136,14 @@ module _ (names : List NodeName) (ts : Trees) (tables : AllTables) (held : IsHel
     -- what holds of the others
     pub held_set : AreTablesOf (named_trees names ts) o u → IsHeld names ts (with_table tables o u)
     held_set h =
-        held_with names ts tables held o there names ts (with_table tables o u) (length-set tables.each (place_of o) u) refl held.owned (λ p other. refl) held.present held.limited
+        held_with names ts tables held o there names ts (with_table tables o u) (length-set tables.each (place_of o) u) refl held.owned
+        (λ p other. refl) held.present held.limited
         (λ p v e. elim (cases_Bool (owner_eq p o)) [
           | inl same ↦ own_case p v (owner_eq-true p o same) e
           | inr other ↦ held.own p v (sym (table_set_other tables.each o t u at p (owner_eq-false p o other)) ∙ e)
         ]) held.made record { free = held.signals.free; slots = held.signals.slots; nodes = held.signals.nodes } held.speaks held.unobserved held.due
-        (ranges_stay (contents names ts tables) (contents names ts (with_table tables o u)) tables.ranges held.ranges refl (ap owners_up_to (length-set tables.each (place_of o) u)) (λ p. refl)) held.numbered
+        (ranges_stay (contents names ts tables) (contents names ts (with_table tables o u)) tables.ranges held.ranges refl
+        (ap owners_up_to (length-set tables.each (place_of o) u)) (λ p. refl)) held.numbered
       where
         own_case : (p : Owner) (v : KeyedTables) → p ≡ o → table_of (slice_set tables.each (place_of o) u) p ≡ Some v → AreTablesOf (named_trees names ts) p v
         own_case p v same e =
@@ -145,25 +157,31 @@ module _ (names : List NodeName) (ts : Trees) (tables : AllTables) (held : IsHel
     part_now = part_at (contents names ts (with_table tables o u)) o there_set ∙ ap (λ m. with_own (unwrap_or m no_keyed_tables)) at_set
 
     -- what a command does that writes the tables
-    pub makes_set : (c : Command) (v : Value) → effect (with_own t) c ≡ Effect.tables (with_own u) [] v → Makes o c v (world_from names ts tables) (world_from names ts (with_table tables o u))
+    pub makes_set : (c : Command) (v : Value) → effect (with_own t) c ≡ Effect.tables (with_own u) [] v →
+        Makes o c v (world_from names ts tables) (world_from names ts (with_table tables o u))
     makes_set c v is = (
       ap (λ p. effect p c) part_was ∙ is ∙ ap (λ p. Effect.tables p [] v) (sym part_now),
-      changed (contents names ts tables) (contents names ts (with_table tables o u)) o (part_of (world_from names ts (with_table tables o u)) o) (single_owners (length tables.each)) there record {
-        owners = ap owners_up_to (length-set tables.each (place_of o) u);
-        signalled = refl;
-        tasks = refl;
-        own = sym (part_at (contents names ts (with_table tables o u)) o there_set);
-        others = λ q other. ap (λ m. part_with q (trees_of_owner q ts) (count_of q names) (shown_tables names tables.slots.hosts q (unwrap_or m no_keyed_tables) (tables.observers q) (ranges_of tables.ranges q))) (table_set_other tables.each o t u at q other);
-      },
+      changed (contents names ts tables) (contents names ts (with_table tables o u)) o (part_of (world_from names ts (with_table tables o u)) o)
+          (single_owners (length tables.each)) there record {
+            owners = ap owners_up_to (length-set tables.each (place_of o) u);
+            signalled = refl;
+            tasks = refl;
+            own = sym (part_at (contents names ts (with_table tables o u)) o there_set);
+            others = λ q other. ap (λ m. part_with q (trees_of_owner q ts) (count_of q names)
+                (shown_tables names tables.slots.hosts q (unwrap_or m no_keyed_tables) (tables.observers q) (ranges_of tables.ranges q)))
+                (table_set_other tables.each o t u at q other);
+          },
     )
 
   -- ---- iterators
 
   -- the iterator of a number
-  iterator_got : (k : ℕ) (i : KeyedIterator) → slice_get t.iterators k ≡ Some i → slice_get (map (iterator_view names) t.iterators) k ≡ Some (iterator_view names i)
+  iterator_got : (k : ℕ) (i : KeyedIterator) → slice_get t.iterators k ≡ Some i →
+      slice_get (map (iterator_view names) t.iterators) k ≡ Some (iterator_view names i)
   iterator_got k i e = slice_get-map (iterator_view names) t.iterators k ∙ ap (option_map (iterator_view names)) e
 
-  iterator_moved : (i : KeyedIterator) (before : Bool) (r : Option ℕ) → moved_to (iterator_view names i) before (option_map (name_at names) r) ≡ iterator_view names (iterator_at i before r)
+  iterator_moved : (i : KeyedIterator) (before : Bool) (r : Option ℕ) →
+      moved_to (iterator_view names i) before (option_map (name_at names) r) ≡ iterator_view names (iterator_at i before r)
   iterator_moved i before None = refl
   iterator_moved i before (Some k) = refl
 
@@ -175,44 +193,66 @@ module _ (names : List NodeName) (ts : Trees) (tables : AllTables) (held : IsHel
   with_iterators is = record (with_own t) { iterators = is }
 
   iterator_effect : (k : ℕ) (i : KeyedIterator) (before : Bool) (r : Option ℕ) (x : Option NodeName) → x ≡ option_map (name_at names) r
-      → moves_iterator (with_own t) k before (iterator_view names i) x ≡ Effect.tables (with_own (with_iterator k (iterator_at i before r))) [] (node_or_null (option_map (name_at names) r))
+      → moves_iterator (with_own t) k before (iterator_view names i) x ≡ Effect.tables (with_own (with_iterator k (iterator_at i before r))) []
+      (node_or_null (option_map (name_at names) r))
   unfolding with_iterators
   iterator_effect k i before r x is =
       ap (λ y. moves_iterator (with_own t) k before (iterator_view names i) y) is
-      ∙ ap (λ j. keeps (with_iterators (slice_set (map (iterator_view names) t.iterators) k j)) (node_or_null (option_map (name_at names) r))) (iterator_moved i before r)
-      ∙ ap (λ is. keeps (with_iterators is) (node_or_null (option_map (name_at names) r))) (sym (map-set (iterator_view names) t.iterators k (iterator_at i before r)))
+      ∙ ap (λ j. keeps (with_iterators (slice_set (map (iterator_view names) t.iterators) k j)) (node_or_null (option_map (name_at names) r)))
+      (iterator_moved i before r)
+      ∙ ap (λ is. keeps (with_iterators is) (node_or_null (option_map (name_at names) r)))
+      (sym (map-set (iterator_view names) t.iterators k (iterator_at i before r)))
 
   -- an iterator's nodes are the owner's
   reference_own : (k : ℕ) (i : KeyedIterator) → slice_get t.iterators k ≡ Some i → ((name_at names i.root).owner ≡ o) × ((name_at names i.reference).owner ≡ o)
   reference_own k i e =
-      let h = (held.own o t at).iterators k i e in
-      (h.own, sym ((stays_own ts held.owned (name_at names i.reference).owner (name_at names i.reference) refl).path (name_at names i.root) h.stands.reference.within) ∙ h.own)
+      let h = (held.own o t at).iterators k i e in (
+        h.own,
+        sym ((stays_own ts held.owned (name_at names i.reference).owner (name_at names i.reference) refl).path (name_at names i.root)
+            h.stands.reference.within) ∙ h.own,
+      )
 
-  pub next_effect : (k : ℕ) (i : KeyedIterator) (r : Option ℕ) → slice_get t.iterators k ≡ Some i → option_map (name_at names) r ≡ iterator_next_node ts (iterator_view names i)
-      → effect (with_own t) (Command.iterator_next k) ≡ Effect.tables (with_own (with_iterator k (iterator_at i false r))) [] (node_or_null (option_map (name_at names) r))
+  pub next_effect : (k : ℕ) (i : KeyedIterator) (r : Option ℕ) → slice_get t.iterators k ≡ Some i →
+      option_map (name_at names) r ≡ iterator_next_node ts (iterator_view names i)
+      → effect (with_own t) (Command.iterator_next k) ≡ Effect.tables (with_own (with_iterator k (iterator_at i false r))) []
+      (node_or_null (option_map (name_at names) r))
   next_effect k i r e value =
       let own = reference_own k i e in
-      ap (λ m. option_map_or (λ j. moves_iterator (with_own t) k false j (iterator_next_node (trees_of_owner o ts) j)) m (answers (with_own t) nothing)) (iterator_got k i e)
-      ∙ iterator_effect k i false r (iterator_next_node (trees_of_owner o ts) (iterator_view names i)) (sym (next_own ts held.owned o (iterator_view names i) own.0 own.1) ∙ sym value)
+      ap (λ m. option_map_or (λ j. moves_iterator (with_own t) k false j (iterator_next_node (trees_of_owner o ts) j)) m
+      (answers (with_own t) nothing)) (iterator_got k i e)
+      ∙ iterator_effect k i false r (iterator_next_node (trees_of_owner o ts) (iterator_view names i))
+      (sym (next_own ts held.owned o (iterator_view names i) own.0 own.1) ∙ sym value)
 
-  pub previous_effect : (k : ℕ) (i : KeyedIterator) (r : Option ℕ) → slice_get t.iterators k ≡ Some i → option_map (name_at names) r ≡ iterator_previous_node ts (iterator_view names i)
-      → effect (with_own t) (Command.iterator_previous k) ≡ Effect.tables (with_own (with_iterator k (iterator_at i true r))) [] (node_or_null (option_map (name_at names) r))
+  pub previous_effect : (k : ℕ) (i : KeyedIterator) (r : Option ℕ) → slice_get t.iterators k ≡ Some i →
+      option_map (name_at names) r ≡ iterator_previous_node ts (iterator_view names i)
+      → effect (with_own t) (Command.iterator_previous k) ≡ Effect.tables (with_own (with_iterator k (iterator_at i true r))) []
+      (node_or_null (option_map (name_at names) r))
   previous_effect k i r e value =
       let own = reference_own k i e in
-      ap (λ m. option_map_or (λ j. moves_iterator (with_own t) k true j (iterator_previous_node (trees_of_owner o ts) j)) m (answers (with_own t) nothing)) (iterator_got k i e)
-      ∙ iterator_effect k i true r (iterator_previous_node (trees_of_owner o ts) (iterator_view names i)) (sym (previous_own ts held.owned o (iterator_view names i) own.0 own.1) ∙ sym value)
+      ap (λ m. option_map_or (λ j. moves_iterator (with_own t) k true j (iterator_previous_node (trees_of_owner o ts) j)) m
+      (answers (with_own t) nothing)) (iterator_got k i e)
+      ∙ iterator_effect k i true r (iterator_previous_node (trees_of_owner o ts) (iterator_view names i))
+      (sym (previous_own ts held.owned o (iterator_view names i) own.0 own.1) ∙ sym value)
 
-  pub at_effect : (k : ℕ) (i : KeyedIterator) → slice_get t.iterators k ≡ Some i → effect (with_own t) (Command.iterator_at k) ≡ Effect.tables (with_own t) [] (reference (name_at names i.reference) i.before)
-  at_effect k i e = ap (λ m. option_map_or (λ (j : Iterator). answers (with_own t) (reference j.reference j.before)) m (answers (with_own t) nothing)) (iterator_got k i e)
+  pub at_effect : (k : ℕ) (i : KeyedIterator) → slice_get t.iterators k ≡ Some i →
+      effect (with_own t) (Command.iterator_at k) ≡ Effect.tables (with_own t) [] (reference (name_at names i.reference) i.before)
+  at_effect k i e = ap (λ m. option_map_or (λ (j : Iterator). answers (with_own t) (reference j.reference j.before)) m
+      (answers (with_own t) nothing)) (iterator_got k i e)
 
   -- a new one
   pub iterator_effect_new : (root : ℕ) (f : Filter) → (name_at names root).owner ≡ o
-      → effect (with_own t) (Command.iterator_new (own (name_at names root).number) f) ≡ Effect.tables (with_own (record t { iterators = t.iterators ++ record { root = root; reference = root; before = true; filter = f } ∷ [] })) [] (an_iterator (length t.iterators))
+      → effect (with_own t) (Command.iterator_new (own (name_at names root).number) f) ≡ Effect.tables
+      (with_own (record t { iterators = t.iterators ++ record { root = root; reference = root; before = true; filter = f } ∷ [] })) []
+      (an_iterator (length t.iterators))
   unfolding with_iterators
   iterator_effect_new root f is =
-      ap (λ q. keeps (with_iterators (map (iterator_view names) t.iterators ++ new_iterator (node_of q (name_at names root).number) f ∷ [])) (an_iterator (length (map (iterator_view names) t.iterators)))) (sym is)
-      ∙ ap (λ is. keeps (with_iterators is) (an_iterator (length (map (iterator_view names) t.iterators)))) (sym (map-append (iterator_view names) t.iterators (record { root = root; reference = root; before = true; filter = f } ∷ [])))
-      ∙ ap (λ n. keeps (with_iterators (map (iterator_view names) (t.iterators ++ record { root = root; reference = root; before = true; filter = f } ∷ []))) (an_iterator n)) (length-map t.iterators (iterator_view names))
+      ap (λ q. keeps (with_iterators (map (iterator_view names) t.iterators ++ new_iterator (node_of q (name_at names root).number) f ∷ []))
+      (an_iterator (length (map (iterator_view names) t.iterators)))) (sym is)
+      ∙ ap (λ is. keeps (with_iterators is) (an_iterator (length (map (iterator_view names) t.iterators))))
+      (sym (map-append (iterator_view names) t.iterators (record { root = root; reference = root; before = true; filter = f } ∷ [])))
+      ∙ ap (λ n. keeps (with_iterators (map (iterator_view names)
+      (t.iterators ++ record { root = root; reference = root; before = true; filter = f } ∷ []))) (an_iterator n))
+      (length-map t.iterators (iterator_view names))
 
   -- ---- walkers
 
@@ -234,33 +274,44 @@ module _ (names : List NodeName) (ts : Trees) (tables : AllTables) (held : IsHel
       ∙ ap (λ ws. keeps (with_walkers ws) value) (sym (map-set (walker_view names) t.walkers k v))
 
   walker_effect : (k : ℕ) (w : KeyedWalker) (r : Option ℕ) (value : Value) → slice_get t.walkers k ≡ Some w
-      → sets_walker (with_own t) k (walker_view names w) (option_map (name_at names) r) value ≡ Effect.tables (with_own (with_walker k (walker_at w r))) [] value
+      → sets_walker (with_own t) k (walker_view names w) (option_map (name_at names) r) value ≡ Effect.tables
+      (with_own (with_walker k (walker_at w r))) [] value
   unfolding with_walkers
   walker_effect k w None value e = ap (λ ws. keeps (with_walkers (map (walker_view names) ws)) value) (sym (same_item t.walkers k w e))
   walker_effect k w (Some j) value e = walker_set_effect k w (walker_at w (Some j)) (name_at names j) value refl
 
-  pub walk_effect : (k : ℕ) (w : KeyedWalker) (m : Move) (r : Option ℕ) → slice_get t.walkers k ≡ Some w → option_map (name_at names) r ≡ walker_move ts (walker_view names w) m
+  pub walk_effect : (k : ℕ) (w : KeyedWalker) (m : Move) (r : Option ℕ) → slice_get t.walkers k ≡ Some w →
+      option_map (name_at names) r ≡ walker_move ts (walker_view names w) m
       → effect (with_own t) (Command.walk k m) ≡ Effect.tables (with_own (with_walker k (walker_at w r))) [] (node_or_null (option_map (name_at names) r))
   walk_effect k w m r e value =
       let h = (held.own o t at).walkers k w e in
-      ap (λ n. option_map_or (λ j. sets_walker (with_own t) k j (walker_move (trees_of_owner o ts) j m) (node_or_null (walker_move (trees_of_owner o ts) j m))) n (answers (with_own t) nothing)) (walker_got k w e)
-      ∙ ap (λ x. sets_walker (with_own t) k (walker_view names w) x (node_or_null x)) (sym (move_own ts held.owned o (walker_view names w) h.own h.own_current m) ∙ sym value)
+      ap (λ n. option_map_or (λ j. sets_walker (with_own t) k j (walker_move (trees_of_owner o ts) j m)
+      (node_or_null (walker_move (trees_of_owner o ts) j m))) n (answers (with_own t) nothing)) (walker_got k w e)
+      ∙ ap (λ x. sets_walker (with_own t) k (walker_view names w) x (node_or_null x))
+      (sym (move_own ts held.owned o (walker_view names w) h.own h.own_current m) ∙ sym value)
       ∙ walker_effect k w r (node_or_null (option_map (name_at names) r)) e
 
-  pub walk_at_effect : (k : ℕ) (w : KeyedWalker) → slice_get t.walkers k ≡ Some w → effect (with_own t) (Command.walker_at k) ≡ Effect.tables (with_own t) [] (a_node (name_at names w.current))
+  pub walk_at_effect : (k : ℕ) (w : KeyedWalker) → slice_get t.walkers k ≡ Some w →
+      effect (with_own t) (Command.walker_at k) ≡ Effect.tables (with_own t) [] (a_node (name_at names w.current))
   walk_at_effect k w e = ap (λ m. option_map_or (λ (j : Walker). answers (with_own t) (a_node j.current)) m (answers (with_own t) nothing)) (walker_got k w e)
 
   pub walk_set_effect : (k : ℕ) (w : KeyedWalker) (current : ℕ) → slice_get t.walkers k ≡ Some w → (name_at names current).owner ≡ o
-      → effect (with_own t) (Command.walker_set k (own (name_at names current).number)) ≡ Effect.tables (with_own (with_walker k (record w { current = current }))) [] nothing
+      → effect (with_own t) (Command.walker_set k (own (name_at names current).number)) ≡ Effect.tables
+      (with_own (with_walker k (record w { current = current }))) [] nothing
   walk_set_effect k w current e is =
-      ap (λ m. option_map_or (λ j. sets_walker (with_own t) k j (Some (node_of o (name_at names current).number)) nothing) m (answers (with_own t) nothing)) (walker_got k w e)
+      ap (λ m. option_map_or (λ j. sets_walker (with_own t) k j (Some (node_of o (name_at names current).number)) nothing) m
+      (answers (with_own t) nothing)) (walker_got k w e)
       ∙ ap (λ q. sets_walker (with_own t) k (walker_view names w) (Some (node_of q (name_at names current).number)) nothing) (sym is)
       ∙ walker_set_effect k w (record w { current = current }) (name_at names current) nothing refl
 
   pub walker_effect_new : (root : ℕ) (f : Filter) → (name_at names root).owner ≡ o
-      → effect (with_own t) (Command.walker_new (own (name_at names root).number) f) ≡ Effect.tables (with_own (record t { walkers = t.walkers ++ record { root = root; current = root; filter = f } ∷ [] })) [] (a_walker (length t.walkers))
+      → effect (with_own t) (Command.walker_new (own (name_at names root).number) f) ≡ Effect.tables
+      (with_own (record t { walkers = t.walkers ++ record { root = root; current = root; filter = f } ∷ [] })) [] (a_walker (length t.walkers))
   unfolding with_walkers
   walker_effect_new root f is =
-      ap (λ q. keeps (with_walkers (map (walker_view names) t.walkers ++ new_walker (node_of q (name_at names root).number) f ∷ [])) (a_walker (length (map (walker_view names) t.walkers)))) (sym is)
-      ∙ ap (λ ws. keeps (with_walkers ws) (a_walker (length (map (walker_view names) t.walkers)))) (sym (map-append (walker_view names) t.walkers (record { root = root; current = root; filter = f } ∷ [])))
-      ∙ ap (λ n. keeps (with_walkers (map (walker_view names) (t.walkers ++ record { root = root; current = root; filter = f } ∷ []))) (a_walker n)) (length-map t.walkers (walker_view names))
+      ap (λ q. keeps (with_walkers (map (walker_view names) t.walkers ++ new_walker (node_of q (name_at names root).number) f ∷ []))
+      (a_walker (length (map (walker_view names) t.walkers)))) (sym is)
+      ∙ ap (λ ws. keeps (with_walkers ws) (a_walker (length (map (walker_view names) t.walkers))))
+      (sym (map-append (walker_view names) t.walkers (record { root = root; current = root; filter = f } ∷ [])))
+      ∙ ap (λ n. keeps (with_walkers (map (walker_view names) (t.walkers ++ record { root = root; current = root; filter = f } ∷ [])))
+      (a_walker n)) (length-map t.walkers (walker_view names))

@@ -28,7 +28,8 @@ module _ (P : Node → Type 0) where
 
   pub each_subtree : (ts : Trees) (x : NodeName) → EachNode P ts → EachNode P (subtree ts x)
   each_subtree none x h = tt
-  each_subtree (tree n c r) x h = each_either (name_eq n.name x) (tree n c none) (or_else (subtree c x) (subtree r x)) (h.0, h.1, tt) (each_or_else (subtree c x) (subtree r x) (each_subtree c x h.1) (each_subtree r x h.2))
+  each_subtree (tree n c r) x h = each_either (name_eq n.name x) (tree n c none) (or_else (subtree c x) (subtree r x)) (h.0, h.1, tt)
+      (each_or_else (subtree c x) (subtree r x) (each_subtree c x h.1) (each_subtree r x h.2))
 
   each_without : (x : NodeName) (ts : Trees) → EachNode P ts → EachNode P (without x ts)
   each_without x none h = tt
@@ -38,17 +39,26 @@ module _ (P : Node → Type 0) where
 
   each_put_before : (before : Option NodeName) (new ts : Trees) → EachNode P new → EachNode P ts → EachNode P (put_before before new ts)
   each_put_before before new none g h = g
-  each_put_before before new (tree n c r) g h = each_either (is_given before n.name) (followed_by new (tree n c r)) (tree n c (put_before before new r)) (each_followed new (tree n c r) g h) (h.0, h.1, each_put_before before new r g h.2)
+  each_put_before before new (tree n c r) g h =
+      each_either (is_given before n.name) (followed_by new (tree n c r)) (tree n c (put_before before new r))
+      (each_followed new (tree n c r) g h) (h.0, h.1, each_put_before before new r g h.2)
 
-  each_put_below : (parent : NodeName) (before : Option NodeName) (new ts : Trees) → EachNode P new → EachNode P ts → EachNode P (put_below parent before new ts)
+  each_put_below : (parent : NodeName) (before : Option NodeName) (new ts : Trees) → EachNode P new → EachNode P ts →
+      EachNode P (put_below parent before new ts)
   each_put_below parent before new none g h = tt
   each_put_below parent before new (tree n c r) g h =
-      let below = each_put_below parent before new c g h.1 in
-      (h.0, each_either (name_eq n.name parent) (put_before before new (put_below parent before new c)) (put_below parent before new c) (each_put_before before new (put_below parent before new c) g below) below, each_put_below parent before new r g h.2)
+      let below = each_put_below parent before new c g h.1 in (
+        h.0,
+        each_either (name_eq n.name parent) (put_before before new (put_below parent before new c)) (put_below parent before new c)
+            (each_put_before before new (put_below parent before new c) g below) below,
+        each_put_below parent before new r g h.2,
+      )
 
   pub each_put_root : (x : NodeName) (new ts : Trees) → EachNode P new → EachNode P ts → EachNode P (put_root x new ts)
   each_put_root x new none g h = g
-  each_put_root x new (tree n c r) g h = each_either (name_before x n.name) (followed_by new (tree n c r)) (tree n c (put_root x new r)) (each_followed new (tree n c r) g h) (h.0, h.1, each_put_root x new r g h.2)
+  each_put_root x new (tree n c r) g h =
+      each_either (name_before x n.name) (followed_by new (tree n c r)) (tree n c (put_root x new r)) (each_followed new (tree n c r) g h)
+      (h.0, h.1, each_put_root x new r g h.2)
 
   -- a tree is placed, or taken out
   pub each_placed : (x parent : NodeName) (before : Option NodeName) (ts : Trees) → EachNode P ts → EachNode P (placed x parent before ts)

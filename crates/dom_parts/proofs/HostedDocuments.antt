@@ -12,7 +12,7 @@ use Rattle.dom_model.specs.WorldSteps.{world_step, stepped, with_shadow_document
 use Rattle.dom_slots.specs.Hosts.{ShadowHost, root_named}
 use Rattle.dom_tree.specs.Forest.{count_of}
 use Rattle.dom_tree.specs.Owners.{IsOwnChange}
-use Rattle.dom_tree.proofs.OwnChanges.{changed_subtree}
+use Rattle.dom_tree.proofs.OwnPlacings.{changed_subtree}
 use Rattle.dom_parts.specs.Contents.{Contents, part_in, part_with, world_of}
 use Rattle.dom_parts.specs.Hosting.{component_named, AreHostsOf, document_in, documents_in}
 use Rattle.dom_parts.proofs.Worlds.{In, IsChangeOf, there_same}
@@ -20,7 +20,8 @@ use Rattle.dom_parts.proofs.HostedWorlds.{root-component, below_looked, below_th
 use Rattle.dom_parts.proofs.HostedSteps.{names_same, hosts_stepped, stepped_hosted}
 
 -- a tree of one owner
-module _ (a : Contents) (hosts : List ShadowHost) (held : AreHostsOf a hosts) (o : Owner) (there : is_there (world_of a) o ≡ true) (x d : NodeName) (own : x.owner ≡ o) where
+module _ (a : Contents) (hosts : List ShadowHost) (held : AreHostsOf a hosts) (o : Owner) (there : is_there (world_of a) o ≡ true)
+    (x d : NodeName) (own : x.owner ≡ o) where
   change : IsOwnChange o (change_subtree (with_document d) x) a.trees
   change = changed_subtree a.trees held.owned o (with_document d) x (λ n. refl) own
 
@@ -40,7 +41,8 @@ module _ (a : Contents) (hosts : List ShadowHost) (held : AreHostsOf a hosts) (o
   document_hosted = hosts_stepped a (document_in d a x) hosts o (set_document x d) held there (names_same a.names) change.owned part_changed
 
 -- the shadow trees of components, one after another
-shadows_stepped : (a : Contents) (hosts : List ShadowHost) (d : NodeName) (os : List Owner) → AreHostsOf a hosts → ((o : Owner) → In o os → is_there (world_of a) o ≡ true)
+shadows_stepped : (a : Contents) (hosts : List ShadowHost) (d : NodeName) (os : List Owner) → AreHostsOf a hosts →
+    ((o : Owner) → In o os → is_there (world_of a) o ≡ true)
     → world_of (fold (document_in d) a (map shadow_root_of os)) ≡ fold (with_shadow_document d) (world_of a) os
 shadows_stepped a hosts d [] held there = refl
 shadows_stepped a hosts d (o ∷ os) held there =
@@ -50,24 +52,29 @@ shadows_stepped a hosts d (o ∷ os) held there =
     ∙ ap (λ (w : World). fold (with_shadow_document d) w os) (document_stepped a hosts held o here (shadow_root_of o) d refl)
 
 -- and the hosts stay
-shadows_hosted : (a : Contents) (hosts : List ShadowHost) (d : NodeName) (os : List Owner) → AreHostsOf a hosts → ((o : Owner) → In o os → is_there (world_of a) o ≡ true) → AreHostsOf (fold (document_in d) a (map shadow_root_of os)) hosts
+shadows_hosted : (a : Contents) (hosts : List ShadowHost) (d : NodeName) (os : List Owner) → AreHostsOf a hosts →
+    ((o : Owner) → In o os → is_there (world_of a) o ≡ true) → AreHostsOf (fold (document_in d) a (map shadow_root_of os)) hosts
 shadows_hosted a hosts d [] held there = held
 shadows_hosted a hosts d (o ∷ os) held there =
     let next = document_in d a (shadow_root_of o) in
-    shadows_hosted next hosts d os (document_hosted a hosts held o (there o (inl refl)) (shadow_root_of o) d refl) (λ q i. there_same next a refl q ∙ there q (inr i))
+    shadows_hosted next hosts d os (document_hosted a hosts held o (there o (inl refl)) (shadow_root_of o) d refl)
+    (λ q i. there_same next a refl q ∙ there q (inr i))
 
 -- the shadow roots of hosts are those of their components
-roots_components : (a : Contents) (hosts : List ShadowHost) → AreHostsOf a hosts → (ys : List NodeName) → filter_map (root_named a.names hosts) ys ≡ map shadow_root_of (filter_map (component_named a.names hosts) ys)
+roots_components : (a : Contents) (hosts : List ShadowHost) → AreHostsOf a hosts → (ys : List NodeName) →
+    filter_map (root_named a.names hosts) ys ≡ map shadow_root_of (filter_map (component_named a.names hosts) ys)
 roots_components a hosts held [] = refl
 roots_components a hosts held (y ∷ ys) =
     (λ j. cons_option (root-component a.names hosts 0 y held.made j) (roots_components a hosts held ys j)) ∙ by (component_named a.names hosts y)
   where
-    by : (m : Option Owner) → cons_option (option_map shadow_root_of m) (map shadow_root_of (filter_map (component_named a.names hosts) ys)) ≡ map shadow_root_of (cons_option m (filter_map (component_named a.names hosts) ys))
+    by : (m : Option Owner) → cons_option (option_map shadow_root_of m) (map shadow_root_of (filter_map (component_named a.names hosts) ys)) ≡ map
+        shadow_root_of (cons_option m (filter_map (component_named a.names hosts) ys))
     by None = refl
     by (Some o) = refl
 
 -- A node document: of the tree, and of the shadow trees of the hosts in it.
-module _ (a : Contents) (hosts : List ShadowHost) (held : AreHostsOf a hosts) (o : Owner) (there : is_there (world_of a) o ≡ true) (x d : NodeName) (own : x.owner ≡ o) where
+module _ (a : Contents) (hosts : List ShadowHost) (held : AreHostsOf a hosts) (o : Owner) (there : is_there (world_of a) o ≡ true)
+    (x d : NodeName) (own : x.owner ≡ o) where
   abbrev below : List Owner
   below = filter_map (component_named a.names hosts) (inclusive_descendants a.trees x)
 

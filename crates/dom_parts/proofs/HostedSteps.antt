@@ -1,6 +1,7 @@
 -- Steps in the world of what is held with hosts: where one owner's part changes as the step says, and the slots are
 -- signalled that the hosts tell, the world is the one after the step.
-use Rattle.std.proofs.Common.{◌≡◌, ℕ, suc, ◌<◌, ◌≤◌, Bool, true, false, List, [], ◌∷◌, ◌++◌, Option, Some, None, fold, length, refl, sym, ap, subst, ◌∙◌, inl, inr, arith}
+use Rattle.std.proofs.Common.{◌≡◌, ℕ, suc, ◌<◌, ◌≤◌, Bool, true, false, List, [], ◌∷◌, ◌++◌, Option, Some, None, fold, length, refl, sym, ap, subst}
+use Rattle.std.proofs.Common.{◌∙◌, inl, inr, arith}
 use Rattle.std.specs.Prelude.{option_map, if◌then◌else◌}
 use Rattle.std.specs.Option.{option_map_or}
 use Rattle.std.proofs.lemmas.Bool.{cases_Bool}
@@ -14,7 +15,8 @@ use Rattle.dom_model.specs.Tree.{Trees, parent_of}
 use Rattle.dom_model.specs.Output.{Change}
 use Rattle.dom_model.specs.Part.{Part}
 use Rattle.dom_model.specs.Slots.{with_signal}
-use Rattle.dom_model.specs.Steps.{Step, make, make_room, place, take_out, set_document, set_attribute, replace_data, split_at, join_at, set_range, queue_record, part_step, leave, is_taken}
+use Rattle.dom_model.specs.Steps.{Step, make, make_room, place, take_out, set_document, set_attribute, replace_data, split_at, join_at, set_range}
+use Rattle.dom_model.specs.Steps.{queue_record, part_step, leave, is_taken}
 use Rattle.dom_model.specs.World.{World, Task, part_of, is_there, queued_notify}
 use Rattle.dom_model.specs.WorldSteps.{world_step, stepped, with_signals, with_removal_signals, with_notify_if}
 use Rattle.dom_model.proofs.OwnerLaws.{owner_eq-true, owner_eq-false}
@@ -34,7 +36,8 @@ use Rattle.dom_parts.proofs.HostedWorlds.{single_hosted, trees_hosted, world_sho
 -- ---- signals
 
 -- what is held after signals
-pub signalled_fields : (c : Contents) (ss : List NodeName) → signals_in c ss ≡ record c { signalled = fold (append_once name_eq) c.signalled ss; tasks = fold (λ ts s. queued_notify s.owner ts) c.tasks ss }
+pub signalled_fields : (c : Contents) (ss : List NodeName) →
+    signals_in c ss ≡ record c { signalled = fold (append_once name_eq) c.signalled ss; tasks = fold (λ ts s. queued_notify s.owner ts) c.tasks ss }
 signalled_fields c [] = refl
 signalled_fields c (s ∷ ss) = signalled_fields (signal_in c s) ss
 
@@ -75,12 +78,17 @@ names_pushed ns x = record { longer = omega (arith, length_push ns x); same = λ
 module _ (ns ms : List NodeName) (keeps : KeepsNames ns ms) where
   pub nodes_renamed : (hosts : List ShadowHost) → HostsAreNodes ns hosts → HostsAreNodes ms hosts
   nodes_renamed [] nodes = tt
-  nodes_renamed (h ∷ hosts) nodes = let longer = keeps.longer in let host = nodes.0 in let root = nodes.1 in (omega arith, omega arith, nodes_renamed hosts nodes.2)
+  nodes_renamed (h ∷ hosts) nodes = let longer = keeps.longer in let host = nodes.0 in let root =
+      nodes.1 in (omega arith, omega arith, nodes_renamed hosts nodes.2)
 
   pub made_renamed : (hosts : List ShadowHost) (k : ℕ) → HostsAreNodes ns hosts → AreMadeFrom ns k hosts → AreMadeFrom ms k hosts
   made_renamed [] k nodes made = tt
   made_renamed (h ∷ hosts) k nodes made = (
-    record { owner = made.0.owner; root = keeps.same h.root nodes.1 ∙ made.0.root; host = ap (λ (x : NodeName). x.owner) (keeps.same h.host nodes.0) ∙ made.0.host },
+    record {
+      owner = made.0.owner;
+      root = keeps.same h.root nodes.1 ∙ made.0.root;
+      host = ap (λ (x : NodeName). x.owner) (keeps.same h.host nodes.0) ∙ made.0.host;
+    },
     made_renamed hosts (suc k) nodes.2 made.1,
   )
 
@@ -117,14 +125,17 @@ hosts_stepped a b hosts o s held there keeps owned change = record {
   unhosted = λ q other. attached_in q ∙ held.unhosted q other;
   owned = owned;
   absent = λ q off. let gone = sym (there_same b a change.owners q) ∙ off in
-      ap (λ (p : Part). p.trees) (change.others q (λ same. let on : is_there (world_of a) q ≡ true = subst (λ r. is_there (world_of a) r ≡ true) (sym same) there in cc)) ∙ held.absent q gone;
+      ap (λ (p : Part). p.trees) (change.others q
+      (λ same. let on : is_there (world_of a) q ≡ true = subst (λ r. is_there (world_of a) r ≡ true) (sym same) there in cc)) ∙
+      held.absent q gone;
 }
   where
     attached_in : (q : Owner) → (b.tables q).attached ≡ (a.tables q).attached
     attached_in q = elim (cases_Bool (owner_eq q o)) [
       | inl e ↦
           let is = owner_eq-true q o e in
-          ap (λ r. (b.tables r).attached) is ∙ (ap (λ (p : Part). p.attached) change.own ∙ (attached_step (part_in a o) s ∙ ap (λ r. (a.tables r).attached) (sym is)))
+          ap (λ r. (b.tables r).attached) is ∙
+          (ap (λ (p : Part). p.attached) change.own ∙ (attached_step (part_in a o) s ∙ ap (λ r. (a.tables r).attached) (sym is)))
       | inr e ↦ ap (λ (p : Part). p.attached) (change.others q (owner_eq-false q o e))
     ]
 
@@ -134,7 +145,8 @@ module _ (a : Contents) (hosts : List ShadowHost) (held : AreHostsOf a hosts) (o
   -- the step in its owner's part, before what follows elsewhere
   pub stepped_hosted : (b : Contents) (s : Step) → IsChangeOf a b o (part_step (part_in a o) s) → world_of b ≡ stepped o (world_of a) s
   stepped_hosted b s change =
-      changed a b o (part_step (part_in a o) s) (single_hosted a hosts held) there change ∙ ap (λ (p : Part). Rattle.dom_model.specs.World.with_part (world_of a) (part_step p s)) (sym (part_at a o there))
+      changed a b o (part_step (part_in a o) s) (single_hosted a hosts held) there change ∙
+      ap (λ (p : Part). Rattle.dom_model.specs.World.with_part (world_of a) (part_step p s)) (sym (part_at a o there))
 
   -- a step after which nothing follows elsewhere, with hosts or without
   abbrev pub IsPlain : Step → Type 0
@@ -184,11 +196,13 @@ module _ (a : Contents) (hosts : List ShadowHost) (held : AreHostsOf a hosts) (o
 
     -- the slots that the hosts tell are those of the world
     told : (s : Step) → IsChangeOf a moved o (part_step (part_in a o) s) → (x around : NodeName) (is_move : Bool)
-        → world_of (signals_in moved (signals_at (shadows_in a hosts) (shadows_in moved hosts) x around is_move)) ≡ with_signals (world_of a) (stepped o (world_of a) s) x around is_move
+        → world_of (signals_in moved (signals_at (shadows_in a hosts) (shadows_in moved hosts) x around is_move)) ≡ with_signals (world_of a)
+        (stepped o (world_of a) s) x around is_move
     told s change x around is_move =
         signalled_world moved (signals_at (shadows_in a hosts) (shadows_in moved hosts) x around is_move)
         ∙ (ap (fold with_signal (world_of moved))
-        (sym (signals-shown (shadows_in a hosts) (shadows_in moved hosts) (world_of a) (world_of moved) (world_shown a hosts held) (world_shown moved hosts (hosts_moved s change)) x around is_move))
+        (sym (signals-shown (shadows_in a hosts) (shadows_in moved hosts) (world_of a) (world_of moved) (world_shown a hosts held)
+        (world_shown moved hosts (hosts_moved s change)) x around is_move))
         ∙ (λ j. with_signals (world_of a) (stepped_hosted moved s change j) x around is_move))
 
     -- a node is placed
@@ -200,14 +214,17 @@ module _ (a : Contents) (hosts : List ShadowHost) (held : AreHostsOf a hosts) (o
         told (place (name_at a.names x) (name_at a.names parent) (option_map (name_at a.names) before)) change (name_at a.names x) (name_at a.names parent) true
 
     -- an attribute is set or removed
-    pub attribute_hosted : (x : ℕ) (left : Option ℕ) (n : Word) (v : Option DomString) → IsChangeOf a moved o (part_step (part_in a o) (set_attribute (name_at a.names x) n v))
-        → world_of (signals_in moved (step_signals a.names (shadows_in a hosts) (shadows_in moved hosts) (Attribute x) left)) ≡ world_step o (world_of a) (set_attribute (name_at a.names x) n v)
+    pub attribute_hosted : (x : ℕ) (left : Option ℕ) (n : Word) (v : Option DomString) →
+        IsChangeOf a moved o (part_step (part_in a o) (set_attribute (name_at a.names x) n v))
+        → world_of (signals_in moved (step_signals a.names (shadows_in a hosts) (shadows_in moved hosts) (Attribute x) left)) ≡ world_step o
+        (world_of a) (set_attribute (name_at a.names x) n v)
     attribute_hosted x left n v change = told (set_attribute (name_at a.names x) n v) change (name_at a.names x) (name_at a.names x) false
 
     -- a node leaves its parent, if it has one
     pub removal_hosted : (x : ℕ) (left : Option ℕ) → (name_at a.names x).owner ≡ o → option_map (name_at a.names) left ≡ parent_of a.trees (name_at a.names x)
         → IsChangeOf a moved o (part_step (part_in a o) (take_out (name_at a.names x)))
-        → world_of (signals_in moved (step_signals a.names (shadows_in a hosts) (shadows_in moved hosts) (Removal x) left)) ≡ world_step o (world_of a) (take_out (name_at a.names x))
+        → world_of (signals_in moved (step_signals a.names (shadows_in a hosts) (shadows_in moved hosts) (Removal x) left)) ≡ world_step o
+        (world_of a) (take_out (name_at a.names x))
     removal_hosted x left own is change =
         by left
         ∙ ap (λ p. with_removal_signals (world_of a) (stepped o (world_of a) (take_out y)) y p)

@@ -1,5 +1,6 @@
 -- The world of what is held with hosts: its hosts, and the components in a tree, are looked up in the list of hosts.
-use Rattle.std.proofs.Common.{◌≡◌, ◌≢◌, ℕ, zero, suc, ◌+◌, ◌<◌, ◌≤◌, Bool, true, false, ltb, List, [], ◌∷◌, Option, Some, None, filter_map, flat_map, position, length, refl, sym, ap, subst, ◌∙◌, ◌⊎◌, inl, inr, arith, zero-add}
+use Rattle.std.proofs.Common.{◌≡◌, ◌≢◌, ℕ, zero, suc, ◌+◌, ◌<◌, ◌≤◌, Bool, true, false, ltb, List, [], ◌∷◌, Option, Some, None, filter_map, flat_map}
+use Rattle.std.proofs.Common.{position, length, refl, sym, ap, subst, ◌∙◌, ◌⊎◌, inl, inr, arith, zero-add}
 use Rattle.std.specs.Prelude.{find, if◌then◌else◌, slice_get, option_map}
 use Rattle.std.specs.List.{cons_option, position_or_len}
 use Rattle.std.proofs.lemmas.Bool.{cases_Bool, lt-ltb, le-ltb, cases_lt}
@@ -34,9 +35,11 @@ module _ {X : Type 0} (p : X → Bool) (x : X) (xs : List X) where
   position-no e =
       rw e
       (ap (λ n. if ltb n (length (x ∷ xs)) then Some n else None) (one-add (position_or_len p xs))
-      ∙ (ap (λ (b : Bool). if b then Some (suc (position_or_len p xs)) else None) (same (cases_lt (position_or_len p xs) (length xs))) ∙ by (ltb (position_or_len p xs) (length xs))))
+      ∙ (ap (λ (b : Bool). if b then Some (suc (position_or_len p xs)) else None) (same (cases_lt (position_or_len p xs) (length xs))) ∙
+      by (ltb (position_or_len p xs) (length xs))))
     where
-      same : (position_or_len p xs < length xs) ⊎ (length xs ≤ position_or_len p xs) → ltb (suc (position_or_len p xs)) (length (x ∷ xs)) ≡ ltb (position_or_len p xs) (length xs)
+      same : (position_or_len p xs < length xs) ⊎ (length xs ≤ position_or_len p xs) →
+          ltb (suc (position_or_len p xs)) (length (x ∷ xs)) ≡ ltb (position_or_len p xs) (length xs)
       same (inl h) = lt-ltb (suc (position_or_len p xs)) (length (x ∷ xs)) (omega arith) ∙ sym (lt-ltb (position_or_len p xs) (length xs) h)
       same (inr h) = le-ltb (suc (position_or_len p xs)) (length (x ∷ xs)) (omega arith) ∙ sym (le-ltb (position_or_len p xs) (length xs) h)
 
@@ -56,7 +59,8 @@ made-no_page j e = cc
 
 module _ (names : List NodeName) where
   -- each owner is the component of an attach
-  owner_from : (hosts : List ShadowHost) (k : ℕ) (o : Owner) → AreMadeFrom names k hosts → In o (host_owners hosts) → (j : ℕ) × (k ≤ j) × (component_made Page j ≡ o)
+  owner_from : (hosts : List ShadowHost) (k : ℕ) (o : Owner) → AreMadeFrom names k hosts → In o (host_owners hosts) → (j : ℕ) × (k ≤ j) ×
+      (component_made Page j ≡ o)
   owner_from [] k o made i = absurd i
   owner_from (h ∷ hosts) k o made (inl e) = (k, omega arith, sym made.0.owner ∙ e)
   owner_from (h ∷ hosts) k o made (inr i) = let d = owner_from hosts (suc k) o made.1 i in (d.0, (let le = d.1 in omega arith), d.2)
@@ -74,10 +78,12 @@ module _ (names : List NodeName) where
   component_none [] k x made other = refl
   component_none (h ∷ hosts) k x made other =
       let miss = name_eq-other x (name_at names h.host) (λ e. other (ap (λ (y : NodeName). y.owner) e ∙ made.0.host)) in
-      ap (λ (b : Bool). option_map (λ (g : ShadowHost). g.owner) (if b then Some h else find (λ g. name_eq x (name_at names g.host)) hosts)) miss ∙ component_none hosts (suc k) x made.1 other
+      ap (λ (b : Bool). option_map (λ (g : ShadowHost). g.owner) (if b then Some h else find (λ g. name_eq x (name_at names g.host)) hosts))
+      miss ∙ component_none hosts (suc k) x made.1 other
 
   -- the component of a host is that of its place
-  component_from : (hosts : List ShadowHost) (k : ℕ) (x : NodeName) → AreMadeFrom names k hosts → component_named names hosts x ≡ option_map (λ j. component_made Page (k + j)) (position (name_eq x) (host_names names hosts))
+  component_from : (hosts : List ShadowHost) (k : ℕ) (x : NodeName) → AreMadeFrom names k hosts →
+      component_named names hosts x ≡ option_map (λ j. component_made Page (k + j)) (position (name_eq x) (host_names names hosts))
   component_from [] k x made = refl
   component_from (h ∷ hosts) k x made = by (name_eq x (name_at names h.host)) refl (component_from hosts (suc k) x made.1)
     where
@@ -91,46 +97,58 @@ module _ (names : List NodeName) where
       by true e deeper =
           let first : k ≡ k + 0 = omega arith in
           ap (λ (b : Bool). option_map (λ (g : ShadowHost). g.owner) (if b then Some h else find (λ g. name_eq x (name_at names g.host)) hosts)) e
-          ∙ (ap (λ o. Some o) (made.0.owner ∙ ap (component_made Page) first) ∙ sym (ap (option_map (λ j. component_made Page (k + j))) (position-yes (name_eq x) (name_at names h.host) (host_names names hosts) e)))
+          ∙ (ap (λ o. Some o) (made.0.owner ∙ ap (component_made Page) first) ∙
+          sym (ap (option_map (λ j. component_made Page (k + j))) (position-yes (name_eq x) (name_at names h.host) (host_names names hosts) e)))
       by false e deeper =
           ap (λ (b : Bool). option_map (λ (g : ShadowHost). g.owner) (if b then Some h else find (λ g. name_eq x (name_at names g.host)) hosts)) e
-          ∙ (deeper ∙ (place (position (name_eq x) (host_names names hosts)) ∙ sym (ap (option_map (λ j. component_made Page (k + j))) (position-no (name_eq x) (name_at names h.host) (host_names names hosts) e))))
+          ∙ (deeper ∙ (place (position (name_eq x) (host_names names hosts)) ∙
+          sym (ap (option_map (λ j. component_made Page (k + j))) (position-no (name_eq x) (name_at names h.host) (host_names names hosts) e))))
 
   -- the shadow root of a host is its component's
-  pub root-component : (hosts : List ShadowHost) (k : ℕ) (x : NodeName) → AreMadeFrom names k hosts → root_named names hosts x ≡ option_map shadow_root_of (component_named names hosts x)
+  pub root-component : (hosts : List ShadowHost) (k : ℕ) (x : NodeName) → AreMadeFrom names k hosts →
+      root_named names hosts x ≡ option_map shadow_root_of (component_named names hosts x)
   root-component [] k x made = refl
   root-component (h ∷ hosts) k x made =
       (λ j. picked (name_eq x (name_at names h.host)) (λ g. name_at names g.root) j)
       ∙ ((λ j. if name_eq x (name_at names h.host) then Some (made.0.root j) else root-component hosts (suc k) x made.1 j)
       ∙ (chosen (name_eq x (name_at names h.host)) ∙ sym (ap (option_map shadow_root_of) (picked (name_eq x (name_at names h.host)) (λ g. g.owner)))))
     where
-      picked : {A : Type 0} (b : Bool) (f : ShadowHost → A) → option_map f (if b then Some h else find (λ g. name_eq x (name_at names g.host)) hosts) ≡ (if b then Some (f h) else option_map f (find (λ g. name_eq x (name_at names g.host)) hosts))
+      picked : {A : Type 0} (b : Bool) (f : ShadowHost → A) →
+          option_map f (if b then Some h else find (λ g. name_eq x (name_at names g.host)) hosts) ≡
+          (if b then Some (f h) else option_map f (find (λ g. name_eq x (name_at names g.host)) hosts))
       picked true f = refl
       picked false f = refl
 
-      chosen : (b : Bool) → (if b then Some (shadow_root_of h.owner) else option_map shadow_root_of (component_named names hosts x)) ≡ option_map shadow_root_of (if b then Some h.owner else component_named names hosts x)
+      chosen : (b : Bool) → (if b then Some (shadow_root_of h.owner) else option_map shadow_root_of (component_named names hosts x)) ≡ option_map
+          shadow_root_of (if b then Some h.owner else component_named names hosts x)
       chosen true = refl
       chosen false = refl
 
   -- a node that is no component's first node has no host
-  host_none : (hosts : List ShadowHost) (k : ℕ) (x : NodeName) → AreMadeFrom names k hosts → ((j : ℕ) → x ≡ shadow_root_of (component_made Page j) → ⊥) → host_named names hosts x ≡ None
+  host_none : (hosts : List ShadowHost) (k : ℕ) (x : NodeName) → AreMadeFrom names k hosts →
+      ((j : ℕ) → x ≡ shadow_root_of (component_made Page j) → ⊥) → host_named names hosts x ≡ None
   host_none [] k x made other = refl
   host_none (h ∷ hosts) k x made other =
       let miss = name_eq-other x (name_at names h.root) (λ e. other k (e ∙ (made.0.root ∙ ap shadow_root_of made.0.owner))) in
-      ap (λ (b : Bool). option_map (λ (g : ShadowHost). name_at names g.host) (if b then Some h else find (λ g. name_eq x (name_at names g.root)) hosts)) miss ∙ host_none hosts (suc k) x made.1 other
+      ap (λ (b : Bool). option_map (λ (g : ShadowHost). name_at names g.host)
+      (if b then Some h else find (λ g. name_eq x (name_at names g.root)) hosts)) miss ∙ host_none hosts (suc k) x made.1 other
 
   -- the host of a component is at its place
-  host_from : (hosts : List ShadowHost) (k i : ℕ) → AreMadeFrom names k hosts → host_named names hosts (shadow_root_of (component_made Page (k + i))) ≡ slice_get (host_names names hosts) i
+  host_from : (hosts : List ShadowHost) (k i : ℕ) → AreMadeFrom names k hosts →
+      host_named names hosts (shadow_root_of (component_made Page (k + i))) ≡ slice_get (host_names names hosts) i
   host_from [] k i made = refl
   host_from (h ∷ hosts) k zero made =
       let first : k + 0 ≡ k = omega arith in
-      let hit = name_eq-from (shadow_root_of (component_made Page (k + 0))) (name_at names h.root) (ap (λ i. shadow_root_of (component_made Page i)) first ∙ sym (made.0.root ∙ ap shadow_root_of made.0.owner)) in
-      ap (λ (b : Bool). option_map (λ (g : ShadowHost). name_at names g.host) (if b then Some h else find (λ g. name_eq (shadow_root_of (component_made Page (k + 0))) (name_at names g.root)) hosts)) hit
+      let hit = name_eq-from (shadow_root_of (component_made Page (k + 0))) (name_at names h.root)
+      (ap (λ i. shadow_root_of (component_made Page i)) first ∙ sym (made.0.root ∙ ap shadow_root_of made.0.owner)) in
+      ap (λ (b : Bool). option_map (λ (g : ShadowHost). name_at names g.host)
+      (if b then Some h else find (λ g. name_eq (shadow_root_of (component_made Page (k + 0))) (name_at names g.root)) hosts)) hit
   host_from (h ∷ hosts) k (suc i) made =
       let later : k + suc i ≡ suc k + i = omega arith in
       let miss = name_eq-other (shadow_root_of (component_made Page (k + suc i))) (name_at names h.root)
       (λ e. let same = made-number (k + suc i) k (ap (λ (y : NodeName). y.owner) (e ∙ (made.0.root ∙ ap shadow_root_of made.0.owner))) in omega arith) in
-      ap (λ (b : Bool). option_map (λ (g : ShadowHost). name_at names g.host) (if b then Some h else find (λ g. name_eq (shadow_root_of (component_made Page (k + suc i))) (name_at names g.root)) hosts)) miss
+      ap (λ (b : Bool). option_map (λ (g : ShadowHost). name_at names g.host)
+      (if b then Some h else find (λ g. name_eq (shadow_root_of (component_made Page (k + suc i))) (name_at names g.root)) hosts)) miss
       ∙ (ap (λ n. host_named names hosts (shadow_root_of (component_made Page n))) later ∙ host_from hosts (suc k) i made.1)
 
   -- a component that is found is one of the owners
@@ -138,11 +156,16 @@ module _ (names : List NodeName) where
   component_in [] x o e = cc
   component_in (h ∷ hosts) x o e = by (name_eq x (name_at names h.host)) refl (component_in hosts x o)
     where
-      by : (b : Bool) → name_eq x (name_at names h.host) ≡ b → (component_named names hosts x ≡ Some o → In o (host_owners hosts)) → In o (host_owners (h ∷ hosts))
+      by : (b : Bool) → name_eq x (name_at names h.host) ≡ b → (component_named names hosts x ≡ Some o → In o (host_owners hosts)) →
+          In o (host_owners (h ∷ hosts))
       by true i deeper =
-          let found : Some h.owner ≡ Some o = sym (ap (λ (b : Bool). option_map (λ (g : ShadowHost). g.owner) (if b then Some h else find (λ g. name_eq x (name_at names g.host)) hosts)) i) ∙ e in
+          let found : Some h.owner ≡ Some o =
+          sym (ap (λ (b : Bool). option_map (λ (g : ShadowHost). g.owner)
+          (if b then Some h else find (λ g. name_eq x (name_at names g.host)) hosts)) i) ∙ e in
           inl cc
-      by false i deeper = inr (deeper (sym (ap (λ (b : Bool). option_map (λ (g : ShadowHost). g.owner) (if b then Some h else find (λ g. name_eq x (name_at names g.host)) hosts)) i) ∙ e))
+      by false i deeper = inr (deeper (sym
+          (ap (λ (b : Bool). option_map (λ (g : ShadowHost). g.owner) (if b then Some h else find (λ g. name_eq x (name_at names g.host)) hosts))
+          i) ∙ e))
 
 -- ---- the world
 
@@ -198,7 +221,8 @@ module _ (c : Contents) (hosts : List ShadowHost) (held : AreHostsOf c hosts) wh
   pub host_looked : (o : Owner) → host_of (world_of c) o ≡ host_named c.names hosts (shadow_root_of o)
   host_looked Page = sym (host_none c.names hosts 0 (shadow_root_of Page) held.made (λ j e. made-no_page j (sym (ap (λ (y : NodeName). y.owner) e))))
   host_looked (Component zero) =
-      sym (host_none c.names hosts 0 (shadow_root_of (Component 0)) held.made (λ j e. let same : 0 ≡ suc j = ap (λ (y : NodeName). place_of y.owner) e in omega arith))
+      sym (host_none c.names hosts 0 (shadow_root_of (Component 0)) held.made
+      (λ j e. let same : 0 ≡ suc j = ap (λ (y : NodeName). place_of y.owner) e in omega arith))
   host_looked (Component (suc k)) =
       ap (λ xs. slice_get xs k) attached_page
       ∙ (sym (host_from c.names hosts 0 k held.made) ∙ ap (λ i. host_named c.names hosts (shadow_root_of (component_made Page i))) (zero-add k))
@@ -219,21 +243,24 @@ module _ (c : Contents) (hosts : List ShadowHost) (held : AreHostsOf c hosts) wh
   unfolding max_depth
   below_looked x =
       alone (filter_map (component_at (world_of c)) (inclusive_descendants (trees_with (world_of c) x) x))
-      ∙ ((λ j. filter_map (λ y. component_looked y j) (inclusive_descendants (trees_hosted x.owner j) x)) ∙ ap (filter_map (component_named c.names hosts)) (sym (read_own c.trees held.owned x.owner x refl).inside))
+      ∙ ((λ j. filter_map (λ y. component_looked y j) (inclusive_descendants (trees_hosted x.owner j) x)) ∙
+      ap (filter_map (component_named c.names hosts)) (sym (read_own c.trees held.owned x.owner x refl).inside))
     where
       alone : (os : List Owner) → flat_map (λ o. o ∷ []) os ≡ os
       alone [] = refl
       alone (o ∷ os) = ap (λ ps. o ∷ ps) (alone os)
 
   -- each of them is there
-  pub below_there : (x : NodeName) (o : Owner) → In o (filter_map (component_named c.names hosts) (inclusive_descendants c.trees x)) → is_there (world_of c) o ≡ true
+  pub below_there : (x : NodeName) (o : Owner) → In o (filter_map (component_named c.names hosts) (inclusive_descendants c.trees x)) →
+      is_there (world_of c) o ≡ true
   below_there x o i = component_hosted o (each (inclusive_descendants c.trees x) i)
     where
       each : (ys : List NodeName) → In o (filter_map (component_named c.names hosts) ys) → In o (host_owners hosts)
       each [] h = absurd h
       each (y ∷ ys) h = by (component_named c.names hosts y) refl h (each ys)
         where
-          by : (m : Option Owner) → component_named c.names hosts y ≡ m → In o (cons_option m (filter_map (component_named c.names hosts) ys)) → (In o (filter_map (component_named c.names hosts) ys) → In o (host_owners hosts)) → In o (host_owners hosts)
+          by : (m : Option Owner) → component_named c.names hosts y ≡ m → In o (cons_option m (filter_map (component_named c.names hosts) ys)) →
+              (In o (filter_map (component_named c.names hosts) ys) → In o (host_owners hosts)) → In o (host_owners hosts)
           by None e g deeper = deeper g
           by (Some p) e (inl same) deeper = subst (λ q. In q (host_owners hosts)) same (component_in c.names hosts y p e)
           by (Some p) e (inr g) deeper = deeper g

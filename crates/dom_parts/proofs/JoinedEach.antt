@@ -1,5 +1,6 @@
 -- Loops that join Texts to a first one, one after another.
-use Rattle.std.proofs.Common.{◌≡◌, ℕ, suc, Bool, true, false, ◌+◌, ◌<◌, ◌≤◌, get_or, drop-cons, add-one, List, [], ◌∷◌, drop, length, map, refl, sym, ap, subst, ◌∙◌, arith}
+use Rattle.std.proofs.Common.{◌≡◌, ℕ, suc, Bool, true, false, ◌+◌, ◌<◌, ◌≤◌, get_or, drop-cons, add-one, List, [], ◌∷◌, drop, length, map, refl, sym}
+use Rattle.std.proofs.Common.{ap, subst, ◌∙◌, arith}
 use Rattle.std.specs.List.{AllByRecursion}
 use Rattle.std.specs.Prelude.{filter, if◌then◌else◌}
 use Rattle.dom_base.specs.declared.NodeName.{NodeName}
@@ -16,7 +17,7 @@ use Rattle.dom_tree.specs.Forest.{name_at}
 use Rattle.dom_parts.specs.Doc.{DocState, JoinsFit, IsOwnNode, name_in, owner_in, trees_in, stepped, planned}
 use Rattle.dom_parts.specs.Hosting.{IsAlone}
 use Rattle.dom_isolation.proofs.KeptOffsets.{join_at-keeps}
-use Rattle.dom_isolation.proofs.KindCommands.{has_node-times}
+use Rattle.dom_isolation.proofs.KindLines.{has_node-times}
 use Rattle.dom_isolation.proofs.PlanTexts.{leads-normalizing_text}
 use Rattle.dom_parts.proofs.BoundedPlans.{normalized_text-keeps, normalized_text-leaves}
 use Rattle.dom_tree_laws.proofs.Lists.{all_drop}
@@ -37,12 +38,14 @@ pub record Joins (first parent : ℕ) (all : List ℕ) (size : ℕ) (d : DocStat
       ≡ planned (owner_in d first) (steps_of (joins (trees_in d first) (name_in d first) (name_in d parent) size (map (name_in d) all))) d
 
 module _ (first parent : ℕ) (all : List ℕ) (size : ℕ) (d : DocState) where
-  pub joins_first : IsAlone d.world (owner_in d first) → IsPart (part_of d.world (owner_in d first)) → HasBounds (part_of d.world (owner_in d first)) → JoinsFit (trees_in d first) (name_in d first) size (map (name_in d) all)
+  pub joins_first : IsAlone d.world (owner_in d first) → IsPart (part_of d.world (owner_in d first)) →
+      HasBounds (part_of d.world (owner_in d first)) → JoinsFit (trees_in d first) (name_in d first) size (map (name_in d) all)
       → Joins first parent all size d all size d
   joins_first alone part bounds fit = record { names = refl; trees = refl; alone = alone; part = part; bounds = bounds; fit = fit; state = refl }
 
   -- a step of it
-  module _ (i k length : ℕ) (e f : DocState) (i< : i < Rattle.std.proofs.Common.length all) (is : k ≡ get_or all i k) (joining : Joins first parent all size d (drop i all) length e)
+  module _ (i k length : ℕ) (e f : DocState) (i< : i < Rattle.std.proofs.Common.length all) (is : k ≡ get_or all i k)
+      (joining : Joins first parent all size d (drop i all) length e)
       (nodes : AllByRecursion (IsOwnNode d first) all) where
     o : Owner
     o = owner_in d first
@@ -70,23 +73,30 @@ module _ (first parent : ℕ) (all : List ℕ) (size : ℕ) (d : DocState) where
         let at : f ≡ stepped (owner_in d first) step e =
         made
         ∙ ap (λ ts. stepped (owner_in e first) (join_at (name_in e first) length (name_in e k) (name_in e parent) (index_of ts (name_in e k))) e) joining.trees
-        ∙ ap (λ (ns : List NodeName). stepped (name_at ns first).owner (join_at (name_at ns first) length (name_at ns k) (name_at ns parent) (index_of (trees_in d first) (name_at ns k))) e) joining.names in
+        ∙ ap (λ (ns : List NodeName). stepped (name_at ns first).owner
+        (join_at (name_at ns first) length (name_at ns k) (name_at ns parent) (index_of (trees_in d first) (name_at ns k))) e) joining.names in
         let after : part_of f.world (owner_in d first) ≡ part_step (part_of e.world (owner_in d first)) step =
         ap (λ (s : DocState). part_of s.world (owner_in d first)) at ∙ joining.alone.steps (step ∷ []) (tt, tt) in
         let more : n ≡ length + length_of ts y =
-        is_n ∙ ap (λ ts. length + length_of ts (name_in e k)) joining.trees ∙ ap (λ (ns : List NodeName). length + length_of (trees_in d first) (name_at ns k)) joining.names in
+        is_n ∙ ap (λ ts. length + length_of ts (name_in e k)) joining.trees ∙
+        ap (λ (ns : List NodeName). length + length_of (trees_in d first) (name_at ns k)) joining.names in
         let trees_then : (part_of f.world (owner_in d first)).trees ≡ (part_of e.world (owner_in d first)).trees = ap (λ (p : Part). p.trees) after in
         let here : (part_of e.world (owner_in d first)).trees ≡ ts = ap (λ p. (part_of e.world p).trees) (sym same_owner) ∙ joining.trees in
         let names : f.names ≡ d.names = ap (λ (s : DocState). s.names) at ∙ joining.names in
-        let state = subst (λ ks. planned (owner_in d first) (steps_of (joins ts (name_in d first) (name_in d parent) length (map (name_in d) ks))) e ≡ planned (owner_in d first) (steps_of (joins ts (name_in d first) (name_in d parent) size (map (name_in d) all))) d) now joining.state in
+        let state = subst (λ ks. planned (owner_in d first) (steps_of (joins ts (name_in d first) (name_in d parent) length (map (name_in d) ks)))
+        e ≡ planned (owner_in d first) (steps_of (joins ts (name_in d first) (name_in d parent) size (map (name_in d) all))) d) now
+        joining.state in
         subst (λ j. Joins first parent all size d (drop j all) n f) (sym (add-one i))
         (subst (λ m. Joins first parent all size d (drop (suc i) all) m f) (sym more) record {
           names = names;
           trees = ap (λ (ns : List NodeName). (part_of f.world (name_at ns first).owner).trees) names ∙ (trees_then ∙ here);
-          alone = subst (λ (s : DocState). IsAlone s.world (owner_in d first)) (sym at) (alone_after (owner_in d first) (step ∷ []) e.world joining.alone (tt, tt));
+          alone = subst (λ (s : DocState). IsAlone s.world (owner_in d first)) (sym at)
+              (alone_after (owner_in d first) (step ∷ []) e.world joining.alone (tt, tt));
           part = subst IsPart (sym after) record { unique = joining.part.unique; owned = joining.part.owned; numbered = joining.part.numbered };
           bounds = subst HasBounds (sym after)
-              (join_at-keeps (part_of e.world (owner_in d first)) (name_in d first) length y (name_in d parent) (index_of ts y) joining.part (subst (λ us. length + length_of us y ≤ length_of us (name_in d first)) (sym here) fits.0) joining.bounds);
+              (join_at-keeps (part_of e.world (owner_in d first)) (name_in d first) length y (name_in d parent) (index_of ts y) joining.part
+              (subst (λ us. length + length_of us y ≤ length_of us (name_in d first)) (sym here) fits.0) joining.bounds);
           fit = fits.1;
-          state = ap (planned (owner_in d first) (steps_of (joins ts (name_in d first) (name_in d parent) (length + length_of ts y) (map (name_in d) (drop (suc i) all))))) at ∙ state;
+          state = ap (planned (owner_in d first)
+              (steps_of (joins ts (name_in d first) (name_in d parent) (length + length_of ts y) (map (name_in d) (drop (suc i) all))))) at ∙ state;
         })

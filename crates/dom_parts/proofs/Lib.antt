@@ -7,6 +7,7 @@ mod Connected
 mod Cursors
 mod EveryNode
 mod Held
+mod HeldNodes
 mod HostedDocuments
 mod HostedKeys
 mod HostedSteps
@@ -19,6 +20,7 @@ mod Numbers
 mod Observed
 mod Observing
 mod Own
+mod OwnNodes
 pub mod OwnParts
 pub mod OwnPlans
 mod OwnSteps

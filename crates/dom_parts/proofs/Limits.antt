@@ -1,5 +1,6 @@
 -- No owner has more nodes than it may, and when there is no room for one more.
-use Rattle.std.proofs.Common.{◌≡◌, ℕ, ◌+◌, ◌<◌, ◌≤◌, ◌⊎◌, inl, inr, true, false, cond, All, map, List, [], ◌∷◌, ◌++◌, length, Option, Some, None, Result, Ok, Err, unwrap_or, zero, refl, sym, ap, subst, ◌∙◌, ◌≢◌, arith, add-one, suc}
+use Rattle.std.proofs.Common.{◌≡◌, ℕ, ◌+◌, ◌<◌, ◌≤◌, ◌⊎◌, inl, inr, true, false, cond, All, map, List, [], ◌∷◌, ◌++◌, length, Option, Some, None}
+use Rattle.std.proofs.Common.{Result, Ok, Err, unwrap_or, zero, refl, sym, ap, subst, ◌∙◌, ◌≢◌, arith, add-one, suc}
 use Rattle.std.specs.Prelude.{OnOk, OnErr, ◌↔◌}
 use Rattle.std.specs.List.{AllByRecursion}
 use Rattle.std.specs.Option.{ForSome}
@@ -28,7 +29,7 @@ use Rattle.dom_model.specs.CommandRefusals.{past_limit}
 use Rattle.dom_model.proofs.OwnerLaws.{owner_eq-same, owner_eq-true, ne-owner_eq}
 use Rattle.dom_tree.specs.Forest.{NamedTrees, name_at, next_name, count_of}
 use Rattle.dom_tree.specs.Owners.{AreOwned, trees_of_owner, IsOwnChange}
-use Rattle.dom_tree.proofs.OwnChanges.{added}
+use Rattle.dom_tree.proofs.OwnPlacings.{added}
 use Rattle.dom_observers.specs.Tables.{TablesOf, no_tables as no_observers}
 use Rattle.dom_ranges.specs.Settings.{named_ranges}
 use Rattle.dom_ranges.specs.Tables.{RangeLists, ranges_of}
@@ -66,20 +67,24 @@ limit_count n m same few = (
 limit_at : (names : List NodeName) (ts : Trees) (tables : AllTables) → IsHeld names ts tables → (o : Owner) → is_there (world_from names ts tables) o ≡ true
     → (count_of o names ≡ 1000000) ↔ (past_limit (part_of (world_from names ts tables) o).node_count 1 ≡ true)
 limit_at names ts tables held o there =
-    let count : (part_of (world_from names ts tables) o).node_count ≡ count_of o names = ap (λ (p : Part). p.node_count) (part_at (contents names ts tables) o there) in
+    let count : (part_of (world_from names ts tables) o).node_count ≡ count_of o names =
+    ap (λ (p : Part). p.node_count) (part_at (contents names ts tables) o there) in
     limit_count (count_of o names) (part_of (world_from names ts tables) o).node_count count (held.limited o)
 
 -- no owner has more nodes than it may
-pub within_limit : (names : List NodeName) (ts : Trees) {tables : AllTables} → IsHeld names ts tables → (o : Owner) → past_limit (part_of (world_from names ts tables) o).node_count 0 ≡ false
+pub within_limit : (names : List NodeName) (ts : Trees) {tables : AllTables} → IsHeld names ts tables → (o : Owner) →
+    past_limit (part_of (world_from names ts tables) o).node_count 0 ≡ false
 within_limit names ts {tables} held o = elim (cases_Bool (is_there (world_from names ts tables) o)) [
   | inl there ↦
-      let count : (part_of (world_from names ts tables) o).node_count ≡ count_of o names = ap (λ (p : Part). p.node_count) (part_at (contents names ts tables) o there) in
+      let count : (part_of (world_from names ts tables) o).node_count ≡ count_of o names =
+      ap (λ (p : Part). p.node_count) (part_at (contents names ts tables) o there) in
       let few = held.limited o in
       false_from_ne_true _ (λ h. let more = ltb-true 1000000 (count_of o names + 0) (ap (λ n. past_limit n 0) (sym count) ∙ h) in omega arith)
   | inr off ↦ ap (λ (p : Part). past_limit p.node_count 0) (part_off (contents names ts tables) o off)
 ]
 
-pub limit_held : (f : NamedTrees) {tables : AllTables} (d : DocState) → state_from f.names f.trees tables ≡ d → IsHeld f.names f.trees tables → (o : Owner) → is_there d.world o ≡ true
+pub limit_held : (f : NamedTrees) {tables : AllTables} (d : DocState) → state_from f.names f.trees tables ≡ d → IsHeld f.names f.trees tables →
+    (o : Owner) → is_there d.world o ≡ true
     → {P : Type 0} → (P ↔ (count_of o f.names ≡ 1000000)) → P ↔ (past_limit (part_of d.world o).node_count 1 ≡ true)
 limit_held f {tables} d is_d held o there {P} limit =
     subst (λ (e : DocState). is_there e.world o ≡ true → P ↔ (past_limit (part_of e.world o).node_count 1 ≡ true)) is_d

@@ -50,16 +50,19 @@ module _ (o : Owner) where
   made_then f g w alone own = made_then_alone o f g w (plan_alone f w alone own)
 
   -- a plan for each item
-  pub made_turn : {A : Type 0} (f : A → Plan) (x : A) (xs : List A) (w : World) → IsAlone w o → PlansOwn o (f x) → made o (in_turn f (x ∷ xs)) w ≡ made o (in_turn f xs) (made o (f x) w)
+  pub made_turn : {A : Type 0} (f : A → Plan) (x : A) (xs : List A) (w : World) → IsAlone w o → PlansOwn o (f x) →
+      made o (in_turn f (x ∷ xs)) w ≡ made o (in_turn f xs) (made o (f x) w)
   made_turn f x xs w alone own = made_then (f x) (in_turn f xs) w alone own
 
   -- the same of states
   pub planned_then : (f g : Plan) (d : DocState) → IsAlone d.world o → PlansOwn o f → planned o g (planned o f d) ≡ planned o (f and_then g) d
   planned_then f g d alone own = ap (λ w. state_with d w) (sym (made_then f g d.world alone own))
 
-  pub planned_turn : {A : Type 0} (f : A → Plan) (x : A) (xs : List A) (d : DocState) → IsAlone d.world o → PlansOwn o (f x) → planned o (in_turn f xs) (planned o (f x) d) ≡ planned o (in_turn f (x ∷ xs)) d
+  pub planned_turn : {A : Type 0} (f : A → Plan) (x : A) (xs : List A) (d : DocState) → IsAlone d.world o → PlansOwn o (f x) →
+      planned o (in_turn f xs) (planned o (f x) d) ≡ planned o (in_turn f (x ∷ xs)) d
   planned_turn f x xs d alone own = ap (λ w. state_with d w) (sym (made_turn f x xs d.world alone own))
 
   -- the trees after a plan
-  pub trees_after : (f : Plan) (d : DocState) → IsAlone d.world o → PlansOwn o f → (part_of (planned o f d).world o).trees ≡ (after (part_of d.world o) (f (part_of d.world o))).trees
+  pub trees_after : (f : Plan) (d : DocState) → IsAlone d.world o → PlansOwn o f →
+      (part_of (planned o f d).world o).trees ≡ (after (part_of d.world o) (f (part_of d.world o))).trees
   trees_after f d alone own = ap (λ (p : Part). p.trees) (plan_alone f d.world alone own)

@@ -31,20 +31,24 @@ use Rattle.dom_parts.proofs.Held.{held_observers}
 module _ (names : List NodeName) (ts : Trees) (tables : AllTables) (held : IsHeld names ts tables) (o : Owner) where
   -- the owner's part with these
   abbrev pub with_seen : TablesOf NodeName → Part
-  with_seen r = part_with o (trees_of_owner o ts) (count_of o names) (record (tables_with (map (iterator_view names) (own_tables tables o).iterators) (map (walker_view names) (own_tables tables o).walkers) r) { attached = attached_of names tables.slots.hosts o; ranges = named_ranges names (ranges_of tables.ranges o) })
+  with_seen r = part_with o (trees_of_owner o ts) (count_of o names)
+      (record (tables_with (map (iterator_view names) (own_tables tables o).iterators) (map (walker_view names) (own_tables tables o).walkers) r)
+      { attached = attached_of names tables.slots.hosts o; ranges = named_ranges names (ranges_of tables.ranges o) })
 
   -- its observers in names, whether it is there or not
   pub queues_in : (part_of (world_from names ts tables) o).record_queues ≡ (named_tables (name_at names) (tables.observers o)).record_queues
   queues_in = elim (cases_Bool (is_there (world_from names ts tables) o)) [
     | inl there ↦ ap (λ (p : Part). p.record_queues) (part_at (contents names ts tables) o there)
-    | inr off ↦ ap (λ (p : Part). p.record_queues) (part_off (contents names ts tables) o off) ∙ ap (λ r. (named_tables (name_at names) r).record_queues) (sym (held.unobserved o off))
+    | inr off ↦ ap (λ (p : Part). p.record_queues) (part_off (contents names ts tables) o off) ∙
+        ap (λ r. (named_tables (name_at names) r).record_queues) (sym (held.unobserved o off))
   ]
 
   some_of : {X Y : Type 0} (g : X → Y) (m : Option X) → is_some (option_map g m) ≡ is_some m
   some_of g None = refl
   some_of g (Some x) = refl
 
-  pub has_observer : (k : ℕ) → is_some (slice_get (part_of (world_from names ts tables) o).record_queues k) ≡ is_some (slice_get (tables.observers o).record_queues k)
+  pub has_observer : (k : ℕ) → is_some (slice_get (part_of (world_from names ts tables) o).record_queues k) ≡ is_some
+      (slice_get (tables.observers o).record_queues k)
   has_observer k =
       ap (λ qs. is_some (slice_get qs k)) queues_in
       ∙ ap is_some (slice_get-map (map (named_change (name_at names))) (tables.observers o).record_queues k)
@@ -85,24 +89,32 @@ module _ (names : List NodeName) (ts : Trees) (tables : AllTables) (held : IsHel
       held_seen h = held_observers names ts tables held seen (seen_speaks h) seen_off
 
       -- the change of the owner's part
-      pub change_seen : (p : Part) → with_seen (named_tables (name_at names) r) ≡ p → IsChangeOf (contents names ts tables) (contents names ts (with_observers tables seen)) o p
+      pub change_seen : (p : Part) → with_seen (named_tables (name_at names) r) ≡ p →
+          IsChangeOf (contents names ts tables) (contents names ts (with_observers tables seen)) o p
       change_seen p same = record {
         owners = refl;
         signalled = refl;
         tasks = refl;
         own = ap (λ t. with_seen (named_tables (name_at names) t)) seen_own ∙ same;
-        others = λ q other. ap (λ t. part_with q (trees_of_owner q ts) (count_of q names) (shown_tables names tables.slots.hosts q (own_tables tables q) t (ranges_of tables.ranges q))) (seen_other q other);
+        others = λ q other. ap (λ t. part_with q (trees_of_owner q ts) (count_of q names)
+            (shown_tables names tables.slots.hosts q (own_tables tables q) t (ranges_of tables.ranges q))) (seen_other q other);
       }
 
       -- the world then
-      pub seen_world : (p : Part) → with_seen (named_tables (name_at names) r) ≡ p → world_from names ts (with_observers tables seen) ≡ with_part (world_from names ts tables) p
-      seen_world p same = changed (contents names ts tables) (contents names ts (with_observers tables seen)) o p (single_owners (length tables.each)) there (change_seen p same)
+      pub seen_world : (p : Part) → with_seen (named_tables (name_at names) r) ≡ p →
+          world_from names ts (with_observers tables seen) ≡ with_part (world_from names ts tables) p
+      seen_world p same = changed (contents names ts tables) (contents names ts (with_observers tables seen)) o p
+          (single_owners (length tables.each)) there (change_seen p same)
 
       part_then : part_of (world_from names ts (with_observers tables seen)) o ≡ with_seen (named_tables (name_at names) r)
-      part_then = part_at (contents names ts (with_observers tables seen)) o (there_same (contents names ts (with_observers tables seen)) (contents names ts tables) refl o ∙ there) ∙ ap (λ t. with_seen (named_tables (name_at names) t)) seen_own
+      part_then = part_at (contents names ts (with_observers tables seen)) o
+          (there_same (contents names ts (with_observers tables seen)) (contents names ts tables) refl o ∙ there) ∙
+          ap (λ t. with_seen (named_tables (name_at names) t)) seen_own
 
       -- what a command did that changes them alone
-      pub makes_seen : (c : Command) (lines : List Said) (v : Value) → effect (with_seen (named_tables (name_at names) (tables.observers o))) c ≡ Effect.tables (with_seen (named_tables (name_at names) r)) lines v
+      pub makes_seen : (c : Command) (lines : List Said) (v : Value) →
+          effect (with_seen (named_tables (name_at names) (tables.observers o))) c ≡ Effect.tables (with_seen (named_tables (name_at names) r))
+          lines v
           → MakesSaying o c lines v (world_from names ts tables) (world_from names ts (with_observers tables seen))
       makes_seen c lines v does = (
         ap (λ p. effect p c) part_seen ∙ does ∙ ap (λ p. Effect.tables p lines v) (sym part_then),

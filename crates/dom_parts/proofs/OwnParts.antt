@@ -10,7 +10,7 @@ use Rattle.dom_model.specs.Part.{Part}
 use Rattle.dom_model.specs.Tree.{Trees, none, tree, Node, nodes, has_node, children_of}
 use Rattle.dom_model.proofs.OwnerLaws.{name_eq-same}
 use Rattle.dom_isolation.specs.Worlds.{times_in, IsPart}
-use Rattle.dom_isolation.proofs.Insides.{times-has_node}
+use Rattle.dom_isolation.proofs.InsideAncestors.{times-has_node}
 use Rattle.dom_isolation.proofs.Kids.{kids, kids-absent, rooted, length-children}
 use Rattle.dom_tree.specs.Forest.{name_at, count_of}
 use Rattle.dom_tree.specs.Owners.{AreOf, AreOwned, trees_of_owner}
@@ -55,7 +55,8 @@ times_all o (tree n c r) x =
     let b = times_all o r x in
     elim (cases_Bool (owner_eq n.name.owner o)) [ inl h ↦ rw h (omega arith) | inr h ↦ rw h (omega arith) ]
 
-module _ (c : Contents) (owned : AreOwned c.trees) (once : (k : ℕ) → k < length c.names → count_by (λ n. name_eq n.name (name_at c.names k)) (nodes c.trees) ≡ 1)
+module _ (c : Contents) (owned : AreOwned c.trees)
+    (once : (k : ℕ) → k < length c.names → count_by (λ n. name_eq n.name (name_at c.names k)) (nodes c.trees) ≡ 1)
     (only : (x : NodeName) → has_node c.trees x ≡ true → (k : ℕ) × (slice_get c.names k ≡ Some x)) (numbered : AreNumbered c.names) (o : Owner) where
   pub own_part : IsPart (part_in c o)
   own_part = record {
@@ -95,7 +96,8 @@ among_one o (suc k) x own below = at (among_one o k x own) (let within : x.numbe
   where
     at : (x.number < k → 1 ≤ among o k x) → (x.number ≡ k) ⊎ (x.number < k) → 1 ≤ among o k x + (if name_eq x (node_of o k) then 1 else 0)
     at more (inl same) =
-        let is : name_eq x (node_of o k) ≡ true = ap (λ j. name_eq x (node_of o j)) (sym same) ∙ (ap (λ p. name_eq x (node_of p x.number)) (sym own) ∙ name_eq-same x) in
+        let is : name_eq x (node_of o k) ≡ true =
+        ap (λ j. name_eq x (node_of o j)) (sym same) ∙ (ap (λ p. name_eq x (node_of p x.number)) (sym own) ∙ name_eq-same x) in
         let f = pick_first (name_eq x (node_of o k)) 1 0 is in omega arith
     at more (inr h) = let less = more h in omega arith
 

@@ -6,12 +6,17 @@ use Rattle.std.specs.Option.{option_map_or}
 use Rattle.dom_base.specs.declared.NodeName.{NodeName}
 use Rattle.dom_base.specs.declared.Owner.{Owner}
 use Rattle.dom_model.specs.Names.{Word, DomString, is_empty}
-use Rattle.dom_model.specs.Tree.{Trees, roots, names_of, node_in, children_of, descendants, kind_of, is_document, is_fragment, is_text, has_data, attribute_value, length_of, index_of, next_sibling, previous_sibling, parent_of, subtree, trees_below, none, tree}
+use Rattle.dom_model.specs.Tree.{Trees, roots, names_of, node_in, children_of, descendants, kind_of, is_document, is_fragment, is_text, has_data}
+use Rattle.dom_model.specs.Tree.{attribute_value, length_of, index_of, next_sibling, previous_sibling, parent_of, subtree, trees_below, none, tree}
 use Rattle.dom_model.specs.Output.{Change, attributes, child_list}
 use Rattle.dom_model.specs.Part.{Part, next_name}
 use Rattle.dom_model.specs.Steps.{Step, make, make_room, place, set_document, set_attribute, queue_record, split_at, part_step, after}
-use Rattle.dom_model.specs.Changes.{Plan, ◌and_then◌, in_turn, doing, steps_of, only_if, Observing, observed, suppressed, telling, removing, removing_from, document_below, has_document, changing_document, adopting, placed_nodes, emptying, making_room, placing, sibling_before, inserting_nodes, inserting, reference_for, pre_inserting, replacing, setting_attribute, unsetting_attribute}
-use Rattle.dom_model.specs.TextChanges.{replacing_data, replacing_all_data, new_text_node, placing_tail, splitting, joins, joining, texts_after, normalizing_text, normalizing, replacing_children, setting_text}
+use Rattle.dom_model.specs.Changes.{Plan, ◌and_then◌, in_turn, doing, steps_of, only_if, Observing, observed, suppressed, telling, removing}
+use Rattle.dom_model.specs.Changes.{removing_from, document_below, has_document, changing_document, adopting, placed_nodes, emptying, making_room}
+use Rattle.dom_model.specs.Changes.{placing, sibling_before, inserting_nodes, inserting, reference_for, pre_inserting, replacing, setting_attribute}
+use Rattle.dom_model.specs.Changes.{unsetting_attribute}
+use Rattle.dom_model.specs.TextChanges.{replacing_data, replacing_all_data, new_text_node, placing_tail, splitting, joins, joining, texts_after}
+use Rattle.dom_model.specs.TextChanges.{normalizing_text, normalizing, replacing_children, setting_text}
 use Rattle.dom_model.proofs.StepLaws.{owner-part_step}
 use Rattle.dom_tree.specs.Owners.{AreOf}
 use Rattle.dom_parts.specs.Hosting.{SetsOwnDocuments, IsOwnPart, PlansOwn}
@@ -38,7 +43,8 @@ module _ (o : Owner) where
 
   pub plans_turn : {A : Type 0} (f : A → Plan) (xs : List A) → AllByRecursion (λ x. PlansOwn o (f x)) xs → PlansOwn o (in_turn f xs)
   plans_turn f [] each p own = tt
-  plans_turn f (x ∷ xs) each p own = all_own_both (f x p) (in_turn f xs (after p (f x p))) (each.0 p own) (plans_turn f xs each.1 (after p (f x p)) (own_after p (f x p) own))
+  plans_turn f (x ∷ xs) each p own = all_own_both (f x p) (in_turn f xs (after p (f x p))) (each.0 p own)
+      (plans_turn f xs each.1 (after p (f x p)) (own_after p (f x p) own))
 
   -- where each does
   pub plans_each : {A : Type 0} (f : A → Plan) → ((x : A) → PlansOwn o (f x)) → (xs : List A) → PlansOwn o (in_turn f xs)
@@ -72,14 +78,17 @@ module _ (o : Owner) where
   plans_adopting d x is = plans_then (removing observed x) (changing_document d x) (plans_removing observed x) (plans_document d x is)
 
   pub plans_placing : (parent : NodeName) (before : Option NodeName) (x : NodeName) → x.owner ≡ o → PlansOwn o (placing parent before x)
-  plans_placing parent before x is p own = plans_then (adopting (document_below p.trees parent) x) (doing (place x parent before)) (plans_adopting (document_below p.trees parent) x is) (λ q own. (tt, tt)) p own
+  plans_placing parent before x is p own =
+      plans_then (adopting (document_below p.trees parent) x) (doing (place x parent before))
+      (plans_adopting (document_below p.trees parent) x is) (λ q own. (tt, tt)) p own
 
   pub plans_room : (parent : NodeName) (before : Option NodeName) (count : ℕ) → PlansOwn o (making_room parent before count)
   plans_room parent before count p own = plans_map (λ child. make_room parent (index_of p.trees child) count ∷ []) (λ child. (tt, tt)) before
 
   pub plans_emptying : (node : NodeName) (children : List NodeName) → PlansOwn o (emptying node children)
   plans_emptying node children =
-      plans_then (in_turn (removing suppressed) children) (doing (queue_record (child_list node [] children None None))) (plans_each (removing suppressed) (plans_removing suppressed) children) (λ q own. (tt, tt))
+      plans_then (in_turn (removing suppressed) children) (doing (queue_record (child_list node [] children None None)))
+      (plans_each (removing suppressed) (plans_removing suppressed) children) (λ q own. (tt, tt))
 
   -- the children of an owner's node are the owner's
   pub children_own : (ts : Trees) (x : NodeName) → AreOf o ts → AllByRecursion (λ (y : NodeName). y.owner ≡ o) (children_of ts x)
@@ -100,19 +109,23 @@ module _ (o : Owner) where
       by true = children_own ts node own
       by false = (is, tt)
 
-  pub plans_each_own : (f : NodeName → Plan) → ((x : NodeName) → x.owner ≡ o → PlansOwn o (f x)) → (xs : List NodeName) → AllByRecursion (λ (y : NodeName). y.owner ≡ o) xs → AllByRecursion (λ x. PlansOwn o (f x)) xs
+  pub plans_each_own : (f : NodeName → Plan) → ((x : NodeName) → x.owner ≡ o → PlansOwn o (f x)) → (xs : List NodeName) →
+      AllByRecursion (λ (y : NodeName). y.owner ≡ o) xs → AllByRecursion (λ x. PlansOwn o (f x)) xs
   plans_each_own f each [] own = tt
   plans_each_own f each (x ∷ xs) own = (each x own.0, plans_each_own f each xs own.1)
 
-  plans_inserting_nodes : (how : Observing) (node : NodeName) (moved : List NodeName) (parent : NodeName) (before : Option NodeName) → AllByRecursion (λ (y : NodeName). y.owner ≡ o) moved → PlansOwn o (inserting_nodes how node moved parent before)
+  plans_inserting_nodes : (how : Observing) (node : NodeName) (moved : List NodeName) (parent : NodeName) (before : Option NodeName) →
+      AllByRecursion (λ (y : NodeName). y.owner ≡ o) moved → PlansOwn o (inserting_nodes how node moved parent before)
   plans_inserting_nodes how node moved parent before all p own =
       let told = child_list parent moved [] (sibling_before p.trees parent before) before in
       let emptied : Plan = if is_fragment (kind_of p.trees node) then emptying node moved else steps_of [] in
       let room = making_room parent before (length moved) in
       let each = in_turn (placing parent before) moved in
       plans_then (emptied and_then room and_then each) (steps_of (telling how told))
-      (plans_then (emptied and_then room) each (plans_then emptied room (empties (is_fragment (kind_of p.trees node))) (plans_room parent before (length moved)))
-      (plans_turn (placing parent before) moved (plans_each_own (placing parent before) (plans_placing parent before) moved all))) (λ q own. plans_telling how told) p own
+      (plans_then (emptied and_then room) each
+      (plans_then emptied room (empties (is_fragment (kind_of p.trees node))) (plans_room parent before (length moved)))
+      (plans_turn (placing parent before) moved (plans_each_own (placing parent before) (plans_placing parent before) moved all)))
+      (λ q own. plans_telling how told) p own
     where
       empties : (b : Bool) → PlansOwn o (if b then emptying node moved else steps_of [])
       empties true = plans_emptying node moved
@@ -121,7 +134,8 @@ module _ (o : Owner) where
   pub plans_inserting : (how : Observing) (node parent : NodeName) (before : Option NodeName) → node.owner ≡ o → PlansOwn o (inserting how node parent before)
   plans_inserting how node parent before is p own =
       let moved = placed_nodes p.trees node in
-      plans_if (is_empty moved) [] (inserting_nodes how node moved parent before p) tt (plans_inserting_nodes how node moved parent before (placed_own p.trees node own.own is) p own)
+      plans_if (is_empty moved) [] (inserting_nodes how node moved parent before p) tt
+      (plans_inserting_nodes how node moved parent before (placed_own p.trees node own.own is) p own)
 
   pub plans_pre_inserting : (node parent : NodeName) (child : Option NodeName) → node.owner ≡ o → PlansOwn o (pre_inserting node parent child)
   plans_pre_inserting node parent child is p own = plans_inserting observed node parent (reference_for p.trees node child) is p own
@@ -131,13 +145,15 @@ module _ (o : Owner) where
       let reference = reference_for p.trees node (next_sibling p.trees child) in
       let told = child_list parent (placed_nodes p.trees node) (child ∷ []) (previous_sibling p.trees child) reference in
       plans_then (removing suppressed child and_then inserting suppressed node parent reference) (doing (queue_record told))
-      (plans_then (removing suppressed child) (inserting suppressed node parent reference) (plans_removing suppressed child) (plans_inserting suppressed node parent reference is)) (λ q own. (tt, tt)) p own
+      (plans_then (removing suppressed child) (inserting suppressed node parent reference) (plans_removing suppressed child)
+      (plans_inserting suppressed node parent reference is)) (λ q own. (tt, tt)) p own
 
   pub plans_attribute : (x : NodeName) (a : Word) (v : DomString) → PlansOwn o (setting_attribute x a v)
   plans_attribute x a v p own = (tt, (tt, tt))
 
   pub plans_no_attribute : (x : NodeName) (a : Word) → PlansOwn o (unsetting_attribute x a)
-  plans_no_attribute x a p own = plans_map (λ old. queue_record (attributes x a (Some old)) ∷ set_attribute x a None ∷ []) (λ old. (tt, (tt, tt))) (attribute_value (node_in p.trees x) a)
+  plans_no_attribute x a p own = plans_map (λ old. queue_record (attributes x a (Some old)) ∷ set_attribute x a None ∷ []) (λ old. (tt, (tt, tt)))
+      (attribute_value (node_in p.trees x) a)
 
   -- ---- of data and of text
 
@@ -148,7 +164,8 @@ module _ (o : Owner) where
   plans_tail x offset new None is p own = tt
   plans_tail x offset new (Some parent) is p own =
       let next = next_sibling p.trees x in
-      plans_then (inserting observed new parent next) (doing (split_at x offset new parent (index_of p.trees x))) (plans_inserting observed new parent next is) (λ q own. (tt, tt)) p own
+      plans_then (inserting observed new parent next) (doing (split_at x offset new parent (index_of p.trees x)))
+      (plans_inserting observed new parent next is) (λ q own. (tt, tt)) p own
 
   pub plans_splitting : (x : NodeName) (offset : ℕ) → PlansOwn o (splitting x offset)
   plans_splitting x offset p own =
@@ -156,7 +173,8 @@ module _ (o : Owner) where
       let new = next_name p in
       let tail = new_text_node new old.document (drop offset old.text) in
       let place_it = placing_tail x offset new (parent_of p.trees x) in
-      plans_then (doing (make tail) and_then place_it) (replacing_data x offset (length old.text - offset) []) (plans_then (doing (make tail)) place_it (λ q own. (tt, tt)) (plans_tail x offset new (parent_of p.trees x) own.owner))
+      plans_then (doing (make tail) and_then place_it) (replacing_data x offset (length old.text - offset) [])
+      (plans_then (doing (make tail)) place_it (λ q own. (tt, tt)) (plans_tail x offset new (parent_of p.trees x) own.owner))
       (plans_data x offset (length old.text - offset) []) p own
 
   pub plans_joins : (ts : Trees) (x parent : NodeName) (size : ℕ) (ys : List NodeName) → AllOwn (joins ts x parent size ys)
@@ -169,7 +187,9 @@ module _ (o : Owner) where
       let all = flat_map (λ y. (node_in p.trees y).text) nexts in
       let data_in = replacing_data x size 0 all in
       let joined = steps_of (joins p.trees x parent size nexts) in
-      plans_then (data_in and_then joined) (in_turn (removing observed) nexts) (plans_then data_in joined (plans_data x size 0 all) (λ q own. plans_joins p.trees x parent size nexts)) (plans_each (removing observed) (plans_removing observed) nexts) p own
+      plans_then (data_in and_then joined) (in_turn (removing observed) nexts)
+      (plans_then data_in joined (plans_data x size 0 all) (λ q own. plans_joins p.trees x parent size nexts))
+      (plans_each (removing observed) (plans_removing observed) nexts) p own
 
   pub plans_normalizing_text : (x : NodeName) → PlansOwn o (normalizing_text x)
   plans_normalizing_text x p own =
@@ -190,8 +210,12 @@ module _ (o : Owner) where
       let out = in_turn (removing suppressed) old in
       let put = in_turn (λ y. inserting suppressed y x None) added in
       plans_then (steps_of nodes and_then out and_then put) (steps_of told)
-      (plans_then (steps_of nodes and_then out) put (plans_then (steps_of nodes) out (λ q own. made_all added) (plans_each (removing suppressed) (plans_removing suppressed) old))
-      (plans_turn (λ y. inserting suppressed y x None) added (plans_each_own (λ y. inserting suppressed y x None) (λ y is. plans_inserting suppressed y x None is) added (named (is_empty new) own.owner)))) (λ q own. plans_if (not (is_empty old && is_empty new)) (queue_record (child_list x added old None None) ∷ []) [] (tt, tt) tt) p own
+      (plans_then (steps_of nodes and_then out) put
+      (plans_then (steps_of nodes) out (λ q own. made_all added) (plans_each (removing suppressed) (plans_removing suppressed) old))
+      (plans_turn (λ y. inserting suppressed y x None) added
+      (plans_each_own (λ y. inserting suppressed y x None) (λ y is. plans_inserting suppressed y x None is) added
+      (named (is_empty new) own.owner))))
+      (λ q own. plans_if (not (is_empty old && is_empty new)) (queue_record (child_list x added old None None) ∷ []) [] (tt, tt) tt) p own
     where
       made_all : (ys : List NodeName) → AllOwn (map (λ y. make (new_text_node y (Some (document_below p.trees x)) new)) ys)
       made_all [] = tt
@@ -203,5 +227,6 @@ module _ (o : Owner) where
 
   pub plans_text : (x : NodeName) (new : DomString) → PlansOwn o (setting_text x new)
   plans_text x new p own =
-      plans_if (has_data (kind_of p.trees x)) (replacing_all_data x new p) (if is_document (kind_of p.trees x) then [] else replacing_children x new p) (tt, (tt, tt))
+      plans_if (has_data (kind_of p.trees x)) (replacing_all_data x new p)
+      (if is_document (kind_of p.trees x) then [] else replacing_children x new p) (tt, (tt, tt))
       (plans_if (is_document (kind_of p.trees x)) [] (replacing_children x new p) tt (plans_children x new p own))

@@ -1,6 +1,7 @@
 -- An owner's steps do in its own part what they do in a part alone: the page's always, and a component's where it has no
 -- hosts and sets the node documents of its own nodes.
-use Rattle.std.proofs.Common.{◌≡◌, ◌≢◌, ℕ, zero, suc, Bool, true, false, List, [], ◌∷◌, ◌++◌, Option, Some, None, filter_map, flat_map, position, option_map, refl, sym, ap, subst, ◌∙◌, inl, inr}
+use Rattle.std.proofs.Common.{◌≡◌, ◌≢◌, ℕ, zero, suc, Bool, true, false, List, [], ◌∷◌, ◌++◌, Option, Some, None, filter_map, flat_map, position}
+use Rattle.std.proofs.Common.{option_map, refl, sym, ap, subst, ◌∙◌, inl, inr}
 use Rattle.std.specs.Prelude.{if◌then◌else◌}
 use Rattle.std.specs.List.{AllByRecursion, cons_option}
 use Rattle.std.specs.Option.{option_map_or}
@@ -13,7 +14,8 @@ use Rattle.dom_model.specs.Tree.{Trees, none, tree, Node, nodes, names_of, subtr
 use Rattle.dom_model.specs.TreeChanges.{with_name, with_node, placed, taken_out, map_nodes, with_document, with_attribute, with_data_replaced}
 use Rattle.dom_model.specs.Changes.{Plan, ◌and_then◌}
 use Rattle.dom_model.specs.Part.{Part, next_name}
-use Rattle.dom_model.specs.Steps.{Step, make, make_room, place, take_out, set_document, set_attribute, replace_data, split_at, join_at, set_range, queue_record, part_step, after, leave}
+use Rattle.dom_model.specs.Steps.{Step, make, make_room, place, take_out, set_document, set_attribute, replace_data, split_at, join_at, set_range}
+use Rattle.dom_model.specs.Steps.{queue_record, part_step, after, leave}
 use Rattle.dom_model.specs.World.{World, part_of, component_at, component_made, components_below, shadow_root_of, trees_with}
 use Rattle.dom_model.specs.WorldSteps.{world_step, world_after}
 use Rattle.dom_model.proofs.OwnerLaws.{owner_eq-true, owner_eq-false}
@@ -67,14 +69,18 @@ module _ (o : Owner) where
       by None = own
       by (Some parent) = each_own (taken_out x p.trees) (each_taken IsOwn x p.trees (own_each p.trees own))
   own_step p (set_document x d) is own =
-      own_mapped (λ n. if is_in name_eq n.name (inclusive_descendants p.trees x) then with_document d n else n) (λ n. name_if (is_in name_eq n.name (inclusive_descendants p.trees x)) (with_document d n) n refl) p.trees own
-  own_step p (set_attribute x a v) is own = own_mapped (λ n. if name_eq n.name x then with_attribute a v n else n) (λ n. name_if (name_eq n.name x) (with_attribute a v n) n (by v n)) p.trees own
+      own_mapped (λ n. if is_in name_eq n.name (inclusive_descendants p.trees x) then with_document d n else n)
+      (λ n. name_if (is_in name_eq n.name (inclusive_descendants p.trees x)) (with_document d n) n refl) p.trees own
+  own_step p (set_attribute x a v) is own =
+      own_mapped (λ n. if name_eq n.name x then with_attribute a v n else n) (λ n. name_if (name_eq n.name x) (with_attribute a v n) n (by v n))
+      p.trees own
     where
       by : (v : Option (List Rattle.std.specs.Prelude.ℕ)) (n : Node) → (with_attribute a v n).name ≡ n.name
       by None n = refl
       by (Some value) n = refl
   own_step p (replace_data x offset count new) is own =
-      own_mapped (λ n. if name_eq n.name x then with_data_replaced offset count new n else n) (λ n. name_if (name_eq n.name x) (with_data_replaced offset count new n) n refl) p.trees own
+      own_mapped (λ n. if name_eq n.name x then with_data_replaced offset count new n else n)
+      (λ n. name_if (name_eq n.name x) (with_data_replaced offset count new n) n refl) p.trees own
   own_step p (split_at x offset new parent index) is own = own
   own_step p (join_at first size next parent index) is own = own
   own_step p (set_range k r) is own = own
@@ -85,7 +91,9 @@ module _ (o : Owner) where
   own_names none h = tt
   own_names (tree n c r) h = (h.0, both (nodes c) (own_names c h.1) (own_names r h.2))
     where
-      both : (ms : List Node) → AllByRecursion (λ (x : NodeName). x.owner ≡ o) (names_of ms) → AllByRecursion (λ (x : NodeName). x.owner ≡ o) (names_of (nodes r)) → AllByRecursion (λ (x : NodeName). x.owner ≡ o) (names_of (ms ++ nodes r))
+      both : (ms : List Node) → AllByRecursion (λ (x : NodeName). x.owner ≡ o) (names_of ms) →
+          AllByRecursion (λ (x : NodeName). x.owner ≡ o) (names_of (nodes r)) →
+          AllByRecursion (λ (x : NodeName). x.owner ≡ o) (names_of (ms ++ nodes r))
       both [] a b = b
       both (m ∷ ms) a b = (a.0, both ms a.1 b)
 
@@ -96,14 +104,17 @@ module _ (w : World) (o : Owner) (free : OwnsNoHosts w o) where
   none_at : (ys : List NodeName) → AllByRecursion (λ (x : NodeName). x.owner ≡ o) ys → filter_map (component_at w) ys ≡ []
   none_at [] own = refl
   none_at (y ∷ ys) own =
-      let none : component_at w y ≡ None = ap (λ q. option_map (component_made q) (position (name_eq y) (part_of w q).attached)) own.0 ∙ ap (λ xs. option_map (component_made o) (position (name_eq y) xs)) free.attached in
+      let none : component_at w y ≡ None =
+      ap (λ q. option_map (component_made q) (position (name_eq y) (part_of w q).attached)) own.0 ∙
+      ap (λ xs. option_map (component_made o) (position (name_eq y) xs)) free.attached in
       ap (λ m. cons_option m (filter_map (component_at w) ys)) none ∙ none_at ys own.1
 
   pub none_below : (depth : ℕ) (x : NodeName) → x.owner ≡ o → components_below depth w x ≡ []
   none_below zero x own = refl
   none_below (suc depth) x own =
       ap (flat_map (λ c. c ∷ components_below depth w (shadow_root_of c)))
-      (none_at (inclusive_descendants (trees_with w x) x) (own_names o (subtree (trees_with w x) x) (own_subtree o (trees_with w x) x (subst (λ q. AreOf o (part_of w q).trees) (sym own) free.own))))
+      (none_at (inclusive_descendants (trees_with w x) x)
+      (own_names o (subtree (trees_with w x) x) (own_subtree o (trees_with w x) x (subst (λ q. AreOf o (part_of w q).trees) (sym own) free.own))))
 
   -- so its steps are made in its own trees alone
   step_apart : (s : Step) → SetsOwnDocuments o s → IsApart o w s
@@ -129,26 +140,34 @@ after_more o w [] more = refl
 after_more o w (s ∷ steps) more = after_more o (world_step o w s) steps more
 
 -- many steps
-pub steps_alone : (o : Owner) (steps : List Step) (w : World) → OwnsNoHosts w o → AllByRecursion (SetsOwnDocuments o) steps → part_of (world_after o w steps) o ≡ after (part_of w o) steps
+pub steps_alone : (o : Owner) (steps : List Step) (w : World) → OwnsNoHosts w o → AllByRecursion (SetsOwnDocuments o) steps →
+    part_of (world_after o w steps) o ≡ after (part_of w o) steps
 steps_alone o [] w free h = refl
-steps_alone o (s ∷ steps) w free h = steps_alone o steps (world_step o w s) (free_after w o free s h.0) h.1 ∙ ap (λ p. after p steps) (step_alone w o free s h.0)
+steps_alone o (s ∷ steps) w free h = steps_alone o steps (world_step o w s) (free_after w o free s h.0) h.1 ∙
+    ap (λ p. after p steps) (step_alone w o free s h.0)
 
 -- ---- with hosts
 
 module _ (c : Contents) (hosts : List ShadowHost) (held : AreHostsOf c hosts) where
   -- a component has no hosts
   pub component_free : (o : Owner) → o ≢ Page → OwnsNoHosts (world_of c) o
-  component_free o other = record { attached = attached_other c hosts held o other; own = subst (AreOf o) (sym (trees_hosted c hosts held o)) (AreOf-own o c.trees held.owned.owners) }
+  component_free o other = record {
+    attached = attached_other c hosts held o other;
+    own = subst (AreOf o) (sym (trees_hosted c hosts held o)) (AreOf-own o c.trees held.owned.owners);
+  }
 
   -- so of each owner's steps
-  pub hosted_alone : (o : Owner) (steps : List Step) → AllByRecursion (SetsOwnDocuments o) steps → part_of (world_after o (world_of c) steps) o ≡ after (part_of (world_of c) o) steps
+  pub hosted_alone : (o : Owner) (steps : List Step) → AllByRecursion (SetsOwnDocuments o) steps →
+      part_of (world_after o (world_of c) steps) o ≡ after (part_of (world_of c) o) steps
   hosted_alone o steps h = elim (cases_Bool (owner_eq o Page)) [
-    | inl e ↦ let is = owner_eq-true o Page e in subst (λ q. part_of (world_after q (world_of c) steps) q ≡ after (part_of (world_of c) q) steps) (sym is) (part_of-world_after (world_of c) steps)
+    | inl e ↦ let is = owner_eq-true o Page e in subst (λ q. part_of (world_after q (world_of c) steps) q ≡ after (part_of (world_of c) q) steps)
+        (sym is) (part_of-world_after (world_of c) steps)
     | inr e ↦ steps_alone o steps (world_of c) (component_free o (owner_eq-false o Page e)) h
   ]
 
 -- one plan and then another, where the first one's steps do in the owner's part what they do in a part alone
-pub made_then_alone : (o : Owner) (f g : Plan) (w : World) → part_of (world_after o w (f (part_of w o))) o ≡ after (part_of w o) (f (part_of w o)) → made o (f and_then g) w ≡ made o g (made o f w)
+pub made_then_alone : (o : Owner) (f g : Plan) (w : World) →
+    part_of (world_after o w (f (part_of w o))) o ≡ after (part_of w o) (f (part_of w o)) → made o (f and_then g) w ≡ made o g (made o f w)
 made_then_alone o f g w alone =
     let steps = f (part_of w o) in
     after_more o w steps (g (after (part_of w o) steps)) ∙ ap (λ p. world_after o (world_after o w steps) (g p)) (sym alone)

@@ -1,6 +1,7 @@
 -- Calls that pass a command on to an owner's tables: what they ask, what holds after them, and that they do what the model
 -- says of the command.
-use Rattle.std.proofs.Common.{◌≡◌, ◌≢◌, ℕ, ◌<◌, ◌≤◌, Bool, true, List, [], ◌∷◌, ◌++◌, length, Option, Some, None, Result, Ok, Err, option_map, unwrap_or, get_or, refl, sym, ap, subst, ◌∙◌, arith}
+use Rattle.std.proofs.Common.{◌≡◌, ◌≢◌, ℕ, ◌<◌, ◌≤◌, Bool, true, List, [], ◌∷◌, ◌++◌, length, Option, Some, None, Result, Ok, Err, option_map}
+use Rattle.std.proofs.Common.{unwrap_or, get_or, refl, sym, ap, subst, ◌∙◌, arith}
 use Rattle.std.specs.Prelude.{is_some, slice_get, slice_set, IfOk, OnOk, OnErr, ◌↔◌}
 use Rattle.std.proofs.lemmas.List.{length-set, length-map, length_push}
 use Rattle.dom_base.specs.declared.Fault.{Fault}
@@ -24,13 +25,15 @@ use Rattle.dom_parts.specs.AllTables.{IsOwnIterator, IsOwnWalker, AreTablesOf, A
 use Rattle.dom_parts.specs.Doc.{DocState, own_tables, world_from, state_from, IsHeld, Makes}
 use Rattle.dom_cursors.proofs.Items.{set_items, push_items}
 use Rattle.dom_tree.specs.Owners.{AreOwned}
-use Rattle.dom_parts.proofs.Own.{moved_own}
+use Rattle.dom_parts.proofs.OwnNodes.{moved_own}
 use Rattle.dom_parts.proofs.Held.{table_there}
 use Rattle.dom_parts.proofs.Limits.{limit_count}
 use Rattle.dom_parts.proofs.Shown.{table_at}
-use Rattle.dom_parts.proofs.Cursors.{iterators_in, walkers_in, iterator_effect_new, walker_effect_new, has_iterator, has_walker, there_iterator, there_walker, with_own, makes_read, makes_set, held_set}
+use Rattle.dom_parts.proofs.Cursors.{iterators_in, walkers_in, iterator_effect_new, walker_effect_new, has_iterator, has_walker, there_iterator}
+use Rattle.dom_parts.proofs.Cursors.{there_walker, with_own, makes_read, makes_set, held_set}
 
-module _ (f : NamedTrees) {tables : AllTables} (held : IsHeld f.names f.trees tables) {d : DocState} (is_d : state_from f.names f.trees tables ≡ d) (o : Owner) where
+module _ (f : NamedTrees) {tables : AllTables} (held : IsHeld f.names f.trees tables) {d : DocState}
+    (is_d : state_from f.names f.trees tables ≡ d) (o : Owner) where
   -- whoever has a cursor is there
   pub there_iter : (k : ℕ) → is_some (slice_get (part_of d.world o).iterators k) ≡ true → is_there (world_from f.names f.trees tables) o ≡ true
   there_iter k h = there_iterator f.names f.trees tables o k (subst (λ (e : DocState). is_some (slice_get (part_of e.world o).iterators k) ≡ true) (sym is_d) h)
@@ -38,7 +41,8 @@ module _ (f : NamedTrees) {tables : AllTables} (held : IsHeld f.names f.trees ta
   pub there_walk : (k : ℕ) → is_some (slice_get (part_of d.world o).walkers k) ≡ true → is_there (world_from f.names f.trees tables) o ≡ true
   there_walk k h = there_walker f.names f.trees tables o k (subst (λ (e : DocState). is_some (slice_get (part_of e.world o).walkers k) ≡ true) (sym is_d) h)
 
-  module _ (there : is_there (world_from f.names f.trees tables) o ≡ true) (place : ℕ) (is_place : place ≡ place_of o) (t : KeyedTables) (read : t ≡ get_or tables.each place t) where
+  module _ (there : is_there (world_from f.names f.trees tables) o ≡ true) (place : ℕ) (is_place : place ≡ place_of o) (t : KeyedTables)
+      (read : t ≡ get_or tables.each place t) where
     pub at : table_of tables.each o ≡ Some t
     at = table_at f held is_d o there place t is_place read
 
@@ -63,17 +67,24 @@ module _ (f : NamedTrees) {tables : AllTables} (held : IsHeld f.names f.trees ta
     walks_of k w e = ((held.own o t at).walkers k w e).stands
 
     -- a command that reads
-    pub reads : (c : List NodeName → Command) (v : List NodeName → Value) → effect (with_own f.names f.trees tables held o t at t) (c f.names) ≡ Effect.tables (with_own f.names f.trees tables held o t at t) [] (v f.names) → Makes o (c d.names) (v d.names) d.world d.world
-    reads c v is = subst (λ (e : DocState). Makes o (c e.names) (v e.names) e.world e.world) is_d (makes_read f.names f.trees tables held o t at (c f.names) (v f.names) is)
+    pub reads : (c : List NodeName → Command) (v : List NodeName → Value) →
+        effect (with_own f.names f.trees tables held o t at t) (c f.names) ≡ Effect.tables (with_own f.names f.trees tables held o t at t) []
+        (v f.names) → Makes o (c d.names) (v d.names) d.world d.world
+    reads c v is = subst (λ (e : DocState). Makes o (c e.names) (v e.names) e.world e.world) is_d
+        (makes_read f.names f.trees tables held o t at (c f.names) (v f.names) is)
 
     -- a command that writes
     module _ (u w : KeyedTables) (is_u : u ≡ w) where
-      pub writes : (c : List NodeName → Command) (v : List NodeName → Value) → effect (with_own f.names f.trees tables held o t at t) (c f.names) ≡ Effect.tables (with_own f.names f.trees tables held o t at w) [] (v f.names)
+      pub writes : (c : List NodeName → Command) (v : List NodeName → Value) →
+          effect (with_own f.names f.trees tables held o t at t) (c f.names) ≡ Effect.tables (with_own f.names f.trees tables held o t at w) []
+          (v f.names)
           → Makes o (c d.names) (v d.names) d.world (world_from f.names f.trees (with_table_at tables place u))
       writes c v is =
           subst (λ (e : DocState). Makes o (c e.names) (v e.names) e.world (world_from f.names f.trees (with_table_at tables place u))) is_d
-          (subst (λ x. Makes o (c f.names) (v f.names) (world_from f.names f.trees tables) (world_from f.names f.trees (with_table_at tables place x))) (sym is_u)
-          (subst (λ n. Makes o (c f.names) (v f.names) (world_from f.names f.trees tables) (world_from f.names f.trees (with_table_at tables n w))) (sym is_place)
+          (subst (λ x. Makes o (c f.names) (v f.names) (world_from f.names f.trees tables)
+          (world_from f.names f.trees (with_table_at tables place x))) (sym is_u)
+          (subst (λ n. Makes o (c f.names) (v f.names) (world_from f.names f.trees tables)
+          (world_from f.names f.trees (with_table_at tables n w))) (sym is_place)
           (makes_set f.names f.trees tables held o t at w (c f.names) (v f.names) is)))
 
       pub held_written : AreTablesOf f o w → IsHeld f.names f.trees (with_table_at tables place u)
@@ -83,11 +94,13 @@ module _ (f : NamedTrees) {tables : AllTables} (held : IsHeld f.names f.trees ta
 
     -- ---- what holds of the tables written
 
-    pub iter_moved : (k : ℕ) (i : KeyedIterator) (before : Bool) (r : Option ℕ) → slice_get t.iterators k ≡ Some i → IsIteratorOf f (iterator_at i before r) → AreTablesOf f o (record t { iterators = slice_set t.iterators k (iterator_at i before r) })
+    pub iter_moved : (k : ℕ) (i : KeyedIterator) (before : Bool) (r : Option ℕ) → slice_get t.iterators k ≡ Some i →
+        IsIteratorOf f (iterator_at i before r) → AreTablesOf f o (record t { iterators = slice_set t.iterators k (iterator_at i before r) })
     iter_moved k i before r e kept =
         let h = held.own o t at in
         record {
-          iterators = set_items (IsOwnIterator f o) t.iterators k (iterator_at i before r) h.iterators (record { stands = kept; own = ap (λ n. (name_at f.names n).owner) (same_root r) ∙ (h.iterators k i e).own });
+          iterators = set_items (IsOwnIterator f o) t.iterators k (iterator_at i before r) h.iterators
+              (record { stands = kept; own = ap (λ n. (name_at f.names n).owner) (same_root r) ∙ (h.iterators k i e).own });
           walkers = h.walkers;
           few_iterators = let same = length-set t.iterators k (iterator_at i before r) in let few = h.few_iterators in omega arith;
           few_walkers = h.few_walkers;
@@ -97,7 +110,8 @@ module _ (f : NamedTrees) {tables : AllTables} (held : IsHeld f.names f.trees ta
         same_root None = refl
         same_root (Some j) = refl
 
-    pub walk_moved : (k : ℕ) (w v : KeyedWalker) → slice_get t.walkers k ≡ Some w → IsOwnWalker f o v → AreTablesOf f o (record t { walkers = slice_set t.walkers k v })
+    pub walk_moved : (k : ℕ) (w v : KeyedWalker) → slice_get t.walkers k ≡ Some w → IsOwnWalker f o v →
+        AreTablesOf f o (record t { walkers = slice_set t.walkers k v })
     walk_moved k w v e kept =
         let h = held.own o t at in
         record {
@@ -107,7 +121,8 @@ module _ (f : NamedTrees) {tables : AllTables} (held : IsHeld f.names f.trees ta
           few_walkers = let same = length-set t.walkers k v in let few = h.few_walkers in omega arith;
         }
 
-    pub iter_pushed : (i : KeyedIterator) → IsOwnIterator f o i → length t.iterators ≢ 1000000 → AreTablesOf f o (record t { iterators = t.iterators ++ i ∷ [] })
+    pub iter_pushed : (i : KeyedIterator) → IsOwnIterator f o i → length t.iterators ≢ 1000000 →
+        AreTablesOf f o (record t { iterators = t.iterators ++ i ∷ [] })
     iter_pushed i kept room =
         let h = held.own o t at in
         record {
@@ -132,14 +147,21 @@ module _ (f : NamedTrees) {tables : AllTables} (held : IsHeld f.names f.trees ta
   name_known k less = subst (λ (e : DocState). k < length e.names) is_d less
 
 -- a walker that moved is one of its owner
-pub walk_stays : (f : NamedTrees) → AreOwned f.trees → (o : Owner) (w : KeyedWalker) → IsOwnWalker f o w → (m : Move) (r : Option ℕ) → option_map (name_at f.names) r ≡ walker_move f.trees (walker_view f.names w) m
+pub walk_stays : (f : NamedTrees) → AreOwned f.trees → (o : Owner) (w : KeyedWalker) → IsOwnWalker f o w → (m : Move) (r : Option ℕ) →
+    option_map (name_at f.names) r ≡ walker_move f.trees (walker_view f.names w) m
     → IsWalkerOf f (walker_at w r) → IsOwnWalker f o (walker_at w r)
 walk_stays f owned o w h m None value kept = record { stands = kept; own = h.own; own_current = h.own_current }
-walk_stays f owned o w h m (Some j) value kept = record { stands = kept; own = h.own; own_current = moved_own f.trees owned o (walker_view f.names w) h.own h.own_current m (name_at f.names j) (sym value) }
+walk_stays f owned o w h m (Some j) value kept =
+    record {
+      stands = kept;
+      own = h.own;
+      own_current = moved_own f.trees owned o (walker_view f.names w) h.own h.own_current m (name_at f.names j) (sym value);
+    }
 
 -- ---- cursors that are made
 
-module _ (f : NamedTrees) {tables : AllTables} (held : IsHeld f.names f.trees tables) {d : DocState} (is_d : state_from f.names f.trees tables ≡ d) (o : Owner) (there : is_there (world_from f.names f.trees tables) o ≡ true)
+module _ (f : NamedTrees) {tables : AllTables} (held : IsHeld f.names f.trees tables) {d : DocState}
+    (is_d : state_from f.names f.trees tables ≡ d) (o : Owner) (there : is_there (world_from f.names f.trees tables) o ≡ true)
     (place : ℕ) (is_place : place ≡ place_of o) where
   -- an owner that is there has its place
   pub place_there : place < length tables.each
@@ -153,49 +175,73 @@ module _ (f : NamedTrees) {tables : AllTables} (held : IsHeld f.names f.trees ta
     iter_limit {P} limit =
         subst (λ (e : DocState). P ↔ (past_limit (length (part_of e.world o).iterators) 1 ≡ true)) is_d
         (full (length t.iterators) (length (part_of (world_from f.names f.trees tables) o).iterators)
-        (ap (length {A = Iterator}) (iterators_in f.names f.trees tables o) ∙ length-map (own_tables tables o).iterators (iterator_view f.names) ∙ ap (λ (v : KeyedTables). length v.iterators) (own_is f held is_d o there place is_place t read))
+        (ap (length {A = Iterator}) (iterators_in f.names f.trees tables o) ∙ length-map (own_tables tables o).iterators (iterator_view f.names) ∙
+        ap (λ (v : KeyedTables). length v.iterators) (own_is f held is_d o there place is_place t read))
         (held.own o t (at f held is_d o there place is_place t read)).few_iterators limit)
 
     pub walk_limit : {P : Type 0} → (P ↔ (length t.walkers ≡ 1000000)) → P ↔ (past_limit (length (part_of d.world o).walkers) 1 ≡ true)
     walk_limit {P} limit =
         subst (λ (e : DocState). P ↔ (past_limit (length (part_of e.world o).walkers) 1 ≡ true)) is_d
         (full (length t.walkers) (length (part_of (world_from f.names f.trees tables) o).walkers)
-        (ap (length {A = Walker}) (walkers_in f.names f.trees tables o) ∙ length-map (own_tables tables o).walkers (walker_view f.names) ∙ ap (λ (v : KeyedTables). length v.walkers) (own_is f held is_d o there place is_place t read))
+        (ap (length {A = Walker}) (walkers_in f.names f.trees tables o) ∙ length-map (own_tables tables o).walkers (walker_view f.names) ∙
+        ap (λ (v : KeyedTables). length v.walkers) (own_is f held is_d o there place is_place t read))
         (held.own o t (at f held is_d o there place is_place t read)).few_walkers limit)
 
     module _ (root : ℕ) (filter : Filter) (own_root : (name_at f.names root).owner ≡ o) where
-      pub iter_made : root < length f.names → StandOnce f → (u : KeyedTables) (r : Result ℕ Fault) → OnOk r (u ≡ record t { iterators = t.iterators ++ record { root = root; reference = root; before = true; filter = filter } ∷ [] })
+      pub iter_made : root < length f.names → StandOnce f → (u : KeyedTables) (r : Result ℕ Fault) →
+          OnOk r (u ≡ record t { iterators = t.iterators ++ record { root = root; reference = root; before = true; filter = filter } ∷ [] })
           → ((r ≡ Err (Refused Limit)) ↔ (length t.iterators ≡ 1000000)) → OnErr r (u ≡ t) → IsHeld f.names f.trees (with_table_at tables place u)
       iter_made node once u (Ok n) is limit same =
-          held_written f held is_d o there place is_place t read u (record t { iterators = t.iterators ++ record { root = root; reference = root; before = true; filter = filter } ∷ [] }) is
+          held_written f held is_d o there place is_place t read u
+          (record t { iterators = t.iterators ++ record { root = root; reference = root; before = true; filter = filter } ∷ [] }) is
           (iter_pushed f held is_d o there place is_place t read (record { root = root; reference = root; before = true; filter = filter })
-          (record { stands = record { root = node; reference = record { node = node; within = above-itself f.trees (name_at f.names root) (once root node) } }; own = own_root })
+          (record {
+            stands = record {
+              root = node;
+              reference = record { node = node; within = above-itself f.trees (name_at f.names root) (once root node) };
+            };
+            own = own_root;
+          })
           (λ e. let h = limit.1 e in cc))
-      iter_made node once u (Err e) is limit same = held_written f held is_d o there place is_place t read u t same (held.own o t (at f held is_d o there place is_place t read))
+      iter_made node once u (Err e) is limit same =
+          held_written f held is_d o there place is_place t read u t same (held.own o t (at f held is_d o there place is_place t read))
 
-      pub walk_made : root < length f.names → (u : KeyedTables) (r : Result ℕ Fault) → OnOk r (u ≡ record t { walkers = t.walkers ++ record { root = root; current = root; filter = filter } ∷ [] })
+      pub walk_made : root < length f.names → (u : KeyedTables) (r : Result ℕ Fault) →
+          OnOk r (u ≡ record t { walkers = t.walkers ++ record { root = root; current = root; filter = filter } ∷ [] })
           → ((r ≡ Err (Refused Limit)) ↔ (length t.walkers ≡ 1000000)) → OnErr r (u ≡ t) → IsHeld f.names f.trees (with_table_at tables place u)
       walk_made node u (Ok n) is limit same =
-          held_written f held is_d o there place is_place t read u (record t { walkers = t.walkers ++ record { root = root; current = root; filter = filter } ∷ [] }) is
+          held_written f held is_d o there place is_place t read u
+          (record t { walkers = t.walkers ++ record { root = root; current = root; filter = filter } ∷ [] }) is
           (walk_pushed f held is_d o there place is_place t read (record { root = root; current = root; filter = filter })
           (record { stands = record { root = node; current = node }; own = own_root; own_current = own_root })
           (λ e. let h = limit.1 e in cc))
-      walk_made node u (Err e) is limit same = held_written f held is_d o there place is_place t read u t same (held.own o t (at f held is_d o there place is_place t read))
+      walk_made node u (Err e) is limit same =
+          held_written f held is_d o there place is_place t read u t same (held.own o t (at f held is_d o there place is_place t read))
 
-      pub iter_made_writes : (u : KeyedTables) (r : Result ℕ Fault) → OnOk r (u ≡ record t { iterators = t.iterators ++ record { root = root; reference = root; before = true; filter = filter } ∷ [] }) → IfOk r (λ n. n ≡ length t.iterators)
-          → IfOk r (λ n. Makes o (Command.iterator_new (own (name_at d.names root).number) filter) (an_iterator n) d.world (world_from f.names f.trees (with_table_at tables place u)))
+      pub iter_made_writes : (u : KeyedTables) (r : Result ℕ Fault) →
+          OnOk r (u ≡ record t { iterators = t.iterators ++ record { root = root; reference = root; before = true; filter = filter } ∷ [] }) →
+          IfOk r (λ n. n ≡ length t.iterators)
+          → IfOk r (λ n. Makes o (Command.iterator_new (own (name_at d.names root).number) filter) (an_iterator n) d.world
+          (world_from f.names f.trees (with_table_at tables place u)))
       iter_made_writes u (Ok n) is number =
-          subst (λ k. Makes o (Command.iterator_new (own (name_at d.names root).number) filter) (an_iterator k) d.world (world_from f.names f.trees (with_table_at tables place u))) (sym number)
-          (writes f held is_d o there place is_place t read u (record t { iterators = t.iterators ++ record { root = root; reference = root; before = true; filter = filter } ∷ [] }) is
+          subst (λ k. Makes o (Command.iterator_new (own (name_at d.names root).number) filter) (an_iterator k) d.world
+          (world_from f.names f.trees (with_table_at tables place u))) (sym number)
+          (writes f held is_d o there place is_place t read u
+          (record t { iterators = t.iterators ++ record { root = root; reference = root; before = true; filter = filter } ∷ [] }) is
           (λ ns. Command.iterator_new (own (name_at ns root).number) filter) (λ ns. an_iterator (length t.iterators))
           (iterator_effect_new f.names f.trees tables held o t (at f held is_d o there place is_place t read) root filter own_root))
       iter_made_writes u (Err e) is number = tt
 
-      pub walk_made_writes : (u : KeyedTables) (r : Result ℕ Fault) → OnOk r (u ≡ record t { walkers = t.walkers ++ record { root = root; current = root; filter = filter } ∷ [] }) → IfOk r (λ n. n ≡ length t.walkers)
-          → IfOk r (λ n. Makes o (Command.walker_new (own (name_at d.names root).number) filter) (a_walker n) d.world (world_from f.names f.trees (with_table_at tables place u)))
+      pub walk_made_writes : (u : KeyedTables) (r : Result ℕ Fault) →
+          OnOk r (u ≡ record t { walkers = t.walkers ++ record { root = root; current = root; filter = filter } ∷ [] }) →
+          IfOk r (λ n. n ≡ length t.walkers)
+          → IfOk r (λ n. Makes o (Command.walker_new (own (name_at d.names root).number) filter) (a_walker n) d.world
+          (world_from f.names f.trees (with_table_at tables place u)))
       walk_made_writes u (Ok n) is number =
-          subst (λ k. Makes o (Command.walker_new (own (name_at d.names root).number) filter) (a_walker k) d.world (world_from f.names f.trees (with_table_at tables place u))) (sym number)
-          (writes f held is_d o there place is_place t read u (record t { walkers = t.walkers ++ record { root = root; current = root; filter = filter } ∷ [] }) is
+          subst (λ k. Makes o (Command.walker_new (own (name_at d.names root).number) filter) (a_walker k) d.world
+          (world_from f.names f.trees (with_table_at tables place u))) (sym number)
+          (writes f held is_d o there place is_place t read u
+          (record t { walkers = t.walkers ++ record { root = root; current = root; filter = filter } ∷ [] }) is
           (λ ns. Command.walker_new (own (name_at ns root).number) filter) (λ ns. a_walker (length t.walkers))
           (walker_effect_new f.names f.trees tables held o t (at f held is_d o there place is_place t read) root filter own_root))
       walk_made_writes u (Err e) is number = tt

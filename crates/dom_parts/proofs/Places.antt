@@ -83,7 +83,8 @@ module _ {X : Type 0} where
   table_set ts (Component (suc k)) t u e = get_set ts (suc k) t u e
 
   -- the others
-  pub table_set_other : (ts : List X) (o : Owner) (t u : X) → table_of ts o ≡ Some t → (q : Owner) → q ≢ o → table_of (slice_set ts (place_of o) u) q ≡ table_of ts q
+  pub table_set_other : (ts : List X) (o : Owner) (t u : X) → table_of ts o ≡ Some t → (q : Owner) → q ≢ o →
+      table_of (slice_set ts (place_of o) u) q ≡ table_of ts q
   table_set_other ts Page t u e Page other = absurd (other refl)
   table_set_other ts Page t u e (Component zero) other = refl
   table_set_other ts Page t u e (Component (suc k)) other = get_set_other ts 0 (suc k) u (λ same. cc)

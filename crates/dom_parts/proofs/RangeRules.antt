@@ -31,35 +31,44 @@ module _ (o : Owner) where
     others = λ b h. ap (λ t. cond (t && nat_lt index b.offset) (at parent (b.offset + count)) b) (apart parent own b h);
   }
 
-  pub removal_rule : (ts : Trees) → AreOwned ts → (x parent : NodeName) (index : ℕ) → x.owner ≡ o → parent.owner ≡ o → IsRuleOf o (after_removal name_eq (is_inclusive_ancestor ts x) parent index)
+  pub removal_rule : (ts : Trees) → AreOwned ts → (x parent : NodeName) (index : ℕ) → x.owner ≡ o → parent.owner ≡ o →
+      IsRuleOf o (after_removal name_eq (is_inclusive_ancestor ts x) parent index)
   removal_rule ts owned x parent index is own = record {
     stays = λ b h.
-        either_own o (is_inclusive_ancestor ts x b.node) (at parent index) (cond (name_eq b.node parent && nat_lt index b.offset) (at parent (b.offset - 1)) b) own
+        either_own o (is_inclusive_ancestor ts x b.node) (at parent index)
+        (cond (name_eq b.node parent && nat_lt index b.offset) (at parent (b.offset - 1)) b) own
         (either_own o (name_eq b.node parent && nat_lt index b.offset) (at parent (b.offset - 1)) b own h);
     others = λ b h.
-        ap (λ t. cond t (at parent index) (cond (name_eq b.node parent && nat_lt index b.offset) (at parent (b.offset - 1)) b)) (apart_above ts owned x b.node (λ e. h (sym e ∙ is)))
+        ap (λ t. cond t (at parent index) (cond (name_eq b.node parent && nat_lt index b.offset) (at parent (b.offset - 1)) b))
+        (apart_above ts owned x b.node (λ e. h (sym e ∙ is)))
         ∙ ap (λ t. cond (t && nat_lt index b.offset) (at parent (b.offset - 1)) b) (apart parent own b h);
   }
 
   pub replace_data_rule : (x : NodeName) (offset count size : ℕ) → x.owner ≡ o → IsRuleOf o (after_replace_data name_eq x offset count size)
   replace_data_rule x offset count size own = record {
     stays = λ b h.
-        either_own o (not (name_eq b.node x) || nat_le b.offset offset) b (cond (nat_le b.offset (offset + count)) (at x offset) (at x (b.offset + size - count))) h
+        either_own o (not (name_eq b.node x) || nat_le b.offset offset) b
+        (cond (nat_le b.offset (offset + count)) (at x offset) (at x (b.offset + size - count))) h
         (either_own o (nat_le b.offset (offset + count)) (at x offset) (at x (b.offset + size - count)) own own);
-    others = λ b h. ap (λ t. cond (not t || nat_le b.offset offset) b (cond (nat_le b.offset (offset + count)) (at x offset) (at x (b.offset + size - count)))) (apart x own b h);
+    others = λ b h. ap (λ t. cond (not t || nat_le b.offset offset) b
+        (cond (nat_le b.offset (offset + count)) (at x offset) (at x (b.offset + size - count)))) (apart x own b h);
   }
 
-  pub split_rule : (x : NodeName) (offset : ℕ) (new parent : NodeName) (index : ℕ) → x.owner ≡ o → new.owner ≡ o → parent.owner ≡ o → IsRuleOf o (after_split name_eq x offset new parent index)
+  pub split_rule : (x : NodeName) (offset : ℕ) (new parent : NodeName) (index : ℕ) → x.owner ≡ o → new.owner ≡ o → parent.owner ≡ o →
+      IsRuleOf o (after_split name_eq x offset new parent index)
   split_rule x offset new parent index own fresh above = record {
     stays = λ b h.
-        either_own o (name_eq b.node x && nat_lt offset b.offset) (at new (b.offset - offset)) (cond (boundary_eq name_eq b (at parent (index + 1))) (at parent (index + 2)) b) fresh
+        either_own o (name_eq b.node x && nat_lt offset b.offset) (at new (b.offset - offset))
+        (cond (boundary_eq name_eq b (at parent (index + 1))) (at parent (index + 2)) b) fresh
         (either_own o (boundary_eq name_eq b (at parent (index + 1))) (at parent (index + 2)) b above h);
     others = λ b h.
-        ap (λ t. cond (t && nat_lt offset b.offset) (at new (b.offset - offset)) (cond (boundary_eq name_eq b (at parent (index + 1))) (at parent (index + 2)) b)) (apart x own b h)
+        ap (λ t. cond (t && nat_lt offset b.offset) (at new (b.offset - offset))
+        (cond (boundary_eq name_eq b (at parent (index + 1))) (at parent (index + 2)) b)) (apart x own b h)
         ∙ ap (λ t. cond (t && eqb b.offset (index + 1)) (at parent (index + 2)) b) (apart parent above b h);
   }
 
-  pub join_rule : (first : NodeName) (size : ℕ) (next parent : NodeName) (index : ℕ) → first.owner ≡ o → next.owner ≡ o → parent.owner ≡ o → IsRuleOf o (after_join name_eq first size next parent index)
+  pub join_rule : (first : NodeName) (size : ℕ) (next parent : NodeName) (index : ℕ) → first.owner ≡ o → next.owner ≡ o → parent.owner ≡ o →
+      IsRuleOf o (after_join name_eq first size next parent index)
   join_rule first size next parent index own after above = record {
     stays = λ b h.
         either_own o (name_eq b.node next) (at first (b.offset + size)) (cond (boundary_eq name_eq b (at parent index)) (at first size) b) own

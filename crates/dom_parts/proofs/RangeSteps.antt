@@ -33,8 +33,10 @@ put_some : {X Y : Type 0} (y : Y) (m : Option X) → is_some m ≡ true → opti
 put_some y None h = cc
 put_some y (Some x) h = refl
 
-module _ (f : NamedTrees) {tables : AllTables} (held : IsHeld f.names f.trees tables) {d : DocState} (is_d : state_from f.names f.trees tables ≡ d) (o : Owner) (k : ℕ) (known : is_some (range_at (part_of d.world o) k) ≡ true)
-    (r : Range ℕ) (ends : BothEnds (IsPointOf d o) r) (u : RangeLists) (set : (q : Owner) → ranges_of u q ≡ with_ranges tables.ranges o (slice_set (ranges_of tables.ranges o) k (Some r)) q) where
+module _ (f : NamedTrees) {tables : AllTables} (held : IsHeld f.names f.trees tables) {d : DocState}
+    (is_d : state_from f.names f.trees tables ≡ d) (o : Owner) (k : ℕ) (known : is_some (range_at (part_of d.world o) k) ≡ true)
+    (r : Range ℕ) (ends : BothEnds (IsPointOf d o) r) (u : RangeLists)
+    (set : (q : Owner) → ranges_of u q ≡ with_ranges tables.ranges o (slice_set (ranges_of tables.ranges o) k (Some r)) q) where
   abbrev c : Contents
   c = contents f.names f.trees tables
 
@@ -58,28 +60,37 @@ module _ (f : NamedTrees) {tables : AllTables} (held : IsHeld f.names f.trees ta
   pub put_held : IsHeld f.names f.trees (with_live tables u)
   put_held =
       live_held f held is_d o there_now u (slice_set own k (Some r)) set
-      (subst (λ m. EachRange (BothEnds (IsOwnPoint f.names o)) (slice_set own k m)) same (rewritten_own c tables.ranges held.ranges o k (λ s. r) (λ s h. (point r.start ends.0, point r.end ends.1))))
+      (subst (λ m. EachRange (BothEnds (IsOwnPoint f.names o)) (slice_set own k m)) same
+      (rewritten_own c tables.ranges held.ranges o k (λ s. r) (λ s h. (point r.start ends.0, point r.end ends.1))))
       (written_few c tables.ranges held.ranges o k (Some r))
 
   -- and the step was made
   pub put_made : state_from f.names f.trees (with_live tables u) ≡ stepped o (set_range k (named_range d.names r)) d
   put_made =
-      subst (λ (e : DocState). is_some (range_at (part_of e.world o) k) ≡ true → state_from f.names f.trees (with_live tables u) ≡ stepped o (set_range k (named_range e.names r)) e) is_d made known
+      subst (λ (e : DocState). is_some (range_at (part_of e.world o) k) ≡ true →
+      state_from f.names f.trees (with_live tables u) ≡ stepped o (set_range k (named_range e.names r)) e) is_d made known
     where
-      made : is_some (range_at (part_of (world_from f.names f.trees tables) o) k) ≡ true → state_from f.names f.trees (with_live tables u) ≡ stepped o (set_range k (named_range f.names r)) (state_from f.names f.trees tables)
+      made : is_some (range_at (part_of (world_from f.names f.trees tables) o) k) ≡ true →
+          state_from f.names f.trees (with_live tables u) ≡ stepped o (set_range k (named_range f.names r)) (state_from f.names f.trees tables)
       made h =
           let w = world_from f.names f.trees tables in
           let p = part_in c o in
           let g : Range NodeName = named_range f.names r in
           let here = part_at c o there_now in
-          let lists : named_ranges f.names (slice_set own k (Some r)) ≡ slice_set p.ranges k (option_map (λ (s : Range NodeName). g) (option_flatten (slice_get p.ranges k))) =
+          let lists : named_ranges f.names (slice_set own k (Some r)) ≡ slice_set p.ranges k
+          (option_map (λ (s : Range NodeName). g) (option_flatten (slice_get p.ranges k))) =
           ap (λ m. named_ranges f.names (slice_set own k m)) (sym same)
-          ∙ (rewritten-named f.names (λ s. r) (λ s. g) (λ s. refl) own k ∙ ap (λ (rs : List (Option (Range NodeName))). slice_set rs k (option_map (λ (s : Range NodeName). g) (option_flatten (slice_get rs k)))) (sym (held.ranges.shown o))) in
-          let one : named_ranges f.names (slice_set own k (Some r)) ≡ slice_set p.ranges k (Some g) = lists ∙ ap (slice_set p.ranges k) (put_some g (range_at p k) (ap (λ (q : Part). is_some (range_at q k)) (sym here) ∙ h)) in
-          let part : record p { ranges = named_ranges f.names (slice_set own k (Some r)) } ≡ record (part_of w o) { ranges = slice_set (part_of w o).ranges k (Some g) } =
+          ∙ (rewritten-named f.names (λ s. r) (λ s. g) (λ s. refl) own k ∙
+          ap (λ (rs : List (Option (Range NodeName))). slice_set rs k
+          (option_map (λ (s : Range NodeName). g) (option_flatten (slice_get rs k)))) (sym (held.ranges.shown o))) in
+          let one : named_ranges f.names (slice_set own k (Some r)) ≡ slice_set p.ranges k (Some g) =
+          lists ∙ ap (slice_set p.ranges k) (put_some g (range_at p k) (ap (λ (q : Part). is_some (range_at q k)) (sym here) ∙ h)) in
+          let part : record p { ranges = named_ranges f.names (slice_set own k (Some r)) } ≡ record (part_of w o)
+          { ranges = slice_set (part_of w o).ranges k (Some g) } =
           ap (λ rs. record p { ranges = rs }) one ∙ ap (λ (q : Part). record q { ranges = slice_set q.ranges k (Some g) }) (sym here) in
           ap (λ (v : World). state f.names v)
-          (changed c (ranged u c) o (record p { ranges = named_ranges f.names (slice_set own k (Some r)) }) (single_owners (length tables.each)) there_now (set_change c tables.ranges u held.ranges o there_now (slice_set own k (Some r)) set)
+          (changed c (ranged u c) o (record p { ranges = named_ranges f.names (slice_set own k (Some r)) }) (single_owners (length tables.each))
+          there_now (set_change c tables.ranges u held.ranges o there_now (slice_set own k (Some r)) set)
           ∙ ap (with_part w) part)
         where
           state : List NodeName → World → DocState

@@ -1,5 +1,6 @@
 -- What the commands on ranges do to what is held: a range more, one that is dropped, and one with other ends.
-use Rattle.std.proofs.Common.{◌≡◌, ◌≢◌, ℕ, ◌+◌, ◌≤◌, ◌<◌, Bool, true, false, cond, List, [], ◌∷◌, ◌++◌, length, Option, Some, None, refl, sym, ap, subst, ◌∙◌, inl, inr, arith, true≢false}
+use Rattle.std.proofs.Common.{◌≡◌, ◌≢◌, ℕ, ◌+◌, ◌≤◌, ◌<◌, Bool, true, false, cond, List, [], ◌∷◌, ◌++◌, length, Option, Some, None, refl, sym, ap}
+use Rattle.std.proofs.Common.{subst, ◌∙◌, inl, inr, arith, true≢false}
 use Rattle.std.specs.Prelude.{slice_get, slice_set, option_map}
 use Rattle.std.specs.Option.{option_flatten, option_map_or}
 use Rattle.std.proofs.lemmas.Bool.{cases_Bool, ltb-false}
@@ -33,7 +34,8 @@ use Rattle.dom_parts.proofs.Worlds.{Single, IsChangeOf, part_at, there_same, cha
 
 -- ---- an owner's list is another one
 
-module _ (c : Contents) (t u : RangeLists) (ranges : AreRangesOf c t) (o : Owner) (there : is_there (world_of c) o ≡ true) (rs : RangeList) (set : (q : Owner) → ranges_of u q ≡ with_ranges t o rs q) where
+module _ (c : Contents) (t u : RangeLists) (ranges : AreRangesOf c t) (o : Owner) (there : is_there (world_of c) o ≡ true) (rs : RangeList)
+    (set : (q : Owner) → ranges_of u q ≡ with_ranges t o rs q) where
   own_set : ranges_of u o ≡ rs
   own_set = set o ∙ ap (λ b. cond b rs (ranges_of t o)) (owner_eq-same o)
 
@@ -57,7 +59,8 @@ module _ (c : Contents) (t u : RangeLists) (ranges : AreRangesOf c t) (o : Owner
   part_now = part_at (ranged u c) o (there_same (ranged u c) c refl o ∙ there) ∙ set_change.own
 
   -- the command that does this to the owner's part was made
-  pub set_makes : Single c.owners → (command : Command) (v : Value) → effect (part_in c o) command ≡ Effect.tables (record (part_in c o) { ranges = named_ranges c.names rs }) [] v
+  pub set_makes : Single c.owners → (command : Command) (v : Value) →
+      effect (part_in c o) command ≡ Effect.tables (record (part_in c o) { ranges = named_ranges c.names rs }) [] v
       → Makes o command v (world_of c) (world_of (ranged u c))
   set_makes single command v is = (
     ap (λ p. effect p command) (part_at c o there) ∙ (is ∙ ap (λ p. Effect.tables p [] v) (sym part_now)),
@@ -69,7 +72,8 @@ module _ (c : Contents) (t u : RangeLists) (ranges : AreRangesOf c t) (o : Owner
   set_ranges own few = record {
     shown = λ q. refl;
     own = λ q. elim (cases_Bool (owner_eq q o)) [
-      | inl e ↦ let same = owner_eq-true q o e in subst (λ p. EachRange (BothEnds (IsOwnPoint c.names p)) (ranges_of u p)) (sym same) (subst (EachRange (BothEnds (IsOwnPoint c.names o))) (sym own_set) own)
+      | inl e ↦ let same = owner_eq-true q o e in subst (λ p. EachRange (BothEnds (IsOwnPoint c.names p)) (ranges_of u p)) (sym same)
+          (subst (EachRange (BothEnds (IsOwnPoint c.names o))) (sym own_set) own)
       | inr e ↦ subst (EachRange (BothEnds (IsOwnPoint c.names q))) (sym (other_set q (owner_eq-false q o e))) (ranges.own q)
     ];
     few = λ q. elim (cases_Bool (owner_eq q o)) [
@@ -89,23 +93,31 @@ module _ (c : Contents) (t : RangeLists) (ranges : AreRangesOf c t) (o : Owner) 
 
   -- a range is made at the owner's first node
   pub make_effect : (node : ℕ) → name_at c.names node ≡ node_of o 0
-      → effect (part_in c o) Command.range_new ≡ Effect.tables (record (part_in c o) { ranges = named_ranges c.names (ranges_of t o ++ Some (from_to (at node 0) (at node 0)) ∷ []) }) [] (a_range (length (ranges_of t o)))
+      → effect (part_in c o) Command.range_new ≡ Effect.tables
+      (record (part_in c o) { ranges = named_ranges c.names (ranges_of t o ++ Some (from_to (at node 0) (at node 0)) ∷ []) }) []
+      (a_range (length (ranges_of t o)))
   unfolding with_those
   make_effect node first =
       let was = named_ranges c.names (ranges_of t o) in
       ap (λ rs. with_those (rs ++ Some (both_at (at (node_of o 0) 0)) ∷ []) (a_range (length rs))) (ranges.shown o)
       ∙ (ap (λ x. with_those (was ++ Some (both_at (at x 0)) ∷ []) (a_range (length was))) (sym first)
       ∙ (ap (λ rs. with_those rs (a_range (length was))) (sym (made-named c.names (ranges_of t o) node))
-      ∙ ap (λ n. with_those (named_ranges c.names (ranges_of t o ++ Some (from_to (at node 0) (at node 0)) ∷ [])) (a_range n)) (length-map (ranges_of t o) (option_map (named_range c.names)))))
+      ∙ ap (λ n. with_those (named_ranges c.names (ranges_of t o ++ Some (from_to (at node 0) (at node 0)) ∷ [])) (a_range n))
+      (length-map (ranges_of t o) (option_map (named_range c.names)))))
 
   -- one is dropped
-  pub drop_effect : (k : ℕ) → effect (part_in c o) (Command.range_drop k) ≡ Effect.tables (record (part_in c o) { ranges = named_ranges c.names (slice_set (ranges_of t o) k None) }) [] nothing
+  pub drop_effect : (k : ℕ) → effect (part_in c o) (Command.range_drop k) ≡ Effect.tables
+      (record (part_in c o) { ranges = named_ranges c.names (slice_set (ranges_of t o) k None) }) [] nothing
   unfolding with_those
-  drop_effect k = ap (λ rs. with_those (slice_set rs k None) nothing) (ranges.shown o) ∙ ap (λ rs. with_those rs nothing) (sym (removed-named c.names (ranges_of t o) k))
+  drop_effect k = ap (λ rs. with_those (slice_set rs k None) nothing) (ranges.shown o) ∙
+      ap (λ rs. with_those rs nothing) (sym (removed-named c.names (ranges_of t o) k))
 
   -- one gets other ends
-  pub rewritten_effect : (k : ℕ) (f : Range ℕ → Range ℕ) (g : Range NodeName → Range NodeName) → ((r : Range ℕ) → named_range c.names (f r) ≡ g (named_range c.names r))
-      → changes_range (part_in c o) k g ≡ Effect.tables (record (part_in c o) { ranges = named_ranges c.names (slice_set (ranges_of t o) k (option_map f (range_in (ranges_of t o) k))) }) [] nothing
+  pub rewritten_effect : (k : ℕ) (f : Range ℕ → Range ℕ) (g : Range NodeName → Range NodeName) →
+      ((r : Range ℕ) → named_range c.names (f r) ≡ g (named_range c.names r))
+      → changes_range (part_in c o) k g ≡ Effect.tables
+      (record (part_in c o) { ranges = named_ranges c.names (slice_set (ranges_of t o) k (option_map f (range_in (ranges_of t o) k))) }) []
+      nothing
   unfolding with_those
   rewritten_effect k f g law =
       ap (λ rs. with_those (slice_set rs k (option_map g (option_flatten (slice_get rs k)))) nothing) (ranges.shown o)
@@ -113,7 +125,11 @@ module _ (c : Contents) (t : RangeLists) (ranges : AreRangesOf c t) (o : Owner) 
 
   -- one collapses
   pub collapse_effect : (k : ℕ) (to_start : Bool)
-      → effect (part_in c o) (Command.range_collapse k to_start) ≡ Effect.tables (record (part_in c o) { ranges = named_ranges c.names (slice_set (ranges_of t o) k (option_map (collapsed_range to_start) (range_in (ranges_of t o) k))) }) [] nothing
+      → effect (part_in c o) (Command.range_collapse k to_start) ≡ Effect.tables
+      (record (part_in c o) {
+        ranges = named_ranges c.names
+            (slice_set (ranges_of t o) k (option_map (collapsed_range to_start) (range_in (ranges_of t o) k)));
+      }) [] nothing
   collapse_effect k to_start = rewritten_effect k (collapsed_range to_start) (collapsed_to to_start) (λ r. law to_start r)
     where
       law : (b : Bool) (r : Range ℕ) → named_range c.names (collapsed_range b r) ≡ collapsed_to b (named_range c.names r)
@@ -122,9 +138,11 @@ module _ (c : Contents) (t : RangeLists) (ranges : AreRangesOf c t) (o : Owner) 
 
   -- the range of a number
   pub range_read : (k : ℕ) → range_at (part_in c o) k ≡ option_map (named_range c.names) (range_in (ranges_of t o) k)
-  range_read k = ap (λ rs. option_flatten (slice_get rs k)) (ranges.shown o) ∙ (ap option_flatten (slice_get-map (option_map (named_range c.names)) (ranges_of t o) k) ∙ flat (slice_get (ranges_of t o) k))
+  range_read k = ap (λ rs. option_flatten (slice_get rs k)) (ranges.shown o) ∙
+      (ap option_flatten (slice_get-map (option_map (named_range c.names)) (ranges_of t o) k) ∙ flat (slice_get (ranges_of t o) k))
     where
-      flat : (m : Option (Option (Range ℕ))) → option_flatten (option_map (option_map (named_range c.names)) m) ≡ option_map (named_range c.names) (option_flatten m)
+      flat : (m : Option (Option (Range ℕ))) →
+          option_flatten (option_map (option_map (named_range c.names)) m) ≡ option_map (named_range c.names) (option_flatten m)
       flat None = refl
       flat (Some None) = refl
       flat (Some (Some r)) = refl
@@ -133,11 +151,13 @@ module _ (c : Contents) (t : RangeLists) (ranges : AreRangesOf c t) (o : Owner) 
   pub points_effect : (k : ℕ) (r : Range ℕ) → range_in (ranges_of t o) k ≡ Some r
       → effect (part_in c o) (Command.range_get k) ≡ Effect.tables (part_in c o) [] (boundaries (named_boundary c.names r.start) (named_boundary c.names r.end))
   points_effect k r there =
-      ap (λ m. option_map_or (λ (range : Range NodeName). Effect.tables (part_in c o) [] (boundaries range.start range.end)) m (Effect.tables (part_in c o) [] nothing)) (range_read k ∙ ap (option_map (named_range c.names)) there)
+      ap (λ m. option_map_or (λ (range : Range NodeName). Effect.tables (part_in c o) [] (boundaries range.start range.end)) m
+      (Effect.tables (part_in c o) [] nothing)) (range_read k ∙ ap (option_map (named_range c.names)) there)
 
 -- ---- an end is set
 
-module _ (c : Contents) (t : RangeLists) (ranges : AreRangesOf c t) (owned : AreOwned c.trees) (once : StandOnce (named_trees c.names c.trees)) (only : StandAlone (named_trees c.names c.trees)) (o : Owner) (node : ℕ) (at_node : node < length c.names)
+module _ (c : Contents) (t : RangeLists) (ranges : AreRangesOf c t) (owned : AreOwned c.trees) (once : StandOnce (named_trees c.names c.trees))
+    (only : StandAlone (named_trees c.names c.trees)) (o : Owner) (node : ℕ) (at_node : node < length c.names)
     (own_node : (name_at c.names node).owner ≡ o) where
   abbrev f : NamedTrees
   f = named_trees c.names c.trees
@@ -149,49 +169,67 @@ module _ (c : Contents) (t : RangeLists) (ranges : AreRangesOf c t) (owned : Are
   own_in k here own = record { owner = own; there = Has-forest f once k here }
 
   -- rules that agree at the owner's range of a number
-  agreed_effect : (k : ℕ) (g h : Range NodeName → Range NodeName) → ((r : Range ℕ) → BothEnds (IsOwnPoint c.names o) r → g (named_range c.names r) ≡ h (named_range c.names r))
+  agreed_effect : (k : ℕ) (g h : Range NodeName → Range NodeName) →
+      ((r : Range ℕ) → BothEnds (IsOwnPoint c.names o) r → g (named_range c.names r) ≡ h (named_range c.names r))
       → changes_range (part_in c o) k g ≡ changes_range (part_in c o) k h
   agreed_effect k g h same =
       ap (λ r. Effect.tables (record (part_in c o) { ranges = slice_set (part_in c o).ranges k r }) [] nothing)
       (ap (option_map g) (range_read c t ranges o k) ∙ (by (range_in (ranges_of t o) k) refl ∙ ap (option_map h) (sym (range_read c t ranges o k))))
     where
-      by : (m : Option (Range ℕ)) → range_in (ranges_of t o) k ≡ m → option_map g (option_map (named_range c.names) m) ≡ option_map h (option_map (named_range c.names) m)
+      by : (m : Option (Range ℕ)) → range_in (ranges_of t o) k ≡ m →
+          option_map g (option_map (named_range c.names) m) ≡ option_map h (option_map (named_range c.names) m)
       by None e = refl
       by (Some r) e = ap Some (same r (stand-at (IsOwnPoint c.names o) (ranges_of t o) k r (ranges.own o) e))
 
   -- a range gets another start
   pub start_effect : (k offset : ℕ)
       → effect (part_in c o) (Command.range_start k (Spelled.own (name_at c.names node).number) offset)
-      ≡ Effect.tables (record (part_in c o) { ranges = named_ranges c.names (slice_set (ranges_of t o) k (option_map (start_set (named_trees c.names c.trees) (at node offset)) (range_in (ranges_of t o) k))) }) [] nothing
+      ≡ Effect.tables (record (part_in c o) {
+        ranges = named_ranges c.names
+            (slice_set (ranges_of t o) k (option_map (start_set (named_trees c.names c.trees) (at node offset)) (range_in (ranges_of t o) k)));
+      }) []
+      nothing
   start_effect k offset =
       let us = trees_of_owner o c.trees in
       let b = at (name_at c.names node) offset in
       ap (λ p. changes_range (part_in c o) k (with_start us (at (node_of p (name_at c.names node).number) offset))) (sym own_node)
-      ∙ (agreed_effect k (with_start us b) (with_start c.trees b) (λ r h. sym (with_start-own c.trees owned single o b (named_range c.names r) (own_in node at_node own_node) (own_in r.end.node h.1.node h.1.owner)))
-      ∙ rewritten_effect c t ranges o k (start_set (named_trees c.names c.trees) (at node offset)) (with_start c.trees b) (start-named (named_trees c.names c.trees) (at node offset)))
+      ∙ (agreed_effect k (with_start us b) (with_start c.trees b)
+      (λ r h. sym (with_start-own c.trees owned single o b (named_range c.names r) (own_in node at_node own_node)
+      (own_in r.end.node h.1.node h.1.owner)))
+      ∙ rewritten_effect c t ranges o k (start_set (named_trees c.names c.trees) (at node offset)) (with_start c.trees b)
+      (start-named (named_trees c.names c.trees) (at node offset)))
 
   -- or another end
   pub end_effect : (k offset : ℕ)
       → effect (part_in c o) (Command.range_end k (Spelled.own (name_at c.names node).number) offset)
-      ≡ Effect.tables (record (part_in c o) { ranges = named_ranges c.names (slice_set (ranges_of t o) k (option_map (end_set (named_trees c.names c.trees) (at node offset)) (range_in (ranges_of t o) k))) }) [] nothing
+      ≡ Effect.tables (record (part_in c o) {
+        ranges = named_ranges c.names
+            (slice_set (ranges_of t o) k (option_map (end_set (named_trees c.names c.trees) (at node offset)) (range_in (ranges_of t o) k)));
+      }) []
+      nothing
   end_effect k offset =
       let us = trees_of_owner o c.trees in
       let b = at (name_at c.names node) offset in
       ap (λ p. changes_range (part_in c o) k (with_end us (at (node_of p (name_at c.names node).number) offset))) (sym own_node)
-      ∙ (agreed_effect k (with_end us b) (with_end c.trees b) (λ r h. sym (with_end-own c.trees owned single o b (named_range c.names r) (own_in node at_node own_node) (own_in r.start.node h.0.node h.0.owner)))
-      ∙ rewritten_effect c t ranges o k (end_set (named_trees c.names c.trees) (at node offset)) (with_end c.trees b) (end-named (named_trees c.names c.trees) (at node offset)))
+      ∙ (agreed_effect k (with_end us b) (with_end c.trees b)
+      (λ r h. sym (with_end-own c.trees owned single o b (named_range c.names r) (own_in node at_node own_node)
+      (own_in r.start.node h.0.node h.0.owner)))
+      ∙ rewritten_effect c t ranges o k (end_set (named_trees c.names c.trees) (at node offset)) (with_end c.trees b)
+      (end-named (named_trees c.names c.trees) (at node offset)))
 
 -- ---- what holds of the lists that the calls leave
 
 module _ (c : Contents) (t : RangeLists) (ranges : AreRangesOf c t) (o : Owner) where
   -- a range more, where there is room
-  pub made_own : (node : ℕ) → node < length c.names → (name_at c.names node).owner ≡ o → EachRange (BothEnds (IsOwnPoint c.names o)) (ranges_of t o ++ Some (from_to (at node 0) (at node 0)) ∷ [])
+  pub made_own : (node : ℕ) → node < length c.names → (name_at c.names node).owner ≡ o →
+      EachRange (BothEnds (IsOwnPoint c.names o)) (ranges_of t o ++ Some (from_to (at node 0) (at node 0)) ∷ [])
   made_own node less own =
       let here : IsOwnPoint c.names o (at node 0) = record { node = less; owner = own; fits = omega arith } in
       stand-made (IsOwnPoint c.names o) (ranges_of t o) (from_to (at node 0) (at node 0)) (here, here) (ranges.own o)
 
   pub made_few : (node : ℕ) → past_limit (length (ranges_of t o)) 1 ≡ false → length (ranges_of t o ++ Some (from_to (at node 0) (at node 0)) ∷ []) ≤ 1000000
-  made_few node room = let more = length_push (ranges_of t o) (Some (from_to (at node 0) (at node 0))) in let few = ltb-false 1000000 (length (ranges_of t o) + 1) room in omega arith
+  made_few node room = let more = length_push (ranges_of t o) (Some (from_to (at node 0) (at node 0))) in let few =
+      ltb-false 1000000 (length (ranges_of t o) + 1) room in omega arith
 
   -- one less
   pub dropped_own : (k : ℕ) → EachRange (BothEnds (IsOwnPoint c.names o)) (slice_set (ranges_of t o) k None)

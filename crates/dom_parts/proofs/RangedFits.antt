@@ -1,6 +1,7 @@
 -- Where offsets are within their nodes' lengths, each step that tells the table of ranges leaves offsets that are numbers of the
 -- code's: only the lengths of the nodes that the step names are asked for.
-use Rattle.std.proofs.Common.{◌≡◌, ℕ, zero, suc, ◌+◌, ◌-◌, ◌<◌, ◌≤◌, ◌^◌, Bool, true, false, not, cond, ◌&&◌, ◌||◌, eqb, nat_lt, nat_le, List, [], ◌∷◌, Option, Some, refl, sym, ap, subst, ◌∙◌, inl, inr, arith}
+use Rattle.std.proofs.Common.{◌≡◌, ℕ, zero, suc, ◌+◌, ◌-◌, ◌<◌, ◌≤◌, ◌^◌, Bool, true, false, not, cond, ◌&&◌, ◌||◌, eqb, nat_lt, nat_le, List, []}
+use Rattle.std.proofs.Common.{◌∷◌, Option, Some, refl, sym, ap, subst, ◌∙◌, inl, inr, arith}
 use Rattle.std.specs.Prelude.{slice_get, nat_eq, option_map}
 use Rattle.std.specs.List.{AllByRecursion}
 use Rattle.std.proofs.lemmas.Bool.{cases_Bool, and_parts, eqb-true}
@@ -23,7 +24,8 @@ use Rattle.dom_parts.specs.Ranging.{IsOwnPoint, AreRangesOf}
 use Rattle.dom_parts.proofs.RangedLists.{each_both}
 
 -- what holds of all ranges by names holds of those over keys
-each_named : (P : Option (Range NodeName) → Type 0) (names : List NodeName) (rs : RangeList) → AllByRecursion P (named_ranges names rs) → (k : ℕ) (r : Range ℕ) → slice_get rs k ≡ Some (Some r) → P (Some (named_range names r))
+each_named : (P : Option (Range NodeName) → Type 0) (names : List NodeName) (rs : RangeList) → AllByRecursion P (named_ranges names rs) →
+    (k : ℕ) (r : Range ℕ) → slice_get rs k ≡ Some (Some r) → P (Some (named_range names r))
 each_named P names [] all k r e = cc
 each_named P names (s ∷ rs) all zero r e = subst (λ o. P (option_map (named_range names) o)) (same_Some s (Some r) e) all.0
 each_named P names (s ∷ rs) all (suc k) r e = each_named P names rs all.1 k r e
@@ -38,21 +40,29 @@ module _ (c : Contents) (t : RangeLists) (ranges : AreRangesOf c t) (o : Owner) 
   abbrev pub IsUpTo : ℕ → ℕ → Boundary ℕ → Type 0
   IsUpTo x most b = Fits b × (eqb b.node x ≡ true → b.offset ≤ most)
 
-  up_to : (x most : ℕ) → (name_at c.names x).owner ≡ o → EachRange (BothEnds (λ b. eqb b.node x ≡ true → b.offset ≤ most)) (ranges_of t o) → (q : Owner) → EachRange (BothEnds (IsUpTo x most)) (ranges_of t q)
+  up_to : (x most : ℕ) → (name_at c.names x).owner ≡ o → EachRange (BothEnds (λ b. eqb b.node x ≡ true → b.offset ≤ most)) (ranges_of t o) →
+      (q : Owner) → EachRange (BothEnds (IsUpTo x most)) (ranges_of t q)
   up_to x most own within q = elim (cases_Bool (owner_eq q o)) [
     | inl e ↦
         let same = owner_eq-true q o e in
         EachRange-weaker (λ b. IsOwnPoint c.names q b × (eqb b.node x ≡ true → b.offset ≤ most)) (IsUpTo x most) (λ b h. (h.0.fits, h.1)) (ranges_of t q)
-        (each_both (IsOwnPoint c.names q) (λ b. eqb b.node x ≡ true → b.offset ≤ most) (ranges_of t q) (ranges.own q) (subst (λ p. EachRange (BothEnds (λ b. eqb b.node x ≡ true → b.offset ≤ most)) (ranges_of t p)) (sym same) within))
+        (each_both (IsOwnPoint c.names q) (λ b. eqb b.node x ≡ true → b.offset ≤ most) (ranges_of t q) (ranges.own q)
+        (subst (λ p. EachRange (BothEnds (λ b. eqb b.node x ≡ true → b.offset ≤ most)) (ranges_of t p)) (sym same) within))
     | inr e ↦
         EachRange-weaker (IsOwnPoint c.names q) (IsUpTo x most)
-        (λ b h. (h.fits, λ at_x. absurd (owner_eq-false q o e (sym h.owner ∙ (ap (λ k. (name_at c.names k).owner) (eqb-true b.node x at_x) ∙ own))))) (ranges_of t q) (ranges.own q)
+        (λ b h. (
+          h.fits,
+          λ at_x. absurd (owner_eq-false q o e
+              (sym h.owner ∙ (ap (λ k. (name_at c.names k).owner) (eqb-true b.node x at_x) ∙ own))),
+        )) (ranges_of t q) (ranges.own q)
   ]
 
   -- the points at a node of the owner are not past its length
-  bounded : HasBounds (part_in c o) → (x : ℕ) → EachRange (BothEnds (λ b. eqb b.node x ≡ true → b.offset ≤ length_of (part_in c o).trees (name_at c.names x))) (ranges_of t o)
+  bounded : HasBounds (part_in c o) → (x : ℕ) →
+      EachRange (BothEnds (λ b. eqb b.node x ≡ true → b.offset ≤ length_of (part_in c o).trees (name_at c.names x))) (ranges_of t o)
   bounded bounds x k r e =
-      let all : AllByRecursion (EndsWithin (part_in c o).trees) (named_ranges c.names (ranges_of t o)) = subst (AllByRecursion (EndsWithin (part_in c o).trees)) (ranges.shown o) bounds.ranges in
+      let all : AllByRecursion (EndsWithin (part_in c o).trees) (named_ranges c.names (ranges_of t o)) =
+      subst (AllByRecursion (EndsWithin (part_in c o).trees)) (ranges.shown o) bounds.ranges in
       let both = each_named (EndsWithin (part_in c o).trees) c.names (ranges_of t o) all k r e in (
         λ at_x. subst (λ j. r.start.offset ≤ length_of (part_in c o).trees (name_at c.names j)) (eqb-true r.start.node x at_x) both.0,
         λ at_x. subst (λ j. r.end.offset ≤ length_of (part_in c o).trees (name_at c.names j)) (eqb-true r.end.node x at_x) both.1,
@@ -63,7 +73,8 @@ module _ (c : Contents) (t : RangeLists) (ranges : AreRangesOf c t) (o : Owner) 
   all_fit q = EachRange-weaker (IsOwnPoint c.names q) Fits (λ b h. h.fits) (ranges_of t q) (ranges.own q)
 
   -- room is made for children of a node
-  pub room_fits : HasBounds (part_in c o) → (parent index count : ℕ) → (name_at c.names parent).owner ≡ o → length_of (part_in c o).trees (name_at c.names parent) + count < 2 ^ 64
+  pub room_fits : HasBounds (part_in c o) → (parent index count : ℕ) → (name_at c.names parent).owner ≡ o →
+      length_of (part_in c o).trees (name_at c.names parent) + count < 2 ^ 64
       → (q : Owner) → EachRange (BothEnds (λ b. Fits (after_insert nat_eq parent index count b))) (ranges_of t q)
   room_fits bounds parent index count own less q =
       let most = length_of (part_in c o).trees (name_at c.names parent) in
@@ -73,45 +84,57 @@ module _ (c : Contents) (t : RangeLists) (ranges : AreRangesOf c t) (o : Owner) 
       (ranges_of t q) (up_to parent most own (bounded bounds parent) q)
 
   -- data give way to others: the new length is asked for
-  pub data_fits : HasBounds (part_in c o) → (x offset count size : ℕ) → (name_at c.names x).owner ≡ o → offset < 2 ^ 64 → length_of (part_in c o).trees (name_at c.names x) + size - count < 2 ^ 64
+  pub data_fits : HasBounds (part_in c o) → (x offset count size : ℕ) → (name_at c.names x).owner ≡ o → offset < 2 ^ 64 →
+      length_of (part_in c o).trees (name_at c.names x) + size - count < 2 ^ 64
       → (q : Owner) → EachRange (BothEnds (λ b. Fits (after_replace_data nat_eq x offset count size b))) (ranges_of t q)
   data_fits bounds x offset count size own before less q =
       let most = length_of (part_in c o).trees (name_at c.names x) in
-      EachRange-weaker (IsUpTo x most) (λ b. Fits (after_replace_data nat_eq x offset count size b)) (λ b h. moved b h) (ranges_of t q) (up_to x most own (bounded bounds x) q)
+      EachRange-weaker (IsUpTo x most) (λ b. Fits (after_replace_data nat_eq x offset count size b)) (λ b h. moved b h) (ranges_of t q)
+      (up_to x most own (bounded bounds x) q)
     where
       moved : (b : Boundary ℕ) → IsUpTo x (length_of (part_in c o).trees (name_at c.names x)) b → Fits (after_replace_data nat_eq x offset count size b)
       moved b h = elim (cases_Bool (eqb b.node x)) [
         | inl e ↦
             let within = h.1 e in
-            fits_if (not (eqb b.node x) || nat_le b.offset offset) b (cond (nat_le b.offset (offset + count)) (at x offset) (at x (b.offset + size - count))) (λ f. h.0)
+            fits_if (not (eqb b.node x) || nat_le b.offset offset) b
+            (cond (nat_le b.offset (offset + count)) (at x offset) (at x (b.offset + size - count))) (λ f. h.0)
             (fits_if (nat_le b.offset (offset + count)) (at x offset) (at x (b.offset + size - count)) (λ f. before) (omega (arith, within, less)))
         | inr e ↦ rw e h.0
       ]
 
   -- where no more come than give way, no bounds are asked for
-  pub data_fits_shorter : (x offset count size : ℕ) → offset < 2 ^ 64 → size ≤ count → (q : Owner) → EachRange (BothEnds (λ b. Fits (after_replace_data nat_eq x offset count size b))) (ranges_of t q)
+  pub data_fits_shorter : (x offset count size : ℕ) → offset < 2 ^ 64 → size ≤ count → (q : Owner) →
+      EachRange (BothEnds (λ b. Fits (after_replace_data nat_eq x offset count size b))) (ranges_of t q)
   data_fits_shorter x offset count size before less q =
       EachRange-weaker Fits (λ b. Fits (after_replace_data nat_eq x offset count size b))
-      (λ b h. fits_if (not (eqb b.node x) || nat_le b.offset offset) b (cond (nat_le b.offset (offset + count)) (at x offset) (at x (b.offset + size - count))) (λ e. h)
-      (fits_if (nat_le b.offset (offset + count)) (at x offset) (at x (b.offset + size - count)) (λ e. before) (let small : b.offset < 2 ^ 64 = h in omega (arith, small, less))))
+      (λ b h. fits_if (not (eqb b.node x) || nat_le b.offset offset) b
+      (cond (nat_le b.offset (offset + count)) (at x offset) (at x (b.offset + size - count))) (λ e. h)
+      (fits_if (nat_le b.offset (offset + count)) (at x offset) (at x (b.offset + size - count)) (λ e. before)
+      (let small : b.offset < 2 ^ 64 = h in omega (arith, small, less))))
       (ranges_of t q) (all_fit q)
 
   -- a Text was split
-  pub split_fits : (x offset new parent index : ℕ) → index + 2 < 2 ^ 64 → (q : Owner) → EachRange (BothEnds (λ b. Fits (after_split nat_eq x offset new parent index b))) (ranges_of t q)
-  split_fits x offset new parent index less q = EachRange-weaker Fits (λ b. Fits (after_split nat_eq x offset new parent index b)) (λ b h. fits-split x offset new parent index b less h) (ranges_of t q) (all_fit q)
+  pub split_fits : (x offset new parent index : ℕ) → index + 2 < 2 ^ 64 → (q : Owner) →
+      EachRange (BothEnds (λ b. Fits (after_split nat_eq x offset new parent index b))) (ranges_of t q)
+  split_fits x offset new parent index less q =
+      EachRange-weaker Fits (λ b. Fits (after_split nat_eq x offset new parent index b)) (λ b h. fits-split x offset new parent index b less h)
+      (ranges_of t q) (all_fit q)
 
   -- a Text has the data of the next one
-  pub join_fits : HasBounds (part_in c o) → (first size next parent index : ℕ) → (name_at c.names next).owner ≡ o → length_of (part_in c o).trees (name_at c.names next) + size < 2 ^ 64
+  pub join_fits : HasBounds (part_in c o) → (first size next parent index : ℕ) → (name_at c.names next).owner ≡ o →
+      length_of (part_in c o).trees (name_at c.names next) + size < 2 ^ 64
       → (q : Owner) → EachRange (BothEnds (λ b. Fits (after_join nat_eq first size next parent index b))) (ranges_of t q)
   join_fits bounds first size next parent index own less q =
       let most = length_of (part_in c o).trees (name_at c.names next) in
       EachRange-weaker (IsUpTo next most) (λ b. Fits (after_join nat_eq first size next parent index b))
-      (λ b h. fits_if (eqb b.node next) (at first (b.offset + size)) (cond (boundary_eq nat_eq b (at parent index)) (at first size) b) (λ e. let within = h.1 e in omega (arith, within, less))
+      (λ b h. fits_if (eqb b.node next) (at first (b.offset + size)) (cond (boundary_eq nat_eq b (at parent index)) (at first size) b)
+      (λ e. let within = h.1 e in omega (arith, within, less))
       (fits_if (boundary_eq nat_eq b (at parent index)) (at first size) b (λ e. let small : size < 2 ^ 64 = omega (arith, less) in small) h.0))
       (ranges_of t q) (up_to next most own (bounded bounds next) q)
 
   -- a node leaves its parent: no bounds are asked for
-  pub removal_fits : (inside : ℕ → Bool) (parent index : ℕ) → index < 2 ^ 64 → (q : Owner) → EachRange (BothEnds (λ b. Fits (after_removal nat_eq inside parent index b))) (ranges_of t q)
+  pub removal_fits : (inside : ℕ → Bool) (parent index : ℕ) → index < 2 ^ 64 → (q : Owner) →
+      EachRange (BothEnds (λ b. Fits (after_removal nat_eq inside parent index b))) (ranges_of t q)
   removal_fits inside parent index less q =
       EachRange-weaker Fits (λ b. Fits (after_removal nat_eq inside parent index b))
       (λ b h. fits_if (inside b.node) (at parent index) (cond (eqb b.node parent && nat_lt index b.offset) (at parent (b.offset - 1)) b) (λ e. less)

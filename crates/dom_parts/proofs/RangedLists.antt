@@ -30,31 +30,38 @@ pub own_at_nodes : (names : List NodeName) (t : RangeLists) → AreOwnRanges nam
 own_at_nodes names t own o = EachRange-weaker (IsOwnPoint names o) (IsAtNode names) (λ b h. h.node) (ranges_of t o) (own o)
 
 -- ranges whose ends a rule leaves are left
-unmoved : (names : List NodeName) (o q : Owner) → q ≢ o → (g : Boundary NodeName → Boundary NodeName) → IsRuleOf o g → (rs : RangeList) → EachRange (BothEnds (IsOwnPoint names q)) rs
+unmoved : (names : List NodeName) (o q : Owner) → q ≢ o → (g : Boundary NodeName → Boundary NodeName) → IsRuleOf o g → (rs : RangeList) →
+    EachRange (BothEnds (IsOwnPoint names q)) rs
     → named_ends_by g (named_ranges names rs) ≡ named_ranges names rs
 unmoved names o q other g of [] own = refl
 unmoved names o q other g of (None ∷ rs) own = ap (λ zs. None ∷ zs) (unmoved names o q other g of rs (λ k r e. own (suc k) r e))
 unmoved names o q other g of (Some r ∷ rs) own =
     let here = own 0 r refl in
-    let left : (b : Boundary ℕ) → IsOwnPoint names q b → g (named_boundary names b) ≡ named_boundary names b = λ b h. of.others (named_boundary names b) (λ e. other (sym h.owner ∙ e)) in
+    let left : (b : Boundary ℕ) → IsOwnPoint names q b → g (named_boundary names b) ≡ named_boundary names b =
+    λ b h. of.others (named_boundary names b) (λ e. other (sym h.owner ∙ e)) in
     cons_same (Some (map_ends g (named_range names r))) (Some (named_range names r)) (named_ends_by g (named_ranges names rs)) (named_ranges names rs)
-    (ap (λ b. Some (from_to b (g (named_boundary names r.end)))) (left r.start here.0) ∙ ap (λ b. Some (from_to (named_boundary names r.start) b)) (left r.end here.1))
+    (ap (λ b. Some (from_to b (g (named_boundary names r.end)))) (left r.start here.0) ∙ ap (λ b. Some (from_to (named_boundary names r.start) b))
+    (left r.end here.1))
     (unmoved names o q other g of rs (λ k s e. own (suc k) s e))
 
 -- rules that agree at an owner's points do the same to its ranges
-pub agreed : (names : List NodeName) (o : Owner) (g h : Boundary NodeName → Boundary NodeName) → ((b : Boundary NodeName) → b.node.owner ≡ o → g b ≡ h b) → (rs : RangeList) → EachRange (BothEnds (IsOwnPoint names o)) rs
+pub agreed : (names : List NodeName) (o : Owner) (g h : Boundary NodeName → Boundary NodeName) →
+    ((b : Boundary NodeName) → b.node.owner ≡ o → g b ≡ h b) → (rs : RangeList) → EachRange (BothEnds (IsOwnPoint names o)) rs
     → named_ends_by g (named_ranges names rs) ≡ named_ends_by h (named_ranges names rs)
 agreed names o g h same [] own = refl
 agreed names o g h same (None ∷ rs) own = ap (λ zs. None ∷ zs) (agreed names o g h same rs (λ k r e. own (suc k) r e))
 agreed names o g h same (Some r ∷ rs) own =
     let here = own 0 r refl in
-    cons_same (Some (map_ends g (named_range names r))) (Some (map_ends h (named_range names r))) (named_ends_by g (named_ranges names rs)) (named_ends_by h (named_ranges names rs))
-    (ap (λ b. Some (from_to b (g (named_boundary names r.end)))) (same (named_boundary names r.start) here.0.owner) ∙ ap (λ b. Some (from_to (h (named_boundary names r.start)) b)) (same (named_boundary names r.end) here.1.owner))
+    cons_same (Some (map_ends g (named_range names r))) (Some (map_ends h (named_range names r))) (named_ends_by g (named_ranges names rs))
+    (named_ends_by h (named_ranges names rs))
+    (ap (λ b. Some (from_to b (g (named_boundary names r.end)))) (same (named_boundary names r.start) here.0.owner) ∙
+    ap (λ b. Some (from_to (h (named_boundary names r.start)) b)) (same (named_boundary names r.end) here.1.owner))
     (agreed names o g h same rs (λ k s e. own (suc k) s e))
 
 -- ---- one boundary point
 
-module _ (names : List NodeName) (f : Boundary ℕ → Boundary ℕ) (g : Boundary NodeName → Boundary NodeName) (rule : IsNamedRule names f g) (keeps : KeepsNodes names f) where
+module _ (names : List NodeName) (f : Boundary ℕ → Boundary ℕ) (g : Boundary NodeName → Boundary NodeName) (rule : IsNamedRule names f g)
+    (keeps : KeepsNodes names f) where
   -- a list of one range, with both ends at a point
   abbrev alone : Boundary ℕ → RangeList
   alone b = Some (from_to b b) ∷ []
@@ -88,7 +95,8 @@ module _ (names : List NodeName) (f : Boundary ℕ → Boundary ℕ) (g : Bounda
 
 -- ---- the lists of all owners
 
-module _ (names : List NodeName) (o : Owner) (f : Boundary ℕ → Boundary ℕ) (g : Boundary NodeName → Boundary NodeName) (rule : IsNamedRule names f g) (keeps : KeepsNodes names f) (of : IsRuleOf o g)
+module _ (names : List NodeName) (o : Owner) (f : Boundary ℕ → Boundary ℕ) (g : Boundary NodeName → Boundary NodeName)
+    (rule : IsNamedRule names f g) (keeps : KeepsNodes names f) (of : IsRuleOf o g)
     (t u : RangeLists) (own : AreOwnRanges names t) (moved : (q : Owner) → ranges_of u q ≡ ends_by f (ranges_of t q)) where
   -- the owner's ranges are rewritten
   pub named_own : named_ranges names (ranges_of u o) ≡ named_ends_by g (named_ranges names (ranges_of t o))
@@ -96,7 +104,8 @@ module _ (names : List NodeName) (o : Owner) (f : Boundary ℕ → Boundary ℕ)
 
   -- the others' stay
   pub named_others : (q : Owner) → q ≢ o → named_ranges names (ranges_of u q) ≡ named_ranges names (ranges_of t q)
-  named_others q other = ap (named_ranges names) (moved q) ∙ (rule (ranges_of t q) (own_at_nodes names t own q) ∙ unmoved names o q other g of (ranges_of t q) (own q))
+  named_others q other = ap (named_ranges names) (moved q) ∙
+      (rule (ranges_of t q) (own_at_nodes names t own q) ∙ unmoved names o q other g of (ranges_of t q) (own q))
 
   -- all ends stay at nodes of their owners
   pub own_moved : ((q : Owner) → EachRange (BothEnds (λ b. Fits (f b))) (ranges_of t q)) → AreOwnRanges names u

@@ -32,22 +32,26 @@ in_more o c (q ∷ os) (inl e) = inl e
 in_more o c (q ∷ os) (inr h) = inr (in_more o c os h)
 
 -- a component is attached
-pub ranges_attached : (a b : Contents) (t : RangeLists) (c : Owner) (x : NodeName) (d : Option NodeName) → is_there (world_of a) c ≡ false → IsAttached a b c x d → AreRangesOf a t → AreRangesOf b t
+pub ranges_attached : (a b : Contents) (t : RangeLists) (c : Owner) (x : NodeName) (d : Option NodeName) → is_there (world_of a) c ≡ false →
+    IsAttached a b c x d → AreRangesOf a t → AreRangesOf b t
 ranges_attached a b t c x d off one held = record {
   shown = λ o. lists o ∙ (sym (named_grown a.names (shadow_root_of c) t held.own o) ∙ ap (λ ns. named_ranges ns (ranges_of t o)) (sym one.names));
   own = subst (λ ns. AreOwnRanges ns t) (sym one.names) (own_grown a.names (shadow_root_of c) t held.own);
   few = held.few;
-  absent = λ o gone. held.absent o (false_from_ne_true (is_there (world_of a) o) (λ there. true≢false (sym (in_there b o (subst (In o) (sym one.owners) (in_more o c a.owners (there_in a o there)))) ∙ gone)));
+  absent = λ o gone. held.absent o (false_from_ne_true (is_there (world_of a) o)
+      (λ there. true≢false (sym (in_there b o (subst (In o) (sym one.owners) (in_more o c a.owners (there_in a o there)))) ∙ gone)));
 }
   where
     lists : (o : Owner) → (b.tables o).ranges ≡ named_ranges a.names (ranges_of t o)
     lists o = elim (cases_Bool (owner_eq o Page)) [
-      | inl e ↦ let same = owner_eq-true o Page e in ap (λ p. (b.tables p).ranges) same ∙ (ap (λ (u : Tables). u.ranges) one.page ∙ (held.shown Page ∙ ap (λ p. named_ranges a.names (ranges_of t p)) (sym same)))
+      | inl e ↦ let same = owner_eq-true o Page e in ap (λ p. (b.tables p).ranges) same ∙
+          (ap (λ (u : Tables). u.ranges) one.page ∙ (held.shown Page ∙ ap (λ p. named_ranges a.names (ranges_of t p)) (sym same)))
       | inr e ↦ other e (cases_Bool (owner_eq o c))
     ]
       where
         other : owner_eq o Page ≡ false → (owner_eq o c ≡ true) ⊎ (owner_eq o c ≡ false) → (b.tables o).ranges ≡ named_ranges a.names (ranges_of t o)
         other e (inl f) =
             let same = owner_eq-true o c f in
-            ap (λ p. (b.tables p).ranges) same ∙ (ap (λ (u : Tables). u.ranges) one.new ∙ ap (named_ranges a.names) (sym (held.absent c off) ∙ ap (ranges_of t) (sym same)))
+            ap (λ p. (b.tables p).ranges) same ∙
+            (ap (λ (u : Tables). u.ranges) one.new ∙ ap (named_ranges a.names) (sym (held.absent c off) ∙ ap (ranges_of t) (sym same)))
         other e (inr f) = ap (λ (u : Tables). u.ranges) (one.rest o (owner_eq-false o Page e) (owner_eq-false o c f)) ∙ held.shown o

@@ -1,6 +1,7 @@
 -- Calls that pass a command on to the table of live ranges: what they ask, what holds after them, and that they do what the
 -- model says of the command.
-use Rattle.std.proofs.Common.{◌≡◌, ℕ, ◌<◌, ◌≤◌, ◌^◌, ◌⊎◌, inl, inr, Bool, true, false, true≢false, cond, List, [], ◌∷◌, ◌++◌, length, Option, Some, None, Result, Ok, Err, is_some, refl, sym, ap, subst, ◌∙◌}
+use Rattle.std.proofs.Common.{◌≡◌, ℕ, ◌<◌, ◌≤◌, ◌^◌, ◌⊎◌, inl, inr, Bool, true, false, true≢false, cond, List, [], ◌∷◌, ◌++◌, length, Option, Some}
+use Rattle.std.proofs.Common.{None, Result, Ok, Err, is_some, refl, sym, ap, subst, ◌∙◌}
 use Rattle.std.specs.Prelude.{⊤, not, ◌&&◌, if◌then◌else◌, IsSome, IfOk, IfErr, OnOk, OnErr, ◌↔◌, option_map, slice_set}
 use Rattle.std.proofs.lemmas.Bool.{cases_Bool, false_from_ne_true}
 use Rattle.dom_base.specs.declared.Fault.{Fault}
@@ -29,7 +30,8 @@ use Rattle.dom_parts.specs.Doc.{DocState, contents, world_from, state_from, IsHe
 use Rattle.dom_parts.specs.AllTables.{AllTables, with_live}
 use Rattle.dom_parts.specs.Ranging.{IsOwnPoint, AreRangesOf, ranged}
 use Rattle.dom_parts.proofs.Places.{single_owners}
-use Rattle.dom_parts.proofs.RangedCalls.{set_makes, set_ranges, make_effect, drop_effect, collapse_effect, points_effect, start_effect, end_effect, range_read, made_own, made_few, dropped_own, rewritten_own, written_few}
+use Rattle.dom_parts.proofs.RangedCalls.{set_makes, set_ranges, make_effect, drop_effect, collapse_effect, points_effect, start_effect, end_effect}
+use Rattle.dom_parts.proofs.RangedCalls.{range_read, made_own, made_few, dropped_own, rewritten_own, written_few}
 use Rattle.dom_parts.proofs.RangedRefusals.{limit_read, end_read}
 use Rattle.dom_parts.proofs.RangedStates.{held_live}
 use Rattle.dom_parts.proofs.Worlds.{part_at, part_off, there_same}
@@ -47,7 +49,8 @@ pub some_of : {X Y : Type 0} (g : X → Y) (m : Option X) → is_some (option_ma
 some_of g None = refl
 some_of g (Some x) = refl
 
-module _ (f : NamedTrees) {tables : AllTables} (held : IsHeld f.names f.trees tables) {d : DocState} (is_d : state_from f.names f.trees tables ≡ d) (o : Owner) where
+module _ (f : NamedTrees) {tables : AllTables} (held : IsHeld f.names f.trees tables) {d : DocState}
+    (is_d : state_from f.names f.trees tables ≡ d) (o : Owner) where
   abbrev c : Contents
   c = contents f.names f.trees tables
 
@@ -59,7 +62,8 @@ module _ (f : NamedTrees) {tables : AllTables} (held : IsHeld f.names f.trees ta
   range_is k =
       subst (λ (e : DocState). is_some (range_in own k) ≡ is_some (range_at (part_of e.world o) k)) is_d
       (elim (cases_Bool (is_there (world_from f.names f.trees tables) o)) [
-        | inl there ↦ sym (ap (λ p. is_some (range_at p k)) (part_at c o there) ∙ (ap is_some (range_read c tables.ranges held.ranges o k) ∙ some_of (named_range f.names) (range_in own k)))
+        | inl there ↦ sym (ap (λ p. is_some (range_at p k)) (part_at c o there) ∙
+            (ap is_some (range_read c tables.ranges held.ranges o k) ∙ some_of (named_range f.names) (range_in own k)))
         | inr off ↦ ap (λ rs. is_some (range_in rs k)) (held.ranges.absent o off) ∙ ap (λ p. is_some (range_at p k)) (sym (part_off c o off))
       ])
 
@@ -83,7 +87,8 @@ module _ (f : NamedTrees) {tables : AllTables} (held : IsHeld f.names f.trees ta
   module _ (there : is_there (world_from f.names f.trees tables) o ≡ true) (u : RangeLists) where
     -- the owner's ranges are others
     module _ (rs : RangeList) (set : (q : Owner) → ranges_of u q ≡ with_ranges tables.ranges o rs q) where
-      pub live_makes : (command : List NodeName → Command) (v : Value) → effect (part_in c o) (command f.names) ≡ Effect.tables (record (part_in c o) { ranges = named_ranges f.names rs }) [] v
+      pub live_makes : (command : List NodeName → Command) (v : Value) →
+          effect (part_in c o) (command f.names) ≡ Effect.tables (record (part_in c o) { ranges = named_ranges f.names rs }) [] v
           → Makes o (command d.names) v d.world (world_from f.names f.trees (with_live tables u))
       live_makes command v is =
           subst (λ (e : DocState). Makes o (command e.names) v e.world (world_from f.names f.trees (with_live tables u))) is_d
@@ -98,7 +103,8 @@ module _ (f : NamedTrees) {tables : AllTables} (held : IsHeld f.names f.trees ta
       abbrev one_more : RangeList
       one_more = own ++ Some (from_to (at node 0) (at node 0)) ∷ []
 
-      pub make_held : (r : Result ℕ Fault) → OnOk r ((q : Owner) → ranges_of u q ≡ with_ranges tables.ranges o one_more q) → ((r ≡ Err (Refused Limit)) ↔ (past_limit (length own) 1 ≡ true))
+      pub make_held : (r : Result ℕ Fault) → OnOk r ((q : Owner) → ranges_of u q ≡ with_ranges tables.ranges o one_more q) →
+          ((r ≡ Err (Refused Limit)) ↔ (past_limit (length own) 1 ≡ true))
           → OnErr r ((q : Owner) → ranges_of u q ≡ ranges_of tables.ranges q) → IsHeld f.names f.trees (with_live tables u)
       make_held (Ok n) set limit same =
           live_held one_more set (made_own c tables.ranges held.ranges o node at_node (ap (λ (x : NodeName). x.owner) first))
@@ -113,13 +119,16 @@ module _ (f : NamedTrees) {tables : AllTables} (held : IsHeld f.names f.trees ta
       make_makes (Err e) set number = tt
 
   -- where an owner has as many as it may
-  pub range_limit : is_there (world_from f.names f.trees tables) o ≡ true → {P : Type 0} → (P ↔ (past_limit (length own) 1 ≡ true)) → P ↔ (past_limit (length (part_of d.world o).ranges) 1 ≡ true)
+  pub range_limit : is_there (world_from f.names f.trees tables) o ≡ true → {P : Type 0} → (P ↔ (past_limit (length own) 1 ≡ true)) →
+      P ↔ (past_limit (length (part_of d.world o).ranges) 1 ≡ true)
   range_limit there {P} limit =
       subst (λ (e : DocState). P ↔ (past_limit (length (part_of e.world o).ranges) 1 ≡ true)) is_d
-      (subst (λ (p : Part). P ↔ (past_limit (length p.ranges) 1 ≡ true)) (sym (part_at c o there)) (subst (λ b. P ↔ (b ≡ true)) (limit_read c tables.ranges held.ranges o) limit))
+      (subst (λ (p : Part). P ↔ (past_limit (length p.ranges) 1 ≡ true)) (sym (part_at c o there))
+      (subst (λ b. P ↔ (b ≡ true)) (limit_read c tables.ranges held.ranges o) limit))
 
   -- where a call fails
-  pub same_if : (u : RangeLists) {T E : Type 0} (r : Result T E) → OnErr r ((q : Owner) → ranges_of u q ≡ ranges_of tables.ranges q) → OnErr r (state_from f.names f.trees (with_live tables u) ≡ d)
+  pub same_if : (u : RangeLists) {T E : Type 0} (r : Result T E) → OnErr r ((q : Owner) → ranges_of u q ≡ ranges_of tables.ranges q) →
+      OnErr r (state_from f.names f.trees (with_live tables u) ≡ d)
   same_if u (Ok x) same = tt
   same_if u (Err e) same = same_live u same
 
@@ -131,16 +140,19 @@ module _ (f : NamedTrees) {tables : AllTables} (held : IsHeld f.names f.trees ta
 
     module _ (u : RangeLists) where
       pub drop_held : ((q : Owner) → ranges_of u q ≡ with_ranges tables.ranges o (slice_set own k None) q) → IsHeld f.names f.trees (with_live tables u)
-      drop_held set = live_held there_now u (slice_set own k None) set (dropped_own c tables.ranges held.ranges o k) (written_few c tables.ranges held.ranges o k None)
+      drop_held set = live_held there_now u (slice_set own k None) set (dropped_own c tables.ranges held.ranges o k)
+          (written_few c tables.ranges held.ranges o k None)
 
-      pub drop_makes : ((q : Owner) → ranges_of u q ≡ with_ranges tables.ranges o (slice_set own k None) q) → Makes o (Command.range_drop k) nothing d.world (world_from f.names f.trees (with_live tables u))
+      pub drop_makes : ((q : Owner) → ranges_of u q ≡ with_ranges tables.ranges o (slice_set own k None) q) →
+          Makes o (Command.range_drop k) nothing d.world (world_from f.names f.trees (with_live tables u))
       drop_makes set = live_makes there_now u (slice_set own k None) set (λ ns. Command.range_drop k) nothing (drop_effect c tables.ranges held.ranges o k)
 
       -- both ends at one
       abbrev collapsed : Bool → RangeList
       collapsed to_start = slice_set own k (option_map (collapsed_range to_start) (range_in own k))
 
-      pub collapse_held : (to_start : Bool) → ((q : Owner) → ranges_of u q ≡ with_ranges tables.ranges o (collapsed to_start) q) → IsHeld f.names f.trees (with_live tables u)
+      pub collapse_held : (to_start : Bool) → ((q : Owner) → ranges_of u q ≡ with_ranges tables.ranges o (collapsed to_start) q) →
+          IsHeld f.names f.trees (with_live tables u)
       collapse_held to_start set =
           live_held there_now u (collapsed to_start) set (rewritten_own c tables.ranges held.ranges o k (collapsed_range to_start) (λ r h. by to_start r h))
           (written_few c tables.ranges held.ranges o k (option_map (collapsed_range to_start) (range_in own k)))
@@ -149,14 +161,19 @@ module _ (f : NamedTrees) {tables : AllTables} (held : IsHeld f.names f.trees ta
           by true r h = (h.0, h.0)
           by false r h = (h.1, h.1)
 
-      pub collapse_makes : (to_start : Bool) → ((q : Owner) → ranges_of u q ≡ with_ranges tables.ranges o (collapsed to_start) q) → Makes o (Command.range_collapse k to_start) nothing d.world (world_from f.names f.trees (with_live tables u))
-      collapse_makes to_start set = live_makes there_now u (collapsed to_start) set (λ ns. Command.range_collapse k to_start) nothing (collapse_effect c tables.ranges held.ranges o k to_start)
+      pub collapse_makes : (to_start : Bool) → ((q : Owner) → ranges_of u q ≡ with_ranges tables.ranges o (collapsed to_start) q) →
+          Makes o (Command.range_collapse k to_start) nothing d.world (world_from f.names f.trees (with_live tables u))
+      collapse_makes to_start set = live_makes there_now u (collapsed to_start) set (λ ns. Command.range_collapse k to_start) nothing
+          (collapse_effect c tables.ranges held.ranges o k to_start)
 
     -- what is read
-    pub points_makes : (r : Range ℕ) → range_in own k ≡ Some r → Makes o (Command.range_get k) (boundaries (named_boundary d.names r.start) (named_boundary d.names r.end)) d.world d.world
+    pub points_makes : (r : Range ℕ) → range_in own k ≡ Some r →
+        Makes o (Command.range_get k) (boundaries (named_boundary d.names r.start) (named_boundary d.names r.end)) d.world d.world
     points_makes r is =
-        subst (λ (e : DocState). Makes o (Command.range_get k) (boundaries (named_boundary e.names r.start) (named_boundary e.names r.end)) e.world e.world) is_d
-        (set_makes c tables.ranges tables.ranges held.ranges o there_now own (λ q. sym (with_own q)) (single_owners (length tables.each)) (Command.range_get k) (boundaries (named_boundary f.names r.start) (named_boundary f.names r.end))
+        subst (λ (e : DocState). Makes o (Command.range_get k) (boundaries (named_boundary e.names r.start) (named_boundary e.names r.end))
+        e.world e.world) is_d
+        (set_makes c tables.ranges tables.ranges held.ranges o there_now own (λ q. sym (with_own q)) (single_owners (length tables.each))
+        (Command.range_get k) (boundaries (named_boundary f.names r.start) (named_boundary f.names r.end))
         (points_effect c tables.ranges held.ranges o k r is))
       where
         with_own : (q : Owner) → with_ranges tables.ranges o own q ≡ ranges_of tables.ranges q
@@ -179,7 +196,8 @@ module _ (f : NamedTrees) {tables : AllTables} (held : IsHeld f.names f.trees ta
 
     -- ---- an end is set
 
-    module _ (once : StandOnce f) (only : StandAlone f) (node offset : ℕ) (at_node : node < length d.names) (own_node : owner_in d node ≡ o) (small : offset < 2 ^ 64) (u : RangeLists) where
+    module _ (once : StandOnce f) (only : StandAlone f) (node offset : ℕ) (at_node : node < length d.names) (own_node : owner_in d node ≡ o)
+        (small : offset < 2 ^ 64) (u : RangeLists) where
       node_is : node < length f.names
       node_is = subst (λ (e : DocState). node < length e.names) (sym is_d) at_node
 
@@ -196,46 +214,58 @@ module _ (f : NamedTrees) {tables : AllTables} (held : IsHeld f.names f.trees ta
       ended = slice_set own k (option_map (end_set f (at node offset)) (range_in own k))
 
       -- one of two ranges at the owner's points
-      either : (b : Bool) (r s : Range ℕ) → BothEnds (IsOwnPoint f.names o) r → BothEnds (IsOwnPoint f.names o) s → BothEnds (IsOwnPoint f.names o) (if b then r else s)
+      either : (b : Bool) (r s : Range ℕ) → BothEnds (IsOwnPoint f.names o) r → BothEnds (IsOwnPoint f.names o) s →
+          BothEnds (IsOwnPoint f.names o) (if b then r else s)
       either true r s h g = h
       either false r s h g = g
 
-      pub start_held : (r : Result ⊤ Refusal) → OnOk r ((q : Owner) → ranges_of u q ≡ with_ranges tables.ranges o started q) → OnErr r ((q : Owner) → ranges_of u q ≡ ranges_of tables.ranges q) → IsHeld f.names f.trees (with_live tables u)
+      pub start_held : (r : Result ⊤ Refusal) → OnOk r ((q : Owner) → ranges_of u q ≡ with_ranges tables.ranges o started q) →
+          OnErr r ((q : Owner) → ranges_of u q ≡ ranges_of tables.ranges q) → IsHeld f.names f.trees (with_live tables u)
       start_held (Ok x) set same =
           live_held there_now u started set
-          (rewritten_own c tables.ranges held.ranges o k (start_set f (at node offset)) (λ r h. either (have_one_root f (at node offset) r.end && not (is_key_before f r.end (at node offset))) (from_to (at node offset) r.end) (from_to (at node offset) (at node offset)) (point, h.1) (point, point)))
+          (rewritten_own c tables.ranges held.ranges o k (start_set f (at node offset))
+          (λ r h. either (have_one_root f (at node offset) r.end && not (is_key_before f r.end (at node offset)))
+          (from_to (at node offset) r.end) (from_to (at node offset) (at node offset)) (point, h.1) (point, point)))
           (written_few c tables.ranges held.ranges o k (option_map (start_set f (at node offset)) (range_in own k)))
       start_held (Err e) set same = same_held u same
 
       pub start_makes : (r : Result ⊤ Refusal) → OnOk r ((q : Owner) → ranges_of u q ≡ with_ranges tables.ranges o started q)
-          → OnOk r (Makes o (Command.range_start k (Spelled.own (name_in d node).number) offset) nothing d.world (world_from f.names f.trees (with_live tables u)))
+          → OnOk r (Makes o (Command.range_start k (Spelled.own (name_in d node).number) offset) nothing d.world
+          (world_from f.names f.trees (with_live tables u)))
       start_makes (Ok x) set =
           live_makes there_now u started set (λ ns. Command.range_start k (Spelled.own (name_at ns node).number) offset) nothing
           (start_effect c tables.ranges held.ranges held.owned once only o node node_is node_own k offset)
       start_makes (Err e) set = tt
 
-      pub end_held : (r : Result ⊤ Refusal) → OnOk r ((q : Owner) → ranges_of u q ≡ with_ranges tables.ranges o ended q) → OnErr r ((q : Owner) → ranges_of u q ≡ ranges_of tables.ranges q) → IsHeld f.names f.trees (with_live tables u)
+      pub end_held : (r : Result ⊤ Refusal) → OnOk r ((q : Owner) → ranges_of u q ≡ with_ranges tables.ranges o ended q) →
+          OnErr r ((q : Owner) → ranges_of u q ≡ ranges_of tables.ranges q) → IsHeld f.names f.trees (with_live tables u)
       end_held (Ok x) set same =
           live_held there_now u ended set
-          (rewritten_own c tables.ranges held.ranges o k (end_set f (at node offset)) (λ r h. either (have_one_root f (at node offset) r.start && not (is_key_before f (at node offset) r.start)) (from_to r.start (at node offset)) (from_to (at node offset) (at node offset)) (h.0, point) (point, point)))
+          (rewritten_own c tables.ranges held.ranges o k (end_set f (at node offset))
+          (λ r h. either (have_one_root f (at node offset) r.start && not (is_key_before f (at node offset) r.start))
+          (from_to r.start (at node offset)) (from_to (at node offset) (at node offset)) (h.0, point) (point, point)))
           (written_few c tables.ranges held.ranges o k (option_map (end_set f (at node offset)) (range_in own k)))
       end_held (Err e) set same = same_held u same
 
       pub end_makes : (r : Result ⊤ Refusal) → OnOk r ((q : Owner) → ranges_of u q ≡ with_ranges tables.ranges o ended q)
-          → OnOk r (Makes o (Command.range_end k (Spelled.own (name_in d node).number) offset) nothing d.world (world_from f.names f.trees (with_live tables u)))
+          → OnOk r (Makes o (Command.range_end k (Spelled.own (name_in d node).number) offset) nothing d.world
+          (world_from f.names f.trees (with_live tables u)))
       end_makes (Ok x) set =
           live_makes there_now u ended set (λ ns. Command.range_end k (Spelled.own (name_at ns node).number) offset) nothing
           (end_effect c tables.ranges held.ranges held.owned once only o node node_is node_own k offset)
       end_makes (Err e) set = tt
 
       -- what it is refused for: the range is there
-      pub end_refused : {P : Type 0} → (P ↔ (IsSome (range_in own k) × (length_of f.trees (name_at f.names node) < offset))) → P ↔ (past_end (part_of d.world o) (name_in d node) offset ≡ true)
+      pub end_refused : {P : Type 0} → (P ↔ (IsSome (range_in own k) × (length_of f.trees (name_at f.names node) < offset))) →
+          P ↔ (past_end (part_of d.world o) (name_in d node) offset ≡ true)
       end_refused {P} refused =
           subst (λ (e : DocState). P ↔ (past_end (part_of e.world o) (name_in e node) offset ≡ true)) is_d
           (subst (λ p. P ↔ (past_end p (name_at f.names node) offset ≡ true)) (sym (part_at c o there_now))
-          (let both = end_read c tables.ranges held.ranges o held.owned node offset node_own in (λ p. both.0 (refused.0 p).1, λ e. refused.1 (range_is k ∙ known, both.1 e))))
+          (let both = end_read c tables.ranges held.ranges o held.owned node offset node_own in
+          (λ p. both.0 (refused.0 p).1, λ e. refused.1 (range_is k ∙ known, both.1 e))))
 
-      pub end_faults : (r : Result ⊤ Refusal) → ((r ≡ Err Unknown) ↔ (range_in own k ≡ None)) → IfErr r (λ e. (e ≡ Unknown) ⊎ (e ≡ IndexSize)) → IfErr r (λ e. e ≡ IndexSize)
+      pub end_faults : (r : Result ⊤ Refusal) → ((r ≡ Err Unknown) ↔ (range_in own k ≡ None)) → IfErr r (λ e. (e ≡ Unknown) ⊎ (e ≡ IndexSize)) →
+          IfErr r (λ e. e ≡ IndexSize)
       end_faults (Ok x) unknown other = tt
       end_faults (Err e) unknown (inl is) = absurd (true≢false (sym (range_is k ∙ known) ∙ ap is_some (unknown.0 (ap Err is))))
       end_faults (Err e) unknown (inr is) = is

@@ -26,9 +26,11 @@ module _ (c : Contents) (t : RangeLists) (ranges : AreRangesOf c t) (o : Owner) 
   limit_read = ap (λ n. past_limit n 1) (sym ranges_counted)
 
   -- an offset past a node's length
-  pub end_read : AreOwned c.trees → (x offset : ℕ) → (name_at c.names x).owner ≡ o → (length_of c.trees (name_at c.names x) < offset) ↔ (past_end (part_in c o) (name_at c.names x) offset ≡ true)
+  pub end_read : AreOwned c.trees → (x offset : ℕ) → (name_at c.names x).owner ≡ o →
+      (length_of c.trees (name_at c.names x) < offset) ↔ (past_end (part_in c o) (name_at c.names x) offset ≡ true)
   end_read owned x offset is =
-      let same : nat_lt (length_of c.trees (name_at c.names x)) offset ≡ past_end (part_in c o) (name_at c.names x) offset = ap (λ n. nat_lt n offset) (read_own c.trees owned o (name_at c.names x) is).size in (
+      let same : nat_lt (length_of c.trees (name_at c.names x)) offset ≡ past_end (part_in c o) (name_at c.names x) offset =
+      ap (λ n. nat_lt n offset) (read_own c.trees owned o (name_at c.names x) is).size in (
         λ less. sym same ∙ lt-ltb (length_of c.trees (name_at c.names x)) offset less,
         λ e. ltb-true (length_of c.trees (name_at c.names x)) offset (same ∙ e),
       )

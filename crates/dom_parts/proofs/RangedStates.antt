@@ -26,14 +26,16 @@ use Rattle.dom_ranges.proofs.Vacant.{ends-none}
 use Rattle.dom_traversal.proofs.Counts.{StandOnce, StandAlone}
 use Rattle.dom_tree.specs.Forest.{NamedTrees, name_at, count_of}
 use Rattle.dom_tree.specs.Owners.{IsOwnChange}
-use Rattle.dom_tree.proofs.OwnChanges.{changed_node}
+use Rattle.dom_tree.proofs.OwnPlacings.{changed_node}
 use Rattle.dom_slots.specs.Kept.{AreSlotsOf}
 use Rattle.dom_parts.specs.Contents.{part_in, part_with}
-use Rattle.dom_parts.specs.Doc.{DocState, named_trees, contents, state_from, world_from, IsHeld, name_in, owner_in, trees_in, stepped, planned, IsChild, IsOwnNode, MayCome}
+use Rattle.dom_parts.specs.Doc.{DocState, named_trees, contents, state_from, world_from, IsHeld, name_in, owner_in, trees_in, stepped, planned}
+use Rattle.dom_parts.specs.Doc.{IsChild, IsOwnNode, MayCome}
 use Rattle.dom_parts.specs.AllTables.{AllTables, with_live}
 use Rattle.dom_parts.specs.Ranging.{AreRangesOf}
 use Rattle.dom_parts.proofs.BoundedPlans.{length_few}
-use Rattle.dom_parts.proofs.Held.{are_hosts, held_changed, due_kept, TellApart}
+use Rattle.dom_parts.proofs.Held.{are_hosts, held_changed, due_kept}
+use Rattle.dom_parts.proofs.HeldNodes.{TellApart}
 use Rattle.dom_parts.proofs.OwnParts.{own_part}
 use Rattle.dom_parts.proofs.RangedFits.{room_fits, data_fits, data_fits_shorter, join_fits}
 use Rattle.dom_parts.proofs.RangedSteps.{data_ranged}
@@ -44,7 +46,8 @@ use Rattle.dom_parts.proofs.Worlds.{part_at, part_off, there_same}
 
 -- ---- what holds with other live ranges
 
-pub held_live : (names : List NodeName) (ts : Trees) (tables : AllTables) → IsHeld names ts tables → (live : RangeLists) → AreRangesOf (contents names ts (with_live tables live)) live → IsHeld names ts (with_live tables live)
+pub held_live : (names : List NodeName) (ts : Trees) (tables : AllTables) → IsHeld names ts tables → (live : RangeLists) →
+    AreRangesOf (contents names ts (with_live tables live)) live → IsHeld names ts (with_live tables live)
 held_live names ts tables held live stand = record {
   owned = held.owned;
   present = λ k k<. who (name_at names k).owner ∙ held.present k k<;
@@ -68,45 +71,57 @@ held_live names ts tables held live stand = record {
 module _ (f : NamedTrees) {tables : AllTables} (held : IsHeld f.names f.trees tables) {d : DocState} (is_d : state_from f.names f.trees tables ≡ d) where
   -- a step of a node's owner that changes live ranges alone
   pub live_done : (k : ℕ) (live : RangeLists) (s : List NodeName → Step)
-      → world_from f.names f.trees (with_live tables live) ≡ world_step (name_at f.names k).owner (world_from f.names f.trees tables) (s f.names) → state_from f.names f.trees (with_live tables live) ≡ stepped (owner_in d k) (s d.names) d
-  live_done k live s e = subst (λ (e : DocState). state_from f.names f.trees (with_live tables live) ≡ stepped (owner_in e k) (s e.names) e) is_d (ap (λ w. state_with f.names w) e)
+      → world_from f.names f.trees (with_live tables live) ≡ world_step (name_at f.names k).owner (world_from f.names f.trees tables)
+      (s f.names) → state_from f.names f.trees (with_live tables live) ≡ stepped (owner_in d k) (s d.names) d
+  live_done k live s e = subst (λ (e : DocState). state_from f.names f.trees (with_live tables live) ≡ stepped (owner_in e k) (s e.names) e) is_d
+      (ap (λ w. state_with f.names w) e)
 
   -- what is known of a node's owner's part
-  pub part_known : (P : Part → List NodeName → Type 0) (k : ℕ) → k < length d.names → P (part_of d.world (owner_in d k)) d.names → P (part_in (contents f.names f.trees tables) (name_at f.names k).owner) f.names
+  pub part_known : (P : Part → List NodeName → Type 0) (k : ℕ) → k < length d.names → P (part_of d.world (owner_in d k)) d.names →
+      P (part_in (contents f.names f.trees tables) (name_at f.names k).owner) f.names
   part_known P k k< h =
-      subst (λ p. P p f.names) (part_at (contents f.names f.trees tables) (name_at f.names k).owner (owner_there f held is_d k k<)) (known f held is_d (λ e. P (part_of e.world (owner_in e k)) e.names) h)
+      subst (λ p. P p f.names) (part_at (contents f.names f.trees tables) (name_at f.names k).owner (owner_there f held is_d k k<))
+      (known f held is_d (λ e. P (part_of e.world (owner_in e k)) e.names) h)
 
   -- ---- Texts that are joined
 
   pub join_asks : (first size next parent : ℕ) → first < length d.names → owner_in d next ≡ owner_in d first → HasBounds (part_of d.world (owner_in d first))
-      → size + length_of (trees_in d first) (name_in d next) ≤ length_of (trees_in d first) (name_in d first) → length_of (trees_in d first) (name_in d first) < 2 ^ 64
+      → size + length_of (trees_in d first) (name_in d next) ≤ length_of (trees_in d first) (name_in d first) →
+      length_of (trees_in d first) (name_in d first) < 2 ^ 64
       → (index : ℕ) (q : Owner) → EachRange (BothEnds (λ b. Fits (after_join nat_eq first size next parent index b))) (ranges_of tables.ranges q)
   join_asks first size next parent first< own bounds fits less index =
       let o = (name_at f.names first).owner in
       let small : size + length_of (trees_in d first) (name_in d next) < 2 ^ 64 = omega (arith, fits, less) in
-      let here : size + length_of (part_in (contents f.names f.trees tables) o).trees (name_at f.names next) < 2 ^ 64 = part_known (λ p ns. size + length_of p.trees (name_at ns next) < 2 ^ 64) first first< small in
-      join_fits (contents f.names f.trees tables) tables.ranges held.ranges o (part_known (λ p ns. HasBounds p) first first< bounds) first size next parent index
+      let here : size + length_of (part_in (contents f.names f.trees tables) o).trees (name_at f.names next) < 2 ^ 64 =
+      part_known (λ p ns. size + length_of p.trees (name_at ns next) < 2 ^ 64) first first< small in
+      join_fits (contents f.names f.trees tables) tables.ranges held.ranges o (part_known (λ p ns. HasBounds p) first first< bounds) first size
+      next parent index
       (known f held is_d (λ e. owner_in e next ≡ owner_in e first) own) (omega (arith, here))
 
   -- without live ranges nothing is carried
-  module _ (apart : TellApart f.names) (none : (o : Owner) (k : ℕ) → range_in (ranges_of tables.ranges o) k ≡ None) (first parent : ℕ) (first< : first < length d.names) (parent< : parent < length d.names)
+  module _ (apart : TellApart f.names) (none : (o : Owner) (k : ℕ) → range_in (ranges_of tables.ranges o) k ≡ None) (first parent : ℕ)
+      (first< : first < length d.names) (parent< : parent < length d.names)
       (own_parent : owner_in d parent ≡ owner_in d first) where
     joined : (ts : Trees) (size : ℕ) (ks : List ℕ) → AllByRecursion (λ k. (k < length f.names) × ((name_at f.names k).owner ≡ (name_at f.names first).owner)) ks
-        → world_from f.names f.trees tables ≡ world_after (name_at f.names first).owner (world_from f.names f.trees tables) (joins ts (name_at f.names first) (name_at f.names parent) size (map (name_at f.names) ks))
+        → world_from f.names f.trees tables ≡ world_after (name_at f.names first).owner (world_from f.names f.trees tables)
+        (joins ts (name_at f.names first) (name_at f.names parent) size (map (name_at f.names) ks))
     joined ts size [] nodes = refl
     joined ts size (k ∷ ks) nodes =
         let y = name_at f.names k in
         let o = (name_at f.names first).owner in
         joined ts (size + length_of ts y) ks nodes.1
         ∙ ap (λ w. world_after o w (joins ts (name_at f.names first) (name_at f.names parent) (size + length_of ts y) (map (name_at f.names) ks)))
-        (join_told (contents f.names f.trees tables) tables.slots.hosts (are_hosts f.names f.trees tables held) tables.ranges tables.ranges held.ranges apart o (owner_there f held is_d first first<) first size k parent (index_of ts y)
-        (known f held is_d (λ e. first < length e.names) first<) nodes.0.0 (known f held is_d (λ e. parent < length e.names) parent<) refl nodes.0.1 (known f held is_d (λ e. owner_in e parent ≡ owner_in e first) own_parent)
+        (join_told (contents f.names f.trees tables) tables.slots.hosts (are_hosts f.names f.trees tables held) tables.ranges tables.ranges
+        held.ranges apart o (owner_there f held is_d first first<) first size k parent (index_of ts y)
+        (known f held is_d (λ e. first < length e.names) first<) nodes.0.0 (known f held is_d (λ e. parent < length e.names) parent<) refl
+        nodes.0.1 (known f held is_d (λ e. owner_in e parent ≡ owner_in e first) own_parent)
         (λ q. sym (ends-none (after_join nat_eq first size k parent (index_of ts y)) (ranges_of tables.ranges q) (none q))))
 
     pub joins_vacant : (size : ℕ) (ks : List ℕ) → AllByRecursion (IsOwnNode d first) ks
         → d ≡ planned (owner_in d first) (steps_of (joins (trees_in d first) (name_in d first) (name_in d parent) size (map (name_in d) ks))) d
     joins_vacant size ks nodes =
-        subst (λ (e : DocState). e ≡ planned (owner_in e first) (steps_of (joins (trees_in d first) (name_in e first) (name_in e parent) size (map (name_in e) ks))) e) is_d
+        subst (λ (e : DocState). e ≡ planned (owner_in e first)
+        (steps_of (joins (trees_in d first) (name_in e first) (name_in e parent) size (map (name_in e) ks))) e) is_d
         (ap (λ w. state_with f.names w) (joined (trees_in d first) size ks (known f held is_d (λ e. AllByRecursion (IsOwnNode e first) ks) nodes)))
 
   module _ (once : StandOnce f) (only : StandAlone f) where
@@ -116,7 +131,8 @@ module _ (f : NamedTrees) {tables : AllTables} (held : IsHeld f.names f.trees ta
 
     -- ---- room for children of a node
 
-    module _ (parent child count : ℕ) (parent< : parent < length d.names) (is_child : IsChild d parent child) (bounds : HasBounds (part_of d.world (owner_in d parent))) (few : count ≤ 1000000) where
+    module _ (parent child count : ℕ) (parent< : parent < length d.names) (is_child : IsChild d parent child)
+        (bounds : HasBounds (part_of d.world (owner_in d parent))) (few : count ≤ 1000000) where
       abbrev o : Owner
       o = (name_at f.names parent).owner
 
@@ -150,7 +166,8 @@ module _ (f : NamedTrees) {tables : AllTables} (held : IsHeld f.names f.trees ta
 
     module _ (node offset count : ℕ) (new : DomString) (node< : node < length d.names) (may : MayCome (part_of d.world (owner_in d node)) (name_in d node) new)
         (there : count ≤ length (node_in (trees_in d node) (name_in d node)).text - offset) (before : offset < 2 ^ 64)
-        (after : length (replaced offset count new (node_in f.trees (name_at f.names node)).text) < 2 ^ 64) (same : (node_in f.trees (name_at f.names node)).text ≡ (node_in (trees_in d node) (name_in d node)).text) where
+        (after : length (replaced offset count new (node_in f.trees (name_at f.names node)).text) < 2 ^ 64)
+        (same : (node_in f.trees (name_at f.names node)).text ≡ (node_in (trees_in d node) (name_in d node)).text) where
       abbrev own : Owner
       own = (name_at f.names node).owner
 
@@ -170,19 +187,26 @@ module _ (f : NamedTrees) {tables : AllTables} (held : IsHeld f.names f.trees ta
       module _ (size : ℕ) (is_size : size ≡ length new) where
         pub data_asks : (q : Owner) → EachRange (BothEnds (λ b. Fits (after_replace_data nat_eq node offset count size b))) (ranges_of tables.ranges q)
         data_asks =
-            subst (λ n. (q : Owner) → EachRange (BothEnds (λ b. Fits (after_replace_data nat_eq node offset count n b))) (ranges_of tables.ranges q)) (sym is_size)
+            subst (λ n. (q : Owner) → EachRange (BothEnds (λ b. Fits (after_replace_data nat_eq node offset count n b)))
+            (ranges_of tables.ranges q)) (sym is_size)
             (by (let least : 0 ≤ length new = omega arith in eq-or-lt_of_le least))
           where
-            by : (0 ≡ length new) ⊎ (0 < length new) → (q : Owner) → EachRange (BothEnds (λ b. Fits (after_replace_data nat_eq node offset count (length new) b))) (ranges_of tables.ranges q)
-            by (inl none) = data_fits_shorter (contents f.names f.trees tables) tables.ranges held.ranges own node offset count (length new) before (omega (arith, none))
+            by : (0 ≡ length new) ⊎ (0 < length new) → (q : Owner) →
+                EachRange (BothEnds (λ b. Fits (after_replace_data nat_eq node offset count (length new) b))) (ranges_of tables.ranges q)
+            by (inl none) = data_fits_shorter (contents f.names f.trees tables) tables.ranges held.ranges own node offset count (length new)
+                before (omega (arith, none))
             by (inr some) =
                 let asked = part_known (λ p ns. MayCome p (name_at ns node) new) node node< may some in
                 let size : length_of part.trees (name_at f.names node) ≡ length (node_in part.trees (name_at f.names node)).text =
-                cond-true (has_data (kind_of part.trees (name_at f.names node))) (length (node_in part.trees (name_at f.names node)).text) (length (children_of part.trees (name_at f.names node))) asked.1 in
-                data_fits (contents f.names f.trees tables) tables.ranges held.ranges own asked.0 node offset count (length new) refl before (let here = text_here in omega (arith, size, here))
+                cond-true (has_data (kind_of part.trees (name_at f.names node))) (length (node_in part.trees (name_at f.names node)).text)
+                (length (children_of part.trees (name_at f.names node))) asked.1 in
+                data_fits (contents f.names f.trees tables) tables.ranges held.ranges own asked.0 node offset count (length new) refl before
+                (let here = text_here in omega (arith, size, here))
 
         -- the step
-        module _ (apart : TellApart f.names) (live : RangeLists) (moved : (q : Owner) → ranges_of live q ≡ ends_by (after_replace_data nat_eq node offset count size) (ranges_of tables.ranges q)) (g : NamedTrees) (names : g.names ≡ f.names)
+        module _ (apart : TellApart f.names) (live : RangeLists)
+            (moved : (q : Owner) → ranges_of live q ≡ ends_by (after_replace_data nat_eq node offset count size) (ranges_of tables.ranges q))
+            (g : NamedTrees) (names : g.names ≡ f.names)
             (trees : g.trees ≡ change_node (with_data_replaced offset count new) (name_at f.names node) f.trees) where
           abbrev h : Trees → Trees
           h = change_node (with_data_replaced offset count new) (name_at f.names node)
@@ -199,34 +223,42 @@ module _ (f : NamedTrees) {tables : AllTables} (held : IsHeld f.names f.trees ta
           stand : AreRangesOf (contents f.names (h f.trees) (with_live tables live)) live
           stand =
               let was = contents f.names f.trees tables in
-              (data_ranged was tables.ranges live held.ranges apart own (contents f.names (h f.trees) tables) refl node offset count new node_is refl moved_new record {
+              (data_ranged was tables.ranges live held.ranges apart own (contents f.names (h f.trees) tables) refl node offset count new node_is
+              refl moved_new record {
                 owners = refl;
                 signalled = refl;
                 tasks = refl;
                 own = ap (λ us. part_with own us (count_of own f.names) (was.tables own)) change.own;
                 others = λ q other. ap (λ us. part_with q us (count_of q f.names) (was.tables q)) (change.others q other);
-              }).1 (subst (λ n. (q : Owner) → EachRange (BothEnds (λ b. Fits (after_replace_data nat_eq node offset count n b))) (ranges_of tables.ranges q)) is_size data_asks)
+              }).1 (subst (λ n. (q : Owner) →
+              EachRange (BothEnds (λ b. Fits (after_replace_data nat_eq node offset count n b))) (ranges_of tables.ranges q)) is_size data_asks)
 
-          pub data_held : AreSlotsOf (named_trees f.names (change_node (with_data_replaced offset count new) (name_at f.names node) f.trees)) tables.slots → IsHeld g.names g.trees (with_live tables live)
+          pub data_held : AreSlotsOf (named_trees f.names (change_node (with_data_replaced offset count new) (name_at f.names node) f.trees))
+              tables.slots → IsHeld g.names g.trees (with_live tables live)
           data_held slots =
               subst (λ (ns : List NodeName). IsHeld ns g.trees (with_live tables live)) (sym names)
               (subst (λ (us : Trees). IsHeld f.names us (with_live tables live)) (sym trees)
               (held_live f.names (h f.trees) tables
-              (held_changed f.names f.trees tables held own (owner_there f held is_d node node<) h change (keeps_changed (with_data_replaced offset count new) (λ n. refl) (name_at f.names node) f.trees) slots) live stand))
+              (held_changed f.names f.trees tables held own (owner_there f held is_d node node<) h change
+              (keeps_changed (with_data_replaced offset count new) (λ n. refl) (name_at f.names node) f.trees) slots) live stand))
 
           pub data_state : state_from g.names g.trees (with_live tables live) ≡ stepped (owner_in d node) (replace_data (name_in d node) offset count new) d
           data_state =
-              subst (λ (e : DocState). state_from g.names g.trees (with_live tables live) ≡ stepped (owner_in e node) (replace_data (name_in e node) offset count new) e) is_d
+              subst (λ (e : DocState). state_from g.names g.trees (with_live tables live) ≡ stepped (owner_in e node)
+              (replace_data (name_in e node) offset count new) e) is_d
               (ap (λ ns. state_from ns g.trees (with_live tables live)) names
               ∙ (ap (λ us. state_from f.names us (with_live tables live)) trees
               ∙ ap (λ w. state_with f.names w)
-              (data_told (contents f.names f.trees tables) tables.slots.hosts (are_hosts f.names f.trees tables held) tables.ranges live held.ranges apart own (owner_there f held is_d node node<) node offset count new node_is refl moved_new change)))
+              (data_told (contents f.names f.trees tables) tables.slots.hosts (are_hosts f.names f.trees tables held) tables.ranges live
+              held.ranges apart own (owner_there f held is_d node node<) node offset count new node_is refl moved_new change)))
 
 -- each owner's part in the world, whoever is there
-pub part_everywhere : (f : NamedTrees) {tables : AllTables} → IsHeld f.names f.trees tables → StandOnce f → StandAlone f → (o : Owner) → IsPart (part_of (world_from f.names f.trees tables) o)
+pub part_everywhere : (f : NamedTrees) {tables : AllTables} → IsHeld f.names f.trees tables → StandOnce f → StandAlone f → (o : Owner) →
+    IsPart (part_of (world_from f.names f.trees tables) o)
 part_everywhere f {tables} held once only o =
     let c = contents f.names f.trees tables in
     elim (cases_Bool (is_there (world_from f.names f.trees tables) o)) [
       | inl there ↦ subst IsPart (sym (part_at c o there)) (own_part c held.owned once only held.numbered o)
-      | inr off ↦ subst IsPart (sym (part_off c o off)) record { unique = λ x. omega arith; owned = λ x there. absurd (omega arith); numbered = λ x there. absurd (omega arith) }
+      | inr off ↦ subst IsPart (sym (part_off c o off))
+          record { unique = λ x. omega arith; owned = λ x there. absurd (omega arith); numbered = λ x there. absurd (omega arith) }
     ]

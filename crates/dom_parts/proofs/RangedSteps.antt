@@ -31,7 +31,8 @@ use Rattle.dom_parts.proofs.Worlds.{IsChangeOf, there_same}
 
 -- ---- what a rule does to a change of an owner's part
 
-module _ (c : Contents) (t u : RangeLists) (ranges : AreRangesOf c t) (o : Owner) (f : Boundary ℕ → Boundary ℕ) (g : Boundary NodeName → Boundary NodeName) (rule : IsNamedRule c.names f g) (keeps : KeepsNodes c.names f)
+module _ (c : Contents) (t u : RangeLists) (ranges : AreRangesOf c t) (o : Owner) (f : Boundary ℕ → Boundary ℕ)
+    (g : Boundary NodeName → Boundary NodeName) (rule : IsNamedRule c.names f g) (keeps : KeepsNodes c.names f)
     (of : IsRuleOf o g) (moved : (q : Owner) → ranges_of u q ≡ ends_by f (ranges_of t q)) where
   -- the owner's ranges, and the others'
   pub own_ends : named_ranges c.names (ranges_of u o) ≡ named_ends_by g (c.tables o).ranges
@@ -51,7 +52,8 @@ module _ (c : Contents) (t u : RangeLists) (ranges : AreRangesOf c t) (o : Owner
           ∙ (ap (λ (q : Part). record q { ranges = named_ranges c.names (ranges_of u o) }) change.own ∙ ap (λ rs. record p { ranges = rs }) own_ends);
       others = λ q other.
           ap (λ ns. record (part_in b q) { ranges = named_ranges ns (ranges_of u q) }) names
-          ∙ (ap (λ (r : Part). record r { ranges = named_ranges c.names (ranges_of u q) }) (change.others q other) ∙ ap (λ rs. record (part_in c q) { ranges = rs }) (other_ends q other));
+          ∙ (ap (λ (r : Part). record r { ranges = named_ranges c.names (ranges_of u q) }) (change.others q other) ∙
+          ap (λ rs. record (part_in c q) { ranges = rs }) (other_ends q other));
     }
 
     -- the table is that of what is held then
@@ -75,8 +77,10 @@ module _ (c : Contents) (t u : RangeLists) (ranges : AreRangesOf c t) (apart : A
   Holds f b = ((q : Owner) → EachRange (BothEnds (λ p. Fits (f p))) (ranges_of t q)) → AreRangesOf (ranged u b) u
 
   -- room is made for children of a node
-  pub room_ranged : (parent index count : ℕ) → parent < length c.names → (name_at c.names parent).owner ≡ o → ((q : Owner) → ranges_of u q ≡ ends_by (after_insert nat_eq parent index count) (ranges_of t q))
-      → IsChangeOf c (ranged u c) o (part_step (part_in c o) (make_room (name_at c.names parent) index count)) × Holds (after_insert nat_eq parent index count) c
+  pub room_ranged : (parent index count : ℕ) → parent < length c.names → (name_at c.names parent).owner ≡ o →
+      ((q : Owner) → ranges_of u q ≡ ends_by (after_insert nat_eq parent index count) (ranges_of t q))
+      → IsChangeOf c (ranged u c) o (part_step (part_in c o) (make_room (name_at c.names parent) index count)) ×
+      Holds (after_insert nat_eq parent index count) c
   room_ranged parent index count node own moved =
       let law = insert-named c.names apart parent index count node in
       let of = insert_rule o (name_at c.names parent) index count own in
@@ -89,12 +93,14 @@ module _ (c : Contents) (t u : RangeLists) (ranges : AreRangesOf c t) (apart : A
   pub data_ranged : (b : Contents) → b.names ≡ c.names → (x offset count : ℕ) (new : DomString) → x < length c.names → (name_at c.names x).owner ≡ o
       → ((q : Owner) → ranges_of u q ≡ ends_by (after_replace_data nat_eq x offset count (length new)) (ranges_of t q))
       → IsChangeOf c b o (record (part_in c o) { trees = change_node (with_data_replaced offset count new) (name_at c.names x) (part_in c o).trees })
-      → IsChangeOf c (ranged u b) o (part_step (part_in c o) (replace_data (name_at c.names x) offset count new)) × Holds (after_replace_data nat_eq x offset count (length new)) b
+      → IsChangeOf c (ranged u b) o (part_step (part_in c o) (replace_data (name_at c.names x) offset count new)) ×
+      Holds (after_replace_data nat_eq x offset count (length new)) b
   data_ranged b names x offset count new node own moved change =
       let law = replace_data-named c.names apart x offset count (length new) node in
       let of = replace_data_rule o (name_at c.names x) offset count (length new) own in
       let f = after_replace_data nat_eq x offset count (length new) in let g = after_replace_data name_eq (name_at c.names x) offset count (length new) in (
-        lifted c t u ranges o f g law.0 law.1 of moved b names (record (part_in c o) { trees = change_node (with_data_replaced offset count new) (name_at c.names x) (part_in c o).trees }) change,
+        lifted c t u ranges o f g law.0 law.1 of moved b names
+            (record (part_in c o) { trees = change_node (with_data_replaced offset count new) (name_at c.names x) (part_in c o).trees }) change,
         λ fits. lifted_ranges c t u ranges o f g law.0 law.1 of moved b names change.owners fits,
       )
 
@@ -102,11 +108,14 @@ module _ (c : Contents) (t u : RangeLists) (ranges : AreRangesOf c t) (apart : A
   pub split_ranged : (x offset new parent index : ℕ) → x < length c.names → new < length c.names → parent < length c.names
       → (name_at c.names x).owner ≡ o → (name_at c.names new).owner ≡ o → (name_at c.names parent).owner ≡ o
       → ((q : Owner) → ranges_of u q ≡ ends_by (after_split nat_eq x offset new parent index) (ranges_of t q))
-      → IsChangeOf c (ranged u c) o (part_step (part_in c o) (split_at (name_at c.names x) offset (name_at c.names new) (name_at c.names parent) index)) × Holds (after_split nat_eq x offset new parent index) c
+      → IsChangeOf c (ranged u c) o (part_step (part_in c o)
+      (split_at (name_at c.names x) offset (name_at c.names new) (name_at c.names parent) index)) ×
+      Holds (after_split nat_eq x offset new parent index) c
   split_ranged x offset new parent index node fresh above own own_new own_parent moved =
       let law = split-named c.names apart x offset new parent index node fresh above in
       let of = split_rule o (name_at c.names x) offset (name_at c.names new) (name_at c.names parent) index own own_new own_parent in
-      let f = after_split nat_eq x offset new parent index in let g = after_split name_eq (name_at c.names x) offset (name_at c.names new) (name_at c.names parent) index in (
+      let f = after_split nat_eq x offset new parent index in let g =
+      after_split name_eq (name_at c.names x) offset (name_at c.names new) (name_at c.names parent) index in (
         lifted c t u ranges o f g law.0 law.1 of moved c refl (part_in c o) (same_part c o),
         λ fits. lifted_ranges c t u ranges o f g law.0 law.1 of moved c refl refl fits,
       )
@@ -115,11 +124,14 @@ module _ (c : Contents) (t u : RangeLists) (ranges : AreRangesOf c t) (apart : A
   pub join_ranged : (first size next parent index : ℕ) → first < length c.names → next < length c.names → parent < length c.names
       → (name_at c.names first).owner ≡ o → (name_at c.names next).owner ≡ o → (name_at c.names parent).owner ≡ o
       → ((q : Owner) → ranges_of u q ≡ ends_by (after_join nat_eq first size next parent index) (ranges_of t q))
-      → IsChangeOf c (ranged u c) o (part_step (part_in c o) (join_at (name_at c.names first) size (name_at c.names next) (name_at c.names parent) index)) × Holds (after_join nat_eq first size next parent index) c
+      → IsChangeOf c (ranged u c) o (part_step (part_in c o)
+      (join_at (name_at c.names first) size (name_at c.names next) (name_at c.names parent) index)) ×
+      Holds (after_join nat_eq first size next parent index) c
   join_ranged first size next parent index node after above own own_next own_parent moved =
       let law = join-named c.names apart first size next parent index node after above in
       let of = join_rule o (name_at c.names first) size (name_at c.names next) (name_at c.names parent) index own own_next own_parent in
-      let f = after_join nat_eq first size next parent index in let g = after_join name_eq (name_at c.names first) size (name_at c.names next) (name_at c.names parent) index in (
+      let f = after_join nat_eq first size next parent index in let g =
+      after_join name_eq (name_at c.names first) size (name_at c.names next) (name_at c.names parent) index in (
         lifted c t u ranges o f g law.0 law.1 of moved c refl (part_in c o) (same_part c o),
         λ fits. lifted_ranges c t u ranges o f g law.0 law.1 of moved c refl refl fits,
       )
@@ -134,7 +146,8 @@ module _ (c : Contents) (t u : RangeLists) (ranges : AreRangesOf c t) (apart : A
     registrations = (part_in c o).registrations ++ transients_for name_eq x (inclusive_ancestors (part_in c o).trees parent) (part_in c o).registrations;
   }
 
-  module _ (owned : AreOwned c.trees) (b : Contents) (names : b.names ≡ c.names) (x parent : ℕ) (node : x < length c.names) (above : parent < length c.names) (own : (name_at c.names x).owner ≡ o)
+  module _ (owned : AreOwned c.trees) (b : Contents) (names : b.names ≡ c.names) (x parent : ℕ) (node : x < length c.names)
+      (above : parent < length c.names) (own : (name_at c.names x).owner ≡ o)
       (up : parent_of c.trees (name_at c.names x) ≡ Some (name_at c.names parent)) where
     -- the rule over keys
     abbrev pub removal_by_keys : Boundary ℕ → Boundary ℕ
@@ -146,31 +159,39 @@ module _ (c : Contents) (t u : RangeLists) (ranges : AreRangesOf c t) (apart : A
     -- the rule by all trees is at an owner's points that by its own trees
     same_rule : (p : Boundary NodeName) → p.node.owner ≡ o
         → after_removal name_eq (is_inclusive_ancestor c.trees (name_at c.names x)) (name_at c.names parent) (index_of c.trees (name_at c.names x)) p
-        ≡ after_removal name_eq (is_inclusive_ancestor (part_in c o).trees (name_at c.names x)) (name_at c.names parent) (index_of (part_in c o).trees (name_at c.names x)) p
+        ≡ after_removal name_eq (is_inclusive_ancestor (part_in c o).trees (name_at c.names x)) (name_at c.names parent)
+        (index_of (part_in c o).trees (name_at c.names x)) p
     same_rule p is =
         let parent_name = name_at c.names parent in
         let by_index : ℕ → Boundary NodeName = λ i. cond (name_eq p.node parent_name && nat_lt i p.offset) (at parent_name (p.offset - 1)) p in
         let index = index_of c.trees (name_at c.names x) in
         ap (λ path. cond (is_in name_eq (name_at c.names x) path) (at parent_name index) (by_index index)) (read_own c.trees owned o p.node is).path
-        ∙ ap (λ i. cond (is_inclusive_ancestor (part_in c o).trees (name_at c.names x) p.node) (at parent_name i) (by_index i)) (read_own c.trees owned o (name_at c.names x) own).index
+        ∙ ap (λ i. cond (is_inclusive_ancestor (part_in c o).trees (name_at c.names x) p.node) (at parent_name i) (by_index i))
+        (read_own c.trees owned o (name_at c.names x) own).index
 
-    pub removal_ranged : ((q : Owner) → ranges_of u q ≡ ends_by removal_by_keys (ranges_of t q)) → IsChangeOf c b o (left_part (name_at c.names x) (name_at c.names parent))
+    pub removal_ranged : ((q : Owner) → ranges_of u q ≡ ends_by removal_by_keys (ranges_of t q)) →
+        IsChangeOf c b o (left_part (name_at c.names x) (name_at c.names parent))
         → IsChangeOf c (ranged u b) o (part_step (part_in c o) (take_out (name_at c.names x))) × Holds removal_by_keys b
     removal_ranged moved change =
         let law = removal-named (named_trees c.names c.trees) apart x parent (index_of c.trees (name_at c.names x)) above in
         let of = removal_rule o c.trees owned (name_at c.names x) (name_at c.names parent) (index_of c.trees (name_at c.names x)) own own_parent in
-        let f = removal_by_keys in let g = after_removal name_eq (is_inclusive_ancestor c.trees (name_at c.names x)) (name_at c.names parent) (index_of c.trees (name_at c.names x)) in
-        let h = after_removal name_eq (is_inclusive_ancestor (part_in c o).trees (name_at c.names x)) (name_at c.names parent) (index_of (part_in c o).trees (name_at c.names x)) in
+        let f = removal_by_keys in let g =
+        after_removal name_eq (is_inclusive_ancestor c.trees (name_at c.names x)) (name_at c.names parent)
+        (index_of c.trees (name_at c.names x)) in
+        let h = after_removal name_eq (is_inclusive_ancestor (part_in c o).trees (name_at c.names x)) (name_at c.names parent)
+        (index_of (part_in c o).trees (name_at c.names x)) in
         let left = lifted c t u ranges o f g law.0 law.1 of moved b names (left_part (name_at c.names x) (name_at c.names parent)) change in
         let ends : named_ends_by g (c.tables o).ranges ≡ named_ends_by h (c.tables o).ranges =
-        ap (named_ends_by g) (ranges.shown o) ∙ (agreed c.names o g h same_rule (ranges_of t o) (ranges.own o) ∙ ap (named_ends_by h) (sym (ranges.shown o))) in (
+        ap (named_ends_by g) (ranges.shown o) ∙
+        (agreed c.names o g h same_rule (ranges_of t o) (ranges.own o) ∙ ap (named_ends_by h) (sym (ranges.shown o))) in (
           record {
             owners = left.owners;
             signalled = left.signalled;
             tasks = left.tasks;
             own = left.own
                 ∙ (ap (λ rs. record (left_part (name_at c.names x) (name_at c.names parent)) { ranges = rs }) ends
-                ∙ ap (λ p. option_map_or (leave (part_in c o) (name_at c.names x)) p (part_in c o)) (sym (sym (read_own c.trees owned o (name_at c.names x) own).parent ∙ up)));
+                ∙ ap (λ p. option_map_or (leave (part_in c o) (name_at c.names x)) p (part_in c o))
+                (sym (sym (read_own c.trees owned o (name_at c.names x) own).parent ∙ up)));
             others = left.others;
           },
           λ fits. lifted_ranges c t u ranges o f g law.0 law.1 of moved b names change.owners fits,

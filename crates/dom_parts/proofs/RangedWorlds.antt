@@ -20,17 +20,22 @@ use Rattle.dom_parts.specs.Ranging.{AreRangesOf, ranged}
 use Rattle.dom_parts.proofs.HostedSteps.{plain_step}
 use Rattle.dom_parts.proofs.RangedSteps.{room_ranged, data_ranged, split_ranged, join_ranged}
 
-module _ (c : Contents) (hosts : List ShadowHost) (held : AreHostsOf c hosts) (t u : RangeLists) (ranges : AreRangesOf c t) (apart : AreApart c.names) (o : Owner) (there : is_there (world_of c) o ≡ true) where
+module _ (c : Contents) (hosts : List ShadowHost) (held : AreHostsOf c hosts) (t u : RangeLists) (ranges : AreRangesOf c t)
+    (apart : AreApart c.names) (o : Owner) (there : is_there (world_of c) o ≡ true) where
   -- room is made for children of a node
-  pub room_told : (parent index count : ℕ) → parent < length c.names → (name_at c.names parent).owner ≡ o → ((q : Owner) → ranges_of u q ≡ ends_by (after_insert nat_eq parent index count) (ranges_of t q))
+  pub room_told : (parent index count : ℕ) → parent < length c.names → (name_at c.names parent).owner ≡ o →
+      ((q : Owner) → ranges_of u q ≡ ends_by (after_insert nat_eq parent index count) (ranges_of t q))
       → world_of (ranged u c) ≡ world_step o (world_of c) (make_room (name_at c.names parent) index count)
   room_told parent index count node own moved =
-      plain_step c hosts held o there (ranged u c) (make_room (name_at c.names parent) index count) tt (room_ranged c t u ranges apart o parent index count node own moved).0
+      plain_step c hosts held o there (ranged u c) (make_room (name_at c.names parent) index count) tt
+      (room_ranged c t u ranges apart o parent index count node own moved).0
 
   -- data give way to others
-  pub data_told : (x offset count : ℕ) (new : DomString) → x < length c.names → (name_at c.names x).owner ≡ o → ((q : Owner) → ranges_of u q ≡ ends_by (after_replace_data nat_eq x offset count (length new)) (ranges_of t q))
+  pub data_told : (x offset count : ℕ) (new : DomString) → x < length c.names → (name_at c.names x).owner ≡ o →
+      ((q : Owner) → ranges_of u q ≡ ends_by (after_replace_data nat_eq x offset count (length new)) (ranges_of t q))
       → IsOwnChange o (change_node (with_data_replaced offset count new) (name_at c.names x)) c.trees
-      → world_of (ranged u (record c { trees = change_node (with_data_replaced offset count new) (name_at c.names x) c.trees })) ≡ world_step o (world_of c) (replace_data (name_at c.names x) offset count new)
+      → world_of (ranged u (record c { trees = change_node (with_data_replaced offset count new) (name_at c.names x) c.trees })) ≡ world_step o
+      (world_of c) (replace_data (name_at c.names x) offset count new)
   data_told x offset count new node own moved change =
       let b = record c { trees = change_node (with_data_replaced offset count new) (name_at c.names x) c.trees } in
       plain_step c hosts held o there (ranged u b) (replace_data (name_at c.names x) offset count new) tt

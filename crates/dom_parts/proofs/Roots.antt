@@ -1,5 +1,6 @@
 -- Node documents set one tree after another.
-use Rattle.std.proofs.Common.{◌≡◌, ℕ, ◌<◌, ◌≤◌, true, ◌||◌, List, [], ◌∷◌, ◌++◌, All, map, fold, filter_map, length, Option, Some, None, option_map, refl, sym, ap, subst, ◌∙◌}
+use Rattle.std.proofs.Common.{◌≡◌, ℕ, ◌<◌, ◌≤◌, true, ◌||◌, List, [], ◌∷◌, ◌++◌, All, map, fold, filter_map, length, Option, Some, None, option_map}
+use Rattle.std.proofs.Common.{refl, sym, ap, subst, ◌∙◌}
 use Rattle.std.specs.List.{cons_option}
 use Rattle.std.specs.Option.{ForSome}
 use Rattle.std.proofs.lemmas.Bool.{cond-true}
@@ -14,7 +15,7 @@ use Rattle.dom_model.proofs.OwnerLaws.{name_eq-same}
 use Rattle.dom_slots.specs.Hosts.{ShadowHost, HostsAreNodes, root_of_host, root_named}
 use Rattle.dom_slots.proofs.Hosted.{AreDistinct, root-named, root-node}
 use Rattle.dom_tree.specs.Forest.{NamedTrees, name_at}
-use Rattle.dom_tree.proofs.OwnChanges.{changed_subtree}
+use Rattle.dom_tree.proofs.OwnPlacings.{changed_subtree}
 use Rattle.dom_slots.proofs.Recast.{keeps_if, slots-recast}
 use Rattle.dom_parts.specs.Contents.{Contents, world_of}
 use Rattle.dom_parts.specs.Doc.{DocState, named_trees, contents, world_from, state_from, IsHeld, name_in, owner_in, stepped}
@@ -40,17 +41,26 @@ module _ (names : List NodeName) (d : NodeName) (tables : AllTables) where
   one_held : (ts : Trees) → IsHeld names ts tables → (k : ℕ) → k < length names → IsHeld names (under_each d ts (name_at names k)) tables
   one_held ts held k within =
       let x = name_at names k in
-      held_changed names ts tables held x.owner (held.present k within) (change_subtree (with_document d) x) (changed_subtree ts held.owned x.owner (with_document d) x (λ n. refl) refl) (keeps_changed_below (with_document d) (λ n. refl) x ts)
-      (slots-recast (named_trees names ts) (named_trees names (change_subtree (with_document d) x ts)) tables.slots _ (keeps_if (λ n. is_in name_eq n.name (inclusive_descendants ts x)) (with_document d) record { name = λ n. refl; kind = λ n. refl; element = λ n. refl; attributes = λ n. refl }) refl refl held.signals.slots)
+      held_changed names ts tables held x.owner (held.present k within) (change_subtree (with_document d) x)
+      (changed_subtree ts held.owned x.owner (with_document d) x (λ n. refl) refl) (keeps_changed_below (with_document d) (λ n. refl) x ts)
+      (slots-recast (named_trees names ts) (named_trees names (change_subtree (with_document d) x ts)) tables.slots _
+      (keeps_if (λ n. is_in name_eq n.name (inclusive_descendants ts x)) (with_document d)
+      record { name = λ n. refl; kind = λ n. refl; element = λ n. refl; attributes = λ n. refl }) refl refl held.signals.slots)
 
-  each_held : (ks : List ℕ) (ts : Trees) → IsHeld names ts tables → All (λ k. k < length names) ks → IsHeld names (fold (under_each d) ts (map (name_at names) ks)) tables
+  each_held : (ks : List ℕ) (ts : Trees) → IsHeld names ts tables → All (λ k. k < length names) ks →
+      IsHeld names (fold (under_each d) ts (map (name_at names) ks)) tables
   each_held [] ts held all = held
-  each_held (k ∷ ks) ts held all = each_held ks (under_each d ts (name_at names k)) (one_held ts held k (All-head (λ j. j < length names) k ks all)) (All-tail (λ j. j < length names) k ks all)
+  each_held (k ∷ ks) ts held all = each_held ks (under_each d ts (name_at names k))
+      (one_held ts held k (All-head (λ j. j < length names) k ks all)) (All-tail (λ j. j < length names) k ks all)
 
 -- the documents of a tree, and of the shadow trees of the hosts in it
-module _ (f : NamedTrees) {tables : AllTables} (held : IsHeld f.names f.trees tables) {s : DocState} (is_s : state_from f.names f.trees tables ≡ s) (k doc : ℕ) (k< : k < length s.names) (roots : List ℕ)
-    (listed : map (name_at f.names) roots ≡ filter_map (root_named f.names tables.slots.hosts) (inclusive_descendants f.trees (name_at f.names k))) (nodes : All (λ j. j < length f.names) roots)
-    (g : NamedTrees) (names : g.names ≡ f.names) (trees : g.trees ≡ fold (under_each (name_at f.names doc)) (under_each (name_at f.names doc) f.trees (name_at f.names k)) (map (name_at f.names) roots)) where
+module _ (f : NamedTrees) {tables : AllTables} (held : IsHeld f.names f.trees tables) {s : DocState}
+    (is_s : state_from f.names f.trees tables ≡ s) (k doc : ℕ) (k< : k < length s.names) (roots : List ℕ)
+    (listed : map (name_at f.names) roots ≡ filter_map (root_named f.names tables.slots.hosts)
+    (inclusive_descendants f.trees (name_at f.names k))) (nodes : All (λ j. j < length f.names) roots)
+    (g : NamedTrees) (names : g.names ≡ f.names)
+    (trees : g.trees ≡ fold (under_each (name_at f.names doc)) (under_each (name_at f.names doc) f.trees (name_at f.names k))
+    (map (name_at f.names) roots)) where
   pub documents_are_held : IsHeld g.names g.trees tables
   documents_are_held =
       subst (λ (ns : List NodeName). IsHeld ns g.trees tables) (sym names)
@@ -63,7 +73,8 @@ module _ (f : NamedTrees) {tables : AllTables} (held : IsHeld f.names f.trees ta
       let x = name_at f.names k in
       let d = name_at f.names doc in
       let a = contents f.names f.trees tables in
-      step_done f held is_s k (λ ts. fold (under_each d) (under_each d ts x) (map (name_at f.names) roots)) g names trees (λ ns. set_document (name_at ns k) (name_at ns doc))
+      step_done f held is_s k (λ ts. fold (under_each d) (under_each d ts x) (map (name_at f.names) roots)) g names trees
+      (λ ns. set_document (name_at ns k) (name_at ns doc))
       (ap (λ xs. world_from f.names (fold (under_each d) (under_each d f.trees x) xs) tables) listed
       ∙ (ap world_of (sym (documents_trees d (document_in d a x) (roots_below a tables.slots.hosts x)))
       ∙ documents_world a tables.slots.hosts (are_hosts f.names f.trees tables held) x.owner (owner_there f held is_s k k<) x d refl))

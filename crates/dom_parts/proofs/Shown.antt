@@ -28,14 +28,16 @@ abbrev pub state_with : List NodeName → World → DocState
 state_with ns w = record { names = ns; world = w }
 
 -- the trees of a part
-pub own_in_part : (names : List NodeName) (ts : Trees) {tables : AllTables} → IsHeld names ts tables → (o : Owner) → trees_of_owner o ts ≡ (part_of (world_from names ts tables) o).trees
+pub own_in_part : (names : List NodeName) (ts : Trees) {tables : AllTables} → IsHeld names ts tables → (o : Owner) →
+    trees_of_owner o ts ≡ (part_of (world_from names ts tables) o).trees
 own_in_part names ts {tables} held o = elim (cases_Bool (is_there (world_from names ts tables) o)) [
   | inl there ↦ ap (λ (p : Part). p.trees) (sym (part_at (contents names ts tables) o there))
   | inr off ↦ held.absent o off ∙ ap (λ (p : Part). p.trees) (sym (part_off (contents names ts tables) o off))
 ]
 
 -- the owner of a name that is given by its key
-pub of_owner : (names : List NodeName) (o : Owner) (given : Option ℕ) → ForSome given (λ k. (name_at names k).owner ≡ o) → ForSome (option_map (name_at names) given) (λ x. x.owner ≡ o)
+pub of_owner : (names : List NodeName) (o : Owner) (given : Option ℕ) → ForSome given (λ k. (name_at names k).owner ≡ o) →
+    ForSome (option_map (name_at names) given) (λ x. x.owner ≡ o)
 of_owner names o None h x e = cc
 of_owner names o (Some k) h x e = let same : name_at names k ≡ x = cc in subst (λ (y : NodeName). y.owner ≡ o) same (h k refl)
 
@@ -43,7 +45,8 @@ module _ (f : NamedTrees) {tables : AllTables} (held : IsHeld f.names f.trees ta
   -- a read of one node
   pub shown : {R : Type 0} (read : Trees → NodeName → R) (value : List NodeName → R) (k : ℕ)
       → value f.names ≡ read f.trees (name_at f.names k)
-      → (IsReadOwn (name_at f.names k).owner f.trees (name_at f.names k) → read f.trees (name_at f.names k) ≡ read (trees_of_owner (name_at f.names k).owner f.trees) (name_at f.names k))
+      → (IsReadOwn (name_at f.names k).owner f.trees (name_at f.names k) →
+      read f.trees (name_at f.names k) ≡ read (trees_of_owner (name_at f.names k).owner f.trees) (name_at f.names k))
       → value d.names ≡ read (trees_in d k) (name_in d k)
   shown read value k e own =
       let x = name_at f.names k in
@@ -52,7 +55,8 @@ module _ (f : NamedTrees) {tables : AllTables} (held : IsHeld f.names f.trees ta
 
   -- the other way round: a read of the forest is that of the part
   pub read_there : {R : Type 0} (read : Trees → NodeName → R) (k : ℕ)
-      → (IsReadOwn (name_at f.names k).owner f.trees (name_at f.names k) → read f.trees (name_at f.names k) ≡ read (trees_of_owner (name_at f.names k).owner f.trees) (name_at f.names k))
+      → (IsReadOwn (name_at f.names k).owner f.trees (name_at f.names k) →
+      read f.trees (name_at f.names k) ≡ read (trees_of_owner (name_at f.names k).owner f.trees) (name_at f.names k))
       → read f.trees (name_at f.names k) ≡ read (trees_in (state_from f.names f.trees tables) k) (name_at f.names k)
   read_there read k own =
       let x = name_at f.names k in
@@ -68,19 +72,23 @@ module _ (f : NamedTrees) {tables : AllTables} (held : IsHeld f.names f.trees ta
 
   -- a change of a node's owner's trees: what holds after it, and that it is a step
   module _ (k : ℕ) (h : Trees → Trees) (g : NamedTrees) (names : g.names ≡ f.names) (trees : g.trees ≡ h f.trees) where
-    pub step_held : k < length d.names → IsOwnChange (name_at f.names k).owner h f.trees → KeepsAbove f.trees (h f.trees) → AreSlotsOf (named_trees f.names (h f.trees)) tables.slots → IsHeld g.names g.trees tables
+    pub step_held : k < length d.names → IsOwnChange (name_at f.names k).owner h f.trees → KeepsAbove f.trees (h f.trees) →
+        AreSlotsOf (named_trees f.names (h f.trees)) tables.slots → IsHeld g.names g.trees tables
     step_held k< change keeps slots =
         subst (λ (ns : List NodeName). IsHeld ns g.trees tables) (sym names)
-        (subst (λ (us : Trees). IsHeld f.names us tables) (sym trees) (held_changed f.names f.trees tables held (name_at f.names k).owner (owner_there k k<) h change keeps slots))
+        (subst (λ (us : Trees). IsHeld f.names us tables) (sym trees)
+        (held_changed f.names f.trees tables held (name_at f.names k).owner (owner_there k k<) h change keeps slots))
 
-    pub step_done : (s : List NodeName → Step) → world_from f.names (h f.trees) tables ≡ world_step (name_at f.names k).owner (world_from f.names f.trees tables) (s f.names)
+    pub step_done : (s : List NodeName → Step) →
+        world_from f.names (h f.trees) tables ≡ world_step (name_at f.names k).owner (world_from f.names f.trees tables) (s f.names)
         → state_from g.names g.trees tables ≡ stepped (owner_in d k) (s d.names) d
     step_done s e =
         subst (λ (e : DocState). state_from g.names g.trees tables ≡ stepped (owner_in e k) (s e.names) e) is_d
         (ap (λ ns. state_from ns g.trees tables) names ∙ ap (λ us. state_from f.names us tables) trees ∙ ap (λ w. state_with f.names w) e)
 
   -- the record of a change of an owner without registrations
-  pub untold : (k : ℕ) → k < length d.names → (tables.observers (name_at f.names k).owner).registrations ≡ [] → (c : Change NodeName) → d ≡ stepped (owner_in d k) (queue_record c) d
+  pub untold : (k : ℕ) → k < length d.names → (tables.observers (name_at f.names k).owner).registrations ≡ [] → (c : Change NodeName) →
+      d ≡ stepped (owner_in d k) (queue_record c) d
   untold k k< none c =
       subst (λ (e : DocState). e ≡ stepped (owner_in e k) (queue_record c) e) is_d
       (ap (λ w. state_with f.names w) (record_world f.names f.trees tables held (name_at f.names k).owner (owner_there k k<) none c))
@@ -88,7 +96,8 @@ module _ (f : NamedTrees) {tables : AllTables} (held : IsHeld f.names f.trees ta
   -- ---- tables
 
   -- the tables of an owner that is there, as they were read
-  pub table_at : (o : Owner) → is_there (world_from f.names f.trees tables) o ≡ true → (at : ℕ) (t : KeyedTables) → at ≡ place_of o → t ≡ get_or tables.each at t → table_of tables.each o ≡ Some t
+  pub table_at : (o : Owner) → is_there (world_from f.names f.trees tables) o ≡ true → (at : ℕ) (t : KeyedTables) → at ≡ place_of o →
+      t ≡ get_or tables.each at t → table_of tables.each o ≡ Some t
   table_at o there at t place read =
       let w = table_there f.names f.trees tables o there in
       table_placed tables.each o w.1
@@ -97,5 +106,6 @@ module _ (f : NamedTrees) {tables : AllTables} (held : IsHeld f.names f.trees ta
       ∙ ap Some (sym read)
 
   -- those of a node's owner
-  pub table_read : (k : ℕ) → k < length d.names → (at : ℕ) (t : KeyedTables) → at ≡ place_of (name_at f.names k).owner → t ≡ get_or tables.each at t → table_of tables.each (name_at f.names k).owner ≡ Some t
+  pub table_read : (k : ℕ) → k < length d.names → (at : ℕ) (t : KeyedTables) → at ≡ place_of (name_at f.names k).owner →
+      t ≡ get_or tables.each at t → table_of tables.each (name_at f.names k).owner ≡ Some t
   table_read k k< at t place read = table_at (name_at f.names k).owner (owner_there k k<) at t place read

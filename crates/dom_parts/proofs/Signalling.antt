@@ -20,7 +20,7 @@ use Rattle.dom_slots.specs.declared.step.Step.TheVariants.{Removal}
 use Rattle.dom_tree.specs.Forest.{NamedTrees, name_at}
 use Rattle.dom_tree.specs.Owners.{IsOwnChange}
 use Rattle.dom_tree.proofs.Owned.{read_own}
-use Rattle.dom_tree.proofs.OwnChanges.{taken}
+use Rattle.dom_tree.proofs.OwnPlacings.{taken}
 use Rattle.dom_model.specs.Ranges.{after_removal}
 use Rattle.dom_ranges.specs.Rules.{is_inside}
 use Rattle.dom_ranges.specs.Tables.{RangeLists, ends_by, ranges_of}
@@ -36,7 +36,8 @@ use Rattle.dom_parts.specs.AllTables.{AllTables, AreTablesOf, AreFirst, signals_
 use Rattle.dom_parts.specs.Ranging.{AreRangesOf, ranged}
 use Rattle.dom_parts.specs.Doc.{DocState, named_trees, own_tables, shown_tables, contents, world_from, state_from, IsHeld, IsDue, name_in, owner_in, stepped}
 use Rattle.dom_parts.proofs.BoundedPlans.{index_few}
-use Rattle.dom_parts.proofs.Held.{are_hosts, held_with, given_up}
+use Rattle.dom_parts.proofs.Held.{are_hosts, held_with}
+use Rattle.dom_parts.proofs.HeldNodes.{given_up}
 use Rattle.dom_parts.proofs.HostedSteps.{signalled_fields, removal_hosted}
 use Rattle.dom_parts.proofs.Keeping.{Stays, tables_kept}
 use Rattle.dom_parts.proofs.OwnParts.{own_part}
@@ -50,10 +51,12 @@ use Rattle.dom_tree_laws.proofs.Standing.{KeepsAbove}
 use Rattle.dom_parts.proofs.Steps.{left_own, left_speaks, left_off, left_part, left_change}
 use Rattle.dom_parts.proofs.Worlds.{IsChangeOf}
 
-module _ (f : NamedTrees) {tables : AllTables} (held : IsHeld f.names f.trees tables) {d : DocState} (is_d : state_from f.names f.trees tables ≡ d) (k : ℕ) (k< : k < length d.names)
+module _ (f : NamedTrees) {tables : AllTables} (held : IsHeld f.names f.trees tables) {d : DocState}
+    (is_d : state_from f.names f.trees tables ≡ d) (k : ℕ) (k< : k < length d.names)
     (each : List KeyedTables) (same : length each ≡ length tables.each) (h : Trees → Trees) (change : IsOwnChange (name_at f.names k).owner h f.trees)
     (own : (p : Owner) → ForSome (table_of each p) (AreTablesOf (named_trees f.names (h f.trees)) p))
-    (seen : Owner → TablesOf ℕ) (speaks : (p : Owner) → SpeaksOf (IsKey f.names) (seen p)) (unobserved : (p : Owner) → is_there (world_from f.names f.trees tables) p ≡ false → seen p ≡ no_observers)
+    (seen : Owner → TablesOf ℕ) (speaks : (p : Owner) → SpeaksOf (IsKey f.names) (seen p))
+    (unobserved : (p : Owner) → is_there (world_from f.names f.trees tables) p ≡ false → seen p ≡ no_observers)
     (live : RangeLists) (stand : AreRangesOf (contents f.names (h f.trees) (record tables { each = each; observers = seen; ranges = live })) live) where
   -- the tables then
   abbrev pub next : AllTables
@@ -63,7 +66,8 @@ module _ (f : NamedTrees) {tables : AllTables} (held : IsHeld f.names f.trees ta
   abbrev pub before_signals : Contents
   before_signals = record (contents f.names f.trees tables) { trees = h f.trees; tables = (contents f.names (h f.trees) next).tables }
 
-  module _ (m : NamedTrees) (names : m.names ≡ f.names) (trees : m.trees ≡ h f.trees) (s : Step) (left : Option ℕ) (after : SignalTables) (signals : HasSignalled f.names f.trees m.trees s left (signals_of tables) after) where
+  module _ (m : NamedTrees) (names : m.names ≡ f.names) (trees : m.trees ≡ h f.trees) (s : Step) (left : Option ℕ) (after : SignalTables)
+      (signals : HasSignalled f.names f.trees m.trees s left (signals_of tables) after) where
     here : HasSignalled f.names f.trees (h f.trees) s left (signals_of tables) after
     here = subst (λ us. HasSignalled f.names f.trees us s left (signals_of tables) after) trees signals
 
@@ -76,19 +80,29 @@ module _ (f : NamedTrees) {tables : AllTables} (held : IsHeld f.names f.trees ta
         let there : NodeName → Type 0 = λ s. is_there (world_from f.names f.trees tables) s.owner ≡ true in
         subst (AllByRecursion (IsDue (world_from f.names f.trees tables))) (sym here.tasks)
         (due_signalled (world_from f.names f.trees tables) signalled
-        (all_appended there (map (name_at f.names) tables.signalled) signalled (subst (AllByRecursion there) here.signalled (all_named there f.names held.present after.signalled here.held.nodes))).1
+        (all_appended there (map (name_at f.names) tables.signalled) signalled
+        (subst (AllByRecursion there) here.signalled (all_named there f.names held.present after.signalled here.held.nodes))).1
         tables.tasks held.due)
 
     pub signalled_held : IsHeld m.names m.trees (with_signals next after)
     signalled_held =
         subst (λ (ns : List NodeName). IsHeld ns m.trees (with_signals next after)) (sym names)
         (subst (λ (us : Trees). IsHeld f.names us (with_signals next after)) (sym trees)
-        (held_with f.names f.trees tables held (name_at f.names k).owner (owner_there f held is_d k k<) f.names (h f.trees) (with_signals next after) same here.hosts change.owned change.others held.present held.limited own held.made
+        (held_with f.names f.trees tables held (name_at f.names k).owner (owner_there f held is_d k k<) f.names (h f.trees)
+        (with_signals next after) same here.hosts change.owned change.others held.present held.limited own held.made
         record { free = here.held.free; slots = here.held.slots; nodes = here.held.nodes } speaks unobserved due_then
-        (ranges_stay (contents f.names (h f.trees) next) (contents f.names (h f.trees) (with_signals next after)) live stand refl refl (λ p. refl)) held.numbered))
+        (ranges_stay (contents f.names (h f.trees) next) (contents f.names (h f.trees) (with_signals next after)) live stand refl refl
+        (λ p. refl)) held.numbered))
 
     build : List Owner → List ShadowHost → List NodeName → List Task → Contents
-    build os hs xs ts = record { owners = os; names = f.names; trees = h f.trees; tables = λ o. shown_tables f.names hs o (own_tables next o) (seen o) (ranges_of live o); signalled = xs; tasks = ts }
+    build os hs xs ts = record {
+      owners = os;
+      names = f.names;
+      trees = h f.trees;
+      tables = λ o. shown_tables f.names hs o (own_tables next o) (seen o) (ranges_of live o);
+      signalled = xs;
+      tasks = ts;
+    }
 
     contents_now : contents f.names (h f.trees) (with_signals next after) ≡ signals_in before_signals signalled
     unfolding build
@@ -96,11 +110,14 @@ module _ (f : NamedTrees) {tables : AllTables} (held : IsHeld f.names f.trees ta
         ap (λ os. build os after.slots.hosts (map (name_at f.names) after.signalled) after.tasks) (ap owners_up_to same)
         ∙ (ap (λ (hs : List ShadowHost). build (owners_up_to (length tables.each)) hs (map (name_at f.names) after.signalled) after.tasks) here.hosts
         ∙ (ap (λ xs. build (owners_up_to (length tables.each)) tables.slots.hosts xs after.tasks) here.signalled
-        ∙ (ap (build (owners_up_to (length tables.each)) tables.slots.hosts (fold (append_once name_eq) (map (name_at f.names) tables.signalled) signalled)) here.tasks
+        ∙ (ap (build (owners_up_to (length tables.each)) tables.slots.hosts
+        (fold (append_once name_eq) (map (name_at f.names) tables.signalled) signalled)) here.tasks
         ∙ sym (signalled_fields before_signals signalled))))
 
     pub signalled_state : (t : List NodeName → ModelStep)
-        → world_of (signals_in before_signals (step_signals f.names (shadow_trees f.names f.trees tables.slots.hosts) (shadow_trees f.names (h f.trees) tables.slots.hosts) s left)) ≡ world_step (name_at f.names k).owner (world_from f.names f.trees tables) (t f.names)
+        → world_of (signals_in before_signals
+        (step_signals f.names (shadow_trees f.names f.trees tables.slots.hosts) (shadow_trees f.names (h f.trees) tables.slots.hosts) s left))
+        ≡ world_step (name_at f.names k).owner (world_from f.names f.trees tables) (t f.names)
         → state_from m.names m.trees (with_signals next after) ≡ stepped (owner_in d k) (t d.names) d
     signalled_state t e =
         subst (λ (e : DocState). state_from m.names m.trees (with_signals next after) ≡ stepped (owner_in e k) (t e.names) e) is_d
@@ -116,11 +133,14 @@ on_three (Ok x) a b c f = f a b c
 on_three (Err e) a b c f = tt
 
 module _ {T E : Type 0} (m g : NamedTrees) (mid last : AllTables) where
-  pub settled_held : (r : Result T E) → OnOk r (g ≡ m) → OnOk r (last ≡ mid) → OnErr r (g ≡ record { names = []; trees = none }) → OnErr r (AreFirst last) → OnOk r (IsHeld m.names m.trees mid) → IsHeld g.names g.trees last
-  settled_held (Ok x) forest tables empty first held = subst (λ (p : NamedTrees). IsHeld p.names p.trees last) (sym forest) (subst (IsHeld m.names m.trees) (sym tables) held)
+  pub settled_held : (r : Result T E) → OnOk r (g ≡ m) → OnOk r (last ≡ mid) → OnErr r (g ≡ record { names = []; trees = none }) →
+      OnErr r (AreFirst last) → OnOk r (IsHeld m.names m.trees mid) → IsHeld g.names g.trees last
+  settled_held (Ok x) forest tables empty first held =
+      subst (λ (p : NamedTrees). IsHeld p.names p.trees last) (sym forest) (subst (IsHeld m.names m.trees) (sym tables) held)
   settled_held (Err e) forest tables empty first held = given_up g last empty first
 
-  pub settled_state : (d : DocState) (r q : Result T E) → q ≡ r → OnOk r (g ≡ m) → OnOk r (last ≡ mid) → OnOk r (state_from m.names m.trees mid ≡ d) → OnOk q (state_from g.names g.trees last ≡ d)
+  pub settled_state : (d : DocState) (r q : Result T E) → q ≡ r → OnOk r (g ≡ m) → OnOk r (last ≡ mid) →
+      OnOk r (state_from m.names m.trees mid ≡ d) → OnOk q (state_from g.names g.trees last ≡ d)
   settled_state d r q same forest tables state = subst (λ p. OnOk p (state_from g.names g.trees last ≡ d)) (sym same) (by r forest tables state)
     where
       by : (p : Result T E) → OnOk p (g ≡ m) → OnOk p (last ≡ mid) → OnOk p (state_from m.names m.trees mid ≡ d) → OnOk p (state_from g.names g.trees last ≡ d)
@@ -137,9 +157,13 @@ pub record Settled {T E : Type 0} (m g : NamedTrees) (mid last : AllTables) (r q
 
 -- ---- steps that change one owner's trees alone
 
-module _ (f : NamedTrees) {tables : AllTables} (held : IsHeld f.names f.trees tables) {d : DocState} (is_d : state_from f.names f.trees tables ≡ d) (k : ℕ) (k< : k < length d.names)
-    (h : Trees → Trees) (change : IsOwnChange (name_at f.names k).owner h f.trees) (keeps : KeepsAbove f.trees (h f.trees)) (s : Step) (m g : NamedTrees) (after : SignalTables) (last : AllTables) {T E : Type 0} (r q : Result T E)
-    (names : OnOk r (m.names ≡ f.names)) (trees : OnOk r (m.trees ≡ h f.trees)) (signals : OnOk r (HasSignalled f.names f.trees m.trees s None (signals_of tables) after)) (settled : Settled m g (with_signals tables after) last r q) where
+module _ (f : NamedTrees) {tables : AllTables} (held : IsHeld f.names f.trees tables) {d : DocState}
+    (is_d : state_from f.names f.trees tables ≡ d) (k : ℕ) (k< : k < length d.names)
+    (h : Trees → Trees) (change : IsOwnChange (name_at f.names k).owner h f.trees) (keeps : KeepsAbove f.trees (h f.trees)) (s : Step)
+    (m g : NamedTrees) (after : SignalTables) (last : AllTables) {T E : Type 0} (r q : Result T E)
+    (names : OnOk r (m.names ≡ f.names)) (trees : OnOk r (m.trees ≡ h f.trees))
+    (signals : OnOk r (HasSignalled f.names f.trees m.trees s None (signals_of tables) after))
+    (settled : Settled m g (with_signals tables after) last r q) where
   pub own_kept : (p : Owner) → ForSome (table_of tables.each p) (AreTablesOf (named_trees f.names (h f.trees)) p)
   own_kept p t e = tables_kept f.names f.trees (h f.trees) keeps p t (held.own p t e)
 
@@ -149,24 +173,37 @@ module _ (f : NamedTrees) {tables : AllTables} (held : IsHeld f.names f.trees ta
   pub tree_held : IsHeld g.names g.trees last
   tree_held =
       settled_held m g (with_signals tables after) last r settled.forest settled.tables settled.empty settled.first
-      (on_three r names trees signals (λ ns us sig. signalled_held f held is_d k k< tables.each refl h change own_kept tables.observers held.speaks held.unobserved tables.ranges ranges_kept m ns us s None after sig))
+      (on_three r names trees signals (λ ns us sig. signalled_held f held is_d k k< tables.each refl h change own_kept tables.observers
+      held.speaks held.unobserved tables.ranges ranges_kept m ns us s None after sig))
 
   pub tree_state : (t : List NodeName → ModelStep)
-      → world_of (signals_in (before_signals f held is_d k k< tables.each refl h change own_kept tables.observers held.speaks held.unobserved tables.ranges ranges_kept) (step_signals f.names (shadow_trees f.names f.trees tables.slots.hosts) (shadow_trees f.names (h f.trees) tables.slots.hosts) s None)) ≡ world_step (name_at f.names k).owner (world_from f.names f.trees tables) (t f.names)
+      → world_of (signals_in (before_signals f held is_d k k< tables.each refl h change own_kept tables.observers held.speaks held.unobserved
+      tables.ranges ranges_kept) (step_signals f.names (shadow_trees f.names f.trees tables.slots.hosts)
+      (shadow_trees f.names (h f.trees) tables.slots.hosts) s None)) ≡ world_step (name_at f.names k).owner
+      (world_from f.names f.trees tables) (t f.names)
       → OnOk q (state_from g.names g.trees last ≡ stepped (owner_in d k) (t d.names) d)
   tree_state t e =
       settled_state m g (with_signals tables after) last (stepped (owner_in d k) (t d.names) d) r q settled.result settled.forest settled.tables
-      (on_three r names trees signals (λ ns us sig. signalled_state f held is_d k k< tables.each refl h change own_kept tables.observers held.speaks held.unobserved tables.ranges ranges_kept m ns us s None after sig t e))
+      (on_three r names trees signals (λ ns us sig. signalled_state f held is_d k k< tables.each refl h change own_kept tables.observers
+      held.speaks held.unobserved tables.ranges ranges_kept m ns us s None after sig t e))
 
 -- ---- a removal
 
-module _ (f : NamedTrees) {tables : AllTables} (held : IsHeld f.names f.trees tables) {d : DocState} (is_d : state_from f.names f.trees tables ≡ d) (k : ℕ) (k< : k < length d.names)
-    (stay : Stays f) (once : StandOnce f) (only : StandAlone f) (apart : TellApart f.names) (parent : ℕ) (at_parent : parent < length f.names) (is_parent : Some (name_at f.names parent) ≡ parent_of f.trees (name_at f.names k))
-    (t u : KeyedTables) (at : table_of tables.each (name_at f.names k).owner ≡ Some t) (iterators : AreLeft f k t.iterators u.iterators) (walkers : u.walkers ≡ t.walkers)
-    (seen : Owner → TablesOf ℕ) (is_seen : (q : Owner) → seen q ≡ (if owner_eq (name_at f.names k).owner q then keyed_left nat_eq k (path_keys f parent) (tables.observers (name_at f.names k).owner) else tables.observers q))
-    (live : RangeLists) (is_live : (q : Owner) → ranges_of live q ≡ ends_by (after_removal nat_eq (is_inside f k) parent (index_of f.trees (name_at f.names k))) (ranges_of tables.ranges q))
-    (place : ℕ) (is_place : place ≡ place_of (name_at f.names k).owner) (m g : NamedTrees) (after : SignalTables) (last : AllTables) {T E : Type 0} (r q : Result T E)
-    (names : OnOk r (m.names ≡ f.names)) (trees : OnOk r (m.trees ≡ taken_out (name_at f.names k) f.trees)) (left : OnOk r (HasLeft f.names f.trees m.trees k (signals_of tables) after))
+module _ (f : NamedTrees) {tables : AllTables} (held : IsHeld f.names f.trees tables) {d : DocState}
+    (is_d : state_from f.names f.trees tables ≡ d) (k : ℕ) (k< : k < length d.names)
+    (stay : Stays f) (once : StandOnce f) (only : StandAlone f) (apart : TellApart f.names) (parent : ℕ) (at_parent : parent < length f.names)
+    (is_parent : Some (name_at f.names parent) ≡ parent_of f.trees (name_at f.names k))
+    (t u : KeyedTables) (at : table_of tables.each (name_at f.names k).owner ≡ Some t) (iterators : AreLeft f k t.iterators u.iterators)
+    (walkers : u.walkers ≡ t.walkers)
+    (seen : Owner → TablesOf ℕ) (is_seen : (q : Owner) →
+    seen q ≡ (if owner_eq (name_at f.names k).owner q then keyed_left nat_eq k (path_keys f parent)
+    (tables.observers (name_at f.names k).owner) else tables.observers q))
+    (live : RangeLists) (is_live : (q : Owner) →
+    ranges_of live q ≡ ends_by (after_removal nat_eq (is_inside f k) parent (index_of f.trees (name_at f.names k))) (ranges_of tables.ranges q))
+    (place : ℕ) (is_place : place ≡ place_of (name_at f.names k).owner) (m g : NamedTrees) (after : SignalTables) (last : AllTables)
+    {T E : Type 0} (r q : Result T E)
+    (names : OnOk r (m.names ≡ f.names)) (trees : OnOk r (m.trees ≡ taken_out (name_at f.names k) f.trees))
+    (left : OnOk r (HasLeft f.names f.trees m.trees k (signals_of tables) after))
     (settled : Settled m g (with_signals (with_live (with_observers (with_table_at tables place u) seen) live) after) last r q) where
   o : Owner
   o = (name_at f.names k).owner
@@ -182,7 +219,8 @@ module _ (f : NamedTrees) {tables : AllTables} (held : IsHeld f.names f.trees ta
 
   own_left : (p : Owner) → ForSome (table_of (slice_set tables.each place u) p) (AreTablesOf (named_trees f.names (taken_out (name_at f.names k) f.trees)) p)
   own_left =
-      subst (λ n. (p : Owner) → ForSome (table_of (slice_set tables.each n u) p) (AreTablesOf (named_trees f.names (taken_out (name_at f.names k) f.trees)) p)) (sym is_place)
+      subst (λ n. (p : Owner) → ForSome (table_of (slice_set tables.each n u) p)
+      (AreTablesOf (named_trees f.names (taken_out (name_at f.names k) f.trees)) p)) (sym is_place)
       (left_own f held stay once only apart k node (name_at f.names k).owner refl parent at_parent is_parent t u at iterators walkers seen is_seen)
 
   speaks_then : (q : Owner) → SpeaksOf (IsKey f.names) (seen q)
@@ -193,13 +231,21 @@ module _ (f : NamedTrees) {tables : AllTables} (held : IsHeld f.names f.trees ta
 
   -- what is held then, before slots are signalled, with the live ranges as they were
   abbrev gone_contents : Contents
-  gone_contents = record (contents f.names f.trees tables) { trees = taken_out (name_at f.names k) f.trees; tables = (contents f.names (taken_out (name_at f.names k) f.trees) (with_observers (with_table_at tables place u) seen)).tables }
+  gone_contents = record (contents f.names f.trees tables) {
+    trees = taken_out (name_at f.names k) f.trees;
+    tables = (contents f.names (taken_out (name_at f.names k) f.trees) (with_observers (with_table_at tables place u) seen)).tables;
+  }
 
   changed : IsChangeOf (contents f.names f.trees tables) gone_contents (name_at f.names k).owner
       (left_part f held stay once only apart k node (name_at f.names k).owner refl parent at_parent is_parent t u at iterators walkers seen is_seen)
   changed =
-      subst (λ n. IsChangeOf (contents f.names f.trees tables) (record (contents f.names f.trees tables) { trees = taken_out (name_at f.names k) f.trees; tables = (contents f.names (taken_out (name_at f.names k) f.trees) (with_observers (with_table_at tables n u) seen)).tables })
-      (name_at f.names k).owner (left_part f held stay once only apart k node (name_at f.names k).owner refl parent at_parent is_parent t u at iterators walkers seen is_seen)) (sym is_place)
+      subst (λ n. IsChangeOf (contents f.names f.trees tables)
+      (record (contents f.names f.trees tables) {
+        trees = taken_out (name_at f.names k) f.trees;
+        tables = (contents f.names (taken_out (name_at f.names k) f.trees) (with_observers (with_table_at tables n u) seen)).tables;
+      })
+      (name_at f.names k).owner (left_part f held stay once only apart k node (name_at f.names k).owner refl parent at_parent is_parent t u at
+      iterators walkers seen is_seen)) (sym is_place)
       (left_change f held stay once only apart k node (name_at f.names k).owner refl parent at_parent is_parent t u at iterators walkers seen is_seen)
 
   -- the index at which the node stood is a number of the code's
@@ -207,29 +253,42 @@ module _ (f : NamedTrees) {tables : AllTables} (held : IsHeld f.names f.trees ta
   small =
       let x = name_at f.names k in
       let here = read_own f.trees held.owned x.owner x refl in
-      let below = index_few (part_in (contents f.names f.trees tables) x.owner) (own_part (contents f.names f.trees tables) held.owned once only held.numbered x.owner) x (name_at f.names parent) (sym here.parent ∙ sym is_parent) in
+      let below = index_few (part_in (contents f.names f.trees tables) x.owner)
+      (own_part (contents f.names f.trees tables) held.owned once only held.numbered x.owner) x (name_at f.names parent)
+      (sym here.parent ∙ sym is_parent) in
       let few = held.limited x.owner in
       let index = here.index in
       omega (arith, below, few, index)
 
   -- the live ranges have left the tree
-  live_then : AreRangesOf (contents f.names (taken_out (name_at f.names k) f.trees) (record tables { each = slice_set tables.each place u; observers = seen; ranges = live })) live
+  live_then : AreRangesOf (contents f.names (taken_out (name_at f.names k) f.trees)
+      (record tables { each = slice_set tables.each place u; observers = seen; ranges = live })) live
   live_then =
       let was = contents f.names f.trees tables in
-      ranges_stay (ranged live gone_contents) (contents f.names (taken_out (name_at f.names k) f.trees) (record tables { each = slice_set tables.each place u; observers = seen; ranges = live })) live
-      ((removal_ranged was tables.ranges live held.ranges apart (name_at f.names k).owner held.owned gone_contents refl k parent node at_parent refl (sym is_parent) is_live changed).1
+      ranges_stay (ranged live gone_contents)
+      (contents f.names (taken_out (name_at f.names k) f.trees)
+      (record tables { each = slice_set tables.each place u; observers = seen; ranges = live })) live
+      ((removal_ranged was tables.ranges live held.ranges apart (name_at f.names k).owner held.owned gone_contents refl k parent node at_parent
+      refl (sym is_parent) is_live changed).1
       (removal_fits was tables.ranges held.ranges (name_at f.names k).owner (is_inside f k) parent (index_of f.trees (name_at f.names k)) small))
       refl (ap owners_up_to same_length) (λ p. refl)
 
   pub removal_held : IsHeld g.names g.trees last
   removal_held =
-      settled_held m g (with_signals (with_live (with_observers (with_table_at tables place u) seen) live) after) last r settled.forest settled.tables settled.empty settled.first
-      (on_three r names trees left (λ ns us l. signalled_held f held is_d k k< (slice_set tables.each place u) same_length (taken_out (name_at f.names k)) gone own_left seen speaks_then off_then live live_then m ns us (Removal k) l.left after l.signals))
+      settled_held m g (with_signals (with_live (with_observers (with_table_at tables place u) seen) live) after) last r settled.forest
+      settled.tables settled.empty settled.first
+      (on_three r names trees left (λ ns us l. signalled_held f held is_d k k< (slice_set tables.each place u) same_length
+      (taken_out (name_at f.names k)) gone own_left seen speaks_then off_then live live_then m ns us (Removal k) l.left after l.signals))
 
   pub removal_state : OnOk q (state_from g.names g.trees last ≡ stepped (owner_in d k) (take_out (name_in d k)) d)
   removal_state =
-      settled_state m g (with_signals (with_live (with_observers (with_table_at tables place u) seen) live) after) last (stepped (owner_in d k) (take_out (name_in d k)) d) r q settled.result settled.forest settled.tables
-      (on_three r names trees left (λ ns us l. signalled_state f held is_d k k< (slice_set tables.each place u) same_length (taken_out (name_at f.names k)) gone own_left seen speaks_then off_then live live_then m ns us (Removal k) l.left after l.signals (λ xs. take_out (name_at xs k))
-      (removal_hosted (contents f.names f.trees tables) tables.slots.hosts (are_hosts f.names f.trees tables held) (name_at f.names k).owner (owner_there f held is_d k k<) (taken_out (name_at f.names k) f.trees)
+      settled_state m g (with_signals (with_live (with_observers (with_table_at tables place u) seen) live) after) last
+      (stepped (owner_in d k) (take_out (name_in d k)) d) r q settled.result settled.forest settled.tables
+      (on_three r names trees left (λ ns us l. signalled_state f held is_d k k< (slice_set tables.each place u) same_length
+      (taken_out (name_at f.names k)) gone own_left seen speaks_then off_then live live_then m ns us (Removal k) l.left after l.signals
+      (λ xs. take_out (name_at xs k))
+      (removal_hosted (contents f.names f.trees tables) tables.slots.hosts (are_hosts f.names f.trees tables held) (name_at f.names k).owner
+      (owner_there f held is_d k k<) (taken_out (name_at f.names k) f.trees)
       (ranged live gone_contents).tables gone.owned k l.left refl l.is_left
-      (removal_ranged (contents f.names f.trees tables) tables.ranges live held.ranges apart (name_at f.names k).owner held.owned gone_contents refl k parent node at_parent refl (sym is_parent) is_live changed).0)))
+      (removal_ranged (contents f.names f.trees tables) tables.ranges live held.ranges apart (name_at f.names k).owner held.owned gone_contents
+      refl k parent node at_parent refl (sym is_parent) is_live changed).0)))

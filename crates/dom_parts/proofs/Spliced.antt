@@ -1,5 +1,6 @@
 -- Data of one node changed, as a change of the nodes of its name.
-use Rattle.std.proofs.Common.{◌≡◌, ℕ, ◌+◌, ◌≤◌, inl, inr, Bool, true, false, cond, List, [], ◌∷◌, ◌++◌, Option, Some, refl, sym, ap, subst, ◌∙◌, arith, true≢false}
+use Rattle.std.proofs.Common.{◌≡◌, ℕ, ◌+◌, ◌≤◌, inl, inr, Bool, true, false, cond, List, [], ◌∷◌, ◌++◌, Option, Some, refl, sym, ap, subst, ◌∙◌}
+use Rattle.std.proofs.Common.{arith, true≢false}
 use Rattle.std.specs.Prelude.{count_by, find, unwrap_or}
 use Rattle.std.specs.List.{AllByRecursion}
 use Rattle.std.proofs.lemmas.Bool.{cases_Bool, cond-true, cond-false}
@@ -13,7 +14,8 @@ use Rattle.dom_model.specs.TreeChanges.{map_nodes, change_node, replaced, with_t
 abbrev HaveText : NodeName → DomString → List Node → Type 0
 HaveText x v ns = AllByRecursion (λ (n : Node). name_eq n.name x ≡ true → n.text ≡ v) ns
 
-count_cons : (x : NodeName) (n : Node) (ns : List Node) → count_by (λ m. name_eq m.name x) (n ∷ ns) ≡ cond {A = ℕ} (name_eq n.name x) 1 0 + count_by (λ m. name_eq m.name x) ns
+count_cons : (x : NodeName) (n : Node) (ns : List Node) →
+    count_by (λ m. name_eq m.name x) (n ∷ ns) ≡ cond {A = ℕ} (name_eq n.name x) 1 0 + count_by (λ m. name_eq m.name x) ns
 count_cons x n ns = sum_by-cons (λ (y : Node). cond (name_eq y.name x) 1 0) n ns
 
 count_here : (b : Bool) → b ≡ true → cond {A = ℕ} b 1 0 ≡ 1
@@ -26,16 +28,19 @@ no_text x v (n ∷ ns) e =
     (λ h. let one = count_here (name_eq n.name x) h in absurd (omega arith), no_text x v ns (omega arith))
 
 -- where the name stands once, these are the data that are read
-have_text : (x : NodeName) (d : Node) (ns : List Node) → count_by (λ n. name_eq n.name x) ns ≤ 1 → HaveText x (unwrap_or (find (λ (n : Node). name_eq n.name x) ns) d).text ns
+have_text : (x : NodeName) (d : Node) (ns : List Node) → count_by (λ n. name_eq n.name x) ns ≤ 1 →
+    HaveText x (unwrap_or (find (λ (n : Node). name_eq n.name x) ns) d).text ns
 have_text x d [] few = tt
 have_text x d (n ∷ ns) few =
     let m = count_cons x n ns in
     elim (cases_Bool (name_eq n.name x)) [
       | inl h ↦ let one = count_here (name_eq n.name x) h in
-          subst (λ (o : Option Node). HaveText x (unwrap_or o d).text (n ∷ ns)) (sym (cond-true (name_eq n.name x) (Some n) (find (λ (n : Node). name_eq n.name x) ns) h))
+          subst (λ (o : Option Node). HaveText x (unwrap_or o d).text (n ∷ ns))
+          (sym (cond-true (name_eq n.name x) (Some n) (find (λ (n : Node). name_eq n.name x) ns) h))
           (λ g. refl, no_text x n.text ns (omega arith))
       | inr h ↦
-          subst (λ (o : Option Node). HaveText x (unwrap_or o d).text (n ∷ ns)) (sym (cond-false (name_eq n.name x) (Some n) (find (λ (n : Node). name_eq n.name x) ns) h))
+          subst (λ (o : Option Node). HaveText x (unwrap_or o d).text (n ∷ ns))
+          (sym (cond-false (name_eq n.name x) (Some n) (find (λ (n : Node). name_eq n.name x) ns) h))
           (λ g. absurd (true≢false (sym g ∙ h)), have_text x d ns (omega arith))
     ]
 
@@ -51,16 +56,20 @@ mapped_same f g (tree n c r) h =
     rw (h.0, mapped_same f g c parts.0, mapped_same f g r parts.1) refl
 
 each_same : (x : NodeName) (offset count : ℕ) (new v : DomString) (ns : List Node) → HaveText x v ns
-    → AllByRecursion (λ (n : Node). cond (name_eq n.name x) (with_text (replaced offset count new v) n) n ≡ cond (name_eq n.name x) (with_data_replaced offset count new n) n) ns
+    → AllByRecursion (λ (n : Node). cond (name_eq n.name x) (with_text (replaced offset count new v) n) n ≡ cond (name_eq n.name x)
+    (with_data_replaced offset count new n) n) ns
 each_same x offset count new v [] h = tt
 each_same x offset count new v (n ∷ ns) h = (by (name_eq n.name x) refl, each_same x offset count new v ns h.1)
   where
-    by : (b : Bool) → name_eq n.name x ≡ b → cond (name_eq n.name x) (with_text (replaced offset count new v) n) n ≡ cond (name_eq n.name x) (with_data_replaced offset count new n) n
-    by true e = ap (λ b. cond b (with_text (replaced offset count new v) n) n) e ∙ ap (λ w. with_text (replaced offset count new w) n) (sym (h.0 e)) ∙ sym (ap (λ b. cond b (with_data_replaced offset count new n) n) e)
+    by : (b : Bool) → name_eq n.name x ≡ b →
+        cond (name_eq n.name x) (with_text (replaced offset count new v) n) n ≡ cond (name_eq n.name x) (with_data_replaced offset count new n) n
+    by true e = ap (λ b. cond b (with_text (replaced offset count new v) n) n) e ∙ ap (λ w. with_text (replaced offset count new w) n)
+        (sym (h.0 e)) ∙ sym (ap (λ b. cond b (with_data_replaced offset count new n) n) e)
     by false e = ap (λ b. cond b (with_text (replaced offset count new v) n) n) e ∙ sym (ap (λ b. cond b (with_data_replaced offset count new n) n) e)
 
 pub data_changed : (x : NodeName) (offset count : ℕ) (new : DomString) (ts : Trees) → count_by (λ n. name_eq n.name x) (nodes ts) ≤ 1
     → change_node (with_text (replaced offset count new (node_in ts x).text)) x ts ≡ change_node (with_data_replaced offset count new) x ts
 data_changed x offset count new ts few =
-    mapped_same (λ n. cond (name_eq n.name x) (with_text (replaced offset count new (node_in ts x).text) n) n) (λ n. cond (name_eq n.name x) (with_data_replaced offset count new n) n) ts
+    mapped_same (λ n. cond (name_eq n.name x) (with_text (replaced offset count new (node_in ts x).text) n) n)
+    (λ n. cond (name_eq n.name x) (with_data_replaced offset count new n) n) ts
     (each_same x offset count new (node_in ts x).text (nodes ts) (have_text x (no_node x) (nodes ts) few))

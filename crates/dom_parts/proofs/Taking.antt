@@ -17,11 +17,13 @@ mapped_filter : {X Y : Type 0} (f : X → Y) (p : Y → Bool) (xs : List X) → 
 mapped_filter f p [] = refl
 mapped_filter f p (x ∷ xs) = by (p (f x)) (mapped_filter f p xs)
   where
-    by : (b : Bool) → map f (filter (λ y. p (f y)) xs) ≡ filter p (map f xs) → map f (if b then x ∷ filter (λ y. p (f y)) xs else filter (λ y. p (f y)) xs) ≡ (if b then f x ∷ filter p (map f xs) else filter p (map f xs))
+    by : (b : Bool) → map f (filter (λ y. p (f y)) xs) ≡ filter p (map f xs) →
+        map f (if b then x ∷ filter (λ y. p (f y)) xs else filter (λ y. p (f y)) xs) ≡ (if b then f x ∷ filter p (map f xs) else filter p (map f xs))
     by true e = ap (λ ys. f x ∷ ys) e
     by false e = e
 
-module _ (f : NamedTrees) {tables : AllTables} (held : IsHeld f.names f.trees tables) {d : DocState} (is_d : state_from f.names f.trees tables ≡ d) (o : Owner) where
+module _ (f : NamedTrees) {tables : AllTables} (held : IsHeld f.names f.trees tables) {d : DocState}
+    (is_d : state_from f.names f.trees tables ≡ d) (o : Owner) where
   pub taken_names : map (name_in d) (filter (is_key_of f.names o) tables.signalled) ≡ filter (is_owned_by o) d.world.signalled
   taken_names =
       subst (λ (e : DocState). map (name_in e) (filter (is_key_of f.names o) tables.signalled) ≡ filter (is_owned_by o) e.world.signalled) is_d
@@ -46,12 +48,14 @@ module _ (f : NamedTrees) {tables : AllTables} (held : IsHeld f.names f.trees ta
       signals = record {
         free = held.signals.free;
         slots = held.signals.slots;
-        nodes = subst (All (λ k. k < length f.names)) (sym is) (All-filter (is_other_key f.names o) (λ k. k < length f.names) tables.signalled held.signals.nodes);
+        nodes = subst (All (λ k. k < length f.names)) (sym is)
+            (All-filter (is_other_key f.names o) (λ k. k < length f.names) tables.signalled held.signals.nodes);
       };
       speaks = held.speaks;
       unobserved = held.unobserved;
       due = due_kept (world_from f.names f.trees tables) (world_from f.names f.trees (record tables { signalled = rest })) (λ p on. on) tables.tasks held.due;
-      ranges = ranges_stay (contents f.names f.trees tables) (contents f.names f.trees (record tables { signalled = rest })) tables.ranges held.ranges refl refl (λ p. refl);
+      ranges = ranges_stay (contents f.names f.trees tables) (contents f.names f.trees (record tables { signalled = rest })) tables.ranges
+          held.ranges refl refl (λ p. refl);
       numbered = held.numbered;
     }
 

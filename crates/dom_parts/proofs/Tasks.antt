@@ -26,7 +26,8 @@ module _ (w : World) where
       by false = due_push ts (notify_task o) all there
 
   -- those of the owners of signalled slots
-  pub due_signalled : (slots : List NodeName) → AllByRecursion (λ (s : NodeName). is_there w s.owner ≡ true) slots → (ts : List Task) → AllByRecursion (IsDue w) ts
+  pub due_signalled : (slots : List NodeName) → AllByRecursion (λ (s : NodeName). is_there w s.owner ≡ true) slots → (ts : List Task) →
+      AllByRecursion (IsDue w) ts
       → AllByRecursion (IsDue w) (fold (λ (us : List Task) (s : NodeName). queued_notify s.owner us) ts slots)
   due_signalled [] there ts all = all
   due_signalled (s ∷ slots) there ts all = due_signalled slots there.1 (queued_notify s.owner ts) (due_notified s.owner there.0 ts all)
@@ -37,14 +38,16 @@ module _ (f : NamedTrees) {tables : AllTables} (held : IsHeld f.names f.trees ta
   tasks_are = ap (λ (e : DocState). e.world.tasks) is_d
 
   -- the state with others
-  pub queued : (tasks : List Task) (g : List Task → List Task) → tasks ≡ g tables.tasks → state_from f.names f.trees (with_queue tables tasks) ≡ with_tasks (g d.world.tasks) d
+  pub queued : (tasks : List Task) (g : List Task → List Task) → tasks ≡ g tables.tasks →
+      state_from f.names f.trees (with_queue tables tasks) ≡ with_tasks (g d.world.tasks) d
   queued tasks g is =
       subst (λ (e : DocState). state_from f.names f.trees (with_queue tables tasks) ≡ with_tasks (g e.world.tasks) e) is_d
       (ap (λ ts. state_from f.names f.trees (with_queue tables ts)) is)
 
   -- a call that may fail
   module _ {T E : Type 0} (tasks : List Task) where
-    pub pushed : (g : List Task → List Task) (r : Result T E) → OnOk r (tasks ≡ g tables.tasks) → OnOk r (state_from f.names f.trees (with_queue tables tasks) ≡ with_tasks (g d.world.tasks) d)
+    pub pushed : (g : List Task → List Task) (r : Result T E) → OnOk r (tasks ≡ g tables.tasks) →
+        OnOk r (state_from f.names f.trees (with_queue tables tasks) ≡ with_tasks (g d.world.tasks) d)
     pushed g (Ok x) is = queued tasks g is
     pushed g (Err e) is = tt
 
@@ -52,6 +55,10 @@ module _ (f : NamedTrees) {tables : AllTables} (held : IsHeld f.names f.trees ta
     pushed_none (Ok x) is = tt
     pushed_none (Err e) is = ap (λ ts. state_from f.names f.trees (with_queue tables ts)) is ∙ is_d
 
-    pub held_pushed : (t : Task) → IsDue (world_from f.names f.trees tables) t → (r : Result T E) → OnOk r (tasks ≡ tables.tasks ++ t ∷ []) → OnErr r (tasks ≡ tables.tasks) → IsHeld f.names f.trees (with_queue tables tasks)
-    held_pushed t due (Ok x) is same = held_tasks f.names f.trees tables held tasks (subst (AllByRecursion (IsDue (world_from f.names f.trees tables))) (sym is) (due_push (world_from f.names f.trees tables) tables.tasks t held.due due))
-    held_pushed t due (Err e) is same = held_tasks f.names f.trees tables held tasks (subst (AllByRecursion (IsDue (world_from f.names f.trees tables))) (sym same) held.due)
+    pub held_pushed : (t : Task) → IsDue (world_from f.names f.trees tables) t → (r : Result T E) → OnOk r (tasks ≡ tables.tasks ++ t ∷ []) →
+        OnErr r (tasks ≡ tables.tasks) → IsHeld f.names f.trees (with_queue tables tasks)
+    held_pushed t due (Ok x) is same = held_tasks f.names f.trees tables held tasks
+        (subst (AllByRecursion (IsDue (world_from f.names f.trees tables))) (sym is)
+        (due_push (world_from f.names f.trees tables) tables.tasks t held.due due))
+    held_pushed t due (Err e) is same = held_tasks f.names f.trees tables held tasks
+        (subst (AllByRecursion (IsDue (world_from f.names f.trees tables))) (sym same) held.due)

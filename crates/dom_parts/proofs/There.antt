@@ -16,7 +16,8 @@ use Rattle.dom_parts.proofs.Held.{table_there, there_table}
 use Rattle.dom_parts.proofs.Places.{table_placed}
 
 -- so who has tables is there, and no other one
-pub there_is : (names : List NodeName) (ts : Trees) (tables : AllTables) (o : Owner) → is_some (table_of tables.each o) ≡ is_there (world_from names ts tables) o
+pub there_is : (names : List NodeName) (ts : Trees) (tables : AllTables) (o : Owner) →
+    is_some (table_of tables.each o) ≡ is_there (world_from names ts tables) o
 there_is names ts tables o = by (table_of tables.each o) refl
   where
     by : (m : Option KeyedTables) → table_of tables.each o ≡ m → is_some (table_of tables.each o) ≡ is_there (world_from names ts tables) o
@@ -24,10 +25,12 @@ there_is names ts tables o = by (table_of tables.each o) refl
     by None e =
         ap is_some e ∙ sym (false_from_ne_true _ (λ there.
         let w = table_there names ts tables o there in
-        none-some (get_or tables.each (place_of o) no_keyed_tables) (sym e ∙ (table_placed tables.each o w.1 ∙ slice_get-get_or tables.each (place_of o) no_keyed_tables w.0))))
+        none-some (get_or tables.each (place_of o) no_keyed_tables)
+        (sym e ∙ (table_placed tables.each o w.1 ∙ slice_get-get_or tables.each (place_of o) no_keyed_tables w.0))))
 
 -- whether an owner has an iterator, or a walker, of a number
-module _ (f : NamedTrees) (tables : AllTables) {d : DocState} (is_d : state_from f.names f.trees tables ≡ d) (o : Owner) (k : ℕ) (m : Option KeyedTables) (at : m ≡ table_of tables.each o) where
+module _ (f : NamedTrees) (tables : AllTables) {d : DocState} (is_d : state_from f.names f.trees tables ≡ d) (o : Owner) (k : ℕ)
+    (m : Option KeyedTables) (at : m ≡ table_of tables.each o) where
   pub iterator_there : is_some (slice_get (unwrap_or m no_keyed_tables).iterators k) ≡ is_some (slice_get (part_of d.world o).iterators k)
   iterator_there =
       subst (λ (e : DocState). is_some (slice_get (unwrap_or m no_keyed_tables).iterators k) ≡ is_some (slice_get (part_of e.world o).iterators k)) is_d

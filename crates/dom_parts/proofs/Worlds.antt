@@ -1,6 +1,7 @@
 -- The world of what a `Doc` holds: who is there, what an owner's part is, and that a change of one owner's part is the
 -- world with that part written.
-use Rattle.std.proofs.Common.{◌≡◌, ◌≢◌, true, false, true≢false, List, [], ◌∷◌, ◌++◌, Option, Some, None, map, unwrap_or, ◌⊎◌, inl, inr, refl, sym, ap, subst, ◌∙◌}
+use Rattle.std.proofs.Common.{◌≡◌, ◌≢◌, true, false, true≢false, List, [], ◌∷◌, ◌++◌, Option, Some, None, map, unwrap_or, ◌⊎◌, inl, inr, refl, sym}
+use Rattle.std.proofs.Common.{ap, subst, ◌∙◌}
 use Rattle.std.specs.Prelude.{is_some}
 use Rattle.std.proofs.lemmas.Bool.{cases_Bool}
 use Rattle.dom_base.specs.declared.NodeName.{NodeName}
@@ -92,7 +93,8 @@ module _ (a b : Contents) (o : Owner) (p : Part) (own : part_in b o ≡ p) (othe
       here : q ≡ o → map (part_in b) (q ∷ os) ≡ put_part (map (part_in a) (q ∷ os)) p
       here e =
           let test : owner_eq q p.owner ≡ true = ap (λ r. owner_eq q r) (owner ∙ sym e) ∙ owner_eq-same q in
-          rw test (ap (λ r. part_in b r ∷ map (part_in b) os) e ∙ ap (λ r. r ∷ map (part_in b) os) own ∙ ap (λ rs. p ∷ rs) (rest_same os (subst (λ r. In r os → ⊥) e single.0)))
+          rw test (ap (λ r. part_in b r ∷ map (part_in b) os) e ∙ ap (λ r. r ∷ map (part_in b) os) own ∙
+          ap (λ rs. p ∷ rs) (rest_same os (subst (λ r. In r os → ⊥) e single.0)))
 
       beside : owner_eq q o ≡ false → map (part_in b) os ≡ put_part (map (part_in a) os) p → map (part_in b) (q ∷ os) ≡ put_part (map (part_in a) (q ∷ os)) p
       beside e rest =
@@ -103,7 +105,8 @@ abbrev world_with : List Part → List NodeName → List Task → World
 world_with ps ss ts = record { parts = ps; signalled = ss; tasks = ts; turn = None }
 
 -- then the world has that part written
-pub changed : (a b : Contents) (o : Owner) (p : Part) → Single a.owners → is_there (world_of a) o ≡ true → IsChangeOf a b o p → world_of b ≡ with_part (world_of a) p
+pub changed : (a b : Contents) (o : Owner) (p : Part) → Single a.owners → is_there (world_of a) o ≡ true → IsChangeOf a b o p →
+    world_of b ≡ with_part (world_of a) p
 changed a b o p single there change =
     ap (λ os. world_with (map (part_in b) os) b.signalled b.tasks) change.owners
     ∙ ap (λ ps. world_with ps b.signalled b.tasks) (put_in a b o p change.own change.others a.owners single (there_in a o there))

@@ -38,7 +38,8 @@ pub record AllTables : Type 0 where
 
 -- all of them
 abbrev pub tables_of : List KeyedTables → (Owner → TablesOf ℕ) → List Task → SlotsNow → List ℕ → RangeLists → AllTables
-tables_of each observers tasks slots signalled ranges = record { each = each; observers = observers; tasks = tasks; slots = slots; signalled = signalled; ranges = ranges }
+tables_of each observers tasks slots signalled ranges =
+    record { each = each; observers = observers; tasks = tasks; slots = slots; signalled = signalled; ranges = ranges }
 
 -- those with the tables at a place written
 abbrev pub with_table_at : AllTables → ℕ → KeyedTables → AllTables

@@ -1,5 +1,6 @@
 -- What a contract sees of a `Doc`: the names of its nodes by their keys, and what it holds of the world.
-use Rattle.std.specs.Prelude.{◌≡◌, ℕ, suc, ◌+◌, ◌<◌, ◌≤◌, nat_lt, true, false, not, ◌||◌, List, [], ◌∷◌, map, length, Vec, Option, Some, None, unwrap_or, if◌then◌else◌}
+use Rattle.std.specs.Prelude.{◌≡◌, ℕ, suc, ◌+◌, ◌<◌, ◌≤◌, nat_lt, true, false, not, ◌||◌, List, [], ◌∷◌, map, length, Vec, Option, Some, None}
+use Rattle.std.specs.Prelude.{unwrap_or, if◌then◌else◌}
 use Rattle.std.specs.List.{AllByRecursion}
 use Rattle.std.specs.Option.{ForSome}
 use Rattle.dom_base.specs.declared.Owner.{Owner}
@@ -11,14 +12,16 @@ use Rattle.dom_base.specs.declared.Refusal.{Refusal}
 use Rattle.dom_base.specs.declared.Refusal.TheVariants.{Hierarchy, NotSupported, IndexSize, Limit}
 use Rattle.dom_base.specs.declared.TheConstants.{MAX_COMPONENTS}
 use Rattle.dom_model.specs.Names.{DomString, name_eq, is_empty, is_in}
-use Rattle.dom_model.specs.Tree.{Trees, none, node_in, kind_of, is_document, has_data, children_of, parent_of, length_of, inclusive_ancestors, is_inclusive_ancestor}
+use Rattle.dom_model.specs.Tree.{Trees, none, node_in, kind_of, is_document, has_data, children_of, parent_of, length_of, inclusive_ancestors}
+use Rattle.dom_model.specs.Tree.{is_inclusive_ancestor}
 use Rattle.dom_model.specs.Part.{Part, next_name, queue_of}
 use Rattle.dom_model.specs.Steps.{Step, queue_record}
 use Rattle.dom_model.specs.World.{World, Task, micro_task, notify_task, part_of, with_part, is_there}
 use Rattle.dom_model.specs.Command.{Command}
 use Rattle.dom_model.specs.Effects.{Effect, effect}
 use Rattle.dom_model.specs.WorldSteps.{world_step, world_after}
-use Rattle.dom_model.specs.Changes.{Plan, Observing, observed, suppressed, ◌and_then◌, in_turn, doing, steps_of, telling, making_room, placing, removing, inserting}
+use Rattle.dom_model.specs.Changes.{Plan, Observing, observed, suppressed, ◌and_then◌, in_turn, doing, steps_of, telling, making_room, placing}
+use Rattle.dom_model.specs.Changes.{removing, inserting}
 use Rattle.dom_model.specs.TextChanges.{placing_tail, replacing_data}
 use Rattle.dom_model.specs.Validity.{first_refusal}
 use Rattle.dom_model.specs.CommandRefusals.{past_end, past_limit, may_be_host}
@@ -189,7 +192,8 @@ IsOwnNode d node k = (k < length d.names) × (owner_in d k ≡ owner_in d node)
 
 -- the nodes that x is not above keep their inclusive ancestors
 abbrev pub KeepsPaths : ℕ → NodeName → DocState → DocState → Type 0
-KeepsPaths parent x d e = (y : NodeName) → is_inclusive_ancestor (trees_in d parent) x y ≡ false → inclusive_ancestors (trees_in e parent) y ≡ inclusive_ancestors (trees_in d parent) y
+KeepsPaths parent x d e = (y : NodeName) → is_inclusive_ancestor (trees_in d parent) x y ≡ false →
+    inclusive_ancestors (trees_in e parent) y ≡ inclusive_ancestors (trees_in d parent) y
 
 -- the plan of an insertion, when the nodes that it places have no parent or are known: room, the placings and a record
 abbrev pub placed_all : Observing → List NodeName → NodeName → Option NodeName → Option NodeName → Owner → DocState → DocState
@@ -221,7 +225,8 @@ adoption_refusal _ = None
 -- a shadow root; own rule for the limit)
 abbrev pub attaching_refusal : Part → NodeName → Option Refusal
 attaching_refusal p x =
-    first_refusal ((is_in name_eq x p.attached || not (may_be_host (node_in p.trees x).element), NotSupported) ∷ (nat_lt MAX_COMPONENTS (length p.attached + 1), Limit) ∷ [])
+    first_refusal ((is_in name_eq x p.attached || not (may_be_host (node_in p.trees x).element), NotSupported) ∷
+    (nat_lt MAX_COMPONENTS (length p.attached + 1), Limit) ∷ [])
 
 -- the refusal of a split (DOM Standard, split a Text node; own rule for the limit)
 abbrev pub splitting_refusal : Part → NodeName → ℕ → Option Refusal

@@ -153,7 +153,8 @@ impl Parts {
         requires document_is_node { ForSome node.document (λ d. d < length self.old.names) }
         ensures key { IfOk result (λ key. key ≡ length self.old.names) }
         ensures names { OnOk result (self.new.names ≡ self.old.names ++ next_name (part_of self.old.world owner) ∷ []) }
-        ensures world { OnOk result (self.new.world ≡ made owner (doing (make (node_from self.old.names (next_name (part_of self.old.world owner)) node))) self.old.world) }
+        ensures world { OnOk result (self.new.world ≡ made owner
+            (doing (make (node_from self.old.names (next_name (part_of self.old.world owner)) node))) self.old.world) }
 
         // An owner's nodes are at most 1,000,000. Nothing else but memory stops one more.
         ensures limit { (result ≡ Err (Fault.Refused Limit)) ↔ (past_limit (part_of self.old.world owner).node_count 1 ≡ true) }

@@ -24,32 +24,46 @@ record IsFound (names : List NodeName) (P : ShadowHost → Type 0) (root host : 
   root_is : root ≡ name_at names at.root
   host_is : name_at names at.host ≡ host
 
-found : (names : List NodeName) (P : ShadowHost → Type 0) (root host : NodeName) (hosts : List ShadowHost) → AllByRecursion P hosts → host_named names hosts root ≡ Some host
+found : (names : List NodeName) (P : ShadowHost → Type 0) (root host : NodeName) (hosts : List ShadowHost) → AllByRecursion P hosts →
+    host_named names hosts root ≡ Some host
     → IsFound names P root host
 found names P root host [] all e = cc
 found names P root host (h ∷ hosts) all e =
     by_cases (name_eq root (name_at names h.root))
-    (λ t. let both : Some (name_at names h.host) ≡ Some host = sym (ap (option_map (λ (k : ShadowHost). name_at names k.host)) (cond-true (name_eq root (name_at names h.root)) (Some h) (find (λ (k : ShadowHost). name_eq root (name_at names k.root)) hosts) t)) ∙ e in
+    (λ t. let both : Some (name_at names h.host) ≡ Some host = sym
+    (ap (option_map (λ (k : ShadowHost). name_at names k.host))
+    (cond-true (name_eq root (name_at names h.root)) (Some h) (find (λ (k : ShadowHost). name_eq root (name_at names k.root)) hosts) t)) ∙ e in
     record { at = h; such = all.0; root_is = name_eq-true root (name_at names h.root) t; host_is = cc })
-    (λ t. found names P root host hosts all.1 (sym (ap (option_map (λ (k : ShadowHost). name_at names k.host)) (cond-false (name_eq root (name_at names h.root)) (Some h) (find (λ (k : ShadowHost). name_eq root (name_at names k.root)) hosts) t)) ∙ e))
+    (λ t. found names P root host hosts all.1
+    (sym (ap (option_map (λ (k : ShadowHost). name_at names k.host))
+    (cond-false (name_eq root (name_at names h.root)) (Some h) (find (λ (k : ShadowHost). name_eq root (name_at names k.root)) hosts) t)) ∙ e))
 
 -- Where no two hosts have one root, a host is that of its root.
-theirs-apart : (names : List NodeName) (host root : NodeName) (hosts : List ShadowHost) → AreApart names hosts → root_named names hosts host ≡ Some root → host_named names hosts root ≡ Some host
+theirs-apart : (names : List NodeName) (host root : NodeName) (hosts : List ShadowHost) → AreApart names hosts →
+    root_named names hosts host ≡ Some root → host_named names hosts root ≡ Some host
 theirs-apart names host root [] apart e = cc
 theirs-apart names host root (h ∷ hosts) apart e =
     by_cases (name_eq host (name_at names h.host))
     (λ t.
-    let both : Some (name_at names h.root) ≡ Some root = sym (ap (option_map (λ (k : ShadowHost). name_at names k.root)) (cond-true (name_eq host (name_at names h.host)) (Some h) (find (λ (k : ShadowHost). name_eq host (name_at names k.host)) hosts) t)) ∙ e in
+    let both : Some (name_at names h.root) ≡ Some root =
+    sym (ap (option_map (λ (k : ShadowHost). name_at names k.root))
+    (cond-true (name_eq host (name_at names h.host)) (Some h) (find (λ (k : ShadowHost). name_eq host (name_at names k.host)) hosts) t)) ∙
+    e in
     let same : name_at names h.root ≡ root = cc in
     let test : name_eq root (name_at names h.root) ≡ true = ap (name_eq root) same ∙ name_eq-same root in
-    ap (option_map (λ (k : ShadowHost). name_at names k.host)) (cond-true (name_eq root (name_at names h.root)) (Some h) (find (λ (k : ShadowHost). name_eq root (name_at names k.root)) hosts) test)
+    ap (option_map (λ (k : ShadowHost). name_at names k.host))
+    (cond-true (name_eq root (name_at names h.root)) (Some h) (find (λ (k : ShadowHost). name_eq root (name_at names k.root)) hosts) test)
     ∙ ap Some (sym (name_eq-true host (name_at names h.host) t)))
     (λ t.
-    let rest : root_named names hosts host ≡ Some root = sym (ap (option_map (λ (k : ShadowHost). name_at names k.root)) (cond-false (name_eq host (name_at names h.host)) (Some h) (find (λ (k : ShadowHost). name_eq host (name_at names k.host)) hosts) t)) ∙ e in
+    let rest : root_named names hosts host ≡ Some root =
+    sym (ap (option_map (λ (k : ShadowHost). name_at names k.root))
+    (cond-false (name_eq host (name_at names h.host)) (Some h) (find (λ (k : ShadowHost). name_eq host (name_at names k.host)) hosts) t))
+    ∙ e in
     let among = theirs-apart names host root hosts apart.1 rest in
     let k = found names (λ k. name_eq (name_at names k.root) (name_at names h.root) ≡ false) root host hosts apart.0 among in
     let test : name_eq root (name_at names h.root) ≡ false = ap (λ y. name_eq y (name_at names h.root)) k.root_is ∙ k.such in
-    ap (option_map (λ (k : ShadowHost). name_at names k.host)) (cond-false (name_eq root (name_at names h.root)) (Some h) (find (λ (k : ShadowHost). name_eq root (name_at names k.root)) hosts) test)
+    ap (option_map (λ (k : ShadowHost). name_at names k.host))
+    (cond-false (name_eq root (name_at names h.root)) (Some h) (find (λ (k : ShadowHost). name_eq root (name_at names k.root)) hosts) test)
     ∙ among)
 
 module _ (f : NamedTrees) (hosts : List ShadowHost) (depth : ℕ) (are : AreAttached f hosts depth) where

@@ -1,6 +1,7 @@
 -- In trees whose shadow trees lie in one another each event has a path, and only one. From a node the way goes through its slot, whose
 -- tree lies one level further in, up to that tree's root, and on with the node's own parent: so by levels each way ends.
-use Rattle.std.proofs.Common.{◌≡◌, ℕ, zero, suc, ◌≤◌, ◌<◌, ◌+◌, Bool, true, false, not, ◌||◌, List, [], ◌∷◌, drop, find, length, Option, Some, None, refl, sym, ap, subst, ◌∙◌, arith, true≢false}
+use Rattle.std.proofs.Common.{◌≡◌, ℕ, zero, suc, ◌≤◌, ◌<◌, ◌+◌, Bool, true, false, not, ◌||◌, List, [], ◌∷◌, drop, find, length, Option, Some, None}
+use Rattle.std.proofs.Common.{refl, sym, ap, subst, ◌∙◌, arith, true≢false}
 use Rattle.std.specs.Prelude.{is_some, option_map, if◌then◌else◌, ⊤}
 use Rattle.std.specs.Option.{option_and_then, option_map_or, option_or}
 use Rattle.std.proofs.lemmas.Bool.{cond-true, cond-false}
@@ -88,7 +89,8 @@ module _ (up : NodeName → Option NodeName) where
       by (Some y) e h = (y ∷ h.0, (e, h.1))
 
 module _ (f : NamedTrees) (hosts : List ShadowHost) (once : Once f.trees) (depth : ℕ) (hosted : IsHosted f hosts depth)
-    (host_there : (root host : NodeName) → host_named f.names hosts root ≡ Some host → Has f.trees host) (root_there : (host root : NodeName) → root_named f.names hosts host ≡ Some root → Has f.trees root)
+    (host_there : (root host : NodeName) → host_named f.names hosts root ≡ Some host → Has f.trees host)
+    (root_there : (host root : NodeName) → root_named f.names hosts host ≡ Some root → Has f.trees root)
     (composed : Bool) (top : NodeName) where
   abbrev s : ShadowTrees
   s = shadows f hosts
@@ -107,7 +109,8 @@ module _ (f : NamedTrees) (hosts : List ShadowHost) (once : Once f.trees) (depth
   up-shadow : (x : NodeName) → shadow x ≡ true → EndsIf up (s.host_of x) → EndsIf up (up x)
   unfolding EndsIf
   up-shadow x e h =
-      subst (EndsIf up) (sym (cond-true (shadow x) (if composed || not (name_eq x top) then s.host_of x else None) (option_or (slot_at s x) (parent_of f.trees x)) e)) (by (composed || not (name_eq x top)))
+      subst (EndsIf up) (sym (cond-true (shadow x) (if composed || not (name_eq x top) then s.host_of x else None)
+      (option_or (slot_at s x) (parent_of f.trees x)) e)) (by (composed || not (name_eq x top)))
     where
       by : (b : Bool) → EndsIf up (if b then s.host_of x else None)
       by true = h
@@ -121,7 +124,8 @@ module _ (f : NamedTrees) (hosts : List ShadowHost) (once : Once f.trees) (depth
       → (path : List NodeName) (z : NodeName) → Has f.trees z → root_of f.trees z ≡ root → inclusive_ancestors f.trees z ≡ z ∷ path → Ends up z
   unfolding plain EndsIf
   climb root again out [] z has of path = again z has of (by_cases (shadow z)
-      (λ e. subst (EndsIf up) (sym (cond-true (shadow z) (up z) (parent_of f.trees z) e)) (up-shadow z e (subst (λ y. EndsIf up (s.host_of y)) (sym of ∙ alone) out)))
+      (λ e. subst (EndsIf up) (sym (cond-true (shadow z) (up z) (parent_of f.trees z) e))
+      (up-shadow z e (subst (λ y. EndsIf up (s.host_of y)) (sym of ∙ alone) out)))
       (λ e. subst (EndsIf up) (sym (cond-false (shadow z) (up z) (parent_of f.trees z) e ∙ none)) tt))
     where
       none : parent_of f.trees z ≡ None
@@ -163,7 +167,8 @@ module _ (f : NamedTrees) (hosts : List ShadowHost) (once : Once f.trees) (depth
       by_root p g None a h = cc
       by_root p g (Some r) a h = record { parent = p; root = r; up_is = g; attached = a; found = h }
 
-      by_parent : (o : Option NodeName) → parent_of f.trees x ≡ o → option_and_then (λ r. slot_in (subtree f.trees r) (node_in f.trees x)) (option_and_then (root_named f.names hosts) o) ≡ Some y → HasSlot x y
+      by_parent : (o : Option NodeName) → parent_of f.trees x ≡ o →
+          option_and_then (λ r. slot_in (subtree f.trees r) (node_in f.trees x)) (option_and_then (root_named f.names hosts) o) ≡ Some y → HasSlot x y
       by_parent None g h = cc
       by_parent (Some p) g h = by_root p g (root_named f.names hosts p) refl h
 
@@ -181,7 +186,8 @@ module _ (f : NamedTrees) (hosts : List ShadowHost) (once : Once f.trees) (depth
       record {
         there = Has-subtree f.trees k.root y once (slot-has (subtree f.trees k.root) (node_in f.trees x) y k.found);
         out = above ∙ sym k.up_is;
-        in_further = level-host s depth y k.parent (hosted.nested y) above ∙ ap suc (level-same s depth k.parent x (sym (root-parent f.trees once x k.parent has k.up_is)));
+        in_further = level-host s depth y k.parent (hosted.nested y) above ∙
+            ap suc (level-same s depth k.parent x (sym (root-parent f.trees once x k.parent has k.up_is)));
       }
 
   -- from a node whose slot's way ends
@@ -189,7 +195,8 @@ module _ (f : NamedTrees) (hosts : List ShadowHost) (once : Once f.trees) (depth
   unfolding plain EndsIf
   through x h slot = by_cases (shadow x)
       (λ e. ends-step up x (subst (EndsIf up) (cond-true (shadow x) (up x) (parent_of f.trees x) e) h))
-      (λ e. ends-step up x (subst (EndsIf up) (sym (up-plain x e)) (by (subst (EndsIf up) (cond-false (shadow x) (up x) (parent_of f.trees x) e) h) (slot_at s x) refl)))
+      (λ e. ends-step up x (subst (EndsIf up) (sym (up-plain x e))
+      (by (subst (EndsIf up) (cond-false (shadow x) (up x) (parent_of f.trees x) e) h) (slot_at s x) refl)))
     where
       by : EndsIf up (parent_of f.trees x) → (o : Option NodeName) → slot_at s x ≡ o → EndsIf up (option_or o (parent_of f.trees x))
       by h None e = h
@@ -197,10 +204,12 @@ module _ (f : NamedTrees) (hosts : List ShadowHost) (once : Once f.trees) (depth
 
   -- through the slots of a node that is so many levels above the innermost
   slot-ends : (k : ℕ) (x : NodeName) → Has f.trees x → depth ≤ level s depth x + k → EndsIf up (plain x) → Ends up x
-  slot-ends zero x has room h = through x h (λ y e out. let further = (enters x y has e).in_further in let most = level-most s depth y in absurd (omega (arith, further, most, room)))
+  slot-ends zero x has room h = through x h
+      (λ y e out. let further = (enters x y has e).in_further in let most = level-most s depth y in absurd (omega (arith, further, most, room)))
   slot-ends (suc k) x has room h = through x h (λ y e out. let g = enters x y has e in
       tree-ends y g.there
-      (λ z there same plain_ends. slot-ends k z there (let further = g.in_further in let level_is = level-same s depth z y same in omega (arith, further, level_is, room)) plain_ends)
+      (λ z there same plain_ends. slot-ends k z there
+      (let further = g.in_further in let level_is = level-same s depth z y same in omega (arith, further, level_is, room)) plain_ends)
       (subst (EndsIf up) (sym g.out) out))
 
   -- from a node in no more shadow trees than this
@@ -218,7 +227,8 @@ module _ (f : NamedTrees) (hosts : List ShadowHost) (once : Once f.trees) (depth
 
 module _ (s : ShadowTrees) (depth : ℕ) (target : NodeName) (related : Option NodeName) (composed : Bool) where
   -- an orbit up to where the path ends
-  cut : (x : NodeName) (xs : List NodeName) → Orbit (event_parent_at s composed (root_of s.trees target)) x xs → (ys : List NodeName) × GoesUp s depth target related composed x ys
+  cut : (x : NodeName) (xs : List NodeName) → Orbit (event_parent_at s composed (root_of s.trees target)) x xs → (ys : List NodeName) ×
+      GoesUp s depth target related composed x ys
   unfolding Orbit
   cut x [] e = ([], ap (option_and_then (unless_ended s depth target related)) e)
   cut x (y ∷ xs) h =
@@ -254,26 +264,35 @@ module _ (s : ShadowTrees) (depth : ℕ) (target : NodeName) (related : Option N
       λ j. same j ∷ up-once x xs ys g.2 (subst (λ a. GoesUp s depth target related composed a ys) (sym same) h.2) j
 
 -- a host and a shadow root that are found are nodes
-host-has : (f : NamedTrees) → ((k : ℕ) → k < length f.names → Has f.trees (name_at f.names k)) → (hosts : List ShadowHost) → HostsAreNodes f.names hosts → (root host : NodeName) → host_named f.names hosts root ≡ Some host → Has f.trees host
+host-has : (f : NamedTrees) → ((k : ℕ) → k < length f.names → Has f.trees (name_at f.names k)) → (hosts : List ShadowHost) →
+    HostsAreNodes f.names hosts → (root host : NodeName) → host_named f.names hosts root ≡ Some host → Has f.trees host
 host-has f there [] nodes root host e = cc
 host-has f there (h ∷ hosts) nodes root host e = by (name_eq root (name_at f.names h.root)) (λ k. host-has f there hosts nodes.2 root host k) e
   where
-    by : (b : Bool) → (host_named f.names hosts root ≡ Some host → Has f.trees host) → option_map (λ (k : ShadowHost). name_at f.names k.host) (if b then Some h else find (λ (k : ShadowHost). name_eq root (name_at f.names k.root)) hosts) ≡ Some host → Has f.trees host
+    by : (b : Bool) → (host_named f.names hosts root ≡ Some host → Has f.trees host) →
+        option_map (λ (k : ShadowHost). name_at f.names k.host)
+        (if b then Some h else find (λ (k : ShadowHost). name_eq root (name_at f.names k.root)) hosts) ≡ Some host → Has f.trees host
     by true again k = let same : name_at f.names h.host ≡ host = cc in subst (Has f.trees) same (there h.host nodes.0)
     by false again k = again k
 
-root-has : (f : NamedTrees) → ((k : ℕ) → k < length f.names → Has f.trees (name_at f.names k)) → (hosts : List ShadowHost) → HostsAreNodes f.names hosts → (host root : NodeName) → root_named f.names hosts host ≡ Some root → Has f.trees root
+root-has : (f : NamedTrees) → ((k : ℕ) → k < length f.names → Has f.trees (name_at f.names k)) → (hosts : List ShadowHost) →
+    HostsAreNodes f.names hosts → (host root : NodeName) → root_named f.names hosts host ≡ Some root → Has f.trees root
 root-has f there [] nodes host root e = cc
 root-has f there (h ∷ hosts) nodes host root e = by (name_eq host (name_at f.names h.host)) (λ k. root-has f there hosts nodes.2 host root k) e
   where
-    by : (b : Bool) → (root_named f.names hosts host ≡ Some root → Has f.trees root) → option_map (λ (k : ShadowHost). name_at f.names k.root) (if b then Some h else find (λ (k : ShadowHost). name_eq host (name_at f.names k.host)) hosts) ≡ Some root → Has f.trees root
+    by : (b : Bool) → (root_named f.names hosts host ≡ Some root → Has f.trees root) →
+        option_map (λ (k : ShadowHost). name_at f.names k.root)
+        (if b then Some h else find (λ (k : ShadowHost). name_eq host (name_at f.names k.host)) hosts) ≡ Some root → Has f.trees root
     by true again k = let same : name_at f.names h.root ≡ root = cc in subst (Has f.trees) same (there h.root nodes.1)
     by false again k = again k
 
 -- each node has its path
-pub paths-end : (f : NamedTrees) (hosts : List ShadowHost) (depth : ℕ) → IsHosted f hosts depth → Once f.trees → ((k : ℕ) → k < length f.names → Has f.trees (name_at f.names k)) → HostsAreNodes f.names hosts
-    → (k : ℕ) → k < length f.names → (related : Option NodeName) (composed : Bool) → (nodes : List NodeName) × IsPath (shadows f hosts) depth (name_at f.names k) related composed nodes
+pub paths-end : (f : NamedTrees) (hosts : List ShadowHost) (depth : ℕ) → IsHosted f hosts depth → Once f.trees →
+    ((k : ℕ) → k < length f.names → Has f.trees (name_at f.names k)) → HostsAreNodes f.names hosts
+    → (k : ℕ) → k < length f.names → (related : Option NodeName) (composed : Bool) → (nodes : List NodeName) ×
+    IsPath (shadows f hosts) depth (name_at f.names k) related composed nodes
 paths-end f hosts depth hosted once there nodes k node related composed =
     let t = name_at f.names k in
     path-there (shadows f hosts) depth t related composed
-    (ways-end f hosts once depth hosted (host-has f there hosts nodes) (root-has f there hosts nodes) composed (root_of f.trees t) depth t (hosted.nested t) (there k node))
+    (ways-end f hosts once depth hosted (host-has f there hosts nodes) (root-has f there hosts nodes) composed (root_of f.trees t) depth t
+    (hosted.nested t) (there k node))

@@ -1,5 +1,6 @@
 -- The trees from that of a node outward: found from the inside, and kept from the outside.
-use Rattle.std.proofs.Common.{◌≡◌, inl, inr, ℕ, zero, suc, ◌<◌, ◌≤◌, true, List, [], ◌∷◌, ◌++◌, length, Option, Some, None, refl, sym, ap, subst, ◌∙◌, arith, length-append}
+use Rattle.std.proofs.Common.{◌≡◌, inl, inr, ℕ, zero, suc, ◌<◌, ◌≤◌, true, List, [], ◌∷◌, ◌++◌, length, Option, Some, None, refl, sym, ap, subst, ◌∙◌}
+use Rattle.std.proofs.Common.{arith, length-append}
 use Rattle.std.specs.Prelude.{slice_get, is_some, option_map}
 use Rattle.std.specs.Option.{ForSome}
 use Rattle.dom_base.specs.declared.NodeName.{NodeName}
@@ -35,7 +36,8 @@ module _ (f : NamedTrees) (hosts : List ShadowHost) where
   pub tree-kept : (trees new : List Tree) (place : ℕ) (x : NodeName) → Grows trees new → IsTreeOf f trees place x → IsTreeOf f new place x
   tree-kept trees new place x g h = subst (λ ts. IsTreeOf f ts place x) (sym g.1) (from (slice_get trees place) refl h)
     where
-      from : (o : Option Tree) → slice_get trees place ≡ o → option_map (λ (t : Tree). name_at f.names t.root) o ≡ Some (root_of f.trees x) → IsTreeOf f (trees ++ g.0) place x
+      from : (o : Option Tree) → slice_get trees place ≡ o → option_map (λ (t : Tree). name_at f.names t.root) o ≡ Some (root_of f.trees x) →
+          IsTreeOf f (trees ++ g.0) place x
       from None e k = cc
       from (Some t) e k = ap (option_map (λ (t : Tree). name_at f.names t.root)) (kept-more trees g.0 place t e) ∙ k
 
@@ -49,17 +51,21 @@ module _ (f : NamedTrees) (hosts : List ShadowHost) where
   }
 
   -- a node's place, from its parts
-  pub stand-made : (trees : List Tree) (x : Stand) (node place : ℕ) → x.node ≡ node → x.tree ≡ place → x.is_shadow_root ≡ is_shadow (node_in f.trees (name_at f.names node)).kind
-      → node < length f.names → place < length trees → ((depth : ℕ) → IsHosted f hosts depth → IsTreeOf f trees place (name_at f.names node)) → IsStand f hosts trees x
+  pub stand-made : (trees : List Tree) (x : Stand) (node place : ℕ) → x.node ≡ node → x.tree ≡ place →
+      x.is_shadow_root ≡ is_shadow (node_in f.trees (name_at f.names node)).kind
+      → node < length f.names → place < length trees → ((depth : ℕ) → IsHosted f hosts depth → IsTreeOf f trees place (name_at f.names node)) →
+      IsStand f hosts trees x
   stand-made trees x node place e g shadow there within is = record {
     node = subst (λ k. k < length f.names) (sym e) there;
     within = subst (λ k. k < length trees) (sym g) within;
-    tree = λ depth hosted. subst (λ k. IsTreeOf f trees k (name_at f.names x.node)) (sym g) (subst (λ k. IsTreeOf f trees place (name_at f.names k)) (sym e) (is depth hosted));
+    tree = λ depth hosted. subst (λ k. IsTreeOf f trees k (name_at f.names x.node)) (sym g)
+        (subst (λ k. IsTreeOf f trees place (name_at f.names k)) (sym e) (is depth hosted));
     shadow = shadow ∙ ap (λ k. is_shadow (node_in f.trees (name_at f.names k)).kind) (sym e);
   }
 
   -- one tree more, with its host and the place of the tree around it
-  pub trees-more : (trees : List Tree) (t : Tree) → AreTrees f hosts trees → IsNested (length trees) t → HasTreeNodes f t → ((depth : ℕ) → IsHosted f hosts depth → IsTree f hosts trees t) → AreTrees f hosts (trees ++ t ∷ [])
+  pub trees-more : (trees : List Tree) (t : Tree) → AreTrees f hosts trees → IsNested (length trees) t → HasTreeNodes f t →
+      ((depth : ℕ) → IsHosted f hosts depth → IsTree f hosts trees t) → AreTrees f hosts (trees ++ t ∷ [])
   trees-more trees t are inside nodes here = record {
     nested = nested-more trees t are.nested inside;
     nodes = λ place x at. elim (slice_get-push trees place t x at) [
@@ -112,7 +118,8 @@ module _ (f : NamedTrees) (hosts : List ShadowHost) where
       by (Some k) is e = (h.there (name_at f.names k) (sym e)).0
 
   -- once it was added
-  pub outside-more : (x : NodeName) (old around left trees new : List Tree) (t : Tree) (outer place : ℕ) → IsOutside x old around trees outer → around ≡ left ++ t ∷ []
+  pub outside-more : (x : NodeName) (old around left trees new : List Tree) (t : Tree) (outer place : ℕ) → IsOutside x old around trees outer →
+      around ≡ left ++ t ∷ []
       → new ≡ trees ++ record { root = t.root; host = t.host; outer = outer } ∷ [] → place ≡ length trees → IsOutside x old left new place
   outside-more x old around left trees new t outer place h e is p =
       let b = goes-back (Some x) h.to left t (subst (λ ts. GoesOut f hosts (Some x) ts h.to) e h.way) in
@@ -122,7 +129,8 @@ module _ (f : NamedTrees) (hosts : List ShadowHost) where
         to = Some b.0;
         way = b.1;
         grown = grows-twice old trees new h.grown (put ∷ [], is);
-        are = subst (AreTrees f hosts) (sym is) (trees-more trees put h.are (outside-nested x old around left trees t outer h e) (record { root = b.2.nodes.root; host = b.2.nodes.host })
+        are = subst (AreTrees f hosts) (sym is)
+            (trees-more trees put h.are (outside-nested x old around left trees t outer h e) (record { root = b.2.nodes.root; host = b.2.nodes.host })
             (λ depth hosted. record { host = b.2.host; outer = λ k at. (h.there (name_at f.names k) (sym b.3 ∙ ap (option_map (name_at f.names)) at)).1 }));
         within = omega (arith, one, p);
         there = λ y same. (
@@ -133,6 +141,7 @@ module _ (f : NamedTrees) (hosts : List ShadowHost) where
       }
 
   -- with none to come the node's tree is there
-  pub outside-last : (x : NodeName) (old around trees : List Tree) (outer : ℕ) → IsOutside x old around trees outer → (0 < length around → ⊥) → (outer < length trees) × IsTreeOf f trees outer x
+  pub outside-last : (x : NodeName) (old around trees : List Tree) (outer : ℕ) → IsOutside x old around trees outer → (0 < length around → ⊥) →
+      (outer < length trees) × IsTreeOf f trees outer x
   outside-last x old [] trees outer h e = h.there x (sym h.way)
   outside-last x old (t ∷ around) trees outer h e = absurd (e (omega arith))

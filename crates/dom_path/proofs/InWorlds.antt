@@ -30,7 +30,8 @@ module _ (f : NamedTrees) (hosts : List ShadowHost) (w : World) (is : IsWorldOf 
   ends y = Rattle.dom_model.specs.Paths.ends_at w t r y
 
   -- the node behind x, where it has this event parent
-  next-is : (x : NodeName) (up : Option NodeName) → event_parent w composed t x ≡ up → next_at s max_depth t r composed x ≡ option_and_then (unless_ended s max_depth t r) up
+  next-is : (x : NodeName) (up : Option NodeName) → event_parent w composed t x ≡ up →
+      next_at s max_depth t r composed x ≡ option_and_then (unless_ended s max_depth t r) up
   next-is x up e = ap (option_and_then (unless_ended s max_depth t r)) (sym (up-is f hosts w is composed t x) ∙ e)
 
   -- the nodes behind x are those of the path behind x
@@ -40,7 +41,8 @@ module _ (f : NamedTrees) (hosts : List ShadowHost) (w : World) (is : IsWorldOf 
   track x [] (z ∷ rest) h g = let none : next_at s max_depth t r composed x ≡ None = next-is x None h in let some = g.0 in cc
   track x (y ∷ tail) rest h g = by_cases (ends_at s max_depth t r y)
       (λ e. stops rest g (next-is x (Some y) h.0 ∙ ap (λ (b : Bool). if b then None else Some y) e) (ends_at-is f hosts w is t r y ∙ e))
-      (λ e. goes (λ others k. track y tail others h.1 k) rest g (next-is x (Some y) h.0 ∙ ap (λ (b : Bool). if b then None else Some y) e) (ends_at-is f hosts w is t r y ∙ e))
+      (λ e. goes (λ others k. track y tail others h.1 k) rest g (next-is x (Some y) h.0 ∙ ap (λ (b : Bool). if b then None else Some y) e)
+      (ends_at-is f hosts w is t r y ∙ e))
     where
       stops : (rest : List NodeName) → GoesUp s max_depth t r composed x rest → next_at s max_depth t r composed x ≡ None → ends y ≡ true
           → take_while (λ z. not (ends z)) (y ∷ tail) ≡ rest
@@ -60,10 +62,12 @@ module _ (f : NamedTrees) (hosts : List ShadowHost) (w : World) (is : IsWorldOf 
   -- so the nodes are those of the path
   nodes-are : has_node f.trees t ≡ true → (nodes : List NodeName) → IsPath s max_depth t r composed nodes → event_path w t r composed ≡ nodes
   nodes-are there [] g =
-      cond-true (is_node t (retarget_related w r t) && not (is_node t r)) [] (take_while (λ y. not (ends y)) (whole_path w t composed)) (empty-is f hosts w is t r ∙ g)
+      cond-true (is_node t (retarget_related w r t) && not (is_node t r)) [] (take_while (λ y. not (ends y)) (whole_path w t composed))
+      (empty-is f hosts w is t r ∙ g)
   nodes-are there (i ∷ rest) g =
       let law = path-follows_parents false w is.reached is.whole t composed (there-is f hosts w is t there) in
-      cond-false (is_node t (retarget_related w r t) && not (is_node t r)) [] (take_while (λ y. not (ends y)) (whole_path w t composed)) (empty-is f hosts w is t r ∙ g.0)
+      cond-false (is_node t (retarget_related w r t) && not (is_node t r)) [] (take_while (λ y. not (ends y)) (whole_path w t composed))
+      (empty-is f hosts w is t r ∙ g.0)
       ∙ from (whole_path w t composed) law.0 law.1
     where
       from : (whole : List NodeName) → first_of whole ≡ Some t → FollowsParents w composed t whole → take_while (λ y. not (ends y)) whole ≡ i ∷ rest
@@ -71,7 +75,9 @@ module _ (f : NamedTrees) (hosts : List ShadowHost) (w : World) (is : IsWorldOf 
       from (x ∷ tail) first h =
           let same : x ≡ t = cc in
           let start : x ≡ i = same ∙ sym g.1 in
-          let goes_on : ends x ≡ false = ap (λ b. not b && (name_eq x (retarget w t x) && is_node x (retarget_related w r x))) (ap (name_eq x) (sym same) ∙ name_eq-same x) in
+          let goes_on : ends x ≡ false =
+          ap (λ b. not b && (name_eq x (retarget w t x) && is_node x (retarget_related w r x)))
+          (ap (name_eq x) (sym same) ∙ name_eq-same x) in
           take_while-cons (λ y. not (ends y)) x tail ∙ cond-true (not (ends x)) (x ∷ take_while (λ y. not (ends y)) tail) [] (ap not goes_on)
           ∙ (λ j. start j ∷ track x tail rest h (subst (λ z. GoesUp s max_depth t r composed z rest) (sym start) g.2) j)
 

@@ -1,5 +1,6 @@
 -- Up through the trees on an event's way, one at a time.
-use Rattle.std.proofs.Common.{◌≡◌, inl, inr, ℕ, zero, suc, ◌<◌, ◌≤◌, Bool, true, false, ◌||◌, List, [], ◌∷◌, ◌++◌, length, Option, Some, None, refl, sym, ap, subst, ◌∙◌, arith, append_assoc, length-append}
+use Rattle.std.proofs.Common.{◌≡◌, inl, inr, ℕ, zero, suc, ◌<◌, ◌≤◌, Bool, true, false, ◌||◌, List, [], ◌∷◌, ◌++◌, length, Option, Some, None, refl}
+use Rattle.std.proofs.Common.{sym, ap, subst, ◌∙◌, arith, append_assoc, length-append}
 use Rattle.std.specs.Prelude.{nat_eq, slice_get, is_some, if◌then◌else◌}
 use Rattle.std.specs.Option.{option_and_then, option_map_or}
 use Rattle.std.proofs.lemmas.List.{append-nil}
@@ -11,7 +12,8 @@ use Rattle.dom_path.specs.Nests.{IsNested, AreNested, Grows, roots_up, roots_aro
 
 -- no trees stand rightly
 pub nested-none : (trees : List Tree) → trees ≡ [] → AreNested trees
-nested-none trees e place t at = let none_at : slice_get {X = Tree} [] place ≡ Some t = subst (λ ts. slice_get ts place ≡ Some t) e at in absurd (never place none_at)
+nested-none trees e place t at = let none_at : slice_get {X = Tree} [] place ≡ Some t =
+    subst (λ ts. slice_get ts place ≡ Some t) e at in absurd (never place none_at)
   where
     never : (place : ℕ) → slice_get {X = Tree} [] place ≡ Some t → ⊥
     never zero h = cc
@@ -58,13 +60,15 @@ module _ (trees : List Tree) (nested : AreNested trees) where
       from again None e = refl
       from again (Some t) e = ap (λ rs. t.root ∷ rs) (by again t e (is_some t.host) refl)
         where
-          by : ((below : ℕ) → below < place → roots_up trees n below ≡ roots_up trees m below) → (t : Tree) → slice_get trees place ≡ Some t → (b : Bool) → is_some t.host ≡ b
+          by : ((below : ℕ) → below < place → roots_up trees n below ≡ roots_up trees m below) → (t : Tree) → slice_get trees place ≡ Some t →
+              (b : Bool) → is_some t.host ≡ b
               → (if b then roots_up trees n t.outer else []) ≡ (if b then roots_up trees m t.outer else [])
           by again t e false g = refl
           by again t e true g = again t.outer ((nested place t e).behind g)
 
   -- the roots around a tree are its own, and those around the tree of its host
-  pub roots-step : (place : ℕ) (t : Tree) → slice_get trees place ≡ Some t → roots_around trees place ≡ t.root ∷ (if is_some t.host then roots_around trees t.outer else [])
+  pub roots-step : (place : ℕ) (t : Tree) → slice_get trees place ≡ Some t →
+      roots_around trees place ≡ t.root ∷ (if is_some t.host then roots_around trees t.outer else [])
   roots-step place t e =
       ap (λ o. option_map_or (λ (t : Tree). t.root ∷ (if is_some t.host then roots_up trees place t.outer else [])) o []) e
       ∙ ap (λ rs. t.root ∷ rs) (by (is_some t.host) refl)
@@ -84,11 +88,14 @@ module _ (trees : List Tree) (nested : AreNested trees) where
   pub hides : (viewer place host : ℕ) → hiding_host trees viewer place ≡ Some host → Hides viewer place host
   hides viewer place host h = from (slice_get trees place) refl h
     where
-      by : (t : Tree) → slice_get trees place ≡ Some t → (b : Bool) → is_in nat_eq t.root (roots_around trees viewer) ≡ b → (if b then None else t.host) ≡ Some host → Hides viewer place host
+      by : (t : Tree) → slice_get trees place ≡ Some t → (b : Bool) → is_in nat_eq t.root (roots_around trees viewer) ≡ b →
+          (if b then None else t.host) ≡ Some host → Hides viewer place host
       by t e true g k = cc
       by t e false g k = record { t = t; here = e; its = k; apart = g }
 
-      from : (o : Option Tree) → slice_get trees place ≡ o → option_and_then (λ (t : Tree). if is_in nat_eq t.root (roots_around trees viewer) then None else t.host) o ≡ Some host → Hides viewer place host
+      from : (o : Option Tree) → slice_get trees place ≡ o →
+          option_and_then (λ (t : Tree). if is_in nat_eq t.root (roots_around trees viewer) then None else t.host) o ≡ Some host →
+          Hides viewer place host
       from None e g = cc
       from (Some t) e g = by t e (is_in nat_eq t.root (roots_around trees viewer)) refl g
 
@@ -106,13 +113,16 @@ module _ (trees : List Tree) (nested : AreNested trees) where
   seen-enough viewer (suc n) (suc m) node place h k =
       from (λ host below g. seen-enough viewer n m host below (omega (arith, g, h)) (omega (arith, g, k))) (hiding_host trees viewer place) refl
     where
-      from : ((host below : ℕ) → below < place → seen_up trees n viewer host below ≡ seen_up trees m viewer host below) → (o : Option ℕ) → hiding_host trees viewer place ≡ o
-          → option_map_or (λ host. seen_up trees n viewer host (outer_of trees place)) o node ≡ option_map_or (λ host. seen_up trees m viewer host (outer_of trees place)) o node
+      from : ((host below : ℕ) → below < place → seen_up trees n viewer host below ≡ seen_up trees m viewer host below) → (o : Option ℕ) →
+          hiding_host trees viewer place ≡ o
+          → option_map_or (λ host. seen_up trees n viewer host (outer_of trees place)) o node ≡ option_map_or
+          (λ host. seen_up trees m viewer host (outer_of trees place)) o node
       from again None e = refl
       from again (Some host) e = again host (outer_of trees place) (outer-below viewer place host e)
 
   -- what is seen of a node is what is seen of its host, where it is hidden
-  pub seen-host : (viewer node place host : ℕ) → hiding_host trees viewer place ≡ Some host → seen_from trees viewer node place ≡ seen_from trees viewer host (outer_of trees place)
+  pub seen-host : (viewer node place host : ℕ) → hiding_host trees viewer place ≡ Some host →
+      seen_from trees viewer node place ≡ seen_from trees viewer host (outer_of trees place)
   seen-host viewer node place host e =
       ap (λ o. option_map_or (λ host. seen_up trees place viewer host (outer_of trees place)) o node) e
       ∙ (let below = outer-below viewer place host e in seen-enough viewer place (suc (outer_of trees place)) host (outer_of trees place) below (omega arith))
@@ -122,17 +132,20 @@ module _ (trees : List Tree) (nested : AreNested trees) where
   seen-itself viewer node place e = ap (λ o. option_map_or (λ host. seen_up trees place viewer host (outer_of trees place)) o node) e
 
 -- the host by which a tree's nodes are hidden, read at a tree
-pub hiding-is : (trees : List Tree) (viewer place : ℕ) (t : Tree) (b : Bool) → slice_get trees place ≡ Some t → is_in nat_eq t.root (roots_around trees viewer) ≡ b
+pub hiding-is : (trees : List Tree) (viewer place : ℕ) (t : Tree) (b : Bool) → slice_get trees place ≡ Some t →
+    is_in nat_eq t.root (roots_around trees viewer) ≡ b
     → hiding_host trees viewer place ≡ (if b then None else t.host)
 hiding-is trees viewer place t b e g =
-    ap (option_and_then (λ (t : Tree). if is_in nat_eq t.root (roots_around trees viewer) then None else t.host)) e ∙ ap (λ (b : Bool). if b then None else t.host) g
+    ap (option_and_then (λ (t : Tree). if is_in nat_eq t.root (roots_around trees viewer) then None else t.host)) e ∙
+    ap (λ (b : Bool). if b then None else t.host) g
 
 -- and the tree around it
 pub outer-is : (trees : List Tree) (place : ℕ) (t : Tree) → slice_get trees place ≡ Some t → outer_of trees place ≡ t.outer
 outer-is trees place t e = ap (λ o. option_map_or (λ (t : Tree). t.outer) o 0) e
 
 -- one step of the way out, from a tree that has another root
-pub encloses-step : (trees : List Tree) → AreNested trees → (root place : ℕ) (t : Tree) → slice_get trees place ≡ Some t → nat_eq root t.root ≡ false → is_some t.host ≡ true
+pub encloses-step : (trees : List Tree) → AreNested trees → (root place : ℕ) (t : Tree) → slice_get trees place ≡ Some t →
+    nat_eq root t.root ≡ false → is_some t.host ≡ true
     → (t.outer < length trees) × (is_in nat_eq root (roots_around trees t.outer) ≡ is_in nat_eq root (roots_around trees place))
 encloses-step trees nested root place t e other there =
     let below = (nested place t e).behind there in

@@ -1,5 +1,6 @@
 -- The trees on an event's way by keys, and what is seen from them, are those by names.
-use Rattle.std.proofs.Common.{◌≡◌, ℕ, zero, suc, ◌<◌, Bool, true, false, not, ◌&&◌, ◌||◌, List, [], ◌∷◌, length, map, find, flat_map, Option, Some, None, refl, sym, ap, subst, ◌∙◌, arith, append-nil}
+use Rattle.std.proofs.Common.{◌≡◌, ℕ, zero, suc, ◌<◌, Bool, true, false, not, ◌&&◌, ◌||◌, List, [], ◌∷◌, length, map, find, flat_map, Option, Some}
+use Rattle.std.proofs.Common.{None, refl, sym, ap, subst, ◌∙◌, arith, append-nil}
 use Rattle.std.specs.Prelude.{nat_eq, option_map, option_to_list, unwrap_or, slice_get, is_some, if◌then◌else◌}
 use Rattle.std.specs.List.{AllByRecursion}
 use Rattle.std.specs.Option.{option_map_or}
@@ -60,7 +61,8 @@ picked None false = refl
 picked (Some x) true = refl
 picked (Some x) false = refl
 
-pick-named : (names : List NodeName) (o : Option ℕ) (b : Bool) → option_map (name_at names) (if b then None else o) ≡ (if b then None else option_map (name_at names) o)
+pick-named : (names : List NodeName) (o : Option ℕ) (b : Bool) →
+    option_map (name_at names) (if b then None else o) ≡ (if b then None else option_map (name_at names) o)
 pick-named names o true = refl
 pick-named names o false = refl
 
@@ -77,16 +79,19 @@ module _ (f : NamedTrees) (hosts : List ShadowHost) (trees : List Tree) (are : A
       from again None e = tt
       from again (Some t) e = ((are.nodes place t e).root, by (is_some t.host) (again t.outer))
         where
-          by : (b : Bool) → AllByRecursion (λ k. k < length f.names) (roots_up trees n t.outer) → AllByRecursion (λ k. k < length f.names) (if b then roots_up trees n t.outer else [])
+          by : (b : Bool) → AllByRecursion (λ k. k < length f.names) (roots_up trees n t.outer) →
+              AllByRecursion (λ k. k < length f.names) (if b then roots_up trees n t.outer else [])
           by true h = h
           by false h = tt
 
   -- and so is what is seen of one
   seen-up_node : (n viewer node place : ℕ) → AreNested trees → node < length f.names → seen_up trees n viewer node place < length f.names
   seen-up_node zero viewer node place nested h = h
-  seen-up_node (suc n) viewer node place nested h = from (λ host g. seen-up_node n viewer host (outer_of trees place) nested g) (hiding_host trees viewer place) refl
+  seen-up_node (suc n) viewer node place nested h =
+      from (λ host g. seen-up_node n viewer host (outer_of trees place) nested g) (hiding_host trees viewer place) refl
     where
-      from : ((host : ℕ) → host < length f.names → seen_up trees n viewer host (outer_of trees place) < length f.names) → (o : Option ℕ) → hiding_host trees viewer place ≡ o
+      from : ((host : ℕ) → host < length f.names → seen_up trees n viewer host (outer_of trees place) < length f.names) → (o : Option ℕ) →
+          hiding_host trees viewer place ≡ o
           → option_map_or (λ host. seen_up trees n viewer host (outer_of trees place)) o node < length f.names
       from again None e = h
       from again (Some host) e = let k = hides trees nested viewer place host e in again host ((are.nodes place k.t k.here).host host k.its)
@@ -96,7 +101,8 @@ module _ (f : NamedTrees) (hosts : List ShadowHost) (trees : List Tree) (are : A
 
 -- ---- by names
 
-module _ (f : NamedTrees) (hosts : List ShadowHost) (distinct : AreDistinct f.names) (trees : List Tree) (nested : AreNested trees) (are : AreTrees f hosts trees)
+module _ (f : NamedTrees) (hosts : List ShadowHost) (distinct : AreDistinct f.names) (trees : List Tree) (nested : AreNested trees)
+    (are : AreTrees f hosts trees)
     (depth : ℕ) (hosted : IsHosted f hosts depth) where
   abbrev name : ℕ → NodeName
   name k = name_at f.names k
@@ -121,11 +127,13 @@ module _ (f : NamedTrees) (hosts : List ShadowHost) (distinct : AreDistinct f.na
           record { t = t; at = e; root = root; above = (are.each depth hosted place t e).host ∙ ap (host_named f.names hosts) root }
 
   -- the tree around it is its host's
-  around : (place : ℕ) (x : NodeName) (h : Here place x) → (host : ℕ) → h.t.host ≡ Some host → (host_above_at s x ≡ Some (name host)) × IsTreeOf f trees h.t.outer (name host)
+  around : (place : ℕ) (x : NodeName) (h : Here place x) → (host : ℕ) → h.t.host ≡ Some host → (host_above_at s x ≡ Some (name host)) ×
+      IsTreeOf f trees h.t.outer (name host)
   around place x h host e = (sym h.above ∙ ap (option_map name) e, (are.each depth hosted place h.t h.at).outer host e)
 
   -- the roots around a tree are those of the chain of each of its nodes
-  roots-named : (n d place : ℕ) (x : NodeName) → place < n → EndsWithin s d x → IsTreeOf f trees place x → map name (roots_up trees n place) ≡ map (root_of f.trees) (chain_at s d x)
+  roots-named : (n d place : ℕ) (x : NodeName) → place < n → EndsWithin s d x → IsTreeOf f trees place x →
+      map name (roots_up trees n place) ≡ map (root_of f.trees) (chain_at s d x)
   roots-named zero d place x h ends is = absurd (omega arith)
   roots-named (suc n) d place x h ends is =
       let k = here place x is in
@@ -133,11 +141,14 @@ module _ (f : NamedTrees) (hosts : List ShadowHost) (distinct : AreDistinct f.na
       ∙ by k d ends (λ d' outer host below ends' is'. roots-named n d' outer host (omega (arith, below, h)) ends' is') k.t.host refl
     where
       by : (k : Here place x) (d : ℕ) → EndsWithin s d x
-          → ((d' outer : ℕ) (host : NodeName) → outer < place → EndsWithin s d' host → IsTreeOf f trees outer host → map name (roots_up trees n outer) ≡ map (root_of f.trees) (chain_at s d' host))
-          → (o : Option ℕ) → k.t.host ≡ o → name k.t.root ∷ map name (if is_some k.t.host then roots_up trees n k.t.outer else []) ≡ map (root_of f.trees) (chain_at s d x)
+          → ((d' outer : ℕ) (host : NodeName) → outer < place → EndsWithin s d' host → IsTreeOf f trees outer host →
+          map name (roots_up trees n outer) ≡ map (root_of f.trees) (chain_at s d' host))
+          → (o : Option ℕ) → k.t.host ≡ o →
+          name k.t.root ∷ map name (if is_some k.t.host then roots_up trees n k.t.outer else []) ≡ map (root_of f.trees) (chain_at s d x)
       by k d ends again None e =
           let alone = chain-alone s d x (sym k.above ∙ ap (option_map name) e) in
-          ap (λ o. name k.t.root ∷ map name (if is_some o then roots_up trees n k.t.outer else [])) e ∙ ap (λ r. r ∷ []) k.root ∙ sym (ap (map (root_of f.trees)) alone)
+          ap (λ o. name k.t.root ∷ map name (if is_some o then roots_up trees n k.t.outer else [])) e ∙ ap (λ r. r ∷ []) k.root ∙
+          sym (ap (map (root_of f.trees)) alone)
       by k zero ends again (Some host) e = let up = (around place x k host e).0 in let both : None ≡ Some (name host) = sym ends ∙ up in cc
       by k (suc d) ends again (Some host) e =
           let up = around place x k host e in
@@ -157,11 +168,13 @@ module _ (f : NamedTrees) (hosts : List ShadowHost) (distinct : AreDistinct f.na
 
     -- the host by which it is hidden
     hiding-picked : (place : ℕ) (a : NodeName) → IsTreeOf f trees place a
-        → option_map name (hiding_host trees viewer place) ≡ (if is_in name_eq (root_of f.trees a) (map (root_of f.trees) (chain_at s depth x)) then None else host_above_at s a)
+        → option_map name (hiding_host trees viewer place) ≡
+        (if is_in name_eq (root_of f.trees a) (map (root_of f.trees) (chain_at s depth x)) then None else host_above_at s a)
     hiding-picked place a is =
         let k = here place a is in
         let b = is_in nat_eq k.t.root (roots_around trees viewer) in
-        ap (option_map name) (hiding-is trees viewer place k.t b k.at refl) ∙ pick-named f.names k.t.host b ∙ (λ j. if around-test place a k j then None else k.above j)
+        ap (option_map name) (hiding-is trees viewer place k.t b k.at refl) ∙ pick-named f.names k.t.host b ∙
+        (λ j. if around-test place a k j then None else k.above j)
 
     -- whether it is hidden
     pub hidden-named : (place : ℕ) (a : NodeName) → IsTreeOf f trees place a → is_some (hiding_host trees viewer place) ≡ is_hidden_at s depth x a
@@ -174,19 +187,22 @@ module _ (f : NamedTrees) (hosts : List ShadowHost) (distinct : AreDistinct f.na
         → name (seen_up trees n viewer node place) ≡ unwrap_or (find (λ y. not (is_hidden_at s depth x y)) (chain_at s d a)) other
     seen-up_named zero d node place a other h same ends is = absurd (omega arith)
     seen-up_named (suc n) d node place a other h same ends is =
-        by d ends (λ d' host outer below ends' is'. seen-up_named n d' host outer (name host) other (omega (arith, below, h)) refl ends' is') (hiding_host trees viewer place) refl
+        by d ends (λ d' host outer below ends' is'. seen-up_named n d' host outer (name host) other (omega (arith, below, h)) refl ends' is')
+        (hiding_host trees viewer place) refl
       where
         by : (d : ℕ) → EndsWithin s d a
             → ((d' host outer : ℕ) → outer < place → EndsWithin s d' (name host) → IsTreeOf f trees outer (name host)
             → name (seen_up trees n viewer host outer) ≡ unwrap_or (find (λ y. not (is_hidden_at s depth x y)) (chain_at s d' (name host))) other)
             → (o : Option ℕ) → hiding_host trees viewer place ≡ o
-            → name (option_map_or (λ host. seen_up trees n viewer host (outer_of trees place)) o node) ≡ unwrap_or (find (λ y. not (is_hidden_at s depth x y)) (chain_at s d a)) other
+            → name (option_map_or (λ host. seen_up trees n viewer host (outer_of trees place)) o node) ≡ unwrap_or
+            (find (λ y. not (is_hidden_at s depth x y)) (chain_at s d a)) other
         by d ends again None e =
             let first = chain-first s d a in
             let shown : is_hidden_at s depth x a ≡ false = sym (hidden-named place a is) ∙ ap is_some e in
             same
             ∙ sym (ap (λ ys. unwrap_or (find (λ y. not (is_hidden_at s depth x y)) ys) other) first.1
-            ∙ ap (λ o. unwrap_or o other) (cond-true (not (is_hidden_at s depth x a)) (Some a) (find (λ y. not (is_hidden_at s depth x y)) first.0) (ap not shown)))
+            ∙ ap (λ o. unwrap_or o other)
+            (cond-true (not (is_hidden_at s depth x a)) (Some a) (find (λ y. not (is_hidden_at s depth x y)) first.0) (ap not shown)))
         by zero ends again (Some host) e =
             let k = here place a is in
             let hid = hides trees nested viewer place host e in
@@ -202,9 +218,12 @@ module _ (f : NamedTrees) (hosts : List ShadowHost) (distinct : AreDistinct f.na
             let up = around place a k host its in
             let outer = outer-is trees place k.t k.at in
             let hidden : is_hidden_at s depth x a ≡ true = sym (hidden-named place a is) ∙ ap is_some e in
-            again d host (outer_of trees place) (outer-below trees nested viewer place host e) (ends (name host) up.0) (subst (λ p. IsTreeOf f trees p (name host)) (sym outer) up.1)
+            again d host (outer_of trees place) (outer-below trees nested viewer place host e) (ends (name host) up.0)
+            (subst (λ p. IsTreeOf f trees p (name host)) (sym outer) up.1)
             ∙ sym (ap (λ ys. unwrap_or (find (λ y. not (is_hidden_at s depth x y)) ys) other) (chain-host s d a (name host) up.0)
-            ∙ ap (λ o. unwrap_or o other) (cond-false (not (is_hidden_at s depth x a)) (Some a) (find (λ y. not (is_hidden_at s depth x y)) (chain_at s d (name host))) (ap not hidden)))
+            ∙ ap (λ o. unwrap_or o other)
+            (cond-false (not (is_hidden_at s depth x a)) (Some a) (find (λ y. not (is_hidden_at s depth x y)) (chain_at s d (name host)))
+            (ap not hidden)))
 
     pub seen-named : (node place : ℕ) → IsTreeOf f trees place (name node) → name (seen_from trees viewer node place) ≡ seen_at s depth x (name node)
     seen-named node place is = seen-up_named (suc place) depth node place (name node) (name node) (omega arith) refl (hosted.nested (name node)) is

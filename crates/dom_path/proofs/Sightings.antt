@@ -1,6 +1,7 @@
 -- What is read of trees with hosts is what is read of a world that has just these: roots, chains of hosts, event parents, and what is
 -- hidden. So the trees with hosts of such a world are as a path asks.
-use Rattle.std.proofs.Common.{◌≡◌, inl, inr, ℕ, zero, suc, ◌≤◌, Bool, true, false, ◌&&◌, ◌||◌, not, List, ◌∷◌, map, find, Option, Some, None, unwrap_or, refl, sym, ap, ◌∙◌, arith}
+use Rattle.std.proofs.Common.{◌≡◌, inl, inr, ℕ, zero, suc, ◌≤◌, Bool, true, false, ◌&&◌, ◌||◌, not, List, ◌∷◌, map, find, Option, Some, None}
+use Rattle.std.proofs.Common.{unwrap_or, refl, sym, ap, ◌∙◌, arith}
 use Rattle.std.specs.Prelude.{if◌then◌else◌, is_some, option_map, option_to_list, IsTrue}
 use Rattle.std.specs.Option.{option_and_then, option_or}
 use Rattle.std.proofs.lemmas.Bool.{cases_Bool, both_ways}
@@ -10,7 +11,8 @@ use Rattle.dom_model.specs.Names.{name_eq, is_in, owner_depth, max_depth}
 use Rattle.dom_model.specs.Paths.{is_node, is_hidden_from, retarget, retarget_related, event_parent}
 use Rattle.dom_model.specs.Slots.{slot_of, is_assigned_to}
 use Rattle.dom_model.specs.Tree.{Trees, Node, is_shadow, has_node, node_in, parent_of, root_of}
-use Rattle.dom_model.specs.World.{World, part_of, component_at, shadow_root_of, some_if, host_above, host_chain, hosts_from, kind_at, node_at, parent_at, root_at}
+use Rattle.dom_model.specs.World.{World, part_of, component_at, shadow_root_of, some_if, host_above, host_chain, hosts_from, kind_at, node_at}
+use Rattle.dom_model.specs.World.{parent_at, root_at}
 use Rattle.dom_model.proofs.OwnerLaws.{depth-maker}
 use Rattle.dom_isolation.specs.Tables.{IsNodeAt}
 use Rattle.dom_isolation.proofs.Chains.{above-host, below-host, hosts-alone, chain-below, hidden-by_chain}
@@ -95,7 +97,8 @@ module _ (f : NamedTrees) (hosts : List ShadowHost) (w : World) (is : IsWorldOf 
       by (Some host) e = let deeper = (below-host w is.reached.world x host e).deeper in absurd (omega (arith, h, deeper))
   chain-from (suc depth) x h = by (λ y g. chain-from depth y g) (host_above w x) refl
     where
-      by : ((y : NodeName) → owner_depth y.owner ≤ depth → host_chain w y ≡ chain_at s depth y) → (o : Option NodeName) → host_above w x ≡ o → host_chain w x ≡ chain_at s (suc depth) x
+      by : ((y : NodeName) → owner_depth y.owner ≤ depth → host_chain w y ≡ chain_at s depth y) → (o : Option NodeName) → host_above w x ≡ o →
+          host_chain w x ≡ chain_at s (suc depth) x
       by again None e = hosts-alone (owner_depth x.owner) w x e ∙ sym (chain-alone s (suc depth) x (sym (host-is x) ∙ e))
       by again (Some host) e =
           let below = below-host w is.reached.world x host e in
@@ -116,7 +119,8 @@ module _ (f : NamedTrees) (hosts : List ShadowHost) (w : World) (is : IsWorldOf 
       by : (o : Option NodeName) → host_above w x ≡ o → host_above_at s x ≡ None
       by None e = sym (host-is x) ∙ e
       by (Some host) e = let deeper = (below-host w is.reached.world x host e).deeper in absurd (omega (arith, h, deeper))
-  ends-from (suc depth) x h = λ host e. let deeper = (below-host w is.reached.world x host (host-is x ∙ e)).deeper in ends-from depth host (omega (arith, h, deeper))
+  ends-from (suc depth) x h = λ host e. let deeper =
+      (below-host w is.reached.world x host (host-is x ∙ e)).deeper in ends-from depth host (omega (arith, h, deeper))
 
   ends-is : (x : NodeName) → EndsWithin s max_depth x
   ends-is x = by (host_above w x) refl
@@ -141,7 +145,8 @@ module _ (f : NamedTrees) (hosts : List ShadowHost) (w : World) (is : IsWorldOf 
   roots-is root h = elim (cases_Bool (name_eq root (shadow_root_of root.owner))) [
     | inl e ↦
         let same = name_eq-true root (shadow_root_of root.owner) e in
-        let there : is_some (Rattle.dom_model.specs.World.host_of w root.owner) ≡ true = ap is_some (sym (shown.hosts root.owner)) ∙ ap (λ r. is_some (host_named f.names hosts r)) (sym same) ∙ h in
+        let there : is_some (Rattle.dom_model.specs.World.host_of w root.owner) ≡ true =
+        ap is_some (sym (shown.hosts root.owner)) ∙ ap (λ r. is_some (host_named f.names hosts r)) (sym same) ∙ h in
         sym (parent-is root) ∙ ap (parent_at w) same ∙ (shadow_roots-are_roots false w is.reached root.owner there).2
     | inr e ↦
         let none : host_named f.names hosts root ≡ None = shown.only root (λ same. both_ways _ e (name_eq-from root (shadow_root_of root.owner) same)) in
@@ -170,11 +175,13 @@ module _ (f : NamedTrees) (hosts : List ShadowHost) (w : World) (is : IsWorldOf 
   related-is (Some a) x = ap Some (seen-is a x)
 
   -- where a path ends
-  pub ends_at-is : (target : NodeName) (related : Option NodeName) (x : NodeName) → Rattle.dom_model.specs.Paths.ends_at w target related x ≡ ends_at s max_depth target related x
+  pub ends_at-is : (target : NodeName) (related : Option NodeName) (x : NodeName) →
+      Rattle.dom_model.specs.Paths.ends_at w target related x ≡ ends_at s max_depth target related x
   ends_at-is target related x = λ j. not (name_eq x target) && (name_eq x (seen-is target x j) && is_node x (related-is related x j))
 
   -- and whether there is one
-  pub empty-is : (target : NodeName) (related : Option NodeName) → (is_node target (retarget_related w related target) && not (is_node target related)) ≡ is_empty_at s max_depth target related
+  pub empty-is : (target : NodeName) (related : Option NodeName) →
+      (is_node target (retarget_related w related target) && not (is_node target related)) ≡ is_empty_at s max_depth target related
   empty-is target related = ap (λ o. is_node target o && not (is_node target related)) (related-is related target)
 
   -- the slot that was entered
@@ -193,10 +200,14 @@ module _ (f : NamedTrees) (hosts : List ShadowHost) (w : World) (is : IsWorldOf 
     where
       from : (b : Bool) → is_shadow (kind_at w x) ≡ b → event_parent w composed first x ≡ event_parent_at s composed (root_of f.trees first) x
       from true e =
-          ap (λ (b : Bool). if b then (if composed || not (name_eq x (root_at w first)) then Rattle.dom_model.specs.World.host_of w x.owner else None) else option_or (slot_of w x) (parent_at w x)) e
+          ap (λ (b : Bool). if b then (if composed || not (name_eq x (root_at w first)) then Rattle.dom_model.specs.World.host_of w x.owner else
+          None) else option_or (slot_of w x) (parent_at w x)) e
           ∙ (λ j. if composed || not (name_eq x (root-is first j)) then shadow-host composed first x e j else None)
-          ∙ sym (ap (λ (b : Bool). if b then (if composed || not (name_eq x (root_of f.trees first)) then s.host_of x else None) else option_or (slot_at s x) (parent_of f.trees x)) (sym (kind-is x) ∙ e))
+          ∙ sym (ap (λ (b : Bool). if b then (if composed || not (name_eq x (root_of f.trees first)) then s.host_of x else None) else option_or
+          (slot_at s x) (parent_of f.trees x)) (sym (kind-is x) ∙ e))
       from false e =
-          ap (λ (b : Bool). if b then (if composed || not (name_eq x (root_at w first)) then Rattle.dom_model.specs.World.host_of w x.owner else None) else option_or (slot_of w x) (parent_at w x)) e
+          ap (λ (b : Bool). if b then (if composed || not (name_eq x (root_at w first)) then Rattle.dom_model.specs.World.host_of w x.owner else
+          None) else option_or (slot_of w x) (parent_at w x)) e
           ∙ (λ j. option_or (slot-shown s w shown x j) (parent-is x j))
-          ∙ sym (ap (λ (b : Bool). if b then (if composed || not (name_eq x (root_of f.trees first)) then s.host_of x else None) else option_or (slot_at s x) (parent_of f.trees x)) (sym (kind-is x) ∙ e))
+          ∙ sym (ap (λ (b : Bool). if b then (if composed || not (name_eq x (root_of f.trees first)) then s.host_of x else None) else option_or
+          (slot_at s x) (parent_of f.trees x)) (sym (kind-is x) ∙ e))

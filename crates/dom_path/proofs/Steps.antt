@@ -25,7 +25,8 @@ found-in : (q : Node → Bool) (ns : List Node) (y : NodeName) → option_map (�
 found-in q [] y e = cc
 found-in q (n ∷ ns) y e = by (q n) (λ k. found-in q ns y k) e
   where
-    by : (b : Bool) → (option_map (λ (m : Node). m.name) (find q ns) ≡ Some y → In y (names_of ns)) → option_map (λ (m : Node). m.name) (if b then Some n else find q ns) ≡ Some y → In y (names_of (n ∷ ns))
+    by : (b : Bool) → (option_map (λ (m : Node). m.name) (find q ns) ≡ Some y → In y (names_of ns)) →
+        option_map (λ (m : Node). m.name) (if b then Some n else find q ns) ≡ Some y → In y (names_of (n ∷ ns))
     by true again k = inl (let same : n.name ≡ y = cc in sym same)
     by false again k = inr (again k)
 
@@ -41,7 +42,8 @@ module _ (f : NamedTrees) (hosts : List ShadowHost) (once : Once f.trees) where
   name k = name_at f.names k
 
   -- the host of a shadow root stands in the tree around
-  pub tree-outside : (trees : List Tree) (x : Stand) (t : Tree) (host : ℕ) → AreTrees f hosts trees → IsStand f hosts trees x → Has f.trees (name x.node) → slice_get trees x.tree ≡ Some t
+  pub tree-outside : (trees : List Tree) (x : Stand) (t : Tree) (host : ℕ) → AreTrees f hosts trees → IsStand f hosts trees x →
+      Has f.trees (name x.node) → slice_get trees x.tree ≡ Some t
       → host_named f.names hosts (name x.node) ≡ Some (name host) → (depth : ℕ) → IsHosted f hosts depth → IsTreeOf f trees t.outer (name host)
   tree-outside trees x t host are stands has at is depth hosted = by t.host refl
     where
@@ -52,7 +54,9 @@ module _ (f : NamedTrees) (hosts : List ShadowHost) (once : Once f.trees) where
       its = are.each depth hosted x.tree t at
 
       root : name t.root ≡ name x.node
-      root = let both : Some (name t.root) ≡ Some (root_of f.trees (name x.node)) = ap (option_map (λ (t : Tree). name t.root)) (sym at) ∙ stands.tree depth hosted in let same : name t.root ≡ root_of f.trees (name x.node) = cc in same ∙ alone
+      root = let both : Some (name t.root) ≡ Some (root_of f.trees (name x.node)) =
+          ap (option_map (λ (t : Tree). name t.root)) (sym at) ∙ stands.tree depth hosted in let same : name t.root ≡ root_of f.trees
+          (name x.node) = cc in same ∙ alone
 
       above : option_map name t.host ≡ Some (name host)
       above = its.host ∙ ap (host_named f.names hosts) root ∙ is
@@ -65,11 +69,13 @@ module _ (f : NamedTrees) (hosts : List ShadowHost) (once : Once f.trees) where
           subst (λ y. IsTreeOf f trees t.outer y) same (its.outer k e)
 
   -- a parent stands in the node's tree
-  pub tree-parent : (trees : List Tree) (place : ℕ) (x p : NodeName) → Has f.trees x → parent_of f.trees x ≡ Some p → IsTreeOf f trees place x → IsTreeOf f trees place p
+  pub tree-parent : (trees : List Tree) (place : ℕ) (x p : NodeName) → Has f.trees x → parent_of f.trees x ≡ Some p → IsTreeOf f trees place x →
+      IsTreeOf f trees place p
   tree-parent trees place x p has up is = is ∙ ap Some (root-parent f.trees once x p has up)
 
   -- a slot stands in the tree of its shadow root
-  pub slot-root : (x p r y : NodeName) → parent_of f.trees x ≡ Some p → root_named f.names hosts p ≡ Some r → Has f.trees r → slot_at (shadows f hosts) x ≡ Some y → (depth : ℕ) → IsHosted f hosts depth
+  pub slot-root : (x p r y : NodeName) → parent_of f.trees x ≡ Some p → root_named f.names hosts p ≡ Some r → Has f.trees r →
+      slot_at (shadows f hosts) x ≡ Some y → (depth : ℕ) → IsHosted f hosts depth
       → r ≡ root_of f.trees y
   slot-root x p r y up at has is depth hosted =
       let found : slot_in (subtree f.trees r) (node_in f.trees x) ≡ Some y =
@@ -79,7 +85,8 @@ module _ (f : NamedTrees) (hosts : List ShadowHost) (once : Once f.trees) where
       sym (root-below f.trees once r y has (slot-has (subtree f.trees r) (node_in f.trees x) y found) ∙ alone)
 
   -- so its tree may be added behind that of the host
-  pub tree-entered : (trees : List Tree) (place root host : ℕ) → root_named f.names hosts (name host) ≡ Some (name root) → ((depth : ℕ) → IsHosted f hosts depth → IsTreeOf f trees place (name host))
+  pub tree-entered : (trees : List Tree) (place root host : ℕ) → root_named f.names hosts (name host) ≡ Some (name root) →
+      ((depth : ℕ) → IsHosted f hosts depth → IsTreeOf f trees place (name host))
       → (depth : ℕ) → IsHosted f hosts depth → IsTree f hosts trees (record { root = root; host = Some host; outer = place })
   tree-entered trees place root host at is depth hosted = record {
     host = sym (hosted.theirs (name host) (name root) at);
@@ -88,7 +95,8 @@ module _ (f : NamedTrees) (hosts : List ShadowHost) (once : Once f.trees) where
 
 -- ---- the event parent
 
-module _ (f : NamedTrees) (hosts : List ShadowHost) (distinct : AreDistinct f.names) (composed : Bool) (top : ℕ) (trees : List Tree) (x : Stand) (place : IsStand f hosts trees x)
+module _ (f : NamedTrees) (hosts : List ShadowHost) (distinct : AreDistinct f.names) (composed : Bool) (top : ℕ) (trees : List Tree) (x : Stand)
+    (place : IsStand f hosts trees x)
     (top_node : top < length f.names) where
   abbrev named : NodeName
   named = name_at f.names x.node
@@ -106,7 +114,8 @@ module _ (f : NamedTrees) (hosts : List ShadowHost) (distinct : AreDistinct f.na
   -- of a shadow root
   at-shadow : x.is_shadow_root ≡ true → up ≡ (if composed || not (nat_eq x.node top) then host_named f.names hosts named else None)
   at-shadow e =
-      ap (λ b. if b then (if composed || not (name_eq named (name_at f.names top)) then host_named f.names hosts named else None) else inside) (sym place.shadow ∙ e)
+      ap (λ b. if b then (if composed || not (name_eq named (name_at f.names top)) then host_named f.names hosts named else None) else inside)
+      (sym place.shadow ∙ e)
       ∙ ap (λ b. if b then host_named f.names hosts named else None) (sym opens)
 
   -- its host
@@ -119,4 +128,5 @@ module _ (f : NamedTrees) (hosts : List ShadowHost) (distinct : AreDistinct f.na
 
   -- of another node
   pub up-plain : x.is_shadow_root ≡ false → inside ≡ up
-  up-plain e = sym (ap (λ b. if b then (if composed || not (name_eq named (name_at f.names top)) then host_named f.names hosts named else None) else inside) (sym place.shadow ∙ e))
+  up-plain e = sym (ap (λ b. if b then (if composed || not (name_eq named (name_at f.names top)) then host_named f.names hosts named else None)
+      else inside) (sym place.shadow ∙ e))

@@ -40,7 +40,11 @@ module _ (f : NamedTrees) (hosts : List ShadowHost) (t : NodeName) (r : Option N
     at_target = h.at_target;
     shadow = h.shadow;
     shown = λ depth hosted. let k = h.shown depth hosted in
-        record { in_tree = tree-kept f hosts trees new i.tree (name_at f.names i.node) g k.in_tree; target_seen = k.target_seen; related_seen = k.related_seen };
+        record {
+          in_tree = tree-kept f hosts trees new i.tree (name_at f.names i.node) g k.in_tree;
+          target_seen = k.target_seen;
+          related_seen = k.related_seen;
+        };
   }
 
   module _ (composed : Bool) where
@@ -57,7 +61,8 @@ module _ (f : NamedTrees) (hosts : List ShadowHost) (t : NodeName) (r : Option N
       pub way : (depth : ℕ) → IsHosted f hosts depth → (rest : List Item) → Comes depth next rest → IsWay f hosts t r depth composed (items ++ rest)
 
     -- as it begins
-    pub track-first : (trees : List Tree) (items : List Item) (x : Stand) → items ≡ [] → IsStand f hosts trees x → name_at f.names x.node ≡ t → x.is_entered ≡ false → IsTrack trees items (Some x)
+    pub track-first : (trees : List Tree) (items : List Item) (x : Stand) → items ≡ [] → IsStand f hosts trees x → name_at f.names x.node ≡ t →
+        x.is_entered ≡ false → IsTrack trees items (Some x)
     track-first trees items x e place named off = subst (λ is. IsTrack trees is (Some x)) (sym e) (record {
       place = λ y h. subst (IsStand f hosts trees) (let same : x ≡ y = cc in same) place;
       each = tt;
@@ -69,10 +74,12 @@ module _ (f : NamedTrees) (hosts : List ShadowHost) (t : NodeName) (r : Option N
         begins depth (i ∷ rest) h = (ap (name_at f.names) h.0 ∙ named, h.1 ∙ off, h.2)
 
     -- one item more, among more trees
-    pub track-more : (trees new : List Tree) (items : List Item) (x : Stand) (i : Item) (more : List Item) (next : Option Stand) → IsTrack trees items (Some x) → Grows trees new
+    pub track-more : (trees new : List Tree) (items : List Item) (x : Stand) (i : Item) (more : List Item) (next : Option Stand) →
+        IsTrack trees items (Some x) → Grows trees new
         → more ≡ items ++ i ∷ [] → IsItemOf f hosts t r trees i → i.node ≡ x.node → i.slot_in_closed ≡ x.is_entered
         → ForSome next (IsStand f hosts new)
-        → ((depth : ℕ) → IsHosted f hosts depth → option_map (λ (y : Stand). name_at f.names y.node) next ≡ next_name f hosts t r depth composed (name_at f.names x.node))
+        → ((depth : ℕ) → IsHosted f hosts depth →
+        option_map (λ (y : Stand). name_at f.names y.node) next ≡ next_name f hosts t r depth composed (name_at f.names x.node))
         → ForSome next (λ y. y.is_entered ≡ is_assigned_at (shadows f hosts) (name_at f.names y.node) (name_at f.names x.node))
         → IsTrack new more next
     track-more trees new items x i more next track g e item node entered place value behind = subst (λ is. IsTrack new is next) (sym e) (record {
@@ -86,10 +93,12 @@ module _ (f : NamedTrees) (hosts : List ShadowHost) (t : NodeName) (r : Option N
         at : name_at f.names x.node ≡ name_at f.names i.node
         at = ap (name_at f.names) (sym node)
 
-        goes : (depth : ℕ) (next : Option Stand) → option_map (λ (y : Stand). name_at f.names y.node) next ≡ next_name f hosts t r depth composed (name_at f.names x.node)
+        goes : (depth : ℕ) (next : Option Stand) →
+            option_map (λ (y : Stand). name_at f.names y.node) next ≡ next_name f hosts t r depth composed (name_at f.names x.node)
             → ForSome next (λ y. y.is_entered ≡ is_assigned_at (shadows f hosts) (name_at f.names y.node) (name_at f.names x.node))
             → (rest : List Item) → Comes depth next rest → GoesOn f hosts t r depth composed (name_at f.names i.node) rest
-        goes depth None v en rest h = subst (λ z. GoesOn f hosts t r depth composed z rest) at (subst (GoesOn f hosts t r depth composed (name_at f.names x.node)) (sym h) (sym v))
+        goes depth None v en rest h = subst (λ z. GoesOn f hosts t r depth composed z rest) at
+            (subst (GoesOn f hosts t r depth composed (name_at f.names x.node)) (sym h) (sym v))
         goes depth (Some y) v en [] h = absurd h
         goes depth (Some y) v en (j ∷ rest) h =
             let same : name_at f.names y.node ≡ name_at f.names j.node = ap (name_at f.names) (sym h.0) in
@@ -97,12 +106,14 @@ module _ (f : NamedTrees) (hosts : List ShadowHost) (t : NodeName) (r : Option N
             (sym v ∙ ap Some same, h.1 ∙ en y refl ∙ ap (λ z. is_assigned_at (shadows f hosts) z (name_at f.names x.node)) same, h.2)
 
     -- as it ends
-    pub track-last : (trees : List Tree) (items : List Item) (next : Option Stand) → next ≡ None → IsTrack trees items next → (depth : ℕ) → IsHosted f hosts depth → IsWay f hosts t r depth composed items
+    pub track-last : (trees : List Tree) (items : List Item) (next : Option Stand) → next ≡ None → IsTrack trees items next → (depth : ℕ) →
+        IsHosted f hosts depth → IsWay f hosts t r depth composed items
     track-last trees items next e track depth hosted =
         subst (IsWay f hosts t r depth composed) (append-nil items) (track.way depth hosted [] (subst (λ n. Comes depth n []) (sym e) refl))
 
 -- an event's places stay among more trees
-pub event-kept : (f : NamedTrees) (hosts : List ShadowHost) (trees new : List Tree) (target : Stand) (related : Option Stand) → Grows trees new → IsEvent f hosts trees target related → IsEvent f hosts new target related
+pub event-kept : (f : NamedTrees) (hosts : List ShadowHost) (trees new : List Tree) (target : Stand) (related : Option Stand) → Grows trees new →
+    IsEvent f hosts trees target related → IsEvent f hosts new target related
 event-kept f hosts trees new target related g h = record {
   at_target = stand-kept f hosts trees new target g h.at_target;
   at_related = λ x e. stand-kept f hosts trees new x g (h.at_related x e);
@@ -110,7 +121,8 @@ event-kept f hosts trees new target related g h = record {
 }
 
 -- An event on its way: the items so far, and the trees.
-pub record IsOnWay (f : NamedTrees) (hosts : List ShadowHost) (target : Stand) (related : Option Stand) (composed : Bool) (trees : List Tree) (items : List Item) (next : Option Stand) : Type 0 where
+pub record IsOnWay (f : NamedTrees) (hosts : List ShadowHost) (target : Stand) (related : Option Stand) (composed : Bool) (trees : List Tree)
+    (items : List Item) (next : Option Stand) : Type 0 where
   pub track : IsTrack f hosts (name_at f.names target.node) (related_name f.names related) composed trees items next
   pub are : AreTrees f hosts trees
   pub event : IsEvent f hosts trees target related

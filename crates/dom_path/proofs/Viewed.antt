@@ -34,7 +34,8 @@ module _ (f : NamedTrees) (hosts : List ShadowHost) (distinct : AreDistinct f.na
   module _ (depth : ℕ) (hosted : IsHosted f hosts depth) where
     -- by names
     of-named : (a x : Stand) → IsStand f hosts trees a → IsStand f hosts trees x → name (seen_of trees x.tree a) ≡ seen_at s depth (name x.node) (name a.node)
-    of-named a x h g = seen-named f hosts distinct trees are.nested are depth hosted x.tree (name x.node) (g.tree depth hosted) a.node a.tree (h.tree depth hosted)
+    of-named a x h g = seen-named f hosts distinct trees are.nested are depth hosted x.tree (name x.node) (g.tree depth hosted) a.node a.tree
+        (h.tree depth hosted)
 
     related-named : (r : Option Stand) (x : Stand) → ForSome r (IsStand f hosts trees) → IsStand f hosts trees x
         → option_map (name_at f.names) (related_from trees x.tree r) ≡ related_at s depth (name x.node) (related_name f.names r)
@@ -46,7 +47,8 @@ module _ (f : NamedTrees) (hosts : List ShadowHost) (distinct : AreDistinct f.na
         → ends_before trees t r x ≡ ends_at s depth (name t.node) (related_name f.names r) (name x.node)
     ends-named t r x ht hr hx =
         let test_node = key-test f.names distinct x.node t.node hx.node ht.node in
-        let test_seen = key-test f.names distinct x.node (seen_of trees x.tree t) hx.node (of-node x.tree t ht) ∙ ap (name_eq (name x.node)) (of-named t x ht hx) in
+        let test_seen = key-test f.names distinct x.node (seen_of trees x.tree t) hx.node (of-node x.tree t ht) ∙
+        ap (name_eq (name x.node)) (of-named t x ht hx) in
         let test_related = found-test f.names distinct (related_from trees x.tree r) x.node (related-node x.tree r hr) hx.node
         ∙ ap (λ o. is_in name_eq (name x.node) (option_to_list o)) (related-named r x hr hx) in
         λ j. not (test_node j) && (test_seen j && test_related j)
@@ -59,7 +61,8 @@ module _ (f : NamedTrees) (hosts : List ShadowHost) (distinct : AreDistinct f.na
         ∙ ap (λ o. is_in name_eq (name t.node) (option_to_list o)) (related-named r t hr ht) in
         λ j. test_related j && not (is_related r hr j)
       where
-        is_related : (r : Option Stand) → ForSome r (IsStand f hosts trees) → is_key (option_map (λ (a : Stand). a.node) r) t.node ≡ is_in name_eq (name t.node) (option_to_list (related_name f.names r))
+        is_related : (r : Option Stand) → ForSome r (IsStand f hosts trees) →
+            is_key (option_map (λ (a : Stand). a.node) r) t.node ≡ is_in name_eq (name t.node) (option_to_list (related_name f.names r))
         is_related None h = refl
         is_related (Some a) h = found-test f.names distinct (Some a.node) t.node (λ k e. let same : a.node ≡ k = cc in rw (← same) ((h a refl).node)) ht.node
 
@@ -81,6 +84,7 @@ module _ (f : NamedTrees) (hosts : List ShadowHost) (distinct : AreDistinct f.na
   }
 
 -- a related node by its place is that by its key
-pub related-key : (names : List NodeName) (r : Option Stand) (k : Option ℕ) → option_map (λ (a : Stand). a.node) r ≡ k → related_name names r ≡ option_map (name_at names) k
+pub related-key : (names : List NodeName) (r : Option Stand) (k : Option ℕ) → option_map (λ (a : Stand). a.node) r ≡ k →
+    related_name names r ≡ option_map (name_at names) k
 related-key names None k e = ap (option_map (name_at names)) e
 related-key names (Some a) k e = ap (option_map (name_at names)) e

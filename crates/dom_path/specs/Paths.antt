@@ -31,7 +31,12 @@ module _ (s : ShadowTrees) (depth : ℕ) where
 
     -- what it shows at a node of its path (DOM Standard, 2.2: composedPath(); 4.8: retarget)
     abbrev pub view_of : List NodeName → NodeName → View NodeName
-    view_of path x = record { node = x; target = seen_at s depth x target; related = related_at s depth x related; path = filter (λ y. not (is_hidden_at s depth x y)) path }
+    view_of path x = record {
+      node = x;
+      target = seen_at s depth x target;
+      related = related_at s depth x related;
+      path = filter (λ y. not (is_hidden_at s depth x y)) path;
+    }
 
     -- the nodes of a path behind x: each is the event parent of the one before, and behind the last the path ends
     abbrev pub GoesUp : Bool → NodeName → List NodeName → Type 0

@@ -1,5 +1,6 @@
 -- The way of an event through trees with shadow hosts, whoever owns the nodes, by the hosts of the roots of trees.
-use Rattle.std.specs.Prelude.{◌≡◌, ℕ, zero, suc, Bool, not, ◌&&◌, ◌||◌, List, [], ◌∷◌, find, flat_map, map, Option, Some, None, option_map, option_to_list, is_some, unwrap_or, if◌then◌else◌}
+use Rattle.std.specs.Prelude.{◌≡◌, ℕ, zero, suc, Bool, not, ◌&&◌, ◌||◌, List, [], ◌∷◌, find, flat_map, map, Option, Some, None, option_map}
+use Rattle.std.specs.Prelude.{option_to_list, is_some, unwrap_or, if◌then◌else◌}
 use Rattle.std.specs.Option.{ForSome, option_or, option_and_then}
 use Rattle.dom_base.specs.declared.NodeName.{NodeName}
 use Rattle.dom_model.specs.Names.{name_eq, is_in}

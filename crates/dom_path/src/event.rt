@@ -45,8 +45,12 @@ pub(crate) fn items_of(
     requires free { slots.now.begun ≡ None }
     requires slots { AreSlotsOf forest.now slots.now }
     ensures trees { OnOk result (AreTrees forest.now slots.now.hosts trees.new) }
-    ensures path { IfOk result (λ items. (depth : ℕ) → IsHosted forest.now slots.now.hosts depth → IsBuilt forest.now slots.now.hosts (name_at forest.now.names target) (option_map (name_at forest.now.names) related) depth composed items.items) }
-    ensures each { IfOk result (λ items. AllByRecursion (IsItemOf forest.now slots.now.hosts (name_at forest.now.names target) (option_map (name_at forest.now.names) related) trees.new) items.items) }
+    ensures path { IfOk result (λ items. (depth : ℕ) → IsHosted forest.now slots.now.hosts depth →
+        IsBuilt forest.now slots.now.hosts (name_at forest.now.names target) (option_map (name_at forest.now.names) related) depth composed
+        items.items) }
+    ensures each { IfOk result (λ items. AllByRecursion
+        (IsItemOf forest.now slots.now.hosts (name_at forest.now.names target) (option_map (name_at forest.now.names) related) trees.new)
+        items.items) }
 {
     forest.nodes_stand_once();
     let target = Stand::of(trees, forest, slots, target)?;
@@ -77,8 +81,12 @@ impl Event {
         requires free { slots.now.begun ≡ None }
         requires slots { AreSlotsOf forest.now slots.now }
         ensures trees { OnOk result (AreTrees forest.now slots.now.hosts trees.new) }
-        ensures way { IfOk result (λ items. (depth : ℕ) → IsHosted forest.now slots.now.hosts depth → IsWay forest.now slots.now.hosts (name_at forest.now.names self.now.target.node) (related_name forest.now.names self.now.related) depth self.now.composed items.items) }
-        ensures each { IfOk result (λ items. AllByRecursion (IsItemOf forest.now slots.now.hosts (name_at forest.now.names self.now.target.node) (related_name forest.now.names self.now.related) trees.new) items.items) }
+        ensures way { IfOk result (λ items. (depth : ℕ) → IsHosted forest.now slots.now.hosts depth →
+            IsWay forest.now slots.now.hosts (name_at forest.now.names self.now.target.node) (related_name forest.now.names self.now.related)
+            depth self.now.composed items.items) }
+        ensures each { IfOk result (λ items. AllByRecursion
+            (IsItemOf forest.now slots.now.hosts (name_at forest.now.names self.now.target.node) (related_name forest.now.names self.now.related)
+            trees.new) items.items) }
     {
         forest.nodes_stand_once();
         let mut items = SmallVec::new(alloc);
@@ -123,8 +131,13 @@ impl Event {
         ensures grown { OnOk result (Grows trees.old trees.new) }
         ensures trees { OnOk result (AreTrees forest.now slots.now.hosts trees.new) }
         ensures stands { IfOk result (λ next. ForSome next (λ x. IsStand forest.now slots.now.hosts trees.new x)) }
-        ensures value { IfOk result (λ next. (depth : ℕ) → IsHosted forest.now slots.now.hosts depth → option_map (λ x. name_at forest.now.names x.node) next ≡ next_at (shadows forest.now slots.now.hosts) depth (name_at forest.now.names self.now.target.node) (related_name forest.now.names self.now.related) self.now.composed (name_at forest.now.names at.now.node)) }
-        ensures entered { IfOk result (λ next. ForSome next (λ x. x.is_entered ≡ is_assigned_at (shadows forest.now slots.now.hosts) (name_at forest.now.names x.node) (name_at forest.now.names at.now.node))) }
+        ensures value { IfOk result (λ next. (depth : ℕ) → IsHosted forest.now slots.now.hosts depth →
+            option_map (λ x. name_at forest.now.names x.node) next ≡ next_at (shadows forest.now slots.now.hosts) depth
+            (name_at forest.now.names self.now.target.node) (related_name forest.now.names self.now.related) self.now.composed
+            (name_at forest.now.names at.now.node)) }
+        ensures entered { IfOk result (λ next. ForSome next
+            (λ x. x.is_entered ≡ is_assigned_at (shadows forest.now slots.now.hosts) (name_at forest.now.names x.node)
+            (name_at forest.now.names at.now.node))) }
     {
         forest.nodes_stand_once();
         let top = trees.at(self.target.tree).root;

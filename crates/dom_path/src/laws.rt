@@ -22,6 +22,9 @@ pub fn hosts_nest()
 /// Holds of every forest whose shadow trees lie in one another: an event at a node has a path, and only one (own rule). So each
 /// is built, where no memory is refused.
 pub fn paths_end()
-    ensures there { (f : NamedTrees) (slots : SlotsNow) (depth : ℕ) → StandsOnce f → AreSlotsOf f slots → IsHosted f slots.hosts depth → (k : ℕ) → k < length f.names → (related : Maybe Name) (composed : Truth) → (nodes : List Name) × IsPath (shadows f slots.hosts) depth (name_at f.names k) related composed nodes }
-    ensures once { (s : ShadowTrees) (depth : ℕ) (target : Name) (related : Maybe Name) (composed : Truth) (xs ys : List Name) → IsPath s depth target related composed xs → IsPath s depth target related composed ys → xs ≡ ys }
+    ensures there { (f : NamedTrees) (slots : SlotsNow) (depth : ℕ) → StandsOnce f → AreSlotsOf f slots → IsHosted f slots.hosts depth → (k : ℕ) →
+        k < length f.names → (related : Maybe Name) (composed : Truth) → (nodes : List Name) ×
+        IsPath (shadows f slots.hosts) depth (name_at f.names k) related composed nodes }
+    ensures once { (s : ShadowTrees) (depth : ℕ) (target : Name) (related : Maybe Name) (composed : Truth) (xs ys : List Name) →
+        IsPath s depth target related composed xs → IsPath s depth target related composed ys → xs ≡ ys }
 {}

@@ -60,9 +60,16 @@ impl Path {
         requires related_is_node { ForSome related (λ k. k < length forest.now.names) }
         requires free { slots.now.begun ≡ None }
         requires slots { AreSlotsOf forest.now slots.now }
-        ensures items { IfOk result (λ p. (w : World) → IsWorldOf forest.now slots.now.hosts w → map (item_named forest.now.names) p.items ≡ path_items w (name_at forest.now.names target) (option_map (name_at forest.now.names) related) composed) }
-        ensures views { IfOk result (λ p. (w : World) → IsWorldOf forest.now slots.now.hosts w → map (view_named forest.now.names) p.views ≡ views w (name_at forest.now.names target) (option_map (name_at forest.now.names) related) composed) }
-        ensures hosted { IfOk result (λ p. (depth : ℕ) → IsHosted forest.now slots.now.hosts depth → IsPathShown (shadows forest.now slots.now.hosts) depth (name_at forest.now.names target) (option_map (name_at forest.now.names) related) composed (map (item_named forest.now.names) p.items) (map (view_named forest.now.names) p.views)) }
+        ensures items { IfOk result (λ p. (w : World) → IsWorldOf forest.now slots.now.hosts w →
+            map (item_named forest.now.names) p.items ≡ path_items w (name_at forest.now.names target)
+            (option_map (name_at forest.now.names) related) composed) }
+        ensures views { IfOk result (λ p. (w : World) → IsWorldOf forest.now slots.now.hosts w →
+            map (view_named forest.now.names) p.views ≡ views w (name_at forest.now.names target) (option_map (name_at forest.now.names) related)
+            composed) }
+        ensures hosted { IfOk result (λ p. (depth : ℕ) → IsHosted forest.now slots.now.hosts depth →
+            IsPathShown (shadows forest.now slots.now.hosts) depth (name_at forest.now.names target)
+            (option_map (name_at forest.now.names) related) composed (map (item_named forest.now.names) p.items)
+            (map (view_named forest.now.names) p.views)) }
         ensures nodes { IfOk result (λ p. AllByRecursion (HasNodes forest.now.names) p.items) }
         ensures shown_nodes { IfOk result (λ p. AllByRecursion (ShowsNodes forest.now.names) p.views) }
     {

@@ -111,8 +111,11 @@ impl Stand {
         ensures grown { OnOk result (Grows trees.old trees.new) }
         ensures trees { OnOk result (AreTrees forest.now slots.now.hosts trees.new) }
         ensures stands { IfOk result (λ next. ForSome next (λ x. IsStand forest.now slots.now.hosts trees.new x)) }
-        ensures value { IfOk result (λ next. option_map (λ x. name_at forest.now.names x.node) next ≡ event_parent_at (shadows forest.now slots.now.hosts) composed (name_at forest.now.names top) (name_at forest.now.names self.now.node)) }
-        ensures entered { IfOk result (λ next. ForSome next (λ x. x.is_entered ≡ is_assigned_at (shadows forest.now slots.now.hosts) (name_at forest.now.names x.node) (name_at forest.now.names self.now.node))) }
+        ensures value { IfOk result (λ next. option_map (λ x. name_at forest.now.names x.node) next ≡ event_parent_at
+            (shadows forest.now slots.now.hosts) composed (name_at forest.now.names top) (name_at forest.now.names self.now.node)) }
+        ensures entered { IfOk result (λ next. ForSome next
+            (λ x. x.is_entered ≡ is_assigned_at (shadows forest.now slots.now.hosts) (name_at forest.now.names x.node)
+            (name_at forest.now.names self.now.node))) }
     {
         forest.nodes_stand_once();
         if self.is_shadow_root {
@@ -130,7 +133,8 @@ impl Stand {
         requires stands { IsStand forest.now slots.now.hosts trees.now self.now }
         requires slots { AreSlotsOf forest.now slots.now }
         ensures stands { ForSome result (λ x. IsStand forest.now slots.now.hosts trees.now x) }
-        ensures value { option_map (λ x. name_at forest.now.names x.node) result ≡ (shadows forest.now slots.now.hosts).host_of (name_at forest.now.names self.now.node) }
+        ensures value { option_map (λ x. name_at forest.now.names x.node) result ≡ (shadows forest.now slots.now.hosts).host_of
+            (name_at forest.now.names self.now.node) }
         ensures entered { ForSome result (λ x. x.is_entered ≡ false) }
     {
         forest.nodes_stand_once();
@@ -154,8 +158,12 @@ impl Stand {
         ensures grown { OnOk result (Grows trees.old trees.new) }
         ensures trees { OnOk result (AreTrees forest.now slots.now.hosts trees.new) }
         ensures stands { IfOk result (λ next. ForSome next (λ x. IsStand forest.now slots.now.hosts trees.new x)) }
-        ensures value { IfOk result (λ next. option_map (λ x. name_at forest.now.names x.node) next ≡ option_or (slot_at (shadows forest.now slots.now.hosts) (name_at forest.now.names self.now.node)) (parent_of forest.now.trees (name_at forest.now.names self.now.node))) }
-        ensures entered { IfOk result (λ next. ForSome next (λ x. x.is_entered ≡ is_assigned_at (shadows forest.now slots.now.hosts) (name_at forest.now.names x.node) (name_at forest.now.names self.now.node))) }
+        ensures value { IfOk result (λ next. option_map (λ x. name_at forest.now.names x.node) next ≡ option_or
+            (slot_at (shadows forest.now slots.now.hosts) (name_at forest.now.names self.now.node))
+            (parent_of forest.now.trees (name_at forest.now.names self.now.node))) }
+        ensures entered { IfOk result (λ next. ForSome next
+            (λ x. x.is_entered ≡ is_assigned_at (shadows forest.now slots.now.hosts) (name_at forest.now.names x.node)
+            (name_at forest.now.names self.now.node))) }
     {
         forest.nodes_stand_once();
         let Some(parent) = forest.parent(self.node) else {
@@ -175,7 +183,8 @@ impl Stand {
         requires parent { Some (name_at forest.now.names parent) ≡ parent_of forest.now.trees (name_at forest.now.names self.now.node) }
         requires free { slots.now.begun ≡ None }
         requires slots { AreSlotsOf forest.now slots.now }
-        ensures value { option_map (λ x. name_at forest.now.names x.slot) result ≡ slot_at (shadows forest.now slots.now.hosts) (name_at forest.now.names self.now.node) }
+        ensures value { option_map (λ x. name_at forest.now.names x.slot) result ≡ slot_at (shadows forest.now slots.now.hosts)
+            (name_at forest.now.names self.now.node) }
         ensures below { ForSome result (λ x. IsSlotBelow forest.now slots.now.hosts parent x) }
     {
         forest.nodes_stand_once();

@@ -11,7 +11,8 @@ use Rattle.dom_text.specs.Text.{node_text, own_parts, opening_text, trees_text, 
 use Rattle.dom_printer.specs.Steps.{shown, shown_as, shown_steps}
 
 -- what stands before the children of a node shown as one of this kind
-opening_text-shown_as : (viewer : Owner) (kind : Kind) (node : Node) → opening_text viewer (shown_as kind node) ≡ codes "(" ++ node_text viewer node.name ++ codes " " ++ kind_word kind ++ own_parts kind node
+opening_text-shown_as : (viewer : Owner) (kind : Kind) (node : Node) →
+    opening_text viewer (shown_as kind node) ≡ codes "(" ++ node_text viewer node.name ++ codes " " ++ kind_word kind ++ own_parts kind node
 opening_text-shown_as viewer kinds.Document node = refl
 opening_text-shown_as viewer kinds.Fragment node = refl
 opening_text-shown_as viewer kinds.Shadow node = refl

@@ -8,7 +8,15 @@ use Rattle.dom_printer.specs.declared.records.Event.{Event}
 
 -- a call of a listener
 abbrev pub event_view : Event → model.EventLine NodeName
-event_view e = record { label = e.label.now; event = e.event.now; phase = e.phase; target = e.target; current = e.current; related = e.related; path = e.path.now }
+event_view e = record {
+  label = e.label.now;
+  event = e.event.now;
+  phase = e.phase;
+  target = e.target;
+  current = e.current;
+  related = e.related;
+  path = e.path.now;
+}
 
 -- a change
 abbrev pub change_view : Change → model.Change NodeName

@@ -50,7 +50,14 @@ steps_view steps = map step_view steps
 
 -- a node with what the text of its tree tells: an element's name and attributes, the data of a Text or a Comment
 abbrev pub shown_as : Kind → model.Node → model.Node
-shown_as kinds.Element node = record { name = node.name; kind = kinds.Element; element = node.element; attributes = node.attributes; text = []; document = None }
+shown_as kinds.Element node = record {
+  name = node.name;
+  kind = kinds.Element;
+  element = node.element;
+  attributes = node.attributes;
+  text = [];
+  document = None;
+}
 shown_as kinds.Text node = record { name = node.name; kind = kinds.Text; element = []; attributes = []; text = node.text; document = None }
 shown_as kinds.Comment node = record { name = node.name; kind = kinds.Comment; element = []; attributes = []; text = node.text; document = None }
 shown_as kind node = record { name = node.name; kind = kind; element = []; attributes = []; text = []; document = None }

@@ -28,9 +28,11 @@ module _ (t : Option Owner) (w : World) where
       ap (λ (hosts : List NodeName). is_document (kind_at w (unwrap_or (last_of (flat_map (ancestors_at w) hosts)) x))) (hosts_turned (owner_depth x.owner) x)
 
 -- a node that a line names, when its turn is open
-pub connected-opened : (w : World) (o : Owner) (s : Spelled) → is_connected w (named (part_of w o) s) ≡ is_connected (opening_turn w o) (named (part_of (opening_turn w o) o) s)
+pub connected-opened : (w : World) (o : Owner) (s : Spelled) →
+    is_connected w (named (part_of w o) s) ≡ is_connected (opening_turn w o) (named (part_of (opening_turn w o) o) s)
 connected-opened w o s = cases w.turn ∙ ap (λ (p : Part). is_connected (opening_turn w o) (named p s)) (opened-part w o)
   where
-    cases : (t : Option Owner) → is_connected w (named (part_of w o) s) ≡ is_connected (if is_some t then w else record w { turn = Some o }) (named (part_of w o) s)
+    cases : (t : Option Owner) → is_connected w (named (part_of w o) s) ≡ is_connected (if is_some t then w else record w { turn = Some o })
+        (named (part_of w o) s)
     cases None = sym (connected-turned (Some o) w (named (part_of w o) s))
     cases (Some x) = refl

@@ -13,14 +13,17 @@ use Rattle.dom_admission.proofs.Finding.{IsKey, numbered}
 
 module _ (names : List NodeName) (w now : World) (o : Owner) (s : Spelled) (key : ℕ) (is : IsKey names w o key s) where
   -- a new iterator
-  pub new_iterator-made : (f g : Filter) (v : Value) → f ≡ g → Makes o (Command.iterator_new (own (name_at names key).number) f) v w now → Makes o (Command.iterator_new s g) v w now
+  pub new_iterator-made : (f g : Filter) (v : Value) → f ≡ g → Makes o (Command.iterator_new (own (name_at names key).number) f) v w now →
+      Makes o (Command.iterator_new s g) v w now
   new_iterator-made f g v same h =
       let p = part_of w o in
-      let begins : NodeName → Filter → Effect = λ x e. keeps (record p { iterators = p.iterators ++ new_iterator x e ∷ [] }) (an_iterator (length p.iterators)) in
+      let begins : NodeName → Filter → Effect =
+      λ x e. keeps (record p { iterators = p.iterators ++ new_iterator x e ∷ [] }) (an_iterator (length p.iterators)) in
       (sym (ap (λ (x : NodeName). begins x f) (numbered p s (name_at names key) is) ∙ ap (begins (named p s)) same) ∙ h.0, h.1)
 
   -- a new walker
-  pub new_walker-made : (f g : Filter) (v : Value) → f ≡ g → Makes o (Command.walker_new (own (name_at names key).number) f) v w now → Makes o (Command.walker_new s g) v w now
+  pub new_walker-made : (f g : Filter) (v : Value) → f ≡ g → Makes o (Command.walker_new (own (name_at names key).number) f) v w now →
+      Makes o (Command.walker_new s g) v w now
   new_walker-made f g v same h =
       let p = part_of w o in
       let begins : NodeName → Filter → Effect = λ x e. keeps (record p { walkers = p.walkers ++ new_walker x e ∷ [] }) (a_walker (length p.walkers)) in

@@ -1,5 +1,6 @@
 -- The rest of the steps at a place of whole trees, and that the next place has the rest but for one step.
-use Rattle.std.proofs.Common.{ℕ, ◌<◌, length, arith, ◌≡◌, inl, inr, ◌≤◌, Bool, true, false, List, [], ◌∷◌, ◌++◌, Option, Some, refl, sym, ap, subst, ◌∙◌, append_assoc, true≢false}
+use Rattle.std.proofs.Common.{ℕ, ◌<◌, length, arith, ◌≡◌, inl, inr, ◌≤◌, Bool, true, false, List, [], ◌∷◌, ◌++◌, Option, Some, refl, sym, ap, subst}
+use Rattle.std.proofs.Common.{◌∙◌, append_assoc, true≢false}
 use Rattle.std.specs.Option.{option_map, option_map_or}
 use Rattle.std.proofs.lemmas.Bool.{cases_Bool, or_left, or_right, or_cases}
 use Rattle.dom_base.specs.declared.NodeName.{NodeName}
@@ -13,7 +14,8 @@ use Rattle.dom_tree.specs.Forest.{name_at}
 use Rattle.dom_query_commands.specs.declared.tree_text.Place.{Place}
 use Rattle.dom_query_commands.specs.declared.tree_text.Place.TheVariants as places
 use Rattle.dom_query_commands.specs.TreeText.{NamedPlace, opening, closing, key_of, place_view, step_at, place_after}
-use Rattle.dom_query_commands.proofs.Spots.{Spot, spot_of, IsSpot, IsChild, closed, times, spot_of-spot, spot_there, child_spot, IsSpot-child, next_spot, IsSpot-next, cases_root, above-root, after-root}
+use Rattle.dom_query_commands.proofs.Spots.{Spot, spot_of, IsSpot, IsChild, closed, times, spot_of-spot, spot_there, child_spot, IsSpot-child}
+use Rattle.dom_query_commands.proofs.Spots.{next_spot, IsSpot-next, cases_root, above-root, after-root}
 use Rattle.dom_query_commands.proofs.Standing.{StandOnce, HaveKeys, times-key, IsUnique-forest}
 use Rattle.dom_query_commands.proofs.SpotReads.{IsUnique, subtree-spot, node_in-spot, ancestors-spot, children-spot, parent-spot, next-child}
 
@@ -63,17 +65,20 @@ rest-spot ts s at once =
     ∙ (ap (λ ys. shown_steps (tree s.node s.below none) ++ ys) (rest_behind-spot ts s at once) ∙ steps-first s.node s.below s.right s.after)
 
 -- a place is in a node's tree where its spot says so
-within-spot : (ts : Trees) (top : NodeName) (s : Spot) → IsSpot ts [] [] s → IsUnique ts → is_in name_eq top (s.node.name ∷ s.above) ≡ true → is_within ts top (opening s.node.name) ≡ true
+within-spot : (ts : Trees) (top : NodeName) (s : Spot) → IsSpot ts [] [] s → IsUnique ts → is_in name_eq top (s.node.name ∷ s.above) ≡ true →
+    is_within ts top (opening s.node.name) ≡ true
 within-spot ts top s at once h = ap (is_in name_eq top) (ancestors-spot ts s at once) ∙ h
 
 -- the other way round
-spot-within : (ts : Trees) (top : NodeName) (s : Spot) → IsSpot ts [] [] s → IsUnique ts → is_within ts top (opening s.node.name) ≡ true → is_in name_eq top (s.node.name ∷ s.above) ≡ true
+spot-within : (ts : Trees) (top : NodeName) (s : Spot) → IsSpot ts [] [] s → IsUnique ts → is_within ts top (opening s.node.name) ≡ true →
+    is_in name_eq top (s.node.name ∷ s.above) ≡ true
 spot-within ts top s at once h = sym (ap (is_in name_eq top) (ancestors-spot ts s at once)) ∙ h
 
 -- ---- behind an opening
 
 -- behind an opening comes the first child, or else the closing
-after_opening : (ts : Trees) (top : NodeName) (s : Spot) → IsSpot ts [] [] s → IsUnique ts → is_within ts top (opening s.node.name) ≡ true → Follows ts top (opening s.node.name) (place_after ts top (opening s.node.name))
+after_opening : (ts : Trees) (top : NodeName) (s : Spot) → IsSpot ts [] [] s → IsUnique ts → is_within ts top (opening s.node.name) ≡ true →
+    Follows ts top (opening s.node.name) (place_after ts top (opening s.node.name))
 after_opening ts top s at once inside =
     let P : List NodeName → Type 0 = λ ys. Follows ts top (opening s.node.name) (Some (option_map_or opening (first_of ys) (closing s.node.name))) in
     subst P (sym (children-spot ts s at once)) (by s.below refl)
@@ -100,7 +105,8 @@ after_opening ts top s at once inside =
 -- ---- behind a closing
 
 -- in a node's tree, but not that node itself
-above-within : (ts : Trees) (top : NodeName) (s : Spot) → IsSpot ts [] [] s → IsUnique ts → is_within ts top (opening s.node.name) ≡ true → name_eq s.node.name top ≡ false → is_in name_eq top s.above ≡ true
+above-within : (ts : Trees) (top : NodeName) (s : Spot) → IsSpot ts [] [] s → IsUnique ts → is_within ts top (opening s.node.name) ≡ true →
+    name_eq s.node.name top ≡ false → is_in name_eq top s.above ≡ true
 above-within ts top s at once inside other = elim (or_cases (name_eq top s.node.name) (is_in name_eq top s.above) (spot-within ts top s at once inside)) [
   | inl h ↦ absurd (true≢false (sym h ∙ (name_eq-turned top s.node.name ∙ other)))
   | inr h ↦ h
@@ -136,7 +142,8 @@ after_child ts top p s at_p at once child inside =
         )
 
 -- behind a closing comes what `place_after` says
-after_closing : (ts : Trees) (top : NodeName) (s : Spot) → IsSpot ts [] [] s → IsUnique ts → is_within ts top (closing s.node.name) ≡ true → Follows ts top (closing s.node.name) (place_after ts top (closing s.node.name))
+after_closing : (ts : Trees) (top : NodeName) (s : Spot) → IsSpot ts [] [] s → IsUnique ts → is_within ts top (closing s.node.name) ≡ true →
+    Follows ts top (closing s.node.name) (place_after ts top (closing s.node.name))
 after_closing ts top s at once inside = elim (cases_Bool (name_eq s.node.name top)) [
   | inl e ↦ rw e (ap (λ x. closes ∷ rest_behind ts x) (name_eq-true s.node.name top e), refl)
   | inr e ↦
@@ -150,7 +157,8 @@ after_closing ts top s at once inside = elim (cases_Bool (name_eq s.node.name to
 -- ---- the law
 
 -- behind each place comes what `place_after` says
-next_place : (ts : Trees) (top : NodeName) (place : NamedPlace) → IsUnique ts → 1 ≤ times ts (name_of place) → is_within ts top place ≡ true → Follows ts top place (place_after ts top place)
+next_place : (ts : Trees) (top : NodeName) (place : NamedPlace) → IsUnique ts → 1 ≤ times ts (name_of place) → is_within ts top place ≡ true →
+    Follows ts top place (place_after ts top place)
 next_place ts top (opening x) once here inside =
     let s = spot_there ts [] [] x here in
     let P : NodeName → Type 0 = λ y. is_within ts top (opening y) ≡ true → Follows ts top (opening y) (place_after ts top (opening y)) in
@@ -161,12 +169,14 @@ next_place ts top (closing x) once here inside =
     subst P s.2 (after_closing ts top s.0 s.1 once) inside
 
 -- the name of the node of a place stands where that of its key does
-here_named : (names : List NodeName) (ts : Trees) (place : Place) → 1 ≤ times ts (name_at names (key_of place)) → 1 ≤ times ts (name_of (place_view names place))
+here_named : (names : List NodeName) (ts : Trees) (place : Place) → 1 ≤ times ts (name_at names (key_of place)) →
+    1 ≤ times ts (name_of (place_view names place))
 here_named names ts (places.Opening key) here = here
 here_named names ts (places.Closing key) here = here
 
 -- the tree of a node has its opening
-pub within_self : (names : List NodeName) (ts : Trees) (top : ℕ) → StandOnce names ts → HaveKeys names ts → top < length names → is_within ts (name_at names top) (opening (name_at names top)) ≡ true
+pub within_self : (names : List NodeName) (ts : Trees) (top : ℕ) → StandOnce names ts → HaveKeys names ts → top < length names →
+    is_within ts (name_at names top) (opening (name_at names top)) ≡ true
 within_self names ts top once keys inside =
     let unique = IsUnique-forest names ts once keys in
     let one = times-key names ts once top inside in
@@ -175,13 +185,19 @@ within_self names ts top once keys inside =
     subst P s.2 (within-spot ts s.0.node.name s.0 s.1 unique (or_left (name_eq s.0.node.name s.0.node.name) _ (name_eq-same s.0.node.name)))
 
 -- a turn of the walk: the rest is one step less, and the next place is in the tree
-pub turn : (names : List NodeName) (ts : Trees) (top : NodeName) (at : Place) (place next : Option Place) (step : TreeStep) → StandOnce names ts → HaveKeys names ts → key_of at < length names
-    → place ≡ Some at → is_within_if ts top (option_map (place_view names) place) ≡ true → option_map (place_view names) next ≡ place_after ts top (place_view names at) → step ≡ step_at ts (place_view names at)
-    → (rest_or ts top (option_map (place_view names) place) ≡ step ∷ rest_or ts top (option_map (place_view names) next)) × (is_within_if ts top (option_map (place_view names) next) ≡ true)
+pub turn : (names : List NodeName) (ts : Trees) (top : NodeName) (at : Place) (place next : Option Place) (step : TreeStep) → StandOnce names ts →
+    HaveKeys names ts → key_of at < length names
+    → place ≡ Some at → is_within_if ts top (option_map (place_view names) place) ≡ true →
+    option_map (place_view names) next ≡ place_after ts top (place_view names at) → step ≡ step_at ts (place_view names at)
+    → (rest_or ts top (option_map (place_view names) place) ≡ step ∷ rest_or ts top (option_map (place_view names) next)) ×
+    (is_within_if ts top (option_map (place_view names) next) ≡ true)
 turn names ts top at place next step once keys inside at_place within follows is =
     let named = ap (option_map (place_view names)) at_place in
     let one = times-key names ts once (key_of at) inside in
-    let law = next_place ts top (place_view names at) (IsUnique-forest names ts once keys) (here_named names ts at (omega arith)) (sym (ap (is_within_if ts top) named) ∙ within) in (
-      ap (rest_or ts top) named ∙ (law.0 ∙ (ap (λ o. step_at ts (place_view names at) ∷ rest_or ts top o) (sym follows) ∙ ap (λ first. first ∷ rest_or ts top (option_map (place_view names) next)) (sym is))),
+    let law = next_place ts top (place_view names at) (IsUnique-forest names ts once keys) (here_named names ts at (omega arith))
+    (sym (ap (is_within_if ts top) named) ∙ within) in (
+      ap (rest_or ts top) named ∙ (law.0 ∙
+          (ap (λ o. step_at ts (place_view names at) ∷ rest_or ts top o) (sym follows) ∙
+          ap (λ first. first ∷ rest_or ts top (option_map (place_view names) next)) (sym is))),
       ap (is_within_if ts top) follows ∙ law.1,
     )

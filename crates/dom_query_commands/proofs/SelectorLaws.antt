@@ -11,8 +11,12 @@ use Rattle.dom_base.specs.declared.Refusal.TheVariants.{Selector}
 use Rattle.dom_base.specs.declared.Owner.{Owner}
 use Rattle.dom_base.specs.declared.NodeName.{NodeName}
 use Rattle.dom_model.specs.Names.{name_eq, text_eq, is_empty, last_of, items_before, items_after}
-use Rattle.dom_model.specs.Tree.{Trees, Node, kind_of, is_element, attribute_value, parent_of, children_of, siblings, inclusive_ancestors, descendants, inclusive_descendants}
-use Rattle.dom_model.specs.Selectors.{Simple, of_type, of_any_type, of_id, of_class, with_attribute, with_value, first_child, last_child, CompoundPart, simple, is_not, Combinator, descendant, child, next, later, Complex, alone, joined, equals, has_word, attribute_passes, elements_before, elements_behind, simple_matches, part_matches, compound_matches, combined_with, complex_matches, selector_matches, query_all}
+use Rattle.dom_model.specs.Tree.{Trees, Node, kind_of, is_element, attribute_value, parent_of, children_of, siblings, inclusive_ancestors}
+use Rattle.dom_model.specs.Tree.{descendants, inclusive_descendants}
+use Rattle.dom_model.specs.Selectors.{Simple, of_type, of_any_type, of_id, of_class, with_attribute, with_value, first_child, last_child}
+use Rattle.dom_model.specs.Selectors.{CompoundPart, simple, is_not, Combinator, descendant, child, next, later, Complex, alone, joined, equals}
+use Rattle.dom_model.specs.Selectors.{has_word, attribute_passes, elements_before, elements_behind, simple_matches, part_matches, compound_matches}
+use Rattle.dom_model.specs.Selectors.{combined_with, complex_matches, selector_matches, query_all}
 use Rattle.dom_model.specs.SelectorText.{parse_selectors}
 use Rattle.dom_model.specs.Effects.{selectors_of}
 use Rattle.dom_model.specs.Validity.{first_refusal}
@@ -68,7 +72,8 @@ module _ (ts : Trees) (owned : AreOwned ts) (o : Owner) where
   in_option y (Some z) h i = elim i [ inl e ↦ ap (λ (n : NodeName). n.owner) e ∙ h z refl | inr never ↦ absurd never ]
 
   -- the siblings are the owner's
-  beside : (x y : NodeName) → x.owner ≡ o → (q : Option NodeName) → ForSome q (λ z. z.owner ≡ o) → In y (option_map_or (children_of ts) q (x ∷ [])) → y.owner ≡ o
+  beside : (x y : NodeName) → x.owner ≡ o → (q : Option NodeName) → ForSome q (λ z. z.owner ≡ o) →
+      In y (option_map_or (children_of ts) q (x ∷ [])) → y.owner ≡ o
   beside x y own None h i = elim i [ inl e ↦ ap (λ (n : NodeName). n.owner) e ∙ own | inr never ↦ absurd never ]
   beside x y own (Some z) h i = (stays_own ts owned o z (h z refl)).children y (is_in-from y (children_of ts z) i)
 
@@ -80,13 +85,15 @@ module _ (ts : Trees) (owned : AreOwned ts) (o : Owner) where
   before_own x own =
       filter-same (λ y. is_element (kind_of ts y)) (λ y. is_element (kind_of (trees_of_owner o ts) y)) (items_before name_eq x (siblings ts x))
       (λ y i. kind_own y (sibling_own x y own (before-in x y (siblings ts x) i)))
-      ∙ ap (λ (ys : List NodeName). filter (λ y. is_element (kind_of (trees_of_owner o ts) y)) (items_before name_eq x ys)) (read_own ts owned o x own).sibling_list
+      ∙ ap (λ (ys : List NodeName). filter (λ y. is_element (kind_of (trees_of_owner o ts) y)) (items_before name_eq x ys))
+      (read_own ts owned o x own).sibling_list
 
   behind_own : (x : NodeName) → x.owner ≡ o → elements_behind ts x ≡ elements_behind (trees_of_owner o ts) x
   behind_own x own =
       filter-same (λ y. is_element (kind_of ts y)) (λ y. is_element (kind_of (trees_of_owner o ts) y)) (items_after name_eq x (siblings ts x))
       (λ y i. kind_own y (sibling_own x y own (after-in x y (siblings ts x) i)))
-      ∙ ap (λ (ys : List NodeName). filter (λ y. is_element (kind_of (trees_of_owner o ts) y)) (items_after name_eq x ys)) (read_own ts owned o x own).sibling_list
+      ∙ ap (λ (ys : List NodeName). filter (λ y. is_element (kind_of (trees_of_owner o ts) y)) (items_after name_eq x ys))
+      (read_own ts owned o x own).sibling_list
 
   -- simple selectors
   simple_own : (x : NodeName) → x.owner ≡ o → (s : Simple) → simple_matches ts x s ≡ simple_matches (trees_of_owner o ts) x s
@@ -118,7 +125,8 @@ module _ (ts : Trees) (owned : AreOwned ts) (o : Owner) where
   combined_own later x own = before_own x own
 
   in_before : (x y : NodeName) → x.owner ≡ o → In y (elements_before ts x) → y.owner ≡ o
-  in_before x y own i = sibling_own x y own (before-in x y (siblings ts x) (in_filter (λ z. is_element (kind_of ts z)) y (items_before name_eq x (siblings ts x)) i))
+  in_before x y own i = sibling_own x y own
+      (before-in x y (siblings ts x) (in_filter (λ z. is_element (kind_of ts z)) y (items_before name_eq x (siblings ts x)) i))
 
   in_combined : (how : Combinator) (x y : NodeName) → x.owner ≡ o → In y (combined_with ts how x) → y.owner ≡ o
   in_combined descendant x y own i = (stays_own ts owned o x own).path y (is_in-from y (inclusive_ancestors ts x) (in_drop y (inclusive_ancestors ts x) i))
@@ -132,7 +140,8 @@ module _ (ts : Trees) (owned : AreOwned ts) (o : Owner) where
   complex_own (joined left how c) x own =
       ap (λ b. b && list_any (complex_matches ts left) (combined_with ts how x)) (compound_own c x own)
       ∙ ap (λ b. compound_matches (trees_of_owner o ts) c x && b)
-      (any_among (complex_matches ts left) (complex_matches (trees_of_owner o ts) left) (combined_with ts how x) (λ y i. complex_own left y (in_combined how x y own i))
+      (any_among (complex_matches ts left) (complex_matches (trees_of_owner o ts) left) (combined_with ts how x)
+      (λ y i. complex_own left y (in_combined how x y own i))
       ∙ ap (list_any (complex_matches (trees_of_owner o ts) left)) (combined_own how x own))
 
   -- lists of them
@@ -158,7 +167,8 @@ unread text units f same none r e =
 module _ (text units : List ℕ) (s : List Complex) (same : units ≡ text) (read : parse_selectors units ≡ Some s) where
   -- one that is read is not
   pub read_none : first_refusal ((is_none (parse_selectors text), Selector) ∷ []) ≡ None
-  read_none = ap (λ (u : List ℕ). first_refusal ((is_none (parse_selectors u), Selector) ∷ [])) (sym same) ∙ ap (λ (q : Option (List Complex)). first_refusal ((is_none q, Selector) ∷ [])) read
+  read_none = ap (λ (u : List ℕ). first_refusal ((is_none (parse_selectors u), Selector) ∷ [])) (sym same) ∙
+      ap (λ (q : Option (List Complex)). first_refusal ((is_none q, Selector) ∷ [])) read
 
   -- and says what is read
   pub read_as : s ≡ selectors_of text

@@ -4,7 +4,8 @@ use Rattle.std.specs.Option.{option_map, option_map_or}
 use Rattle.dom_base.specs.declared.NodeName.{NodeName}
 use Rattle.dom_model.specs.Names.{first_of}
 use Rattle.dom_model.specs.Tree.{Trees, none, tree, names_of, roots, parent_of, children_of, next_sibling}
-use Rattle.dom_query_commands.proofs.Spots.{Spot, spot_of, IsSpot, IsChild, spot_of-spot, spot_there, child_spot, IsSpot-child, next_spot, IsSpot-next, cases_root, above-root}
+use Rattle.dom_query_commands.proofs.Spots.{Spot, spot_of, IsSpot, IsChild, spot_of-spot, spot_there, child_spot, IsSpot-child, next_spot}
+use Rattle.dom_query_commands.proofs.Spots.{IsSpot-next, cases_root, above-root}
 use Rattle.dom_tree.specs.Forest.{name_at}
 use Rattle.dom_query_commands.proofs.Standing.{StandOnce, HaveKeys, times-key, IsUnique-forest}
 use Rattle.dom_query_commands.proofs.SpotReads.{IsUnique, children-spot, parent-spot, next-child}
@@ -32,7 +33,8 @@ abbrev pub AreFrom : Trees → NodeName → Option NodeName → List NodeName �
 AreFrom ts parent o xs = (from_or ts o ≡ xs) × IsChildOf ts parent o
 
 -- from the first child on
-pub first_child : (ts : Trees) (x : NodeName) → IsUnique ts → (s : Spot) → IsSpot ts [] [] s → s.node.name ≡ x → AreFrom ts x (first_of (children_of ts x)) (children_of ts x)
+pub first_child : (ts : Trees) (x : NodeName) → IsUnique ts → (s : Spot) → IsSpot ts [] [] s → s.node.name ≡ x →
+    AreFrom ts x (first_of (children_of ts x)) (children_of ts x)
 first_child ts x once s at is =
     let P : List NodeName → Type 0 = λ ys. AreFrom ts x (first_of ys) ys in
     subst P (sym (ap (children_of ts) (sym is) ∙ children-spot ts s at once)) (by s.below refl)
@@ -44,7 +46,8 @@ first_child ts x once s at is =
         (from-spot ts (child_spot s n c r) child once, parent-spot ts (child_spot s n c r) child once ∙ ap Some is)
 
 -- from the next sibling on
-next_from : (ts : Trees) (parent : NodeName) → IsUnique ts → (p s : Spot) → IsSpot ts [] [] p → IsSpot ts [] [] s → IsChild p s → parent_of ts s.node.name ≡ Some parent →
+next_from : (ts : Trees) (parent : NodeName) → IsUnique ts → (p s : Spot) → IsSpot ts [] [] p → IsSpot ts [] [] s → IsChild p s →
+    parent_of ts s.node.name ≡ Some parent →
     AreFrom ts parent (next_sibling ts s.node.name) (names_of (roots s.right))
 next_from ts parent once p s at_p at child up =
     let P : Option NodeName → Type 0 = λ o. AreFrom ts parent o (names_of (roots s.right)) in
@@ -60,10 +63,12 @@ next_from ts parent once p s at_p at child up =
 pub next_child : (ts : Trees) (parent x : NodeName) → IsUnique ts → (s : Spot) → IsSpot ts [] [] s → s.node.name ≡ x → parent_of ts x ≡ Some parent →
     (siblings_from ts x ≡ x ∷ from_or ts (next_sibling ts x)) × IsChildOf ts parent (next_sibling ts x)
 next_child ts parent x once s at is up =
-    let P : NodeName → Type 0 = λ y. parent_of ts y ≡ Some parent → (siblings_from ts y ≡ y ∷ from_or ts (next_sibling ts y)) × IsChildOf ts parent (next_sibling ts y) in
+    let P : NodeName → Type 0 = λ y. parent_of ts y ≡ Some parent → (siblings_from ts y ≡ y ∷ from_or ts (next_sibling ts y)) ×
+    IsChildOf ts parent (next_sibling ts y) in
     subst P is here up
   where
-    here : parent_of ts s.node.name ≡ Some parent → (siblings_from ts s.node.name ≡ s.node.name ∷ from_or ts (next_sibling ts s.node.name)) × IsChildOf ts parent (next_sibling ts s.node.name)
+    here : parent_of ts s.node.name ≡ Some parent → (siblings_from ts s.node.name ≡ s.node.name ∷ from_or ts (next_sibling ts s.node.name)) ×
+        IsChildOf ts parent (next_sibling ts s.node.name)
     here h = elim (cases_root ts [] [] s at) [
       | inl root ↦
           let no : None ≡ Some parent = sym (parent-spot ts s at once ∙ ap first_of (above-root ts [] [] s root)) ∙ h in
@@ -86,9 +91,11 @@ module _ (names : List NodeName) (ts : Trees) (once : StandOnce names ts) (only 
       subst (λ o. AreFrom ts x o (children_of ts x)) (sym is) (first_child ts x (IsUnique-forest names ts once only) s.0 s.1 s.2)
 
   -- and from the next one on
-  pub goes_on : (parent : NodeName) (k : ℕ) → k < length names → (at next : Option ℕ) → at ≡ Some k → option_map (name_at names) next ≡ next_sibling ts (name_at names k) →
+  pub goes_on : (parent : NodeName) (k : ℕ) → k < length names → (at next : Option ℕ) → at ≡ Some k →
+      option_map (name_at names) next ≡ next_sibling ts (name_at names k) →
       IsChildOf ts parent (option_map (name_at names) at) →
-      (from_or ts (option_map (name_at names) at) ≡ name_at names k ∷ from_or ts (option_map (name_at names) next)) × IsChildOf ts parent (option_map (name_at names) next)
+      (from_or ts (option_map (name_at names) at) ≡ name_at names k ∷ from_or ts (option_map (name_at names) next)) ×
+      IsChildOf ts parent (option_map (name_at names) next)
   goes_on parent k inside at next is follows child =
       let x = name_at names k in
       let one = times-key names ts once k inside in

@@ -7,11 +7,13 @@ use Rattle.std.proofs.lemmas.List.{append-nil}
 use Rattle.std.proofs.lemmas.List.Folds.{find-append}
 use Rattle.dom_base.specs.declared.NodeName.{NodeName}
 use Rattle.dom_model.specs.Names.{name_eq, first_of, items_after}
-use Rattle.dom_model.specs.Tree.{Trees, none, tree, Node, nodes, names_of, roots, or_else, subtree, no_node, node_in, trees_below, children_of, inclusive_ancestors, on_top, parent_of, siblings, next_sibling}
+use Rattle.dom_model.specs.Tree.{Trees, none, tree, Node, nodes, names_of, roots, or_else, subtree, no_node, node_in, trees_below, children_of}
+use Rattle.dom_model.specs.Tree.{inclusive_ancestors, on_top, parent_of, siblings, next_sibling}
 use Rattle.dom_model.proofs.OwnerLaws.{name_eq-same}
 use Rattle.dom_text.specs.Text.{TreeStep}
 use Rattle.dom_tree.proofs.Names.{name_eq-true, name_eq-turned}
-use Rattle.dom_query_commands.proofs.Spots.{Spot, spot_of, IsSpot, IsRoot, IsChild, closed, times, times-here, times-elsewhere, spot_of-spot, times-root, times-below, above-root}
+use Rattle.dom_query_commands.proofs.Spots.{Spot, spot_of, IsSpot, IsRoot, IsChild, closed, times, times-here, times-elsewhere, spot_of-spot}
+use Rattle.dom_query_commands.proofs.Spots.{times-root, times-below, above-root}
 
 -- each name stands at most once
 abbrev pub IsUnique : Trees → Type 0
@@ -45,7 +47,8 @@ option_map-or None p = refl
 option_map-or (Some s) p = refl
 
 -- the first node of a name is that of its first spot
-find-first : (ts : Trees) (above : List NodeName) (after : List TreeStep) (x : NodeName) → find (λ n. name_eq n.name x) (nodes ts) ≡ option_map (λ s. s.node) (spot_of ts above after x)
+find-first : (ts : Trees) (above : List NodeName) (after : List TreeStep) (x : NodeName) →
+    find (λ n. name_eq n.name x) (nodes ts) ≡ option_map (λ s. s.node) (spot_of ts above after x)
 find-first none above after x = refl
 find-first (tree n c r) above after x = elim (cases_Bool (name_eq n.name x)) [
   | inl e ↦ rw e refl
@@ -60,17 +63,20 @@ IsPath above x path None = path ≡ []
 IsPath above x path (Some s) = (others : List NodeName) × (path ≡ x ∷ others) × (others ++ above ≡ s.above)
 
 -- a path to one of two spots, where the first one is below a node
-IsPath-or : (above : List NodeName) (x y : NodeName) (o p : Option Spot) (path others : List NodeName) → IsPath (y ∷ above) x path o → IsPath above x others p → IsPath above x (on_top path y others) (option_or o p)
+IsPath-or : (above : List NodeName) (x y : NodeName) (o p : Option Spot) (path others : List NodeName) → IsPath (y ∷ above) x path o →
+    IsPath above x others p → IsPath above x (on_top path y others) (option_or o p)
 IsPath-or above x y None p path others h k = subst (λ ys. IsPath above x (on_top ys y others) p) (sym h) k
 IsPath-or above x y (Some s) p path others h k = (h.0 ++ y ∷ [], ap (λ ys. on_top ys y others) h.1, append_assoc h.0 (y ∷ []) above ∙ h.2)
 
 -- the inclusive ancestors of a name are a path to its first spot
-ancestors-first : (ts : Trees) (above : List NodeName) (after : List TreeStep) (x : NodeName) → IsPath above x (inclusive_ancestors ts x) (spot_of ts above after x)
+ancestors-first : (ts : Trees) (above : List NodeName) (after : List TreeStep) (x : NodeName) →
+    IsPath above x (inclusive_ancestors ts x) (spot_of ts above after x)
 ancestors-first none above after x = refl
 ancestors-first (tree n c r) above after x = elim (cases_Bool (name_eq n.name x)) [
   | inl e ↦ rw e ([], refl, refl)
   | inr e ↦
-      rw e (IsPath-or above x n.name (spot_of c (n.name ∷ above) (closed r after) x) (spot_of r above after x) (inclusive_ancestors c x) (inclusive_ancestors r x) (ancestors-first c (n.name ∷ above) (closed r after) x) (ancestors-first r above after x))
+      rw e (IsPath-or above x n.name (spot_of c (n.name ∷ above) (closed r after) x) (spot_of r above after x) (inclusive_ancestors c x)
+      (inclusive_ancestors r x) (ancestors-first c (n.name ∷ above) (closed r after) x) (ancestors-first r above after x))
 ]
 
 -- ---- reads at a spot of whole trees
@@ -82,7 +88,8 @@ subtree-spot ts s at once = subtree-first ts [] [] s.node.name ∙ ap tree_from 
 -- the node itself
 pub node_in-spot : (ts : Trees) (s : Spot) → IsSpot ts [] [] s → IsUnique ts → node_in ts s.node.name ≡ s.node
 node_in-spot ts s at once =
-    ap (λ o. unwrap_or o (no_node s.node.name)) (find-first ts [] [] s.node.name ∙ ap (option_map (λ (t : Spot). t.node)) (spot_of-spot ts [] [] s at (once s.node.name)))
+    ap (λ o. unwrap_or o (no_node s.node.name))
+    (find-first ts [] [] s.node.name ∙ ap (option_map (λ (t : Spot). t.node)) (spot_of-spot ts [] [] s at (once s.node.name)))
 
 -- a node's inclusive ancestors
 pub ancestors-spot : (ts : Trees) (s : Spot) → IsSpot ts [] [] s → IsUnique ts → inclusive_ancestors ts s.node.name ≡ s.node.name ∷ s.above
@@ -100,10 +107,12 @@ pub parent-spot : (ts : Trees) (s : Spot) → IsSpot ts [] [] s → IsUnique ts 
 parent-spot ts s at once = ap (λ ys. first_of (drop 1 ys)) (ancestors-spot ts s at once)
 
 -- the roots behind a root are those right of it
-items_after-root : (ts : Trees) (above : List NodeName) (after : List TreeStep) (s : Spot) → IsRoot ts above after s → times ts s.node.name ≤ 1 → items_after name_eq s.node.name (names_of (roots ts)) ≡ names_of (roots s.right)
+items_after-root : (ts : Trees) (above : List NodeName) (after : List TreeStep) (s : Spot) → IsRoot ts above after s → times ts s.node.name ≤ 1 →
+    items_after name_eq s.node.name (names_of (roots ts)) ≡ names_of (roots s.right)
 items_after-root none above after s h once = absurd h
 items_after-root (tree n c r) above after s (inl e) once =
-    subst (λ (t : Spot). items_after name_eq t.node.name (n.name ∷ names_of (roots r)) ≡ names_of (roots t.right)) (sym e) (cond-true (name_eq n.name n.name) (names_of (roots r)) _ (name_eq-same n.name))
+    subst (λ (t : Spot). items_after name_eq t.node.name (n.name ∷ names_of (roots r)) ≡ names_of (roots t.right)) (sym e)
+    (cond-true (name_eq n.name n.name) (names_of (roots r)) _ (name_eq-same n.name))
 items_after-root (tree n c r) above after s (inr h) once =
     let there = times-root r above after s h in
     elim (cases_Bool (name_eq n.name s.node.name)) [
@@ -117,16 +126,21 @@ items_after-root (tree n c r) above after s (inr h) once =
 -- a root has no next sibling
 pub next-root : (ts : Trees) (s : Spot) → IsSpot ts [] [] s → IsUnique ts → IsRoot ts [] [] s → next_sibling ts s.node.name ≡ None
 next-root ts s at once h =
-    let alone : siblings ts s.node.name ≡ s.node.name ∷ [] = ap (λ o. option_map_or (children_of ts) o (s.node.name ∷ [])) (parent-spot ts s at once ∙ ap first_of (above-root ts [] [] s h)) in
+    let alone : siblings ts s.node.name ≡ s.node.name ∷ [] =
+    ap (λ o. option_map_or (children_of ts) o (s.node.name ∷ [])) (parent-spot ts s at once ∙ ap first_of (above-root ts [] [] s h)) in
     ap (λ ys. first_of (items_after name_eq s.node.name ys)) alone ∙ rw (name_eq-same s.node.name) refl
 
 -- the next sibling of a child is the first root right of it
-pub next-child : (ts : Trees) (p s : Spot) → IsSpot ts [] [] p → IsSpot ts [] [] s → IsUnique ts → IsChild p s → next_sibling ts s.node.name ≡ first_of (names_of (roots s.right))
+pub next-child : (ts : Trees) (p s : Spot) → IsSpot ts [] [] p → IsSpot ts [] [] s → IsUnique ts → IsChild p s →
+    next_sibling ts s.node.name ≡ first_of (names_of (roots s.right))
 next-child ts p s at_p at once h =
     let above = above-root p.below (p.node.name ∷ p.above) (closed p.right p.after) s h in
-    let among : siblings ts s.node.name ≡ names_of (roots p.below) = ap (λ o. option_map_or (children_of ts) o (s.node.name ∷ [])) (parent-spot ts s at once ∙ ap first_of above) ∙ children-spot ts p at_p once in
+    let among : siblings ts s.node.name ≡ names_of (roots p.below) =
+    ap (λ o. option_map_or (children_of ts) o (s.node.name ∷ [])) (parent-spot ts s at once ∙ ap first_of above) ∙
+    children-spot ts p at_p once in
     ap (λ ys. first_of (items_after name_eq s.node.name ys)) among
-    ∙ ap first_of (items_after-root p.below (p.node.name ∷ p.above) (closed p.right p.after) s h (let below = times-below ts [] [] p at_p s.node.name in let few = once s.node.name in omega arith))
+    ∙ ap first_of (items_after-root p.below (p.node.name ∷ p.above) (closed p.right p.after) s h
+    (let below = times-below ts [] [] p at_p s.node.name in let few = once s.node.name in omega arith))
 
 -- ---- names
 

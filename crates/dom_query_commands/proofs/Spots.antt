@@ -98,10 +98,12 @@ times-spot (tree n c r) above after s (inr (inl i)) = omega (arith, times-parts 
 times-spot (tree n c r) above after s (inr (inr i)) = omega (arith, times-parts n c r s.node.name, times-spot r above after s i)
 
 -- the spot of a name that stands there once is the first one of that name
-pub spot_of-spot : (ts : Trees) (above : List NodeName) (after : List TreeStep) (s : Spot) → IsSpot ts above after s → times ts s.node.name ≤ 1 → spot_of ts above after s.node.name ≡ Some s
+pub spot_of-spot : (ts : Trees) (above : List NodeName) (after : List TreeStep) (s : Spot) → IsSpot ts above after s → times ts s.node.name ≤ 1 →
+    spot_of ts above after s.node.name ≡ Some s
 spot_of-spot none above after s at once = absurd at
 spot_of-spot (tree n c r) above after s (inl e) once =
-    subst (λ (t : Spot). spot_of (tree n c r) above after t.node.name ≡ Some t) (sym e) (cond-true (name_eq n.name n.name) (Some (spot_at n c r above after)) _ (name_eq-same n.name))
+    subst (λ (t : Spot). spot_of (tree n c r) above after t.node.name ≡ Some t) (sym e)
+    (cond-true (name_eq n.name n.name) (Some (spot_at n c r above after)) _ (name_eq-same n.name))
 spot_of-spot (tree n c r) above after s (inr (inl i)) once =
     let there = times-spot c (n.name ∷ above) (closed r after) s i in
     elim (cases_Bool (name_eq n.name s.node.name)) [
@@ -123,7 +125,8 @@ by_times zero f g = f refl
 by_times (suc k) f g = g (omega arith)
 
 -- a name that stands there has a spot
-pub spot_there : (ts : Trees) (above : List NodeName) (after : List TreeStep) (x : NodeName) → 1 ≤ times ts x → (s : Spot) × IsSpot ts above after s × (s.node.name ≡ x)
+pub spot_there : (ts : Trees) (above : List NodeName) (after : List TreeStep) (x : NodeName) → 1 ≤ times ts x → (s : Spot) ×
+    IsSpot ts above after s × (s.node.name ≡ x)
 spot_there none above after x h = absurd (omega (arith, times-none x))
 spot_there (tree n c r) above after x h = elim (cases_Bool (name_eq n.name x)) [
   | inl e ↦ (spot_at n c r above after, inl refl, name_eq-true n.name x e)
@@ -141,11 +144,13 @@ abbrev pub child_spot : Spot → Node → Trees → Trees → Spot
 child_spot s n c r = spot_at n c r (s.node.name ∷ s.above) (closed s.right s.after)
 
 -- it is a spot there too
-pub IsSpot-child : (ts : Trees) (above : List NodeName) (after : List TreeStep) (s : Spot) (n : Node) (c r : Trees) → IsSpot ts above after s → s.below ≡ tree n c r → IsSpot ts above after (child_spot s n c r)
+pub IsSpot-child : (ts : Trees) (above : List NodeName) (after : List TreeStep) (s : Spot) (n : Node) (c r : Trees) → IsSpot ts above after s →
+    s.below ≡ tree n c r → IsSpot ts above after (child_spot s n c r)
 IsSpot-child none above after s n c r at e = absurd at
 IsSpot-child (tree m d q) above after s n c r (inl h) e =
     let P : Spot → Type 0 = λ t. t.below ≡ tree n c r → IsSpot (tree m d q) above after (child_spot t n c r) in
-    subst P (sym h) (λ f. inr (inl (subst (λ (ts : Trees). IsSpot ts (m.name ∷ above) (closed q after) (spot_at n c r (m.name ∷ above) (closed q after))) (sym f) (inl refl)))) e
+    subst P (sym h) (λ f. inr (inl (subst
+    (λ (ts : Trees). IsSpot ts (m.name ∷ above) (closed q after) (spot_at n c r (m.name ∷ above) (closed q after))) (sym f) (inl refl)))) e
 IsSpot-child (tree m d q) above after s n c r (inr (inl i)) e = inr (inl (IsSpot-child d (m.name ∷ above) (closed q after) s n c r i e))
 IsSpot-child (tree m d q) above after s n c r (inr (inr i)) e = inr (inr (IsSpot-child q above after s n c r i e))
 
@@ -154,7 +159,8 @@ abbrev pub next_spot : Spot → Node → Trees → Trees → Spot
 next_spot s n c r = spot_at n c r s.above s.after
 
 -- it is a spot there too
-pub IsSpot-next : (ts : Trees) (above : List NodeName) (after : List TreeStep) (s : Spot) (n : Node) (c r : Trees) → IsSpot ts above after s → s.right ≡ tree n c r → IsSpot ts above after (next_spot s n c r)
+pub IsSpot-next : (ts : Trees) (above : List NodeName) (after : List TreeStep) (s : Spot) (n : Node) (c r : Trees) → IsSpot ts above after s →
+    s.right ≡ tree n c r → IsSpot ts above after (next_spot s n c r)
 IsSpot-next none above after s n c r at e = absurd at
 IsSpot-next (tree m d q) above after s n c r (inl h) e =
     let P : Spot → Type 0 = λ t. t.right ≡ tree n c r → IsSpot (tree m d q) above after (next_spot t n c r) in
@@ -172,7 +178,8 @@ abbrev pub IsChild : Spot → Spot → Type 0
 IsChild p s = IsRoot p.below (p.node.name ∷ p.above) (closed p.right p.after) s
 
 -- each spot is that of a root, or of a child
-pub cases_root : (ts : Trees) (above : List NodeName) (after : List TreeStep) (s : Spot) → IsSpot ts above after s → IsRoot ts above after s ⊎ ((p : Spot) × IsSpot ts above after p × IsChild p s)
+pub cases_root : (ts : Trees) (above : List NodeName) (after : List TreeStep) (s : Spot) → IsSpot ts above after s → IsRoot ts above after s ⊎
+    ((p : Spot) × IsSpot ts above after p × IsChild p s)
 cases_root none above after s at = absurd at
 cases_root (tree n c r) above after s (inl e) = inl (inl e)
 cases_root (tree n c r) above after s (inr (inl i)) = elim (cases_root c (n.name ∷ above) (closed r after) s i) [
@@ -207,7 +214,8 @@ pub times-root : (ts : Trees) (above : List NodeName) (after : List TreeStep) (s
 times-root ts above after s h = times-spot ts above after s (IsSpot-root ts above after s h)
 
 -- a name stands in the trees at least as often as below a spot
-pub times-below : (ts : Trees) (above : List NodeName) (after : List TreeStep) (s : Spot) → IsSpot ts above after s → (x : NodeName) → times s.below x ≤ times ts x
+pub times-below : (ts : Trees) (above : List NodeName) (after : List TreeStep) (s : Spot) → IsSpot ts above after s → (x : NodeName) →
+    times s.below x ≤ times ts x
 times-below none above after s at x = absurd at
 times-below (tree n c r) above after s (inl e) x = subst (λ (t : Spot). times t.below x ≤ times (tree n c r) x) (sym e) (omega (arith, times-parts n c r x))
 times-below (tree n c r) above after s (inr (inl i)) x = omega (arith, times-parts n c r x, times-below c (n.name ∷ above) (closed r after) s i x)

@@ -20,7 +20,8 @@ pub fn new_iterator(
     filter: Filter,
     out: &mut Vec<u8>,
 ) -> Result<(), Fault>
-    ensures handled { IsHandled owner (iterator_new (spelled_view root) (filter_view filter)) state.old.world state.new.world out.old.items out.new.items result }
+    ensures handled { IsHandled owner (iterator_new (spelled_view root) (filter_view filter)) state.old.world state.new.world out.old.items
+        out.new.items result }
     ensures names { KeepsNames state.old.names state.new.names result }
 {
     state.admit(owner, &[Operand::Any(root)])?;

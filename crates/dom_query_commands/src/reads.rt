@@ -117,7 +117,9 @@ fn reply_tree(
     out: &mut Vec<u8>,
 ) -> Result<(), AllocError>
     requires { has_node (part_of state.now.world owner).trees (named (part_of state.now.world owner) (spelled_view node)) ≡ true }
-    ensures { OnOk result (out.new.items ≡ out.old.items ++ output_text (says owner (replied (a_tree (subtree (part_of state.now.world owner).trees (named (part_of state.now.world owner) (spelled_view node))))) ∷ [])) }
+    ensures { OnOk result (out.new.items ≡ out.old.items ++
+        output_text (says owner (replied
+        (a_tree (subtree (part_of state.now.world owner).trees (named (part_of state.now.world owner) (spelled_view node))))) ∷ [])) }
 {
     let key = state.key(owner, node);
     let forest = state.doc.forest();
@@ -139,7 +141,8 @@ pub(crate) fn node_or_null(state: &State, node: Option<Key>) -> Value<'static>
 /// The parent of a node that is there.
 fn parent_of(state: &State, owner: Owner, node: Spelled) -> Option<Key>
     requires { has_node (part_of state.now.world owner).trees (named (part_of state.now.world owner) (spelled_view node)) ≡ true }
-    ensures value { option_map (name_at state.now.names) result ≡ parent_of (part_of state.now.world owner).trees (named (part_of state.now.world owner) (spelled_view node)) }
+    ensures value { option_map (name_at state.now.names) result ≡ parent_of (part_of state.now.world owner).trees
+        (named (part_of state.now.world owner) (spelled_view node)) }
     ensures node { ForSome result (λ k. k < length state.now.names) }
 {
     let key = state.key(owner, node);
@@ -149,7 +152,8 @@ fn parent_of(state: &State, owner: Owner, node: Spelled) -> Option<Key>
 /// The names of the children of a node that is there.
 fn children_of(state: &State, owner: Owner, node: Spelled) -> Result<Vec<NodeName>, AllocError>
     requires { has_node (part_of state.now.world owner).trees (named (part_of state.now.world owner) (spelled_view node)) ≡ true }
-    ensures { IfOk result (λ names. names.items ≡ children_of (part_of state.now.world owner).trees (named (part_of state.now.world owner) (spelled_view node))) }
+    ensures { IfOk result (λ names. names.items ≡ children_of (part_of state.now.world owner).trees
+        (named (part_of state.now.world owner) (spelled_view node))) }
 {
     let key = state.key(owner, node);
     child_names(state.alloc, state.doc.forest(), key)
@@ -159,7 +163,8 @@ fn children_of(state: &State, owner: Owner, node: Spelled) -> Result<Vec<NodeNam
 fn is_above(state: &State, owner: Owner, above: Spelled, node: Spelled) -> bool
     requires above_is_there { has_node (part_of state.now.world owner).trees (named (part_of state.now.world owner) (spelled_view above)) ≡ true }
     requires node_is_there { has_node (part_of state.now.world owner).trees (named (part_of state.now.world owner) (spelled_view node)) ≡ true }
-    ensures { result ≡ is_inclusive_ancestor (part_of state.now.world owner).trees (named (part_of state.now.world owner) (spelled_view above)) (named (part_of state.now.world owner) (spelled_view node)) }
+    ensures { result ≡ is_inclusive_ancestor (part_of state.now.world owner).trees (named (part_of state.now.world owner) (spelled_view above))
+        (named (part_of state.now.world owner) (spelled_view node)) }
 {
     let (above, node) = (state.key(owner, above), state.key(owner, node));
     state.doc.forest().is_inclusive_ancestor(above, node)

@@ -58,7 +58,8 @@ fn selected(
     selector: &Selector,
 ) -> Result<Vec<NodeName>, AllocError>
     requires { has_node (part_of state.now.world owner).trees (named (part_of state.now.world owner) (spelled_view node)) ≡ true }
-    ensures { IfOk result (λ names. names.items ≡ query_all (part_of state.now.world owner).trees (selector_view selector.now) (named (part_of state.now.world owner) (spelled_view node))) }
+    ensures { IfOk result (λ names. names.items ≡ query_all (part_of state.now.world owner).trees (selector_view selector.now)
+        (named (part_of state.now.world owner) (spelled_view node))) }
 {
     let key = state.key(owner, node);
     let forest = state.doc.forest();
@@ -69,7 +70,8 @@ fn selected(
 /// Whether a node that is there matches a selector.
 fn is_selected(state: &State, owner: Owner, node: Spelled, selector: &Selector) -> bool
     requires { has_node (part_of state.now.world owner).trees (named (part_of state.now.world owner) (spelled_view node)) ≡ true }
-    ensures { result ≡ selector_matches (part_of state.now.world owner).trees (selector_view selector.now) (named (part_of state.now.world owner) (spelled_view node)) }
+    ensures { result ≡ selector_matches (part_of state.now.world owner).trees (selector_view selector.now)
+        (named (part_of state.now.world owner) (spelled_view node)) }
 {
     let key = state.key(owner, node);
     selector.matches(state.doc.forest(), key)

@@ -46,7 +46,8 @@ pub(crate) fn tree_steps<'a>(
 fn after(forest: &Forest, place: Place, top: Key) -> Option<Place>
     requires place_is_node { key_of place < length forest.now.names }
     requires top_is_node { top < length forest.now.names }
-    ensures value { option_map (place_view forest.now.names) result ≡ place_after forest.now.trees (name_at forest.now.names top) (place_view forest.now.names place) }
+    ensures value { option_map (place_view forest.now.names) result ≡ place_after forest.now.trees (name_at forest.now.names top)
+        (place_view forest.now.names place) }
     ensures node { ForSome result (λ at. key_of at < length forest.now.names) }
 {
     forest.nodes_stand_once();

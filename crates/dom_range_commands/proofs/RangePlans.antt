@@ -42,10 +42,14 @@ text_told w o k text there known is = by (range_at (part_of w o) k) refl known i
     p : Part
     p = part_of w o
 
-    by : (m : Option (Range NodeName)) → range_at p k ≡ m → is_some m ≡ true → ForSome m (λ r. text ≡ range_text_of p.trees r) → Makes o (Command.range_text k) (a_string text) w w
+    by : (m : Option (Range NodeName)) → range_at p k ≡ m → is_some m ≡ true → ForSome m (λ r. text ≡ range_text_of p.trees r) →
+        Makes o (Command.range_text k) (a_string text) w w
     by None e known is = absurd cc
-    by (Some r) e known is =
-        (ap (λ m. option_map_or (λ (range : Range NodeName). answers p (a_string (range_text_of p.trees range))) m (answers p nothing)) e ∙ ap (λ s. answers p (a_string s)) (sym (is r refl)), sym (with_part-same w o there))
+    by (Some r) e known is = (
+      ap (λ m. option_map_or (λ (range : Range NodeName). answers p (a_string (range_text_of p.trees range))) m (answers p nothing)) e ∙
+          ap (λ s. answers p (a_string s)) (sym (is r refl)),
+      sym (with_part-same w o there),
+    )
 
 -- What an extraction names: the fragment has its owner's next name, and the names before it stay.
 module _ (names more : List NodeName) (w : World) (o : Owner) (k : ℕ) (known : is_some (range_at (part_of w o) k) ≡ true)
@@ -54,14 +58,17 @@ module _ (names more : List NodeName) (w : World) (o : Owner) (k : ℕ) (known :
   others : (rest : List NodeName) × (more ≡ names ++ node_of o (part_of w o).node_count ∷ rest)
   others = by (range_at (part_of w o) k) known is
     where
-      by : (m : Option (Range NodeName)) → is_some m ≡ true → ForSome m (λ r. more ≡ names ++ new_names o (part_of w o).node_count (made_by_extracting (part_of w o) r)) → (rest : List NodeName) × (more ≡ names ++ node_of o (part_of w o).node_count ∷ rest)
+      by : (m : Option (Range NodeName)) → is_some m ≡ true →
+          ForSome m (λ r. more ≡ names ++ new_names o (part_of w o).node_count (made_by_extracting (part_of w o) r)) → (rest : List NodeName) ×
+          (more ≡ names ++ node_of o (part_of w o).node_count ∷ rest)
       by None known is = absurd cc
       by (Some r) known is = (new_names o (suc (part_of w o).node_count) (clone_count (pieces_of (part_of w o).trees r)), is r refl)
 
   pub extracted-name : (key : ℕ) → key ≡ length names → name_at more key ≡ next_name (part_of w o)
   extracted-name key last =
       let n = (part_of w o).node_count in
-      ap (name_at more) last ∙ ap (λ (ns : List NodeName). name_at ns (length names)) others.1 ∙ get_or-append_seam names (node_of o n) others.0 (node_of Page 0) ∙ ap (λ q. node_of q n) (sym (owner-part_of w o))
+      ap (name_at more) last ∙ ap (λ (ns : List NodeName). name_at ns (length names)) others.1 ∙ get_or-append_seam names (node_of o n) others.0
+      (node_of Page 0) ∙ ap (λ q. node_of q n) (sym (owner-part_of w o))
 
   pub extracted-kept : BeginsWith names more
   extracted-kept = ap (take (length names)) others.1 ∙ front names (node_of o (part_of w o).node_count ∷ others.0)

@@ -1,6 +1,7 @@
 //! The commands on live ranges.
 ghost use Rattle.std.specs.Prelude.{◌≡◌, ◌<◌, length, true};
-ghost use Rattle.dom_model.specs.Command.{range_new, range_start, range_end, range_collapse, range_drop, range_get, range_text, extract as extract_command, delete as delete_command, insert_node as insert_node_command};
+ghost use Rattle.dom_model.specs.Command.{range_new, range_start, range_end, range_collapse, range_drop, range_get, range_text};
+ghost use Rattle.dom_model.specs.Command.{extract as extract_command, delete as delete_command, insert_node as insert_node_command};
 ghost use Rattle.dom_model.specs.Ranges.{at};
 ghost use Rattle.dom_isolation.specs.Bounds.{IsBounded};
 ghost use Rattle.dom_tree.specs.Forest.{name_at};

@@ -19,10 +19,12 @@ module _ (ts : Trees) (top : NodeName) (b : Boundary NodeName) (w : IsWithin ts 
   after-child c e =
       let kids = children_of ts b.node in
       let s = first_split (drop b.offset kids) c (sym e) in
-      let among : In c kids = subst (In c) (take-append-drop b.offset kids) (In-right c (take b.offset kids) (drop b.offset kids) (subst (In c) (sym s.1) (inl refl))) in
+      let among : In c kids = subst (In c) (take-append-drop b.offset kids)
+      (In-right c (take b.offset kids) (drop b.offset kids) (subst (In c) (sym s.1) (inl refl))) in
       let inside = within-child ts top b.node c w among in (
         sym (ap (λ xs. first_of (joined ts xs ++ beyond ts top b.node)) s.1
-            ∙ (ap (λ xs. first_of (xs ++ beyond ts top b.node)) (flat_map-cons (inclusive_descendants ts) c s.0) ∙ ap (λ xs. first_of ((xs ++ joined ts s.0) ++ beyond ts top b.node)) (here ts top c inside))),
+            ∙ (ap (λ xs. first_of (xs ++ beyond ts top b.node)) (flat_map-cons (inclusive_descendants ts) c s.0) ∙
+            ap (λ xs. first_of ((xs ++ joined ts s.0) ++ beyond ts top b.node)) (here ts top c inside))),
         inside,
       )
 

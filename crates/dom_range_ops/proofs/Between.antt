@@ -64,7 +64,11 @@ module _ (ts : Trees) (r : Range NodeName) (bounded : IsBounded ts r) where
   top-within : (x : NodeName) → Has ts x → root_of ts x ≡ root_of ts r.start.node → IsWithin ts top x
   top-within x h e =
       let above = subst (λ a. In a (inclusive_ancestors ts x)) e (root-above ts x h) in
-      record { once = bounded.ends.once; top_stands = Has-above ts top x bounded.ends.once h above; stands = below-from_above ts top x bounded.ends.once h above }
+      record {
+        once = bounded.ends.once;
+        top_stands = Has-above ts top x bounded.ends.once h above;
+        stands = below-from_above ts top x bounded.ends.once h above;
+      }
 
   pub start-within : IsWithin ts top r.start.node
   start-within = top-within r.start.node bounded.ends.start refl
@@ -85,9 +89,12 @@ module _ (ts : Trees) (r : Range NodeName) (bounded : IsBounded ts r) where
   pub end-out : (x : NodeName) → is_before ts r.end (at x 0) ≡ true → is_contained ts r x ≡ false
   end-out x e =
       let long = length_of ts x in
-      let later : is_before ts r.end (at x long) ≡ true = before-less (boundary_place ts r.end) (boundary_place ts (at x 0)) (boundary_place ts (at x long)) e (before-same ts x x long 0 refl ∙ le-ltb long 0 (omega arith)) in
+      let later : is_before ts r.end (at x long) ≡ true =
+      before-less (boundary_place ts r.end) (boundary_place ts (at x 0)) (boundary_place ts (at x long)) e
+      (before-same ts x x long 0 refl ∙ le-ltb long 0 (omega arith)) in
       false_from_ne_true (is_contained ts r x)
-      (λ c. true≢false (sym (and_parts (is_before ts r.start (at x 0)) (is_before ts (at x long) r.end) c).1 ∙ before-turned (boundary_place ts r.end) (boundary_place ts (at x long)) later))
+      (λ c. true≢false (sym (and_parts (is_before ts r.start (at x 0)) (is_before ts (at x long) r.end) c).1 ∙
+      before-turned (boundary_place ts r.end) (boundary_place ts (at x long)) later))
 
   -- nor is the node of the end
   pub end-node-out : (x : NodeName) → x ≡ r.end.node → is_contained ts r x ≡ false
@@ -95,20 +102,23 @@ module _ (ts : Trees) (r : Range NodeName) (bounded : IsBounded ts r) where
       let fits = bounded.within in
       let size : length_of ts x ≡ length_of ts r.end.node = ap (length_of ts) e in
       false_from_ne_true (is_contained ts r x)
-      (λ c. true≢false (sym (and_parts (is_before ts r.start (at x 0)) (is_before ts (at x (length_of ts x)) r.end) c).1 ∙ (before-same ts x r.end.node (length_of ts x) r.end.offset e ∙ le-ltb (length_of ts x) r.end.offset (omega (arith, size, fits)))))
+      (λ c. true≢false (sym (and_parts (is_before ts r.start (at x 0)) (is_before ts (at x (length_of ts x)) r.end) c).1 ∙
+      (before-same ts x r.end.node (length_of ts x) r.end.offset e ∙ le-ltb (length_of ts x) r.end.offset (omega (arith, size, fits)))))
 
   -- a Text between is
   text-in : (x : NodeName) → IsBetween ts r x → is_text (kind_of ts x) ≡ true → (x ≡ r.end.node → ⊥) → is_contained ts r x ≡ true
   text-in x m k other =
       let w = member-within x m.around in
       let alone : inclusive_descendants ts x ≡ x ∷ [] = here ts top x w ∙ ap (λ kids. x ∷ joined ts kids) (bounded.leaves x m.around k) in
-      let whole : inclusive_descendants ts top ≡ ahead_of ts top x ++ (x ∷ beyond ts top x) = splits ts top x w ∙ ap (λ xs. ahead_of ts top x ++ (xs ++ beyond ts top x)) alone in
+      let whole : inclusive_descendants ts top ≡ ahead_of ts top x ++ (x ∷ beyond ts top x) =
+      splits ts top x w ∙ ap (λ xs. ahead_of ts top x ++ (xs ++ beyond ts top x)) alone in
       let i : In r.end.node (ahead_of ts top x ++ (x ∷ beyond ts top x)) = subst (In r.end.node) whole (In-names _ r.end.node end-within.stands) in
       ap (λ b. b && is_before ts (at x (length_of ts x)) r.end) m.start
       ∙ elim (In-parts r.end.node (ahead_of ts top x) (x ∷ beyond ts top x) i) [
         | inl j ↦ elim (ahead-apart ts bounded.ends.once top x r.end.node w j) [
           | inl p ↦
-              absurd (true≢false (sym (before-beside ts r.end.node x r.end.offset 0 p.common p.first p.second p.first_rest p.second_rest p.first_place p.second_place (λ same. let l = p.less in omega (arith, l, same)) ∙ lt-ltb p.first p.second p.less) ∙ m.end))
+              absurd (true≢false (sym (before-beside ts r.end.node x r.end.offset 0 p.common p.first p.second p.first_rest p.second_rest
+              p.first_place p.second_place (λ same. let l = p.less in omega (arith, l, same)) ∙ lt-ltb p.first p.second p.less) ∙ m.end))
           | inr u ↦
               before-up ts x r.end.node (length_of ts x) r.end.offset u.child u.rest u.place
               ∙ lt-ltb u.child r.end.offset (leb-false r.end.offset u.child (sym (before-down ts r.end.node x r.end.offset 0 u.child u.rest u.place) ∙ m.end))
@@ -117,7 +127,8 @@ module _ (ts : Trees) (r : Range NodeName) (bounded : IsBounded ts r) where
           | inl same ↦ absurd (other (sym same))
           | inr g ↦
               let p = behind-apart ts bounded.ends.once top x r.end.node w g in
-              before-beside ts x r.end.node (length_of ts x) r.end.offset p.common p.first p.second p.first_rest p.second_rest p.first_place p.second_place (λ same. let l = p.less in omega (arith, l, same)) ∙ lt-ltb p.first p.second p.less
+              before-beside ts x r.end.node (length_of ts x) r.end.offset p.common p.first p.second p.first_rest p.second_rest p.first_place
+              p.second_place (λ same. let l = p.less in omega (arith, l, same)) ∙ lt-ltb p.first p.second p.less
         ]
       ]
 
@@ -138,7 +149,8 @@ module _ (ts : Trees) (r : Range NodeName) (bounded : IsBounded ts r) where
       let back = nodes_after ts top r.start in
       ap (contained_text ts r) (point-splits ts top r.start start-within)
       ∙ ap (flat_map (text_part ts r))
-      (filter-append (is_contained ts r) front back ∙ ap (λ xs. xs ++ filter (is_contained ts r) back) (filter-none (is_contained ts r) front (λ x i. start-out x (before-no ts top r.start start-within x i))))
+      (filter-append (is_contained ts r) front back ∙ ap (λ xs. xs ++ filter (is_contained ts r) back)
+      (filter-none (is_contained ts r) front (λ x i. start-out x (before-no ts top r.start start-within x i))))
 
   -- of a range whose end comes before its start there is none
   pub text-reversed : is_before ts r.end r.start ≡ true → contained_text ts r (nodes_around ts r) ≡ []
@@ -147,18 +159,22 @@ module _ (ts : Trees) (r : Range NodeName) (bounded : IsBounded ts r) where
       (λ x i. elim (cases_Bool (is_before ts r.start (at x 0))) [
         | inr f ↦ start-out x f
         | inl f ↦
-            end-out x (before-less (boundary_place ts r.end) (boundary_place ts r.start) (boundary_place ts (at x 0)) e (before-turned (boundary_place ts r.start) (boundary_place ts (at x 0)) f))
+            end-out x (before-less (boundary_place ts r.end) (boundary_place ts r.start) (boundary_place ts (at x 0)) e
+            (before-turned (boundary_place ts r.start) (boundary_place ts (at x 0)) f))
       ])
 
   -- a node between: its part, unless it is the node of the end
-  pub text-step : (x : NodeName) (xs : List NodeName) → IsBetween ts r x → contained_text ts r (x ∷ xs) ≡ (if name_eq x r.end.node then [] else text_part ts r x) ++ contained_text ts r xs
+  pub text-step : (x : NodeName) (xs : List NodeName) → IsBetween ts r x →
+      contained_text ts r (x ∷ xs) ≡ (if name_eq x r.end.node then [] else text_part ts r x) ++ contained_text ts r xs
   text-step x xs m =
       let p = is_contained ts r in
       let part = text_part ts r in
-      let yes : p x ≡ true → contained_text ts r (x ∷ xs) ≡ part x ++ contained_text ts r xs = λ e. ap (flat_map part) (filter-yes p x xs e) ∙ flat_map-cons part x (filter p xs) in
+      let yes : p x ≡ true → contained_text ts r (x ∷ xs) ≡ part x ++ contained_text ts r xs =
+      λ e. ap (flat_map part) (filter-yes p x xs e) ∙ flat_map-cons part x (filter p xs) in
       let no : p x ≡ false → contained_text ts r (x ∷ xs) ≡ contained_text ts r xs = λ e. ap (flat_map part) (filter-no p x xs e) in
       elim (cases_Bool (name_eq x r.end.node)) [
-        | inl e ↦ no (end-node-out x (name_eq-true x r.end.node e)) ∙ ap (λ zs. zs ++ contained_text ts r xs) (sym (cond-true (name_eq x r.end.node) [] (part x) e))
+        | inl e ↦ no (end-node-out x (name_eq-true x r.end.node e)) ∙
+            ap (λ zs. zs ++ contained_text ts r xs) (sym (cond-true (name_eq x r.end.node) [] (part x) e))
         | inr e ↦
             elim (cases_Bool (is_text (kind_of ts x))) [
               | inl k ↦ yes (text-in x m k (λ same. true≢false (sym (name_eq-from x r.end.node same) ∙ e)))
@@ -205,4 +221,5 @@ module _ (ts : Trees) (r : Range NodeName) (bounded : IsBounded ts r) where
         });
       }
       by (inr w) =
-          absurd (true≢false (sym (before-less (boundary_place ts r.end) (boundary_place ts (at w.0 0)) (boundary_place ts r.start) (after-yes ts top r.end end-within w.0 w.2) (before-no ts top r.start start-within w.0 w.1)) ∙ e))
+          absurd (true≢false (sym (before-less (boundary_place ts r.end) (boundary_place ts (at w.0 0)) (boundary_place ts r.start)
+          (after-yes ts top r.end end-within w.0 w.2) (before-no ts top r.start start-within w.0 w.1)) ∙ e))

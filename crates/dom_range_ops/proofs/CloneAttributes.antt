@@ -13,13 +13,15 @@ use Rattle.dom_tree.specs.Attributes.{HaveOwnNames}
 use Rattle.dom_tree.proofs.Attributes.{attributes_in, insert-attributes}
 
 -- the next attribute goes behind those that were copied
-pub attributes-next : (bs : List Attribute) → HaveOwnNames bs → (n : ℕ) (b : Attribute) → slice_get bs n ≡ Some b → attributes_with b.name b.value (take n bs) ≡ take (suc n) bs
+pub attributes-next : (bs : List Attribute) → HaveOwnNames bs → (n : ℕ) (b : Attribute) → slice_get bs n ≡ Some b →
+    attributes_with b.name b.value (take n bs) ≡ take (suc n) bs
 attributes-next [] h n b is = absurd (cc)
 attributes-next (c ∷ bs) h zero b is = let same : c ≡ b = cc in ap (λ (d : Attribute). d ∷ []) (sym same)
 attributes-next (c ∷ bs) h (suc n) b is =
     cond-false (text_eq b.name c.name) _ _ (apart bs n h.0 is) ∙ ap (λ ds. c ∷ ds) (attributes-next bs h.1 n b is)
   where
-    apart : (ds : List Attribute) (n : ℕ) → AllByRecursion (λ (d : Attribute). text_eq d.name c.name ≡ false) ds → slice_get ds n ≡ Some b → text_eq b.name c.name ≡ false
+    apart : (ds : List Attribute) (n : ℕ) → AllByRecursion (λ (d : Attribute). text_eq d.name c.name ≡ false) ds → slice_get ds n ≡ Some b →
+        text_eq b.name c.name ≡ false
     apart [] n g e = absurd (cc)
     apart (d ∷ ds) zero g e = let same : d ≡ b = cc in ap (λ (x : Attribute). text_eq x.name c.name) (sym same) ∙ g.0
     apart (d ∷ ds) (suc n) g e = apart ds n g.1 e
@@ -43,12 +45,15 @@ module _ {K V : Type 0} (text_of : K → List ℕ) (items_of : V → List ℕ) (
   abbrev pub AreFirst : List (K × V) → List Attribute → Type 0
   AreFirst es bs = attributes_in text_of items_of es ≡ take (length es) bs
 
-  pub attributes-put : (es : List (K × V)) (bs : List Attribute) → HaveOwnNames bs → AreFirst es bs → (k : K) (v : V) → slice_get bs (length es) ≡ Some (record { name = text_of k; value = items_of v }) → (new : List (K × V)) → new ≡ insert_entry eq es k v →
+  pub attributes-put : (es : List (K × V)) (bs : List Attribute) → HaveOwnNames bs → AreFirst es bs → (k : K) (v : V) →
+      slice_get bs (length es) ≡ Some (record { name = text_of k; value = items_of v }) → (new : List (K × V)) → new ≡ insert_entry eq es k v →
       AreFirst new bs × (length bs - length new < length bs - length es)
   attributes-put es bs h first k v there new put =
       let more : attributes_in text_of items_of new ≡ take (suc (length es)) bs =
-      ap (attributes_in text_of items_of) put ∙ insert-attributes text_of items_of eq same k v es ∙ ap (attributes_with (text_of k) (items_of v)) first ∙ attributes-next bs h (length es) (record { name = text_of k; value = items_of v }) there in
+      ap (attributes_in text_of items_of) put ∙ insert-attributes text_of items_of eq same k v es ∙ ap (attributes_with (text_of k) (items_of v))
+      first ∙ attributes-next bs h (length es) (record { name = text_of k; value = items_of v }) there in
       let left = attributes-left bs (length es) (record { name = text_of k; value = items_of v }) there in
       let size : length new ≡ suc (length es) =
-      sym (length-map new (λ e. record { name = text_of e.0; value = items_of e.1 })) ∙ ap (λ (ds : List Attribute). length ds) more ∙ length-take-le (suc (length es)) bs (omega arith) in
+      sym (length-map new (λ e. record { name = text_of e.0; value = items_of e.1 })) ∙ ap (λ (ds : List Attribute). length ds) more ∙
+      length-take-le (suc (length es)) bs (omega arith) in
       (more ∙ ap (λ n. take n bs) (sym size), omega arith)

@@ -42,7 +42,8 @@ pub if-both : {X E : Type 0} {P Q R : X → Type 0} (m : Result X E) → ((x : X
 if-both (Ok x) f p q = f x p q
 if-both (Err e) f p q = tt
 
-module _ (f : NamedTrees) (once : StandOnce f) (only : StandAlone f) (owned : AreOwned f.trees) (d : DocState) (names_is : f.names ≡ d.names) (trees_is : (o : Owner) → trees_of_owner o f.trees ≡ (part_of d.world o).trees) (points : Points) (h : IsRangeIn d points) where
+module _ (f : NamedTrees) (once : StandOnce f) (only : StandAlone f) (owned : AreOwned f.trees) (d : DocState) (names_is : f.names ≡ d.names)
+    (trees_is : (o : Owner) → trees_of_owner o f.trees ≡ (part_of d.world o).trees) (points : Points) (h : IsRangeIn d points) where
   abbrev o : Owner
   o = owner_in d points.start.0
 
@@ -76,7 +77,8 @@ module _ (f : NamedTrees) (once : StandOnce f) (only : StandAlone f) (owned : Ar
   -- and no Text and no Comment has children
   pub leaves-in : AreLeaves f points
   leaves-in x i k =
-      let mine = (stays_own f.trees owned o (root_of f.trees r.start.node) (stays_own f.trees owned o r.start.node start).root).inside x (subst (λ (s : Range NodeName). is_in name_eq x (nodes_around f.trees s) ≡ true) (sym is) i) in
+      let mine = (stays_own f.trees owned o (root_of f.trees r.start.node) (stays_own f.trees owned o r.start.node start).root).inside x
+      (subst (λ (s : Range NodeName). is_in name_eq x (nodes_around f.trees s) ≡ true) (sym is) i) in
       let read = read_own f.trees owned o x mine in
       let kind = ap (λ (n : Node). n.kind) read.node ∙ ap (λ us. kind_of us x) (trees_is o) in
       read.children ∙ (ap (λ us. children_of us x) (trees_is o) ∙ h.leaves x (ap has_data (sym kind) ∙ k))
@@ -89,17 +91,21 @@ module _ (f : NamedTrees) (once : StandOnce f) (only : StandAlone f) (owned : Ar
 
   -- what is cut at a node
   pub cutting-in : (x : NodeName) → x.owner ≡ o → cutting_data f.trees (range_at_points f.names points) x ≡ cutting_data ts r x
-  cutting-in x mine = ap (λ s. cutting_data f.trees s x) (sym is) ∙ (cutting-own f.trees owned o r one start end x mine ∙ ap (λ us. cutting_data us r x) (trees_is o))
+  cutting-in x mine = ap (λ s. cutting_data f.trees s x) (sym is) ∙
+      (cutting-own f.trees owned o r one start end x mine ∙ ap (λ us. cutting_data us r x) (trees_is o))
 
   -- the outermost contained nodes
   pub outermost-in : outermost_contained f.trees (range_at_points f.names points) ≡ outermost_contained ts r
   outermost-in = ap (outermost_contained f.trees) (sym is) ∙ (outermost-own f.trees owned o r one start end ∙ ap (λ us. outermost_contained us r) (trees_is o))
 
   -- which are the owner's
-  pub found-own : (ks : List ℕ) → AllByRecursion (λ k. k < length f.names) ks → map (name_at f.names) ks ≡ outermost_contained f.trees (range_at_points f.names points) → AllByRecursion (λ k. (k < length d.names) × (owner_in d k ≡ o)) ks
+  pub found-own : (ks : List ℕ) → AllByRecursion (λ k. k < length f.names) ks →
+      map (name_at f.names) ks ≡ outermost_contained f.trees (range_at_points f.names points) →
+      AllByRecursion (λ k. (k < length d.names) × (owner_in d k ≡ o)) ks
   found-own ks nodes found =
       subst (λ (ns : List NodeName). AllByRecursion (λ k. (k < length ns) × ((name_at ns k).owner ≡ o)) ks) names_is
-      (keys-own f.names (name_at f.names) o ks nodes (λ x i. outermost-owner f.trees owned o r one start end x (subst (In x) (found ∙ ap (outermost_contained f.trees) (sym is)) i)))
+      (keys-own f.names (name_at f.names) o ks nodes
+      (λ x i. outermost-owner f.trees owned o r one start end x (subst (In x) (found ∙ ap (outermost_contained f.trees) (sym is)) i)))
 
   -- where the range stands afterwards
   pub place-in : new_place f.trees (range_at_points f.names points) ≡ new_place ts r
@@ -117,14 +123,18 @@ pub record IsOfPoints (d : DocState) (o : Owner) (k : ℕ) (points : Points) : T
   pub owner : owner_in d points.start.0 ≡ o
   pub range : IsRangeIn d points
 
-module _ (f : NamedTrees) (once : StandOnce f) (only : StandAlone f) (owned : AreOwned f.trees) (d : DocState) (names_is : f.names ≡ d.names) (trees_is : (o : Owner) → trees_of_owner o f.trees ≡ (part_of d.world o).trees) (o : Owner) (k : ℕ) (points : Points) where
+module _ (f : NamedTrees) (once : StandOnce f) (only : StandAlone f) (owned : AreOwned f.trees) (d : DocState) (names_is : f.names ≡ d.names)
+    (trees_is : (o : Owner) → trees_of_owner o f.trees ≡ (part_of d.world o).trees) (o : Owner) (k : ℕ) (points : Points) where
   -- so it is where the points are those that are read
-  pub of-points : points.start.0 < length d.names → points.end.0 < length d.names → is_some (range_at (part_of d.world o) k) ≡ true → ForSome (range_at (part_of d.world o) k) (HasEnds (part_of d.world o).trees) → HasBounds (part_of d.world o)
-      → effect (part_of d.world o) (Command.range_get k) ≡ Effect.tables (part_of d.world o) [] (boundaries (at (name_in d points.start.0) points.start.1) (at (name_in d points.end.0) points.end.1)) → IsOfPoints d o k points
+  pub of-points : points.start.0 < length d.names → points.end.0 < length d.names → is_some (range_at (part_of d.world o) k) ≡ true →
+      ForSome (range_at (part_of d.world o) k) (HasEnds (part_of d.world o).trees) → HasBounds (part_of d.world o)
+      → effect (part_of d.world o) (Command.range_get k) ≡ Effect.tables (part_of d.world o) []
+      (boundaries (at (name_in d points.start.0) points.start.1) (at (name_in d points.end.0) points.end.1)) → IsOfPoints d o k points
   of-points start end known ends bounds read =
       let p = part_of d.world o in
       let found = some-of (range_at p k) known in
-      let same : found.0 ≡ range_at_points d.names points = read-points p p k found.0 (at (name_in d points.start.0) points.start.1) (at (name_in d points.end.0) points.end.1) found.1 read in
+      let same : found.0 ≡ range_at_points d.names points =
+      read-points p p k found.0 (at (name_in d points.start.0) points.start.1) (at (name_in d points.end.0) points.end.1) found.1 read in
       let there : range_at p k ≡ Some (range_at_points d.names points) = found.1 ∙ ap Some same in
       let own_ends = ends (range_at_points d.names points) there in
       let by_forest = ap (λ ns. range_at_points ns points) (sym names_is) in
@@ -140,6 +150,7 @@ module _ (f : NamedTrees) (once : StandOnce f) (only : StandAlone f) (owned : Ar
           owner = end_own ∙ sym start_own;
           ends = subst (λ q. HasEnds (part_of d.world q).trees (range_at_points d.names points)) (sym start_own) own_ends;
           within = subst (λ q. IsWithin (part_of d.world q).trees (range_at_points d.names points).end) (sym start_own) within;
-          leaves = subst (λ q. (x : NodeName) → IsTrue (has_data (kind_of (part_of d.world q).trees x)) → children_of (part_of d.world q).trees x ≡ []) (sym start_own) bounds.leaves;
+          leaves = subst (λ q. (x : NodeName) → IsTrue (has_data (kind_of (part_of d.world q).trees x)) →
+              children_of (part_of d.world q).trees x ≡ []) (sym start_own) bounds.leaves;
         };
       }

@@ -1,5 +1,6 @@
 -- Going up from keys' nodes, by how many nodes stand above them.
-use Rattle.std.proofs.Common.{◌≡◌, ◌⊎◌, inl, inr, ℕ, ◌+◌, ◌<◌, ◌≤◌, true, false, List, [], ◌∷◌, ◌++◌, length, Option, Some, None, refl, sym, ap, subst, ◌∙◌, arith, length-append}
+use Rattle.std.proofs.Common.{◌≡◌, ◌⊎◌, inl, inr, ℕ, ◌+◌, ◌<◌, ◌≤◌, true, false, List, [], ◌∷◌, ◌++◌, length, Option, Some, None, refl, sym, ap}
+use Rattle.std.proofs.Common.{subst, ◌∙◌, arith, length-append}
 use Rattle.std.proofs.lemmas.Bool.{false_from_ne_true}
 use Rattle.dom_base.specs.declared.NodeName.{NodeName}
 use Rattle.dom_model.specs.Names.{name_eq, items_before}
@@ -17,7 +18,8 @@ module _ (ts : Trees) (once : Once ts) where
   -- what is above a node is no higher than it is deep
   above-less : (a x : NodeName) → Has ts x → In a (inclusive_ancestors ts x) → length (inclusive_ancestors ts a) ≤ length (inclusive_ancestors ts x)
   above-less a x h i =
-      let long = ap (length {A = NodeName}) (above-split ts a x once h i) ∙ length-append (items_before name_eq a (inclusive_ancestors ts x)) (inclusive_ancestors ts a) in
+      let long = ap (length {A = NodeName}) (above-split ts a x once h i) ∙ length-append (items_before name_eq a (inclusive_ancestors ts x))
+      (inclusive_ancestors ts a) in
       omega (arith, long)
 
   -- a list that another one ends with, of the same length
@@ -29,7 +31,8 @@ module _ (ts : Trees) (once : Once ts) where
   level-above : (a b : NodeName) → Has ts b → In a (inclusive_ancestors ts b) → length (inclusive_ancestors ts a) ≡ length (inclusive_ancestors ts b) → a ≡ b
   level-above a b h i level =
       let k = Has-above ts a b once h i in
-      let path = same-end (items_before name_eq a (inclusive_ancestors ts b)) (inclusive_ancestors ts a) (inclusive_ancestors ts b) (above-split ts a b once h i) level in
+      let path = same-end (items_before name_eq a (inclusive_ancestors ts b)) (inclusive_ancestors ts a) (inclusive_ancestors ts b)
+      (above-split ts a b once h i) level in
       let pa = above-present ts a k in
       let pb = above-present ts b h in
       let heads : b ∷ pb.0 ≡ a ∷ pa.0 = sym pb.1 ∙ (path ∙ pa.1) in
@@ -37,7 +40,8 @@ module _ (ts : Trees) (once : Once ts) where
       sym same
 
   -- so are two nodes above one
-  level-same : (a b x : NodeName) → Has ts x → In a (inclusive_ancestors ts x) → In b (inclusive_ancestors ts x) → length (inclusive_ancestors ts a) ≡ length (inclusive_ancestors ts b) → a ≡ b
+  level-same : (a b x : NodeName) → Has ts x → In a (inclusive_ancestors ts x) → In b (inclusive_ancestors ts x) →
+      length (inclusive_ancestors ts a) ≡ length (inclusive_ancestors ts b) → a ≡ b
   level-same a b x h i j level = elim (above-chain ts a b x once h i j) [
     | inl k ↦ level-above a b (Has-above ts b x once h j) k level
     | inr k ↦ sym (level-above b a (Has-above ts a x once h i) k (sym level))
@@ -53,7 +57,8 @@ module _ (f : NamedTrees) (once : StandOnce f) (only : StandAlone f) where
   -- a parent has one fewer
   pub height-up : (k p : ℕ) → k < length f.names → Some (name_at f.names p) ≡ parent_of f.trees (name_at f.names k) → height_at f k ≡ height_at f p + 1
   height-up k p node e =
-      let long = ap (length {A = NodeName}) (above-parent f.trees (name_at f.names k) (name_at f.names p) (Once-forest f once only) (Has-forest f once k node) (sym e)).0 in
+      let long = ap (length {A = NodeName})
+      (above-parent f.trees (name_at f.names k) (name_at f.names p) (Once-forest f once only) (Has-forest f once k node) (sym e)).0 in
       omega (arith, long)
 
   -- a root has itself alone
@@ -74,28 +79,38 @@ module _ (f : NamedTrees) (once : StandOnce f) (only : StandAlone f) where
 
   -- a parent of what is above a node is above it
   pub raise-up : (k p x : ℕ) → k < length f.names → x < length f.names → Some (name_at f.names p) ≡ parent_of f.trees (name_at f.names k)
-      → is_inclusive_ancestor f.trees (name_at f.names k) (name_at f.names x) ≡ true → is_inclusive_ancestor f.trees (name_at f.names p) (name_at f.names x) ≡ true
+      → is_inclusive_ancestor f.trees (name_at f.names k) (name_at f.names x) ≡ true →
+      is_inclusive_ancestor f.trees (name_at f.names p) (name_at f.names x) ≡ true
   raise-up k p x node at_x e up =
       let single = Once-forest f once only in
       let is = above-parent f.trees (name_at f.names k) (name_at f.names p) single (Has-forest f once k node) (sym e) in
-      let i : In (name_at f.names p) (inclusive_ancestors f.trees (name_at f.names k)) = subst (In (name_at f.names p)) (sym is.0) (inr (subst (In (name_at f.names p)) (sym (above-present f.trees (name_at f.names p) is.1).1) (inl refl))) in
+      let i : In (name_at f.names p) (inclusive_ancestors f.trees (name_at f.names k)) =
+      subst (In (name_at f.names p)) (sym is.0)
+      (inr (subst (In (name_at f.names p)) (sym (above-present f.trees (name_at f.names p) is.1).1) (inl refl))) in
       is_in-from (name_at f.names p) (inclusive_ancestors f.trees (name_at f.names x))
-      (above-along f.trees (name_at f.names p) (name_at f.names k) (name_at f.names x) single (Has-forest f once x at_x) i (In-from (name_at f.names k) (inclusive_ancestors f.trees (name_at f.names x)) up))
+      (above-along f.trees (name_at f.names p) (name_at f.names k) (name_at f.names x) single (Has-forest f once x at_x) i
+      (In-from (name_at f.names k) (inclusive_ancestors f.trees (name_at f.names x)) up))
 
   -- a node as deep as another one that is above x is not above x, where it is another one
-  pub level-apart : (k j x : ℕ) → x < length f.names → is_inclusive_ancestor f.trees (name_at f.names j) (name_at f.names x) ≡ true → height_at f k ≡ height_at f j → (name_at f.names k ≡ name_at f.names j → ⊥)
+  pub level-apart : (k j x : ℕ) → x < length f.names → is_inclusive_ancestor f.trees (name_at f.names j) (name_at f.names x) ≡ true →
+      height_at f k ≡ height_at f j → (name_at f.names k ≡ name_at f.names j → ⊥)
       → is_inclusive_ancestor f.trees (name_at f.names k) (name_at f.names x) ≡ false
   level-apart k j x at_x above level other =
       let path = inclusive_ancestors f.trees (name_at f.names x) in
       false_from_ne_true (is_inclusive_ancestor f.trees (name_at f.names k) (name_at f.names x))
-      (λ t. other (level-same f.trees (Once-forest f once only) (name_at f.names k) (name_at f.names j) (name_at f.names x) (Has-forest f once x at_x) (In-from (name_at f.names k) path t) (In-from (name_at f.names j) path above) level))
+      (λ t. other (level-same f.trees (Once-forest f once only) (name_at f.names k) (name_at f.names j) (name_at f.names x)
+      (Has-forest f once x at_x) (In-from (name_at f.names k) path t) (In-from (name_at f.names j) path above) level))
 
   -- what is above x as deep as x, or deeper than y, is not above y, where x is not
-  pub first-apart : (k x y : ℕ) → x < length f.names → y < length f.names → is_inclusive_ancestor f.trees (name_at f.names k) (name_at f.names x) ≡ true → is_inclusive_ancestor f.trees (name_at f.names x) (name_at f.names y) ≡ false
+  pub first-apart : (k x y : ℕ) → x < length f.names → y < length f.names →
+      is_inclusive_ancestor f.trees (name_at f.names k) (name_at f.names x) ≡ true →
+      is_inclusive_ancestor f.trees (name_at f.names x) (name_at f.names y) ≡ false
       → (height_at f k ≡ height_at f x) ⊎ (height_at f y < height_at f k) → is_inclusive_ancestor f.trees (name_at f.names k) (name_at f.names y) ≡ false
   first-apart k x y at_x at_y up apart (inl level) =
-      let same = level-above f.trees (Once-forest f once only) (name_at f.names k) (name_at f.names x) (Has-forest f once x at_x) (In-from (name_at f.names k) (inclusive_ancestors f.trees (name_at f.names x)) up) level in
+      let same = level-above f.trees (Once-forest f once only) (name_at f.names k) (name_at f.names x) (Has-forest f once x at_x)
+      (In-from (name_at f.names k) (inclusive_ancestors f.trees (name_at f.names x)) up) level in
       ap (λ z. is_inclusive_ancestor f.trees z (name_at f.names y)) same ∙ apart
   first-apart k x y at_x at_y up apart (inr deep) =
       false_from_ne_true (is_inclusive_ancestor f.trees (name_at f.names k) (name_at f.names y))
-      (λ t. let less = above-less f.trees (Once-forest f once only) (name_at f.names k) (name_at f.names y) (Has-forest f once y at_y) (In-from (name_at f.names k) (inclusive_ancestors f.trees (name_at f.names y)) t) in omega (arith, less, deep))
+      (λ t. let less = above-less f.trees (Once-forest f once only) (name_at f.names k) (name_at f.names y) (Has-forest f once y at_y)
+      (In-from (name_at f.names k) (inclusive_ancestors f.trees (name_at f.names y)) t) in omega (arith, less, deep))

@@ -1,5 +1,6 @@
 -- The walk that finds the outermost contained nodes, by keys.
-use Rattle.std.proofs.Common.{◌≡◌, inl, inr, not, ℕ, ◌<◌, ◌≤◌, Bool, true, false, List, [], ◌∷◌, ◌++◌, length, map, reverse, drop, filter, Option, Some, None, option_map, refl, sym, ap, subst, ◌∙◌, arith, append_assoc, length-append, true≢false}
+use Rattle.std.proofs.Common.{◌≡◌, inl, inr, not, ℕ, ◌<◌, ◌≤◌, Bool, true, false, List, [], ◌∷◌, ◌++◌, length, map, reverse, drop, filter, Option}
+use Rattle.std.proofs.Common.{Some, None, option_map, refl, sym, ap, subst, ◌∙◌, arith, append_assoc, length-append, true≢false}
 use Rattle.std.specs.Prelude.{option_to_list}
 use Rattle.std.specs.List.{AllByRecursion}
 use Rattle.std.specs.Option.{ForSome}
@@ -48,7 +49,8 @@ no-items [] e = refl
 no-items (x ∷ xs) e = absurd (omega (arith, e))
 
 -- the last one is taken
-pub pop-keys : (old new : List ℕ) (o : Option ℕ) → old ≡ new ++ option_to_list o → (o ≡ None → length old ≡ 0) → (o ≡ first_of (reverse old)) × (reverse new ≡ drop 1 (reverse old))
+pub pop-keys : (old new : List ℕ) (o : Option ℕ) → old ≡ new ++ option_to_list o → (o ≡ None → length old ≡ 0) → (o ≡ first_of (reverse old)) ×
+    (reverse new ≡ drop 1 (reverse old))
 pop-keys old new None e none =
     let empty = no-items old (none refl) in
     (ap (λ xs. first_of (reverse xs)) (sym empty), ap reverse (sym (append-nil new) ∙ (sym e ∙ empty)) ∙ ap (λ xs. drop 1 (reverse xs)) (sym empty))
@@ -60,7 +62,8 @@ pop-keys old new (Some k) e none =
 map-turned : (f : ℕ → NodeName) (ks : List ℕ) → map f (reverse ks) ≡ reverse (map f ks)
 map-turned f [] = refl
 map-turned f (k ∷ ks) =
-    ap (map f) (reverse-append (k ∷ []) ks) ∙ (map-append f (reverse ks) (k ∷ []) ∙ (ap (λ xs. xs ++ f k ∷ []) (map-turned f ks) ∙ sym (reverse-append (f k ∷ []) (map f ks))))
+    ap (map f) (reverse-append (k ∷ []) ks) ∙
+    (map-append f (reverse ks) (k ∷ []) ∙ (ap (λ xs. xs ++ f k ∷ []) (map-turned f ks) ∙ sym (reverse-append (f k ∷ []) (map f ks))))
 
 -- ---- beyond a node
 
@@ -97,7 +100,8 @@ pub record Finds (f : NamedTrees) (r : Range NodeName) (top : ℕ) (o : Option �
   pub left : map (name_at f.names) found ++ filter (is_outermost f.trees r) (left_at f top o) ≡ outermost_contained f.trees r
   pub path : LeadsTo f.names (filter (λ y. is_inclusive_ancestor f.trees y r.end.node) (left_at f top o)) partial others
 
-module _ (f : NamedTrees) (once : StandOnce f) (only : StandAlone f) (distinct : TellApart f) (points : Points) (bounds : AreBounded f points) (are_leaves : AreLeaves f points) (top : ℕ) (root_is : name_at f.names top ≡ root_of f.trees (name_at f.names points.start.0)) where
+module _ (f : NamedTrees) (once : StandOnce f) (only : StandAlone f) (distinct : TellApart f) (points : Points) (bounds : AreBounded f points)
+    (are_leaves : AreLeaves f points) (top : ℕ) (root_is : name_at f.names top ≡ root_of f.trees (name_at f.names points.start.0)) where
   abbrev r : Range NodeName
   r = range_at_points f.names points
 
@@ -111,8 +115,11 @@ module _ (f : NamedTrees) (once : StandOnce f) (only : StandAlone f) (distinct :
   to_end y = is_inclusive_ancestor f.trees y (range_at_points f.names points).end.node
 
   -- it begins
-  pub finds-first : is_before f.trees r.end r.start ≡ false → (o : Option ℕ) → option_map (name_at f.names) o ≡ first_of (nodes_after f.trees (name_at f.names top) r.start) → ForSome o (StandsIn f top)
-      → (old new : List ℕ) (partial : Option ℕ) → map (name_at f.names) old ≡ filter (λ a. not (is_inclusive_ancestor f.trees a r.start.node)) (inclusive_ancestors f.trees r.end.node) → AllByRecursion (λ k. k < length f.names) old
+  pub finds-first : is_before f.trees r.end r.start ≡ false → (o : Option ℕ) →
+      option_map (name_at f.names) o ≡ first_of (nodes_after f.trees (name_at f.names top) r.start) → ForSome o (StandsIn f top)
+      → (old new : List ℕ) (partial : Option ℕ) →
+      map (name_at f.names) old ≡ filter (λ a. not (is_inclusive_ancestor f.trees a r.start.node)) (inclusive_ancestors f.trees r.end.node) →
+      AllByRecursion (λ k. k < length f.names) old
       → old ≡ new ++ option_to_list partial → (partial ≡ None → length old ≡ 0) → Finds f r top o [] partial new
   finds-first ordered o is stands old new partial path nodes popped none =
       let from = from-start f once only points bounds top root_is o is in
@@ -120,7 +127,8 @@ module _ (f : NamedTrees) (once : StandOnce f) (only : StandAlone f) (distinct :
       record {
         stands = stands;
         leads = leads-from f once only points bounds top root_is ordered o is;
-        clear = λ k there. clear-start f.trees r bounded leaves (name_at f.names k) (ap (λ t. first_of (nodes_after f.trees t r.start)) (sym root_is) ∙ (sym is ∙ ap (option_map (name_at f.names)) there));
+        clear = λ k there. clear-start f.trees r bounded leaves (name_at f.names k)
+            (ap (λ t. first_of (nodes_after f.trees t r.start)) (sym root_is) ∙ (sym is ∙ ap (option_map (name_at f.names)) there));
         nodes = tt;
         left = sym (all-outermost f.trees r bounded leaves ∙ ap (filter (is_outermost f.trees r)) from);
         path = record {
@@ -132,7 +140,8 @@ module _ (f : NamedTrees) (once : StandOnce f) (only : StandAlone f) (distinct :
         };
       }
 
-  module _ (o : Option ℕ) (key : ℕ) (found : List ℕ) (partial : Option ℕ) (others : List ℕ) (at_key : o ≡ Some key) (h : Finds f r top o found partial others) where
+  module _ (o : Option ℕ) (key : ℕ) (found : List ℕ) (partial : Option ℕ) (others : List ℕ) (at_key : o ≡ Some key)
+      (h : Finds f r top o found partial others) where
     abbrev x : NodeName
     x = name_at f.names key
 
@@ -152,33 +161,41 @@ module _ (f : NamedTrees) (once : StandOnce f) (only : StandAlone f) (distinct :
     within = IsWithin-key f once only top key stands_here
 
     -- where it stops all are found
-    pub finds-end : option_map (name_at f.names) o ≡ first_of (nodes_after f.trees (root_of f.trees r.start.node) r.end) → map (name_at f.names) found ≡ outermost_contained f.trees r
+    pub finds-end : option_map (name_at f.names) o ≡ first_of (nodes_after f.trees (root_of f.trees r.start.node) r.end) →
+        map (name_at f.names) found ≡ outermost_contained f.trees r
     finds-end e =
         let first : Some x ≡ first_of (nodes_after f.trees (root_of f.trees r.start.node) r.end) = sym (ap (option_map (name_at f.names)) at_key) ∙ e in
         let all = stands-end f.trees r bounded leaves x xs (subst (Leads f.trees r) here_is h.leads) first in
         sym (append-nil (map (name_at f.names) found))
-        ∙ (ap (λ ys. map (name_at f.names) found ++ ys) (sym (none-end f.trees r bounded leaves)) ∙ (ap (λ ys. map (name_at f.names) found ++ filter (is_outermost f.trees r) ys) (sym (here_is ∙ all)) ∙ h.left))
+        ∙ (ap (λ ys. map (name_at f.names) found ++ ys) (sym (none-end f.trees r bounded leaves)) ∙
+        (ap (λ ys. map (name_at f.names) found ++ filter (is_outermost f.trees r) ys) (sym (here_is ∙ all)) ∙ h.left))
 
-    module _ (stop : Option ℕ) (stop_is_first : option_map (name_at f.names) stop ≡ first_of (nodes_after f.trees (name_at f.names top) r.end)) (stop_stands : ForSome stop (StandsIn f top)) (off : stop ≡ Some key → ⊥) where
+    module _ (stop : Option ℕ) (stop_is_first : option_map (name_at f.names) stop ≡ first_of (nodes_after f.trees (name_at f.names top) r.end))
+        (stop_stands : ForSome stop (StandsIn f top)) (off : stop ≡ Some key → ⊥) where
       -- before it stops a node is between
       goes : IsBetween f.trees r x × Leads f.trees r xs
       goes = go-on f.trees r bounded x xs (subst (Leads f.trees r) here_is h.leads)
-          (λ first. off (key-found f distinct stop key (λ k there. (stop_stands k there).node) stands_here.node (stop-is f once only points bounds top root_is stop stop_is_first ∙ sym first)))
+          (λ first. off (key-found f distinct stop key (λ k there. (stop_stands k there).node) stands_here.node
+          (stop-is f once only points bounds top root_is stop stop_is_first ∙ sym first)))
 
       -- a node above the end is passed
-      pub finds-pass : partial ≡ Some key → (new : List ℕ) (next_partial : Option ℕ) → others ≡ new ++ option_to_list next_partial → (next_partial ≡ None → length others ≡ 0)
-          → (next : Option ℕ) → option_map (name_at f.names) next ≡ first_of xs → ForSome next (λ k. k < length f.names) → Finds f r top next found next_partial new × (length (left_at f top next) < length (left_at f top o))
+      pub finds-pass : partial ≡ Some key → (new : List ℕ) (next_partial : Option ℕ) → others ≡ new ++ option_to_list next_partial →
+          (next_partial ≡ None → length others ≡ 0)
+          → (next : Option ℕ) → option_map (name_at f.names) next ≡ first_of xs → ForSome next (λ k. k < length f.names) →
+          Finds f r top next found next_partial new × (length (left_at f top next) < length (left_at f top o))
       finds-pass expected new next_partial popped none next next_is node = by h.path.keys h.path.named h.path.begins h.path.rest h.path.nodes
         where
           step : (behind f.trees (name_at f.names top) x ≡ left_at f top next) × ForSome next (StandsIn f top)
           step = following_step f once only top key next stands_here next_is node
 
-          by : (keys : List ℕ) → filter to_end (left_at f top o) ≡ map (name_at f.names) keys → partial ≡ first_of keys → reverse others ≡ drop 1 keys → AllByRecursion (λ k. k < length f.names) keys
+          by : (keys : List ℕ) → filter to_end (left_at f top o) ≡ map (name_at f.names) keys → partial ≡ first_of keys →
+              reverse others ≡ drop 1 keys → AllByRecursion (λ k. k < length f.names) keys
               → Finds f r top next found next_partial new × (length (left_at f top next) < length (left_at f top o))
           by [] named begins rest nodes = absurd (none-some key (sym begins ∙ expected))
           by (k ∷ keys) named begins rest nodes =
               let same : k ≡ key = same_Some k key (sym begins ∙ expected) in
-              let listed : filter to_end (x ∷ xs) ≡ x ∷ map (name_at f.names) keys = ap (filter to_end) (sym here_is) ∙ (named ∙ ap (λ j. name_at f.names j ∷ map (name_at f.names) keys) same) in
+              let listed : filter to_end (x ∷ xs) ≡ x ∷ map (name_at f.names) keys =
+              ap (filter to_end) (sym here_is) ∙ (named ∙ ap (λ j. name_at f.names j ∷ map (name_at f.names) keys) same) in
               let above = first-passes to_end (x ∷ xs) x (ap first_of listed) in
               let tail : filter to_end xs ≡ map (name_at f.names) keys = ap (drop 1) (sym (filter-yes to_end x xs above) ∙ listed) in
               let off_x = end-above-out f.trees r bounded leaves x goes.0.around above in
@@ -188,18 +205,26 @@ module _ (f : NamedTrees) (once : StandOnce f) (only : StandAlone f) (distinct :
                 record {
                   stands = step.1;
                   leads = subst (Leads f.trees r) step.0 goes.1;
-                  clear = λ j there. clear-behind f.trees r bounded leaves x (name_at f.names j) goes.0.around clear_here off_x (ap (λ t. first_of (behind f.trees t x)) (sym root_is) ∙ (sym next_is ∙ ap (option_map (name_at f.names)) there));
+                  clear = λ j there. clear-behind f.trees r bounded leaves x (name_at f.names j) goes.0.around clear_here off_x
+                      (ap (λ t. first_of (behind f.trees t x)) (sym root_is) ∙ (sym next_is ∙ ap (option_map (name_at f.names)) there));
                   nodes = h.nodes;
                   left = ap (λ ys. map (name_at f.names) found ++ filter (is_outermost f.trees r) ys) (sym step.0)
                       ∙ (ap (λ ys. map (name_at f.names) found ++ ys) (sym (pass f.trees r bounded leaves x xs goes.0.around above))
                       ∙ (ap (λ ys. map (name_at f.names) found ++ filter (is_outermost f.trees r) ys) (sym here_is) ∙ h.left));
-                  path = record { keys = keys; named = ap (filter to_end) (sym step.0) ∙ tail; begins = popped_keys.0 ∙ ap first_of rest; rest = popped_keys.1 ∙ ap (drop 1) rest; nodes = nodes.1 };
+                  path = record {
+                    keys = keys;
+                    named = ap (filter to_end) (sym step.0) ∙ tail;
+                    begins = popped_keys.0 ∙ ap first_of rest;
+                    rest = popped_keys.1 ∙ ap (drop 1) rest;
+                    nodes = nodes.1;
+                  };
                 },
                 omega (arith, less, few),
               )
 
       -- another one is found
-      pub finds-find : (partial ≡ Some key → ⊥) → (next : Option ℕ) → option_map (name_at f.names) next ≡ first_of (beyond f.trees (name_at f.names top) x) → ForSome next (StandsIn f top)
+      pub finds-find : (partial ≡ Some key → ⊥) → (next : Option ℕ) →
+          option_map (name_at f.names) next ≡ first_of (beyond f.trees (name_at f.names top) x) → ForSome next (StandsIn f top)
           → Finds f r top next (found ++ key ∷ []) partial others × (length (left_at f top next) < length (left_at f top o))
       finds-find other next next_is stands =
           let from = beyond-from f.trees (name_at f.names top) x within (option_map (name_at f.names) next) next_is in
@@ -212,13 +237,16 @@ module _ (f : NamedTrees) (once : StandOnce f) (only : StandAlone f) (distinct :
           let fewer = beyond-fewer f.trees (name_at f.names top) x within in (
             record {
               stands = stands;
-              leads = subst (Leads f.trees r) (sym beyond_top ∙ from) (lead-on f.trees r bounded leaves x goes.0 away (subst (Leads f.trees r) behind_top goes.1));
-              clear = λ j there. clear-beyond f.trees r bounded leaves x (names j) goes.0.around clear_here (ap first_of (sym beyond_top) ∙ (sym next_is ∙ ap (option_map names) there));
+              leads = subst (Leads f.trees r) (sym beyond_top ∙ from)
+                  (lead-on f.trees r bounded leaves x goes.0 away (subst (Leads f.trees r) behind_top goes.1));
+              clear = λ j there. clear-beyond f.trees r bounded leaves x (names j) goes.0.around clear_here
+                  (ap first_of (sym beyond_top) ∙ (sym next_is ∙ ap (option_map names) there));
               nodes = all-append (λ k. k < length f.names) found (key ∷ []) h.nodes (stands_here.node, tt);
               left = ap (λ ys. ys ++ outer (left_at f top next)) (map-append names found (key ∷ []))
                   ∙ (append_assoc (map names found) (x ∷ []) (outer (left_at f top next))
                   ∙ (ap (λ ys. map names found ++ x ∷ outer ys) (sym (sym beyond_top ∙ from))
-                  ∙ (ap (λ ys. map names found ++ ys) (sym (find f.trees r bounded leaves x goes.0 clear_here away) ∙ ap (λ ys. outer (x ∷ ys)) (sym behind_top))
+                  ∙ (ap (λ ys. map names found ++ ys)
+                  (sym (find f.trees r bounded leaves x goes.0 clear_here away) ∙ ap (λ ys. outer (x ∷ ys)) (sym behind_top))
                   ∙ (ap (λ ys. map names found ++ outer ys) (sym here_is) ∙ h.left))));
               path = record {
                 keys = h.path.keys;
@@ -232,13 +260,15 @@ module _ (f : NamedTrees) (once : StandOnce f) (only : StandAlone f) (distinct :
           )
         where
           -- it is not above the end
-          by : to_end x ≡ true → (keys : List ℕ) → filter to_end (left_at f top o) ≡ map (name_at f.names) keys → partial ≡ first_of keys → AllByRecursion (λ k. k < length f.names) keys → ⊥
+          by : to_end x ≡ true → (keys : List ℕ) → filter to_end (left_at f top o) ≡ map (name_at f.names) keys → partial ≡ first_of keys →
+              AllByRecursion (λ k. k < length f.names) keys → ⊥
           by above [] named begins nodes =
               let e : x ∷ filter to_end xs ≡ [] = sym (filter-yes to_end x xs above) ∙ (ap (filter to_end) (sym here_is) ∙ named) in
               let long = ap (length {A = NodeName}) e in
               omega (arith, long)
           by above (k ∷ keys) named begins nodes =
-              let e : x ∷ filter to_end xs ≡ name_at f.names k ∷ map (name_at f.names) keys = sym (filter-yes to_end x xs above) ∙ (ap (filter to_end) (sym here_is) ∙ named) in
+              let e : x ∷ filter to_end xs ≡ name_at f.names k ∷ map (name_at f.names) keys =
+              sym (filter-yes to_end x xs above) ∙ (ap (filter to_end) (sym here_is) ∙ named) in
               let same : x ≡ name_at f.names k = cc in
               other (begins ∙ ap Some (distinct k key nodes.0 stands_here.node (sym same)))
 
@@ -247,8 +277,11 @@ module _ (f : NamedTrees) (once : StandOnce f) (only : StandAlone f) (distinct :
 
           none_below : (y : NodeName) → In y (below f.trees x) → to_end y ≡ true → ⊥
           none_below y i t =
-              let up = inside-test f.trees x y within.once (stands_in f.trees (name_at f.names top) x within) (subst (In y) (sym (here f.trees (name_at f.names top) x within)) (inr i)) in
-              true≢false (sym (is_in-from x (inclusive_ancestors f.trees r.end.node) (above-along f.trees x y r.end.node within.once bounded.ends.end (In-from x (inclusive_ancestors f.trees y) up) (In-from y (inclusive_ancestors f.trees r.end.node) t))) ∙ away)
+              let up = inside-test f.trees x y within.once (stands_in f.trees (name_at f.names top) x within)
+              (subst (In y) (sym (here f.trees (name_at f.names top) x within)) (inr i)) in
+              true≢false (sym (is_in-from x (inclusive_ancestors f.trees r.end.node)
+              (above-along f.trees x y r.end.node within.once bounded.ends.end (In-from x (inclusive_ancestors f.trees y) up)
+              (In-from y (inclusive_ancestors f.trees r.end.node) t))) ∙ away)
 
           skipped : filter to_end (left_at f top o) ≡ filter to_end (beyond f.trees (name_at f.names top) x)
           skipped =
@@ -256,9 +289,12 @@ module _ (f : NamedTrees) (once : StandOnce f) (only : StandAlone f) (distinct :
               ∙ (filter-no to_end x xs away
               ∙ (ap (filter to_end) (behind_is f.trees (name_at f.names top) x within)
               ∙ (filter-append to_end (below f.trees x) (beyond f.trees (name_at f.names top) x)
-              ∙ ap (λ ys. ys ++ filter to_end (beyond f.trees (name_at f.names top) x)) (filter-none to_end (below f.trees x) (λ y i. false_from_ne_true (to_end y) (λ t. none_below y i t))))))
+              ∙ ap (λ ys. ys ++ filter to_end (beyond f.trees (name_at f.names top) x))
+              (filter-none to_end (below f.trees x) (λ y i. false_from_ne_true (to_end y) (λ t. none_below y i t))))))
 
   -- where nothing is left all are found
-  pub finds-all : (o : Option ℕ) (found : List ℕ) (partial : Option ℕ) (others : List ℕ) → o ≡ None → Finds f r top o found partial others → map (name_at f.names) found ≡ outermost_contained f.trees r
+  pub finds-all : (o : Option ℕ) (found : List ℕ) (partial : Option ℕ) (others : List ℕ) → o ≡ None → Finds f r top o found partial others →
+      map (name_at f.names) found ≡ outermost_contained f.trees r
   finds-all o found partial others none h =
-      sym (append-nil (map (name_at f.names) found)) ∙ (ap (λ p. map (name_at f.names) found ++ filter (is_outermost f.trees r) (left_at f top p)) (sym none) ∙ h.left)
+      sym (append-nil (map (name_at f.names) found)) ∙
+      (ap (λ p. map (name_at f.names) found ++ filter (is_outermost f.trees r) (left_at f top p)) (sym none) ∙ h.left)

@@ -1,5 +1,6 @@
 -- What a range contains, by how its nodes stand above and below one another.
-use Rattle.std.proofs.Common.{◌≡◌, ◌⊎◌, inl, inr, ℕ, ◌<◌, Bool, true, false, not, ◌&&◌, List, [], ◌∷◌, ◌++◌, length, Option, Some, None, refl, sym, ap, subst, ◌∙◌, arith, true≢false, length-append}
+use Rattle.std.proofs.Common.{◌≡◌, ◌⊎◌, inl, inr, ℕ, ◌<◌, Bool, true, false, not, ◌&&◌, List, [], ◌∷◌, ◌++◌, length, Option, Some, None, refl, sym}
+use Rattle.std.proofs.Common.{ap, subst, ◌∙◌, arith, true≢false, length-append}
 use Rattle.std.specs.Prelude.{filter}
 use Rattle.std.specs.Option.{option_map_or}
 use Rattle.std.proofs.lemmas.Bool.{cases_Bool, and_parts, false_from_ne_true, le-ltb, lt-ltb, leb-false, lt-leb, cond-false}
@@ -7,7 +8,8 @@ use Rattle.dom_base.specs.declared.NodeName.{NodeName}
 use Rattle.dom_model.specs.Names.{name_eq, items_before, items_after}
 use Rattle.dom_model.specs.Place.{boundary_place, is_before, place_of}
 use Rattle.dom_model.specs.Ranges.{Range, at, is_contained}
-use Rattle.dom_model.specs.Tree.{Trees, node_in, kind_of, has_data, children_of, inclusive_descendants, inclusive_ancestors, is_inclusive_ancestor, root_of, length_of, parent_of}
+use Rattle.dom_model.specs.Tree.{Trees, node_in, kind_of, has_data, children_of, inclusive_descendants, inclusive_ancestors, is_inclusive_ancestor}
+use Rattle.dom_model.specs.Tree.{root_of, length_of, parent_of}
 use Rattle.dom_ranges.proofs.Before.{before-same, before-up, before-down, before-beside}
 use Rattle.dom_traversal.proofs.Children.{In-names, Has-names}
 use Rattle.dom_traversal.proofs.Lists.{In, In-from, In-parts, split_at, filter-none, Single, Single-apart}
@@ -101,7 +103,8 @@ module _ (ts : Trees) (r : Range NodeName) (bounded : IsBounded ts r) where
       ∙ elim (In-parts r.end.node (ahead_of ts root x) (inclusive_descendants ts x ++ beyond ts root x) i) [
         | inl j ↦ elim (ahead-apart ts bounded.ends.once root x r.end.node w j) [
           | inl p ↦
-              absurd (true≢false (sym (before-beside ts r.end.node x r.end.offset 0 p.common p.first p.second p.first_rest p.second_rest p.first_place p.second_place (λ same. let l = p.less in omega (arith, l, same)) ∙ lt-ltb p.first p.second p.less) ∙ m.end))
+              absurd (true≢false (sym (before-beside ts r.end.node x r.end.offset 0 p.common p.first p.second p.first_rest p.second_rest
+              p.first_place p.second_place (λ same. let l = p.less in omega (arith, l, same)) ∙ lt-ltb p.first p.second p.less) ∙ m.end))
           | inr u ↦
               before-up ts x r.end.node (length_of ts x) r.end.offset u.child u.rest u.place
               ∙ lt-ltb u.child r.end.offset (leb-false r.end.offset u.child (sym (before-down ts r.end.node x r.end.offset 0 u.child u.rest u.place) ∙ m.end))
@@ -110,7 +113,8 @@ module _ (ts : Trees) (r : Range NodeName) (bounded : IsBounded ts r) where
           | inl g ↦ absurd (true≢false (sym (inside-test ts x r.end.node bounded.ends.once (stands_in ts root x w) g) ∙ other))
           | inr g ↦
               let p = behind-apart ts bounded.ends.once root x r.end.node w g in
-              before-beside ts x r.end.node (length_of ts x) r.end.offset p.common p.first p.second p.first_rest p.second_rest p.first_place p.second_place (λ same. let l = p.less in omega (arith, l, same)) ∙ lt-ltb p.first p.second p.less
+              before-beside ts x r.end.node (length_of ts x) r.end.offset p.common p.first p.second p.first_rest p.second_rest p.first_place
+              p.second_place (λ same. let l = p.less in omega (arith, l, same)) ∙ lt-ltb p.first p.second p.less
         ]
       ]
 
@@ -131,12 +135,15 @@ module _ (ts : Trees) (r : Range NodeName) (bounded : IsBounded ts r) where
           | inr u ↦
               let few = u.few in
               let size = size-of x i (omega (arith, few)) in
-              let off = before-down ts x r.end.node (length_of ts x) r.end.offset u.child u.rest u.place ∙ lt-leb (length_of ts x) u.child (omega (arith, few, size)) in
-              false_from_ne_true (is_contained ts r x) (λ c. true≢false (sym (and_parts (is_before ts r.start (at x 0)) (is_before ts (at x (length_of ts x)) r.end) c).1 ∙ off))
+              let off = before-down ts x r.end.node (length_of ts x) r.end.offset u.child u.rest u.place ∙
+              lt-leb (length_of ts x) u.child (omega (arith, few, size)) in
+              false_from_ne_true (is_contained ts r x)
+              (λ c. true≢false (sym (and_parts (is_before ts r.start (at x 0)) (is_before ts (at x (length_of ts x)) r.end) c).1 ∙ off))
         ]
 
     -- all that is below a contained node is contained
-    pub contained-below : (x y : NodeName) → In x (nodes_around ts r) → is_contained ts r x ≡ true → In y (inclusive_descendants ts x) → is_contained ts r y ≡ true
+    pub contained-below : (x y : NodeName) → In x (nodes_around ts r) → is_contained ts r x ≡ true → In y (inclusive_descendants ts x) →
+        is_contained ts r y ≡ true
     contained-below x y i e j = elim (same-or-under ts root x y (member-within ts r bounded x i) j) [
       | inl same ↦ ap (is_contained ts r) same ∙ e
       | inr u ↦
@@ -144,10 +151,12 @@ module _ (ts : Trees) (r : Range NodeName) (bounded : IsBounded ts r) where
           let size = size-of x i (omega (arith, few)) in
           let parts = and_parts (is_before ts r.start (at x 0)) (is_before ts (at x (length_of ts x)) r.end) e in
           let first : is_before ts r.start (at y 0) ≡ true =
-          before-less (boundary_place ts r.start) (boundary_place ts (at x 0)) (boundary_place ts (at y 0)) parts.0 (before-up ts y x 0 0 u.child u.rest u.place ∙ le-ltb u.child 0 (omega arith)) in
+          before-less (boundary_place ts r.start) (boundary_place ts (at x 0)) (boundary_place ts (at y 0)) parts.0
+          (before-up ts y x 0 0 u.child u.rest u.place ∙ le-ltb u.child 0 (omega arith)) in
           let second : is_before ts (at y (length_of ts y)) r.end ≡ true =
           before-less (boundary_place ts (at y (length_of ts y))) (boundary_place ts (at x (length_of ts x))) (boundary_place ts r.end)
-          (before-up ts y x (length_of ts y) (length_of ts x) u.child u.rest u.place ∙ lt-ltb u.child (length_of ts x) (omega (arith, few, size))) (before-turned (boundary_place ts (at x (length_of ts x))) (boundary_place ts r.end) parts.1) in
+          (before-up ts y x (length_of ts y) (length_of ts x) u.child u.rest u.place ∙ lt-ltb u.child (length_of ts x) (omega (arith, few, size)))
+          (before-turned (boundary_place ts (at x (length_of ts x))) (boundary_place ts r.end) parts.1) in
           ap (λ b. b && is_before ts (at y (length_of ts y)) r.end) first ∙ second
     ]
 
@@ -175,7 +184,8 @@ module _ (ts : Trees) (r : Range NodeName) (bounded : IsBounded ts r) where
 
         other : (y : NodeName) → In y (below ts x) → x ≡ y → ⊥
         other y j same =
-            Single-apart x (x ∷ []) (below ts x) (subst Single (here ts root x w) (all_single ts x x (within-itself ts root x w))) (inl refl) (subst (λ z. In z (below ts x)) (sym same) j)
+            Single-apart x (x ∷ []) (below ts x) (subst Single (here ts root x w) (all_single ts x x (within-itself ts root x w))) (inl refl)
+            (subst (λ z. In z (below ts x)) (sym same) j)
 
         up : (y : NodeName) → In y (below ts x) → In x (inclusive_ancestors ts y)
         up y j = above-from_below ts x y bounded.ends.once (stands_in ts root x w) (Has-names _ y (inside y j))
@@ -189,4 +199,6 @@ module _ (ts : Trees) (r : Range NodeName) (bounded : IsBounded ts r) where
             let path = above-parent ts y p bounded.ends.once at_y is in
             let k : In x (inclusive_ancestors ts p) = elim (subst (In x) path.0 (up y j)) [ inl same ↦ absurd (other y j same) | inr k ↦ k ] in
             let yes = contained-below x p i e (In-names _ p (below-from_above ts x p bounded.ends.once path.1 k)) in
-            false_from_ne_true (is_outermost ts r y) (λ t. true≢false (sym (and_parts (is_contained ts r y) (not (option_map_or (is_contained ts r) (parent_of ts y) false)) t).1 ∙ (ap (λ (o : Option NodeName). not (option_map_or (is_contained ts r) o false)) is ∙ ap not yes)))
+            false_from_ne_true (is_outermost ts r y)
+            (λ t. true≢false (sym (and_parts (is_contained ts r y) (not (option_map_or (is_contained ts r) (parent_of ts y) false)) t).1 ∙
+            (ap (λ (o : Option NodeName). not (option_map_or (is_contained ts r) o false)) is ∙ ap not yes)))

@@ -1,5 +1,6 @@
 -- Where a range stands after its contents were taken.
-use Rattle.std.proofs.Common.{◌≡◌, ◌⊎◌, ℕ, eqb, true≢false, inl, inr, suc, true, false, not, List, [], ◌∷◌, ◌++◌, length, Bool, Option, Some, None, refl, sym, ap, subst, ◌∙◌, arith, append_assoc, length-append}
+use Rattle.std.proofs.Common.{◌≡◌, ◌⊎◌, ℕ, eqb, true≢false, inl, inr, suc, true, false, not, List, [], ◌∷◌, ◌++◌, length, Bool, Option, Some, None}
+use Rattle.std.proofs.Common.{refl, sym, ap, subst, ◌∙◌, arith, append_assoc, length-append}
 use Rattle.std.specs.Prelude.{filter, unwrap_or}
 use Rattle.std.specs.Option.{option_map_or}
 use Rattle.std.proofs.lemmas.Bool.{cases_Bool, cond-false, false_from_ne_true, eqb-true, eq-eqb}
@@ -8,11 +9,13 @@ use Rattle.dom_base.specs.declared.NodeName.{NodeName}
 use Rattle.dom_model.specs.Extract.{behind_node}
 use Rattle.dom_model.specs.Names.{name_eq, is_in, first_of, last_of, items_before, items_after}
 use Rattle.dom_model.specs.Ranges.{Range, at}
-use Rattle.dom_model.specs.Tree.{Trees, node_in, kind_of, has_data, children_of, parent_of, next_sibling, index_of, length_of, root_of, inclusive_ancestors, is_inclusive_ancestor, inclusive_descendants}
+use Rattle.dom_model.specs.Tree.{Trees, node_in, kind_of, has_data, children_of, parent_of, next_sibling, index_of, length_of, root_of}
+use Rattle.dom_model.specs.Tree.{inclusive_ancestors, is_inclusive_ancestor, inclusive_descendants}
 use Rattle.dom_slots.proofs.Siblings.{children-single}
 use Rattle.dom_traversal.proofs.Chains.{above-split, above-along, first-passes}
 use Rattle.dom_traversal.proofs.Children.{In-names, child-of_parent, parent-of_child}
-use Rattle.dom_traversal.proofs.Lists.{In, In-right, In-from, is_in-from, Single, Single-apart, filter-none, filter-yes, first_split, no_first, split_at, before-split, last_of-end}
+use Rattle.dom_traversal.proofs.Lists.{In, In-right, In-from, is_in-from, Single, Single-apart, filter-none, filter-yes, first_split, no_first}
+use Rattle.dom_traversal.proofs.Lists.{split_at, before-split, last_of-end}
 use Rattle.dom_traversal.proofs.Shapes.{Once, Has, Has-above, above-parent, above-root, above-present, below-from_above}
 use Rattle.dom_range_ops.specs.Texts.{nodes_around}
 use Rattle.dom_range_ops.proofs.OneTree.{root-above, root-path}
@@ -22,7 +25,8 @@ pub eqb-turned : (j k : ℕ) → eqb j k ≡ false → eqb k j ≡ false
 eqb-turned j k e = false_from_ne_true (eqb k j) (λ t. true≢false (sym (eq-eqb j k (sym (eqb-true k j t))) ∙ e))
 
 -- what passes alone is not above the other node
-pub not_above : (ts : Trees) (e low : NodeName) → filter (λ a. not (is_inclusive_ancestor ts a e)) (inclusive_ancestors ts low) ≡ low ∷ [] → is_inclusive_ancestor ts low e ≡ false
+pub not_above : (ts : Trees) (e low : NodeName) → filter (λ a. not (is_inclusive_ancestor ts a e)) (inclusive_ancestors ts low) ≡ low ∷ [] →
+    is_inclusive_ancestor ts low e ≡ false
 not_above ts e low alone = elim (cases_Bool (is_inclusive_ancestor ts low e)) [
   | inl t ↦ absurd (true≢false (sym (first-passes (λ a. not (is_inclusive_ancestor ts a e)) (inclusive_ancestors ts low) low (ap first_of alone)) ∙ ap not t))
   | inr f ↦ f
@@ -36,7 +40,8 @@ module _ (ts : Trees) (once : Once ts) where
   IsBelowAll low e = (parent_of ts low ≡ None) ⊎ ((p : NodeName) × (parent_of ts low ≡ Some p) × (is_inclusive_ancestor ts p e ≡ true))
 
   -- such a node alone of those above it is not above the other one
-  pub alone-is : (e low : NodeName) → Has ts low → Has ts e → is_inclusive_ancestor ts low e ≡ false → IsBelowAll low e → filter (λ a. not (is_inclusive_ancestor ts a e)) (inclusive_ancestors ts low) ≡ low ∷ []
+  pub alone-is : (e low : NodeName) → Has ts low → Has ts e → is_inclusive_ancestor ts low e ≡ false → IsBelowAll low e →
+      filter (λ a. not (is_inclusive_ancestor ts a e)) (inclusive_ancestors ts low) ≡ low ∷ []
   alone-is e low k g off stop = by stop
     where
       test : NodeName → Bool
@@ -49,14 +54,19 @@ module _ (ts : Trees) (once : Once ts) where
       by (inl none) = with [] (above-root ts low k none) refl
       by (inr p) =
           with (inclusive_ancestors ts p.0) (above-parent ts low p.0 once k p.1).0
-          (filter-none test (inclusive_ancestors ts p.0) (λ y j. ap not (is_in-from y (inclusive_ancestors ts e) (above-along ts y p.0 e once g j (In-from p.0 (inclusive_ancestors ts e) p.2)))))
+          (filter-none test (inclusive_ancestors ts p.0)
+          (λ y j. ap not (is_in-from y (inclusive_ancestors ts e)
+          (above-along ts y p.0 e once g j (In-from p.0 (inclusive_ancestors ts e) p.2)))))
 
   -- so it is the outermost of all above a node below it
-  pub outermost-is : (s e low : NodeName) → Has ts s → is_inclusive_ancestor ts low s ≡ true → filter (λ a. not (is_inclusive_ancestor ts a e)) (inclusive_ancestors ts low) ≡ low ∷ [] → last_of (filter (λ a. not (is_inclusive_ancestor ts a e)) (inclusive_ancestors ts s)) ≡ Some low
+  pub outermost-is : (s e low : NodeName) → Has ts s → is_inclusive_ancestor ts low s ≡ true →
+      filter (λ a. not (is_inclusive_ancestor ts a e)) (inclusive_ancestors ts low) ≡ low ∷ [] →
+      last_of (filter (λ a. not (is_inclusive_ancestor ts a e)) (inclusive_ancestors ts s)) ≡ Some low
   outermost-is s e low h up alone =
       let test = λ (a : NodeName). not (is_inclusive_ancestor ts a e) in
       let front = items_before name_eq low (inclusive_ancestors ts s) in
-      ap last_of (ap (filter test) (above-split ts low s once h (In-from low (inclusive_ancestors ts s) up)) ∙ (filter-append test front (inclusive_ancestors ts low) ∙ ap (λ xs. filter test front ++ xs) alone)) ∙ last_of-end (filter test front) low
+      ap last_of (ap (filter test) (above-split ts low s once h (In-from low (inclusive_ancestors ts s) up)) ∙
+      (filter-append test front (inclusive_ancestors ts low) ∙ ap (λ xs. filter test front ++ xs) alone)) ∙ last_of-end (filter test front) low
 
   -- ---- just behind a node
 
@@ -66,7 +76,8 @@ module _ (ts : Trees) (once : Once ts) where
       let i : In s (children_of ts p) = subst (In s) (sym e) (In-right s front (s ∷ back) (inl refl)) in
       let up = parent-of_child ts p s once h i in
       let apart : In s front → ⊥ = λ j. Single-apart s front (s ∷ back) (subst Single e (children-single ts p once h)) j (inl refl) in
-      ap (λ (o : Option NodeName). length (items_before name_eq s (option_map_or (children_of ts) o (s ∷ [])))) up.0 ∙ (ap (λ xs. length (items_before name_eq s xs)) e ∙ ap (length {A = NodeName}) (before-split s front back apart))
+      ap (λ (o : Option NodeName). length (items_before name_eq s (option_map_or (children_of ts) o (s ∷ [])))) up.0 ∙
+      (ap (λ xs. length (items_before name_eq s xs)) e ∙ ap (length {A = NodeName}) (before-split s front back apart))
 
   module _ (x p : NodeName) (h : Has ts x) (e : parent_of ts x ≡ Some p) where
     abbrev front : List NodeName
@@ -82,7 +93,8 @@ module _ (ts : Trees) (once : Once ts) where
     next = ap (λ (o : Option NodeName). first_of (items_after name_eq x (option_map_or (children_of ts) o (x ∷ [])))) e
 
     place : behind_node ts x ≡ at p (suc (length front))
-    place = ap (λ (o : Option NodeName). at (unwrap_or o x) (suc (index_of ts x))) e ∙ ap (λ n. at p (suc n)) (index-kid p x (child-of_parent ts x p once h e).0 front back kids)
+    place = ap (λ (o : Option NodeName). at (unwrap_or o x) (suc (index_of ts x))) e ∙
+        ap (λ n. at p (suc n)) (index-kid p x (child-of_parent ts x p once h e).0 front back kids)
 
     -- a next sibling has the number
     pub place-next : (y : NodeName) → next_sibling ts x ≡ Some y → behind_node ts x ≡ at p (index_of ts y)
@@ -109,7 +121,9 @@ module _ (ts : Trees) (once : Once ts) where
       subst (λ t. In p (inclusive_descendants ts t)) root (In-names _ p (below-from_above ts (root_of ts p) p once k (root-above ts p k)))
 
   -- and no Text and no Comment, where these have no children, if it is a parent
-  pub parent-holds : (r : Range NodeName) (x p : NodeName) → ((y : NodeName) → is_in name_eq y (nodes_around ts r) ≡ true → has_data (kind_of ts y) ≡ true → children_of ts y ≡ []) → Has ts r.start.node → is_inclusive_ancestor ts x r.start.node ≡ true → parent_of ts x ≡ Some p → has_data (kind_of ts p) ≡ false
+  pub parent-holds : (r : Range NodeName) (x p : NodeName) →
+      ((y : NodeName) → is_in name_eq y (nodes_around ts r) ≡ true → has_data (kind_of ts y) ≡ true → children_of ts y ≡ []) →
+      Has ts r.start.node → is_inclusive_ancestor ts x r.start.node ≡ true → parent_of ts x ≡ Some p → has_data (kind_of ts p) ≡ false
   parent-holds r x p leaves h up e =
       let path = inclusive_ancestors ts r.start.node in
       let i = In-from x path up in

@@ -15,7 +15,8 @@ use Rattle.dom_model.specs.Part.{Part, range_at}
 use Rattle.dom_model.specs.Place.{Boundary}
 use Rattle.dom_model.specs.Ranges.{Range, at, from_to, map_ends, is_collapsed}
 use Rattle.dom_model.specs.RangeOps.{cutting_data, outermost_contained, deleting_contents, deleting}
-use Rattle.dom_model.specs.Steps.{Step, make, make_room, place, take_out, set_document, set_attribute, replace_data, split_at, join_at, set_range, queue_record, part_step, after, leave}
+use Rattle.dom_model.specs.Steps.{Step, make, make_room, place, take_out, set_document, set_attribute, replace_data, split_at, join_at, set_range}
+use Rattle.dom_model.specs.Steps.{queue_record, part_step, after, leave}
 use Rattle.dom_model.specs.TextChanges.{replacing_data}
 use Rattle.dom_model.specs.Tree.{Trees, kind_of, has_data, parent_of}
 use Rattle.dom_model.specs.World.{World, part_of}
@@ -37,7 +38,8 @@ DropsNone (queue_record c) = Unit {0}
 DropsNone s = ⊥
 
 -- live ranges with other ends
-still-there : (f : Boundary NodeName → Boundary NodeName) (rs : List (Option (Range NodeName))) (k : ℕ) → is_some (option_flatten (slice_get (map (option_map (map_ends f)) rs) k)) ≡ is_some (option_flatten (slice_get rs k))
+still-there : (f : Boundary NodeName → Boundary NodeName) (rs : List (Option (Range NodeName))) (k : ℕ) →
+    is_some (option_flatten (slice_get (map (option_map (map_ends f)) rs) k)) ≡ is_some (option_flatten (slice_get rs k))
 still-there f [] k = refl
 still-there f (None ∷ rs) zero = refl
 still-there f (Some r ∷ rs) zero = refl
@@ -83,13 +85,16 @@ none-removing x p = by (parent_of p.trees x)
 
 none-turn : (xs : List NodeName) → PlansNone (in_turn (removing observed) xs)
 none-turn [] p = tt
-none-turn (x ∷ xs) p = all-append DropsNone (removing observed x p) (in_turn (removing observed) xs (after p (removing observed x p))) (none-removing x p) (none-turn xs (after p (removing observed x p)))
+none-turn (x ∷ xs) p = all-append DropsNone (removing observed x p) (in_turn (removing observed) xs (after p (removing observed x p)))
+    (none-removing x p) (none-turn xs (after p (removing observed x p)))
 
 module _ (ts : Trees) (r : Range NodeName) where
   -- what holds of plans that cut data holds of what is cut at a node
-  of-cutting : (P : Plan → Type 0) → ((x : NodeName) (from count : ℕ) → P (replacing_data x from count [])) → P (steps_of []) → (x : NodeName) → P (cutting_data ts r x)
+  of-cutting : (P : Plan → Type 0) → ((x : NodeName) (from count : ℕ) → P (replacing_data x from count [])) → P (steps_of []) → (x : NodeName) →
+      P (cutting_data ts r x)
   of-cutting P cuts none x = elim (cases_Bool (has_data (kind_of ts x))) [
-    | inl e ↦ subst P (sym (cond-true (has_data (kind_of ts x)) (replacing_data x (cut_start r x) (cut_end ts r x - cut_start r x) []) (steps_of []) e)) (cuts x (cut_start r x) (cut_end ts r x - cut_start r x))
+    | inl e ↦ subst P (sym (cond-true (has_data (kind_of ts x)) (replacing_data x (cut_start r x) (cut_end ts r x - cut_start r x) [])
+        (steps_of []) e)) (cuts x (cut_start r x) (cut_end ts r x - cut_start r x))
     | inr e ↦ subst P (sym (cond-false (has_data (kind_of ts x)) (replacing_data x (cut_start r x) (cut_end ts r x - cut_start r x) []) (steps_of []) e)) none
   ]
 
@@ -109,7 +114,9 @@ module _ (ts : Trees) (r : Range NodeName) where
   none-contents =
       let cuts : (x : NodeName) → PlansNone (cutting_data ts r x) = of-cutting PlansNone (λ x from count p. (tt, (tt, tt))) (λ p. tt) in
       of-contents PlansNone (cuts r.start.node)
-      (none-then (cutting_data ts r r.start.node and_then in_turn (removing observed) (outermost_contained ts r)) (cutting_data ts r r.end.node) (none-then (cutting_data ts r r.start.node) (in_turn (removing observed) (outermost_contained ts r)) (cuts r.start.node) (none-turn (outermost_contained ts r)))
+      (none-then (cutting_data ts r r.start.node and_then in_turn (removing observed) (outermost_contained ts r)) (cutting_data ts r r.end.node)
+      (none-then (cutting_data ts r r.start.node) (in_turn (removing observed) (outermost_contained ts r)) (cuts r.start.node)
+      (none-turn (outermost_contained ts r)))
       (cuts r.end.node))
 
   module _ (o : Owner) where
@@ -126,20 +133,27 @@ module _ (ts : Trees) (r : Range NodeName) where
     pub plans-contents : PlansOwn o (deleting_contents ts r)
     plans-contents =
         of-contents (PlansOwn o) (plans-cut r.start.node)
-        (plans_then o (cutting_data ts r r.start.node and_then in_turn (removing observed) (outermost_contained ts r)) (cutting_data ts r r.end.node) plans-front (plans-cut r.end.node))
+        (plans_then o (cutting_data ts r r.start.node and_then in_turn (removing observed) (outermost_contained ts r))
+        (cutting_data ts r r.end.node) plans-front (plans-cut r.end.node))
 
     -- a live range that is there stays there
-    pub there-contents : (k : ℕ) (w : World) → IsAlone w o → is_some (range_at (part_of w o) k) ≡ true → is_some (range_at (part_of (made o (deleting_contents ts r) w) o) k) ≡ true
+    pub there-contents : (k : ℕ) (w : World) → IsAlone w o → is_some (range_at (part_of w o) k) ≡ true →
+        is_some (range_at (part_of (made o (deleting_contents ts r) w) o) k) ≡ true
     there-contents k w alone known =
-        ap (λ (p : Part). is_some (range_at p k)) (plan_alone o (deleting_contents ts r) w alone plans-contents) ∙ (there-after k (part_of w o) (deleting_contents ts r (part_of w o)) (none-contents (part_of w o)) ∙ known)
+        ap (λ (p : Part). is_some (range_at p k)) (plan_alone o (deleting_contents ts r) w alone plans-contents) ∙
+        (there-after k (part_of w o) (deleting_contents ts r (part_of w o)) (none-contents (part_of w o)) ∙ known)
 
 -- ---- the steps of a `Doc`
 
 -- the data at the start, the nodes between, the data at the end
-pub contents-made : (d d1 d2 d3 : DocState) (first last : ℕ) (ts : Trees) (r : Range NodeName) (p1 p2 : Option (ℕ × ℕ)) (ks : List ℕ) → r.start.node ≡ name_in d first → r.end.node ≡ name_in d last
+pub contents-made : (d d1 d2 d3 : DocState) (first last : ℕ) (ts : Trees) (r : Range NodeName) (p1 p2 : Option (ℕ × ℕ)) (ks : List ℕ) →
+    r.start.node ≡ name_in d first → r.end.node ≡ name_in d last
     → IsAlone d.world (owner_in d first) → is_in_one_data ts r ≡ false → owner_in d last ≡ owner_in d first
-    → cutting (name_in d first) p1 ≡ cutting_data ts r (name_in d first) → cutting (name_in d last) p2 ≡ cutting_data ts r (name_in d last) → map (name_in d) ks ≡ outermost_contained ts r
-    → d1 ≡ planned (owner_in d first) (cutting (name_in d first) p1) d → d2 ≡ planned (owner_in d1 first) (in_turn (removing observed) (map (name_in d1) ks)) d1 → d3 ≡ planned (owner_in d2 last) (cutting (name_in d2 last) p2) d2
+    → cutting (name_in d first) p1 ≡ cutting_data ts r (name_in d first) → cutting (name_in d last) p2 ≡ cutting_data ts r (name_in d last) →
+    map (name_in d) ks ≡ outermost_contained ts r
+    → d1 ≡ planned (owner_in d first) (cutting (name_in d first) p1) d →
+    d2 ≡ planned (owner_in d1 first) (in_turn (removing observed) (map (name_in d1) ks)) d1 →
+    d3 ≡ planned (owner_in d2 last) (cutting (name_in d2 last) p2) d2
     → d3 ≡ planned (owner_in d first) (deleting_contents ts r) d
 contents-made d d1 d2 d3 first last ts r p1 p2 ks start end alone one owner cut1 cut2 found e1 e2 e3 =
     let o = owner_in d first in
@@ -150,18 +164,22 @@ contents-made d d1 d2 d3 first last ts r p1 p2 ks start end alone one owner cut1
     let names2 = ap (λ (s : DocState). s.names) e2 ∙ names1 in
     let f1 : d1 ≡ planned o first_cut d = e1 ∙ ap (λ (f : Plan). planned o f d) (cut1 ∙ ap (cutting_data ts r) (sym start)) in
     let f2 : d2 ≡ planned o removals d1 =
-    e2 ∙ (ap (λ (ns : List NodeName). planned (name_at ns first).owner (in_turn (removing observed) (map (name_at ns) ks)) d1) names1 ∙ ap (λ xs. planned o (in_turn (removing observed) xs) d1) found) in
+    e2 ∙ (ap (λ (ns : List NodeName). planned (name_at ns first).owner (in_turn (removing observed) (map (name_at ns) ks)) d1) names1 ∙
+    ap (λ xs. planned o (in_turn (removing observed) xs) d1) found) in
     let f3 : d3 ≡ planned o last_cut d2 =
     e3
     ∙ (ap (λ (ns : List NodeName). planned (name_at ns last).owner (cutting (name_at ns last) p2) d2) names2
     ∙ (ap (λ q. planned q (cutting (name_in d last) p2) d2) owner ∙ ap (λ (f : Plan). planned o f d2) (cut2 ∙ ap (cutting_data ts r) (sym end)))) in
-    let g2 : d2 ≡ planned o (first_cut and_then removals) d = f2 ∙ (ap (planned o removals) f1 ∙ planned_then o first_cut removals d alone (plans-cut ts r o r.start.node)) in
+    let g2 : d2 ≡ planned o (first_cut and_then removals) d =
+    f2 ∙ (ap (planned o removals) f1 ∙ planned_then o first_cut removals d alone (plans-cut ts r o r.start.node)) in
     f3
     ∙ (ap (planned o last_cut) g2
-    ∙ (planned_then o (first_cut and_then removals) last_cut d alone (plans-front ts r o) ∙ ap (λ (f : Plan). planned o f d) (sym (cond-false (is_in_one_data ts r) first_cut (apart ts r) one))))
+    ∙ (planned_then o (first_cut and_then removals) last_cut d alone (plans-front ts r o) ∙
+    ap (λ (f : Plan). planned o f d) (sym (cond-false (is_in_one_data ts r) first_cut (apart ts r) one))))
 
 -- and then the range's ends
-pub deletion-made : (o : Owner) (k : ℕ) (w : World) (r s : Range NodeName) → IsAlone w o → range_at (part_of w o) k ≡ Some r → is_collapsed name_eq r ≡ false → s ≡ both_at (new_place (part_of w o).trees r)
+pub deletion-made : (o : Owner) (k : ℕ) (w : World) (r s : Range NodeName) → IsAlone w o → range_at (part_of w o) k ≡ Some r →
+    is_collapsed name_eq r ≡ false → s ≡ both_at (new_place (part_of w o).trees r)
     → world_after o (made o (deleting_contents (part_of w o).trees r) w) (set_range k s ∷ []) ≡ made o (λ p. plan_of_range p k (deleting k)) w
 deletion-made o k w r s alone there wide ends =
     let p = part_of w o in
@@ -173,23 +191,29 @@ deletion-made o k w r s alone there wide ends =
     ∙ ap (λ (m : Option (Range NodeName)). world_after o w (option_map_or (λ (q : Range NodeName). deleting k q p) m [])) (sym there)))
 
 -- the same of the states
-pub deletion-done : (o : Owner) (k : ℕ) (d d1 d2 : DocState) (first : ℕ) (r : Range NodeName) (a b spot : ℕ × ℕ) → owner_in d first ≡ o → IsAlone d.world (owner_in d first) → range_at (part_of d.world o) k ≡ Some r → is_collapsed name_eq r ≡ false
-    → at (name_in d spot.0) spot.1 ≡ new_place (trees_in d first) r → d1 ≡ planned (owner_in d first) (deleting_contents (trees_in d first) r) d → a ≡ spot → b ≡ spot
-    → d2 ≡ stepped o (set_range k (from_to (at (name_in d1 a.0) a.1) (at (name_in d1 b.0) b.1))) d1 → d2.world ≡ made o (λ p. plan_of_range p k (deleting k)) d.world
+pub deletion-done : (o : Owner) (k : ℕ) (d d1 d2 : DocState) (first : ℕ) (r : Range NodeName) (a b spot : ℕ × ℕ) → owner_in d first ≡ o →
+    IsAlone d.world (owner_in d first) → range_at (part_of d.world o) k ≡ Some r → is_collapsed name_eq r ≡ false
+    → at (name_in d spot.0) spot.1 ≡ new_place (trees_in d first) r → d1 ≡ planned (owner_in d first) (deleting_contents (trees_in d first) r) d →
+    a ≡ spot → b ≡ spot
+    → d2 ≡ stepped o (set_range k (from_to (at (name_in d1 a.0) a.1) (at (name_in d1 b.0) b.1))) d1 →
+    d2.world ≡ made o (λ p. plan_of_range p k (deleting k)) d.world
 deletion-done o k d d1 d2 first r a b spot own alone there wide spot_is e1 a_is b_is e2 =
     let names = ap (λ (s : DocState). s.names) e1 in
     let q = owner_in d first in
     let s = from_to (at (name_in d1 a.0) a.1) (at (name_in d1 b.0) b.1) in
     let ends : s ≡ both_at (new_place (trees_in d first) r) =
     ap (λ (x : ℕ × ℕ). from_to (at (name_in d1 x.0) x.1) (at (name_in d1 b.0) b.1)) a_is
-    ∙ (ap (λ (x : ℕ × ℕ). from_to (at (name_in d1 spot.0) spot.1) (at (name_in d1 x.0) x.1)) b_is ∙ (ap (λ (ns : List NodeName). both_at (at (name_at ns spot.0) spot.1)) names ∙ ap both_at spot_is)) in
+    ∙ (ap (λ (x : ℕ × ℕ). from_to (at (name_in d1 spot.0) spot.1) (at (name_in d1 x.0) x.1)) b_is ∙
+    (ap (λ (ns : List NodeName). both_at (at (name_at ns spot.0) spot.1)) names ∙ ap both_at spot_is)) in
     ap (λ (e : DocState). e.world) e2
     ∙ (ap (λ n. world_after n d1.world (set_range k s ∷ [])) (sym own)
     ∙ (ap (λ (e : DocState). world_after q e.world (set_range k s ∷ [])) e1
-    ∙ (deletion-made q k d.world r s alone (ap (λ n. range_at (part_of d.world n) k) own ∙ there) wide ends ∙ ap (λ n. made n (λ p. plan_of_range p k (deleting k)) d.world) own)))
+    ∙ (deletion-made q k d.world r s alone (ap (λ n. range_at (part_of d.world n) k) own ∙ there) wide ends ∙
+    ap (λ n. made n (λ p. plan_of_range p k (deleting k)) d.world) own)))
 
 -- the range is there still
-pub deletion-there : (o : Owner) (k : ℕ) (d d1 : DocState) (first : ℕ) (r : Range NodeName) → owner_in d first ≡ o → IsAlone d.world (owner_in d first) → is_some (range_at (part_of d.world o) k) ≡ true
+pub deletion-there : (o : Owner) (k : ℕ) (d d1 : DocState) (first : ℕ) (r : Range NodeName) → owner_in d first ≡ o →
+    IsAlone d.world (owner_in d first) → is_some (range_at (part_of d.world o) k) ≡ true
     → d1 ≡ planned (owner_in d first) (deleting_contents (trees_in d first) r) d → is_some (range_at (part_of d1.world o) k) ≡ true
 deletion-there o k d d1 first r own alone known e1 =
     ap (λ (e : DocState). is_some (range_at (part_of e.world o) k)) e1
@@ -197,7 +221,8 @@ deletion-there o k d d1 first r own alone known e1 =
     ∙ there-contents (trees_in d first) r (owner_in d first) k d.world alone (ap (λ n. is_some (range_at (part_of d.world n) k)) own ∙ known))
 
 -- and the new place is at a node of the owner
-pub deletion-owner : (o : Owner) (d d1 : DocState) (first : ℕ) (r : Range NodeName) (a spot : ℕ × ℕ) → owner_in d first ≡ o → owner_in d spot.0 ≡ owner_in d first
+pub deletion-owner : (o : Owner) (d d1 : DocState) (first : ℕ) (r : Range NodeName) (a spot : ℕ × ℕ) → owner_in d first ≡ o →
+    owner_in d spot.0 ≡ owner_in d first
     → d1 ≡ planned (owner_in d first) (deleting_contents (trees_in d first) r) d → a ≡ spot → owner_in d1 a.0 ≡ o
 deletion-owner o d d1 first r a spot own there e1 a_is =
     ap (λ (x : ℕ × ℕ). owner_in d1 x.0) a_is ∙ (ap (λ (e : DocState). owner_in e spot.0) e1 ∙ (there ∙ own))

@@ -1,5 +1,6 @@
 -- The walk from the start of a range to its end that skips what is below a contained node.
-use Rattle.std.proofs.Common.{◌≡◌, inl, inr, ℕ, zero, suc, ◌≤◌, Bool, true, false, List, [], ◌∷◌, ◌++◌, length, drop, Option, Some, None, refl, sym, ap, subst, ◌∙◌, arith, true≢false, take}
+use Rattle.std.proofs.Common.{◌≡◌, inl, inr, ℕ, zero, suc, ◌≤◌, Bool, true, false, List, [], ◌∷◌, ◌++◌, length, drop, Option, Some, None, refl, sym}
+use Rattle.std.proofs.Common.{ap, subst, ◌∙◌, arith, true≢false, take}
 use Rattle.std.specs.Prelude.{filter}
 use Rattle.std.specs.List.{AllByRecursion}
 use Rattle.std.proofs.lemmas.Bool.{and_parts, false_from_ne_true}
@@ -25,7 +26,8 @@ use Rattle.dom_range_ops.specs.Texts.{nodes_around}
 use Rattle.dom_range_ops.proofs.OneTree.{filter-tree, contained-root, root-above, root-root}
 use Rattle.dom_range_ops.proofs.Between.{IsBounded, IsBetween, Leads, Splits, two-splits, member-within, start-within, end-within, start-out, end-out}
 use Rattle.dom_range_ops.proofs.Sides.{nodes_before, point-splits, before-no, after-yes}
-use Rattle.dom_range_ops.proofs.DeletionOrder.{HasLeaves, IsClear, is_outermost, above-in, start-in, start-above-out, between-in, end-above-out, contained-below, outermost-not, outermost-yes, none-below}
+use Rattle.dom_range_ops.proofs.DeletionOrder.{HasLeaves, IsClear, is_outermost, above-in, start-in, start-above-out, between-in, end-above-out}
+use Rattle.dom_range_ops.proofs.DeletionOrder.{contained-below, outermost-not, outermost-yes, none-below}
 
 -- what holds of all holds of the last ones
 all-right : (P : NodeName → Type 0) (xs ys : List NodeName) → AllByRecursion P (xs ++ ys) → AllByRecursion P ys
@@ -41,26 +43,40 @@ pub record GoesUp (ts : Trees) (x y : NodeName) : Type 0 where
   pub above : In parent (inclusive_ancestors ts below)
 
 -- by how deep it is
-beyond-up : (ts : Trees) (n : ℕ) (top x y : NodeName) → IsWithin ts top x → length (inclusive_ancestors ts x) ≤ n → first_of (beyond ts top x) ≡ Some y → GoesUp ts x y
+beyond-up : (ts : Trees) (n : ℕ) (top x y : NodeName) → IsWithin ts top x → length (inclusive_ancestors ts x) ≤ n →
+    first_of (beyond ts top x) ≡ Some y → GoesUp ts x y
 beyond-up ts zero top x y w le e = let long = ap (length {A = NodeName}) (above-present ts x (stands_in ts top x w)).1 in absurd (omega (arith, long, le))
 beyond-up ts (suc n) top x y w le e = elim (same_or_not x top) [
   | inl same ↦ absurd (none-some y (sym (ap first_of (ap (beyond ts top) same ∙ (top_places ts top (subst (IsWithin ts top) same w)).1)) ∙ e))
   | inr other ↦ by other (λ p inside less first. beyond-up ts n top p y inside less first) (parent_of ts x) refl (next_sibling ts x) refl
 ]
   where
-    by : (x ≡ top → ⊥) → ((p : NodeName) → IsWithin ts top p → length (inclusive_ancestors ts p) ≤ n → first_of (beyond ts top p) ≡ Some y → GoesUp ts p y) → (o : Option NodeName) → parent_of ts x ≡ o → (s : Option NodeName) → next_sibling ts x ≡ s → GoesUp ts x y
+    by : (x ≡ top → ⊥) → ((p : NodeName) → IsWithin ts top p → length (inclusive_ancestors ts p) ≤ n → first_of (beyond ts top p) ≡ Some y →
+        GoesUp ts p y) → (o : Option NodeName) → parent_of ts x ≡ o → (s : Option NodeName) → next_sibling ts x ≡ s → GoesUp ts x y
     by other rest None up s next = absurd (within-root ts top x w other up)
     by other rest (Some p) up (Some s) next =
         let is = next_places ts top x s w other next in
         let first : Some s ≡ Some y = sym (ap first_of (is.1 ∙ ap (λ xs. xs ++ beyond ts top s) (here ts top s is.0))) ∙ e in
         let path = above-parent ts x p w.once (stands_in ts top x w) up in
-        record { parent = p; up = ap (parent_of ts) (sym (same_Some s y first)) ∙ (is.2 ∙ up); below = p; below_up = up; above = subst (In p) (sym (above-present ts p path.1).1) (inl refl) }
+        record {
+          parent = p;
+          up = ap (parent_of ts) (sym (same_Some s y first)) ∙ (is.2 ∙ up);
+          below = p;
+          below_up = up;
+          above = subst (In p) (sym (above-present ts p path.1).1) (inl refl);
+        }
     by other rest (Some p) up None next =
         let path = above-parent ts x p w.once (stands_in ts top x w) up in
         let longer = ap (length {A = NodeName}) path.0 in
         let inside = within-parent ts top x p w other up in
         let k = rest p inside (omega (arith, longer, le)) (ap first_of (sym (no_next ts top x p w other up next)) ∙ e) in
-        record { parent = k.parent; up = k.up; below = p; below_up = up; above = subst (In k.parent) (sym (above-parent ts p k.below w.once path.1 k.below_up).0) (inr k.above) }
+        record {
+          parent = k.parent;
+          up = k.up;
+          below = p;
+          below_up = up;
+          above = subst (In k.parent) (sym (above-parent ts p k.below w.once path.1 k.below_up).0) (inr k.above);
+        }
 
 -- the same of all
 goes-up : (ts : Trees) (top x y : NodeName) → IsWithin ts top x → first_of (beyond ts top x) ≡ Some y → GoesUp ts x y
@@ -80,7 +96,8 @@ module _ (ts : Trees) (r : Range NodeName) (bounded : IsBounded ts r) (leaves : 
   -- ---- parents are not contained
 
   -- nor what is above them
-  clear-above : (x p a : NodeName) → In x (nodes_around ts r) → Clear x → parent_of ts x ≡ Some p → In a (inclusive_ancestors ts p) → is_contained ts r a ≡ false
+  clear-above : (x p a : NodeName) → In x (nodes_around ts r) → Clear x → parent_of ts x ≡ Some p → In a (inclusive_ancestors ts p) →
+      is_contained ts r a ≡ false
   clear-above x p a i clear e j =
       let w = member-within ts r bounded x i in
       let path = above-parent ts x p bounded.ends.once (stands_in ts top x w) e in
@@ -110,9 +127,15 @@ module _ (ts : Trees) (r : Range NodeName) (bounded : IsBounded ts r) (leaves : 
       by (c ∷ kids) is p up =
           let up_c = parent-of_child ts x c bounded.ends.once (stands_in ts top x w) (subst (In c) (sym is) (inl refl)) in
           let inside = above-present ts c up_c.1 in
-          let tree = here ts c c (record { once = bounded.ends.once; top_stands = up_c.1; stands = below-from_above ts c c bounded.ends.once up_c.1 (subst (In c) (sym inside.1) (inl refl)) }) in
+          let tree = here ts c c (record {
+            once = bounded.ends.once;
+            top_stands = up_c.1;
+            stands = below-from_above ts c c bounded.ends.once up_c.1 (subst (In c) (sym inside.1) (inl refl));
+          }) in
           let same : Some c ≡ Some y =
-          sym (ap (λ ks. first_of (joined ts ks ++ beyond ts top x)) is ∙ (ap (λ xs. first_of (xs ++ beyond ts top x)) (flat_map-cons (inclusive_descendants ts) c kids) ∙ ap (λ xs. first_of ((xs ++ joined ts kids) ++ beyond ts top x)) tree)) ∙ first in
+          sym (ap (λ ks. first_of (joined ts ks ++ beyond ts top x)) is ∙
+          (ap (λ xs. first_of (xs ++ beyond ts top x)) (flat_map-cons (inclusive_descendants ts) c kids) ∙
+          ap (λ xs. first_of ((xs ++ joined ts kids) ++ beyond ts top x)) tree)) ∙ first in
           let one : x ≡ p = same_Some x p (sym (ap (parent_of ts) (sym (same_Some c y same)) ∙ up_c.0) ∙ up) in
           subst (λ z. is_contained ts r z ≡ false) one off
 
@@ -140,12 +163,20 @@ module _ (ts : Trees) (r : Range NodeName) (bounded : IsBounded ts r) (leaves : 
       by : (kids : List NodeName) → drop r.start.offset (children_of ts s) ≡ kids → Clear y
       by [] is p over = clear-beyond s y (start-in ts r bounded) clear (ap (λ ks. first_of (joined ts ks ++ beyond ts top s)) (sym is) ∙ e) p over
       by (c ∷ kids) is p over =
-          let among : In c (children_of ts s) = subst (In c) (take-append-drop r.start.offset (children_of ts s)) (In-right c (take r.start.offset (children_of ts s)) (drop r.start.offset (children_of ts s)) (subst (In c) (sym is) (inl refl))) in
+          let among : In c (children_of ts s) =
+          subst (In c) (take-append-drop r.start.offset (children_of ts s))
+          (In-right c (take r.start.offset (children_of ts s)) (drop r.start.offset (children_of ts s)) (subst (In c) (sym is) (inl refl))) in
           let up_c = parent-of_child ts s c bounded.ends.once (stands_in ts top s w) among in
           let inside = above-present ts c up_c.1 in
-          let tree = here ts c c (record { once = bounded.ends.once; top_stands = up_c.1; stands = below-from_above ts c c bounded.ends.once up_c.1 (subst (In c) (sym inside.1) (inl refl)) }) in
+          let tree = here ts c c (record {
+            once = bounded.ends.once;
+            top_stands = up_c.1;
+            stands = below-from_above ts c c bounded.ends.once up_c.1 (subst (In c) (sym inside.1) (inl refl));
+          }) in
           let same : Some c ≡ Some y =
-          sym (ap (λ ks. first_of (joined ts ks ++ beyond ts top s)) is ∙ (ap (λ xs. first_of (xs ++ beyond ts top s)) (flat_map-cons (inclusive_descendants ts) c kids) ∙ ap (λ xs. first_of ((xs ++ joined ts kids) ++ beyond ts top s)) tree)) ∙ e in
+          sym (ap (λ ks. first_of (joined ts ks ++ beyond ts top s)) is ∙
+          (ap (λ xs. first_of (xs ++ beyond ts top s)) (flat_map-cons (inclusive_descendants ts) c kids) ∙
+          ap (λ xs. first_of ((xs ++ joined ts kids) ++ beyond ts top s)) tree)) ∙ e in
           let one : s ≡ p = same_Some s p (sym (ap (parent_of ts) (sym (same_Some c y same)) ∙ up_c.0) ∙ over) in
           subst (λ z. is_contained ts r z ≡ false) one (up s itself)
 
@@ -161,28 +192,37 @@ module _ (ts : Trees) (r : Range NodeName) (bounded : IsBounded ts r) (leaves : 
       (λ y h t. contained-root ts r bounded.ends y h (and_parts (is_contained ts r y) _ t).0)
       ∙ (ap (filter outermost) (point-splits ts top r.start (start-within ts r bounded))
       ∙ (filter-append outermost front back
-      ∙ ap (λ xs. xs ++ filter outermost back) (filter-none outermost front (λ x i. outermost-not ts r bounded leaves x (start-out ts r bounded x (before-no ts top r.start (start-within ts r bounded) x i))))))
+      ∙ ap (λ xs. xs ++ filter outermost back)
+      (filter-none outermost front (λ x i. outermost-not ts r bounded leaves x
+      (start-out ts r bounded x (before-no ts top r.start (start-within ts r bounded) x i))))))
 
   -- where the end comes before the start there is none
   pub none-reversed : is_before ts r.end r.start ≡ true → outermost_contained ts r ≡ []
-  none-reversed e = all-outermost ∙ filter-none outermost (nodes_after ts top r.start) (λ x i. outermost-not ts r bounded leaves x (end-out ts r bounded x (before-less (boundary_place ts r.end) (boundary_place ts r.start) (boundary_place ts (at x 0)) e (before-turned (boundary_place ts r.start) (boundary_place ts (at x 0)) (after-yes ts top r.start (start-within ts r bounded) x i)))))
+  none-reversed e = all-outermost ∙ filter-none outermost (nodes_after ts top r.start)
+      (λ x i. outermost-not ts r bounded leaves x
+      (end-out ts r bounded x (before-less (boundary_place ts r.end) (boundary_place ts r.start) (boundary_place ts (at x 0)) e
+      (before-turned (boundary_place ts r.start) (boundary_place ts (at x 0)) (after-yes ts top r.start (start-within ts r bounded) x i)))))
 
   -- from the end on there is none
   pub none-end : filter outermost (nodes_after ts top r.end) ≡ []
-  none-end = filter-none outermost (nodes_after ts top r.end) (λ x i. outermost-not ts r bounded leaves x (end-out ts r bounded x (after-yes ts top r.end (end-within ts r bounded) x i)))
+  none-end = filter-none outermost (nodes_after ts top r.end)
+      (λ x i. outermost-not ts r bounded leaves x (end-out ts r bounded x (after-yes ts top r.end (end-within ts r bounded) x i)))
 
   -- what is above the end is passed
-  pub pass : (x : NodeName) (xs : List NodeName) → In x (nodes_around ts r) → is_inclusive_ancestor ts x r.end.node ≡ true → filter outermost (x ∷ xs) ≡ filter outermost xs
+  pub pass : (x : NodeName) (xs : List NodeName) → In x (nodes_around ts r) → is_inclusive_ancestor ts x r.end.node ≡ true →
+      filter outermost (x ∷ xs) ≡ filter outermost xs
   pass x xs i above = filter-no outermost x xs (outermost-not ts r bounded leaves x (end-above-out ts r bounded leaves x i above))
 
   -- another node is found, and what is below it is skipped
-  pub find : (x : NodeName) → IsBetween ts r x → Clear x → is_inclusive_ancestor ts x r.end.node ≡ false → filter outermost (x ∷ behind ts top x) ≡ x ∷ filter outermost (beyond ts top x)
+  pub find : (x : NodeName) → IsBetween ts r x → Clear x → is_inclusive_ancestor ts x r.end.node ≡ false →
+      filter outermost (x ∷ behind ts top x) ≡ x ∷ filter outermost (beyond ts top x)
   find x m clear off =
       let e = between-in ts r bounded x m off in
       filter-yes outermost x (behind ts top x) (outermost-yes ts r bounded leaves x e clear)
       ∙ ap (λ xs. x ∷ xs)
       (ap (filter outermost) (behind_is ts top x (member-within ts r bounded x m.around))
-      ∙ (filter-append outermost (below ts x) (beyond ts top x) ∙ ap (λ xs. xs ++ filter outermost (beyond ts top x)) (none-below ts r bounded leaves x m.around e)))
+      ∙ (filter-append outermost (below ts x) (beyond ts top x) ∙ ap (λ xs. xs ++ filter outermost (beyond ts top x))
+      (none-below ts r bounded leaves x m.around e)))
 
   -- it leads on beyond a contained node
   pub lead-on : (x : NodeName) → IsBetween ts r x → is_inclusive_ancestor ts x r.end.node ≡ false → Leads ts r (behind ts top x) → Leads ts r (beyond ts top x)
@@ -192,7 +232,11 @@ module _ (ts : Trees) (r : Range NodeName) (bounded : IsBounded ts r) (leaves : 
       w = member-within ts r bounded x m.around
 
       by : Splits (below ts x) (beyond ts top x) leads.middle (nodes_after ts top r.end) → Leads ts r (beyond ts top x)
-      by (inl s) = record { middle = s.0; parts = s.2; between = all-right (IsBetween ts r) (below ts x) s.0 (subst (AllByRecursion (IsBetween ts r)) s.1 leads.between) }
+      by (inl s) = record {
+        middle = s.0;
+        parts = s.2;
+        between = all-right (IsBetween ts r) (below ts x) s.0 (subst (AllByRecursion (IsBetween ts r)) s.1 leads.between);
+      }
       by (inr s) =
           let yes = contained-below ts r bounded leaves x s.0 m.around (between-in ts r bounded x m off) (subst (In s.0) (sym (here ts top x w)) (inr s.1)) in
           absurd (true≢false (sym yes ∙ end-out ts r bounded s.0 (after-yes ts top r.end (end-within ts r bounded) s.0 s.2)))

@@ -1,5 +1,6 @@
 -- The extraction of a live range of a `Doc`: what its pieces are, that they may be taken, and what is left.
-use Rattle.std.proofs.Common.{◌≡◌, ◌≤◌, ◌+◌, ℕ, suc, true, false, List, [], ◌∷◌, ◌++◌, length, map, Option, Some, None, Result, Ok, Err, sym, ap, subst, ◌∙◌, refl, arith}
+use Rattle.std.proofs.Common.{◌≡◌, ◌≤◌, ◌+◌, ℕ, suc, true, false, List, [], ◌∷◌, ◌++◌, length, map, Option, Some, None, Result, Ok, Err, sym, ap}
+use Rattle.std.proofs.Common.{subst, ◌∙◌, refl, arith}
 use Rattle.std.specs.Prelude.{OnOk}
 use Rattle.std.specs.List.{AllByRecursion}
 use Rattle.std.specs.Option.{ForSome, option_map_or}
@@ -68,7 +69,8 @@ module _ (d : DocState) (o : Owner) (k : ℕ) (points : Points) (here : IsOfPoin
 
   -- the limit that they keep or not is the command's
   pub limit-own : (more : ℕ) → more ≡ made_by (map (item_in d.names) pieces) →
-      of_range (part_of d.world o) k None (λ range. limit_on (part_of d.world o).node_count (made_by_extracting (part_of d.world o) range)) ≡ limit_on (part_of d.world o).node_count (suc more)
+      of_range (part_of d.world o) k None (λ range. limit_on (part_of d.world o).node_count (made_by_extracting (part_of d.world o) range)) ≡
+      limit_on (part_of d.world o).node_count (suc more)
   limit-own more is =
       ap (λ (m : Option (Range NodeName)). option_map_or (λ range. limit_on p.node_count (made_by_extracting p range)) m None) here.there
       ∙ ap (limit_on p.node_count) (sym (ap suc is ∙ made-own))
@@ -83,25 +85,31 @@ module _ (d : DocState) (o : Owner) (k : ℕ) (points : Points) (here : IsOfPoin
   limit-kept more is kept = limit-own more is ∙ ap (λ b. first_refusal ((b, Limit) ∷ [])) kept
 
   -- they may be taken, where the limit is kept
-  pub own-may_take : IsPart (part_of d.world o) → HasBounds (part_of d.world o) → ShadowRootsHaveNoParent (part_of d.world o).trees → past_limit (part_of d.world o).node_count (suc (made_by (map (item_in d.names) pieces))) ≡ false →
-      MayTake (part_step (part_of d.world o) (make (new_fragment_node (next_name (part_of d.world o)) (own_document (part_of d.world o).trees (name_in d points.start.0))))) (next_name (part_of d.world o)) [] (map (item_in d.names) pieces)
+  pub own-may_take : IsPart (part_of d.world o) → HasBounds (part_of d.world o) → ShadowRootsHaveNoParent (part_of d.world o).trees →
+      past_limit (part_of d.world o).node_count (suc (made_by (map (item_in d.names) pieces))) ≡ false →
+      MayTake (part_step (part_of d.world o)
+      (make (new_fragment_node (next_name (part_of d.world o)) (own_document (part_of d.world o).trees (name_in d points.start.0)))))
+      (next_name (part_of d.world o)) [] (map (item_in d.names) pieces)
   own-may_take part bounds shadows few =
       let n = new_fragment_node (next_name p) (own_document p.trees (name_in d points.start.0)) in
       let ends = subst (λ q. HasEnds (part_of d.world q).trees r) here.owner here.range.ends in
       let most = ltb-false 1000000 (p.node_count + suc (made_by items)) few in
-      let fits : suc p.node_count + made_by (items_of (pieces_of p.trees r)) ≤ 1000000 = subst (λ xs. suc p.node_count + made_by xs ≤ 1000000) own-items (omega arith) in
+      let fits : suc p.node_count + made_by (items_of (pieces_of p.trees r)) ≤ 1000000 =
+      subst (λ xs. suc p.node_count + made_by xs ≤ 1000000) own-items (omega arith) in
       subst (λ xs. MayTake (part_step p (make n)) (next_name p) [] xs) (sym own-items) (extract-may_take p r part ends shadows n refl refl bounds fits)
 
   -- the names that are given
   pub names-own : (more : List NodeName) → more ≡ d.names ++ new_names o (part_of d.world o).node_count (suc (made_by (map (item_in d.names) pieces))) →
-      ForSome (range_at (part_of d.world o) k) (λ range. more ≡ d.names ++ new_names o (part_of d.world o).node_count (made_by_extracting (part_of d.world o) range))
+      ForSome (range_at (part_of d.world o) k)
+      (λ range. more ≡ d.names ++ new_names o (part_of d.world o).node_count (made_by_extracting (part_of d.world o) range))
   names-own more is range there =
       let both : Some r ≡ Some range = sym here.there ∙ there in
       let same : r ≡ range = cc in
       is ∙ ap (λ n. d.names ++ new_names o p.node_count n) (made-own ∙ ap (made_by_extracting p) same)
 
   -- the world that is left
-  pub world-own : (place : Boundary NodeName) → place ≡ new_place (trees_in d points.start.0) (range_at_points d.names points) → (w : World) → w ≡ made o (extracting_items k (name_in d points.start.0) place (map (item_in d.names) pieces)) d.world →
+  pub world-own : (place : Boundary NodeName) → place ≡ new_place (trees_in d points.start.0) (range_at_points d.names points) → (w : World) →
+      w ≡ made o (extracting_items k (name_in d points.start.0) place (map (item_in d.names) pieces)) d.world →
       w ≡ made o (λ q. plan_of_range q k (extracting k)) d.world
   world-own place at_place w is =
       let new : place ≡ new_place p.trees r = at_place ∙ ap (λ q. new_place (part_of d.world q).trees r) here.owner in

@@ -25,7 +25,8 @@ first-drop [] (suc k) = refl
 first-drop (x ∷ xs) zero = refl
 first-drop (x ∷ xs) (suc k) = first-drop xs k
 
-module _ (d : DocState) (f : NamedTrees) (names : f.names ≡ d.names) (trees : (o : Owner) → trees_of_owner o f.trees ≡ (part_of d.world o).trees) (owned : AreOwned f.trees) (node index : ℕ) (child : Option ℕ)
+module _ (d : DocState) (f : NamedTrees) (names : f.names ≡ d.names) (trees : (o : Owner) → trees_of_owner o f.trees ≡ (part_of d.world o).trees)
+    (owned : AreOwned f.trees) (node index : ℕ) (child : Option ℕ)
     (found : option_map (name_at f.names) child ≡ first_of (drop index (children_of f.trees (name_at f.names node)))) where
   abbrev o : Owner
   o = owner_in d node
@@ -37,13 +38,16 @@ module _ (d : DocState) (f : NamedTrees) (names : f.names ≡ d.names) (trees : 
   pub nth-value : option_map (name_in d) child ≡ slice_get (children_of (trees_in d node) (name_in d node)) index
   nth-value =
       subst (λ (ns : List NodeName). option_map (name_at ns) child ≡ first_of (drop index (children_of f.trees (name_at ns node)))) names found
-      ∙ ap (λ xs. first_of (drop index xs)) ((read_own f.trees owned o x refl).children ∙ ap (λ us. children_of us x) (trees o)) ∙ first-drop (children_of (trees_in d node) x) index
+      ∙ ap (λ xs. first_of (drop index xs)) ((read_own f.trees owned o x refl).children ∙ ap (λ us. children_of us x) (trees o)) ∙
+      first-drop (children_of (trees_in d node) x) index
 
   -- and a child
   pub nth-child : IsPart (part_of d.world (owner_in d node)) → ForSome child (λ k. k < length f.names) → ForSome child (IsChild d node)
   nth-child part key b is =
       let p = part_of d.world o in
-      let below : IsBelow (name_in d b) x p = subst (IfSome (λ z. IsBelow z x p)) (sym nth-value ∙ ap (option_map (name_in d)) is) (all-get (λ z. IsBelow z x p) (children_of p.trees x) index (children-childs p.trees x)) in
+      let below : IsBelow (name_in d b) x p =
+      subst (IfSome (λ z. IsBelow z x p)) (sym nth-value ∙ ap (option_map (name_in d)) is)
+      (all-get (λ z. IsBelow z x p) (children_of p.trees x) index (children-childs p.trees x)) in
       record {
         node = subst (λ (ns : List NodeName). b < length ns) names (key b is);
         owner = part.owned (name_in d b) (child-there_in p (name_in d b) x part below) ∙ owner-part_of d.world o;

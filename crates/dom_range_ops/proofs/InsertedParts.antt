@@ -2,7 +2,7 @@
 use Rattle.std.proofs.Common.{◌≡◌, ℕ, true, false, Option, sym, ap, subst, ◌∙◌}
 use Rattle.dom_base.specs.declared.NodeName.{NodeName}
 use Rattle.dom_base.specs.declared.Owner.{Owner}
-use Rattle.dom_isolation.proofs.KindCommands.{has_node-times}
+use Rattle.dom_isolation.proofs.KindLines.{has_node-times}
 use Rattle.dom_isolation.proofs.PlanPlaces.{Changed}
 use Rattle.dom_model.specs.Changes.{Plan}
 use Rattle.dom_model.specs.Part.{Part}
@@ -22,12 +22,16 @@ module _ (d e : DocState) (o : Owner) (f : Plan) (alone : IsAlone d.world o) (ow
   part-now = ap (λ (w : World). part_of w o) world ∙ plan_alone o f d.world alone own
 
   -- a fact of a node's name in its owner's trees
-  pub now-at : (P : Trees → NodeName → Type 0) (k : ℕ) → name_in e k ≡ name_in d k → owner_in d k ≡ o → P (part_of e.world o).trees (name_in d k) → P (trees_in e k) (name_in e k)
-  now-at P k name owner h = subst (λ (z : NodeName). P (part_of e.world z.owner).trees z) (sym name) (subst (λ w. P (part_of e.world w).trees (name_in d k)) (sym owner) h)
+  pub now-at : (P : Trees → NodeName → Type 0) (k : ℕ) → name_in e k ≡ name_in d k → owner_in d k ≡ o →
+      P (part_of e.world o).trees (name_in d k) → P (trees_in e k) (name_in e k)
+  now-at P k name owner h = subst (λ (z : NodeName). P (part_of e.world z.owner).trees z) (sym name)
+      (subst (λ w. P (part_of e.world w).trees (name_in d k)) (sym owner) h)
 
   -- a node without data has none
-  pub open-kept : (spot : Option NodeName) → Changed spot p (after p (f p)) → (k : ℕ) → name_in e k ≡ name_in d k → owner_in d k ≡ o → has_node p.trees (name_in d k) ≡ true → has_data (kind_of p.trees (name_in d k)) ≡ false
+  pub open-kept : (spot : Option NodeName) → Changed spot p (after p (f p)) → (k : ℕ) → name_in e k ≡ name_in d k → owner_in d k ≡ o →
+      has_node p.trees (name_in d k) ≡ true → has_data (kind_of p.trees (name_in d k)) ≡ false
       → has_data (kind_of (trees_in e k) (name_in e k)) ≡ false
   open-kept spot changed k name owner there plain =
       now-at (λ ts x. has_data (kind_of ts x) ≡ false) k name owner
-      (ap (λ (q : Part). has_data (kind_of q.trees (name_in d k))) part-now ∙ ap has_data (changed.kinds (name_in d k) (has_node-times p.trees (name_in d k) there)) ∙ plain)
+      (ap (λ (q : Part). has_data (kind_of q.trees (name_in d k))) part-now ∙
+      ap has_data (changed.kinds (name_in d k) (has_node-times p.trees (name_in d k) there)) ∙ plain)

@@ -27,7 +27,8 @@ pub state-is : (d e : DocState) (o : Owner) (f : Plan) → e.names ≡ d.names �
 state-is d e o f names world = λ j. record { names = names j; world = world j }
 
 -- a reference that is another node is kept
-pub kept-reference : (ts : Trees) (x : NodeName) (name : ℕ → NodeName) (reference : Option ℕ) → ForSome reference (λ b. name_eq x (name b) ≡ false) → reference_for ts x (option_map name reference) ≡ option_map name reference
+pub kept-reference : (ts : Trees) (x : NodeName) (name : ℕ → NodeName) (reference : Option ℕ) →
+    ForSome reference (λ b. name_eq x (name b) ≡ false) → reference_for ts x (option_map name reference) ≡ option_map name reference
 kept-reference ts x name None apart = refl
 kept-reference ts x name (Some b) apart = cond-false (name_eq (name b) x) (next_sibling ts x) (Some (name b)) (name_eq-sym (name b) x ∙ apart b refl)
 
@@ -60,34 +61,47 @@ module _ (d : DocState) (o : Owner) (k : ℕ) (parent node : ℕ) (alone : IsAlo
       ∙ ap (λ b. planned o (inserting observed x y b and_then end n) d) (sym (kept-reference ts x (name_in d) reference apart))
 
   -- a removal, in the state e, and then an insertion before the reference, in f
-  pub inserted-at : (e f : DocState) (child reference : Option ℕ) → option_map (name_in d) reference ≡ reference_for (trees_in d parent) (name_in d node) (option_map (name_in d) child)
+  pub inserted-at : (e f : DocState) (child reference : Option ℕ) →
+      option_map (name_in d) reference ≡ reference_for (trees_in d parent) (name_in d node) (option_map (name_in d) child)
       → e ≡ planned (owner_in d node) (removing observed (name_in d node)) d
       → f ≡ planned o (inserting_before k (name_in e node) (name_in e parent) (option_map (name_in e) reference)) e
       → f ≡ planned o (inserting_at k (name_in d node) (name_in d parent) (option_map (name_in d) child)) d
   inserted-at e f child reference referred removed inserted =
       let gone : Plan = removing observed x in
       let is : e ≡ planned o gone d = removed ∙ ap (λ w. planned w gone d) node_own in
-      inserted ∙ ap (λ (ns : List NodeName). planned o (inserting_before k (name_at ns node) (name_at ns parent) (option_map (name_at ns) reference)) e) (ap (λ (s : DocState). s.names) is)
+      inserted ∙ ap (λ (ns : List NodeName). planned o
+      (inserting_before k (name_at ns node) (name_at ns parent) (option_map (name_at ns) reference)) e) (ap (λ (s : DocState). s.names) is)
       ∙ ap (planned o (inserting_before k x y (option_map (name_in d) reference))) is
       ∙ planned_then o gone (inserting_before k x y (option_map (name_in d) reference)) d alone (plans_removing o observed x)
-      ∙ ap (λ b. planned o (gone and_then inserting_before k x y b) d) (referred ∙ ap (λ w. reference_for (part_of d.world w).trees x (option_map (name_in d) child)) own)
+      ∙ ap (λ b. planned o (gone and_then inserting_before k x y b) d)
+      (referred ∙ ap (λ w. reference_for (part_of d.world w).trees x (option_map (name_in d) child)) own)
 
 -- what was asked of a parent and a reference still holds when another node has left its parent
-pub stays-left : (d e : DocState) → Counted d → (parent node : ℕ) (reference : Option ℕ) → IsAlone d.world (owner_in d node) → owner_in d node ≡ owner_in d parent
-    → is_inclusive_ancestor (trees_in d parent) (name_in d node) (name_in d parent) ≡ false → ForSome reference (IsChild d parent) → ForSome reference (λ b. name_eq (name_in d node) (name_in d b) ≡ false)
+pub stays-left : (d e : DocState) → Counted d → (parent node : ℕ) (reference : Option ℕ) → IsAlone d.world (owner_in d node) →
+    owner_in d node ≡ owner_in d parent
+    → is_inclusive_ancestor (trees_in d parent) (name_in d node) (name_in d parent) ≡ false → ForSome reference (IsChild d parent) →
+    ForSome reference (λ b. name_eq (name_in d node) (name_in d b) ≡ false)
     → e ≡ planned (owner_in d node) (removing observed (name_in d node)) d → Stays parent reference d e
 stays-left d e counted parent node reference alone owner off children apart is =
     let x = name_in d node in
     let names : e.names ≡ d.names = ap (λ (s : DocState). s.names) is in
-    let lacks : Lacks x (inclusive_ancestors (trees_in d parent) (name_in d parent)) = lacks_from x (inclusive_ancestors (trees_in d parent) (name_in d parent)) off in
+    let lacks : Lacks x (inclusive_ancestors (trees_in d parent) (name_in d parent)) =
+    lacks_from x (inclusive_ancestors (trees_in d parent) (name_in d parent)) off in
     let same : trees_in d node ≡ trees_in d parent = ap (λ o. (part_of d.world o).trees) owner in
     let then : trees_in e parent ≡ trees_in e node =
-    ap (λ (ns : List NodeName). (part_of e.world (name_at ns parent).owner).trees) names ∙ (ap (λ o. (part_of e.world o).trees) (sym owner) ∙ ap (λ (ns : List NodeName). (part_of e.world (name_at ns node).owner).trees) (sym names)) in
-    let kept : (z : NodeName) → Lacks x (inclusive_ancestors (trees_in d parent) z) → inclusive_ancestors (trees_in e parent) z ≡ inclusive_ancestors (trees_in d parent) z = λ z h.
+    ap (λ (ns : List NodeName). (part_of e.world (name_at ns parent).owner).trees) names ∙
+    (ap (λ o. (part_of e.world o).trees) (sym owner) ∙ ap (λ (ns : List NodeName). (part_of e.world (name_at ns node).owner).trees)
+    (sym names)) in
+    let kept : (z : NodeName) → Lacks x (inclusive_ancestors (trees_in d parent) z) →
+    inclusive_ancestors (trees_in e parent) z ≡ inclusive_ancestors (trees_in d parent) z = λ z h.
     ap (λ t. inclusive_ancestors t z) then
-    ∙ (removal_keeps d e counted node alone observed is z (ap (λ t. is_inclusive_ancestor t x z) same ∙ lacks_to x (inclusive_ancestors (trees_in d parent) z) h) ∙ ap (λ t. inclusive_ancestors t z) same) in
+    ∙ (removal_keeps d e counted node alone observed is z
+    (ap (λ t. is_inclusive_ancestor t x z) same ∙ lacks_to x (inclusive_ancestors (trees_in d parent) z) h) ∙
+    ap (λ t. inclusive_ancestors t z) same) in
     record {
       names = names;
       parent_path = kept (name_in d parent) lacks;
-      before_path = λ b here. kept (name_in d b) (subst (Lacks x) (sym (parent_path (trees_in d parent) (once_in d counted (owner_in d parent)) (name_in d b) (name_in d parent) (children b here).child)) (apart b here, lacks));
+      before_path = λ b here. kept (name_in d b)
+          (subst (Lacks x) (sym (parent_path (trees_in d parent) (once_in d counted (owner_in d parent)) (name_in d b) (name_in d parent)
+          (children b here).child)) (apart b here, lacks));
     }

@@ -10,8 +10,8 @@ use Rattle.dom_base.specs.declared.Owner.TheVariants.{Page}
 use Rattle.dom_isolation.specs.Bounds.{HasBounds}
 use Rattle.dom_isolation.specs.Worlds.{IsPart}
 use Rattle.dom_isolation.proofs.Descents.{ancestor-inside}
-use Rattle.dom_isolation.proofs.Insides.{inside-no_ancestor}
-use Rattle.dom_isolation.proofs.KindCommands.{has_node-times}
+use Rattle.dom_isolation.proofs.InsideAncestors.{inside-no_ancestor}
+use Rattle.dom_isolation.proofs.KindLines.{has_node-times}
 use Rattle.dom_isolation.proofs.KeptOffsets.{split-keeps}
 use Rattle.dom_isolation.proofs.PlanChildren.{child-parent}
 use Rattle.dom_isolation.proofs.PlanPlaces.{Changed}
@@ -40,7 +40,8 @@ kept-name : (d e : DocState) (y : NodeName) → e.names ≡ d.names ++ y ∷ [] 
 kept-name d e y names k less = ap (λ (ns : List NodeName). name_at ns k) names ∙ get_or-append d.names (y ∷ []) (node_of Page 0) k less
 
 -- ---- a child of a parent, a Text, was split in d, and e is the state then, where the tail has the key `tail`
-module _ (d e : DocState) (o : Owner) (start offset parent node tail : ℕ) (alone : IsAlone d.world o) (part : IsPart (part_of d.world o)) (names : e.names ≡ d.names ++ next_name (part_of d.world o) ∷ []) (world : e.world ≡ made o (splitting (name_in d start) offset) d.world)
+module _ (d e : DocState) (o : Owner) (start offset parent node tail : ℕ) (alone : IsAlone d.world o) (part : IsPart (part_of d.world o))
+    (names : e.names ≡ d.names ++ next_name (part_of d.world o) ∷ []) (world : e.world ≡ made o (splitting (name_in d start) offset) d.world)
     (key : tail ≡ length d.names) (child : IsChild d parent start) (parent_is : parent < length d.names) (parent_own : owner_in d parent ≡ o) where
   abbrev p : Part
   p = part_of d.world o
@@ -74,21 +75,27 @@ module _ (d e : DocState) (o : Owner) (start offset parent node tail : ℕ) (alo
   split-owner k less = ap (λ (z : NodeName). z.owner) (split-name k less)
 
   tail_name : name_in e tail ≡ next_name p
-  tail_name = ap (λ (ns : List NodeName). name_at ns tail) names ∙ (ap (name_at (d.names ++ next_name p ∷ [])) key ∙ get_or-append_seam d.names (next_name p) [] (node_of Page 0))
+  tail_name = ap (λ (ns : List NodeName). name_at ns tail) names ∙
+      (ap (name_at (d.names ++ next_name p ∷ [])) key ∙ get_or-append_seam d.names (next_name p) [] (node_of Page 0))
 
   -- the parent has no data
   pub split-open : has_node p.trees y ≡ true → has_data (kind_of p.trees y) ≡ false → has_data (kind_of (trees_in e parent) (name_in e parent)) ≡ false
-  split-open there plain = open-kept d e o f alone (plans_splitting o x offset) world (Some y) changed parent (split-name parent parent_is) parent_own there plain
+  split-open there plain = open-kept d e o f alone (plans_splitting o x offset) world (Some y) changed parent (split-name parent parent_is)
+      parent_own there plain
 
   -- what was not above the parent is not
-  pub split-apart : node < length d.names → has_node p.trees (name_in d node) ≡ true → is_inclusive_ancestor p.trees (name_in d node) y ≡ false → is_inclusive_ancestor (trees_in e parent) (name_in e node) (name_in e parent) ≡ false
+  pub split-apart : node < length d.names → has_node p.trees (name_in d node) ≡ true → is_inclusive_ancestor p.trees (name_in d node) y ≡ false →
+      is_inclusive_ancestor (trees_in e parent) (name_in e node) (name_in e parent) ≡ false
   split-apart node_is there off =
       let z = name_in d node in
       let was = inside-no_ancestor p.trees z y part.unique off in
       let none = changed.apart z y (has_node-times p.trees z there) was was in
-      let still : is_inclusive_ancestor (part_of e.world o).trees z y ≡ false = ap (λ (q : Part). is_inclusive_ancestor q.trees z y) now ∙ false_from_ne_true _ (λ h. let some = ancestor-inside (after p (f p)).trees z y h in omega (arith, some, none)) in
+      let still : is_inclusive_ancestor (part_of e.world o).trees z y ≡ false =
+      ap (λ (q : Part). is_inclusive_ancestor q.trees z y) now ∙
+      false_from_ne_true _ (λ h. let some = ancestor-inside (after p (f p)).trees z y h in omega (arith, some, none)) in
       subst (λ v. is_inclusive_ancestor (trees_in e parent) v (name_in e parent) ≡ false) (sym (split-name node node_is))
-      (now-at d e o f alone (plans_splitting o x offset) world (λ ts v. is_inclusive_ancestor ts z v ≡ false) parent (split-name parent parent_is) parent_own still)
+      (now-at d e o f alone (plans_splitting o x offset) world (λ ts v. is_inclusive_ancestor ts z v ≡ false) parent (split-name parent parent_is)
+      parent_own still)
 
   -- the tail is a child of it
   pub split-child : IsChild e parent tail
@@ -99,7 +106,8 @@ module _ (d e : DocState) (o : Owner) (start offset parent node tail : ℕ) (alo
         node = let more = longer in omega (arith, key, more);
         owner = ap (λ (z : NodeName). z.owner) tail_name ∙ (owner-part_of d.world o ∙ (sym parent_own ∙ sym (split-owner parent parent_is)));
         child = subst (λ v. parent_of (trees_in e parent) v ≡ Some (name_in e parent)) (sym tail_name)
-            (now-at d e o f alone (plans_splitting o x offset) world (λ ts v. parent_of ts (next_name p) ≡ Some v) parent (split-name parent parent_is) parent_own found);
+            (now-at d e o f alone (plans_splitting o x offset) world (λ ts v. parent_of ts (next_name p) ≡ Some v) parent
+            (split-name parent parent_is) parent_own found);
       }
 
   -- live ranges end within their nodes
@@ -107,7 +115,8 @@ module _ (d e : DocState) (o : Owner) (start offset parent node tail : ℕ) (alo
   split-bounds there text bounds = subst HasBounds (sym now) (split-keeps x offset p part there text bounds)
 
   -- and then the node is inserted before the tail
-  pub split-whole : node < length d.names → (g : DocState) (k : ℕ) (r : Range NodeName) → r.start.node ≡ x → r.start.offset ≡ offset → g ≡ planned o (inserting_at k (name_in e node) (name_in e parent) (Some (name_in e tail))) e
+  pub split-whole : node < length d.names → (g : DocState) (k : ℕ) (r : Range NodeName) → r.start.node ≡ x → r.start.offset ≡ offset →
+      g ≡ planned o (inserting_at k (name_in e node) (name_in e parent) (Some (name_in e tail))) e
       → g.world ≡ made o (inserting_before_tail k r (name_in d parent) (name_in d node)) d.world
   split-whole node_is g k r at_node at_offset is =
       let put : Plan = inserting_at k (name_in d node) y (Some (next_name p)) in

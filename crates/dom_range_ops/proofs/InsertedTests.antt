@@ -33,21 +33,25 @@ valid-child ts parent node c h =
   where
     of : (o : Option NodeName) → parent_of ts c ≡ o → not (has_parent ts parent c) ≡ false → parent_of ts c ≡ Some parent
     of None is e = absurd (true≢false (sym (ap (λ o. not (option_map_or (name_eq parent) o false)) is) ∙ e))
-    of (Some q) is e = is ∙ ap (λ z. Some z) (sym (name_eq-true parent q (was (name_eq parent q) (sym (ap (λ o. not (option_map_or (name_eq parent) o false)) is) ∙ e))))
+    of (Some q) is e = is ∙ ap (λ z. Some z)
+        (sym (name_eq-true parent q (was (name_eq parent q) (sym (ap (λ o. not (option_map_or (name_eq parent) o false)) is) ∙ e))))
       where
         was : (b : Bool) → not b ≡ false → b ≡ true
         was true h = refl
         was false h = absurd (true≢false h)
 
 -- the tests of the place, where the node can be taken
-pub place-valid : (ts : Trees) (r : Range NodeName) (x : NodeName) → insert_node_refusal ts r x ≡ None → insertion_refusal ts (insertion_parent ts r) x (start_reference ts r) ≡ None
+pub place-valid : (ts : Trees) (r : Range NodeName) (x : NodeName) → insert_node_refusal ts r x ≡ None →
+    insertion_refusal ts (insertion_parent ts r) x (start_reference ts r) ≡ None
 place-valid ts r x h = not_taken (cannot_take_node ts r x) (insertion_refusal ts (insertion_parent ts r) x (start_reference ts r)) h
 
 -- a Text at the start is a child of the parent into which a node may go
-pub text-child : (ts : Trees) (r : Range NodeName) (x : NodeName) → insert_node_refusal ts r x ≡ None → is_text (kind_of ts r.start.node) ≡ true → parent_of ts r.start.node ≡ Some (insertion_parent ts r)
+pub text-child : (ts : Trees) (r : Range NodeName) (x : NodeName) → insert_node_refusal ts r x ≡ None → is_text (kind_of ts r.start.node) ≡ true →
+    parent_of ts r.start.node ≡ Some (insertion_parent ts r)
 text-child ts r x h text =
     valid-child ts (insertion_parent ts r) x r.start.node
-    (subst (λ o. insertion_refusal ts (insertion_parent ts r) x o ≡ None) (cond-true (is_text (kind_of ts r.start.node)) (Some r.start.node) _ text) (place-valid ts r x h))
+    (subst (λ o. insertion_refusal ts (insertion_parent ts r) x o ≡ None)
+    (cond-true (is_text (kind_of ts r.start.node)) (Some r.start.node) _ text) (place-valid ts r x h))
 
 -- ---- the steps
 
@@ -56,20 +60,26 @@ module _ (o : Owner) (w : World) (k : ℕ) (r : Range NodeName) (x : NodeName) w
   p = part_of w o
 
   -- where a Text is split
-  pub steps-tail : (y : NodeName) → y ≡ insertion_parent p.trees r → is_text (kind_of p.trees r.start.node) ≡ true → made o (inserting_before_tail k r y x) w ≡ made o (inserting_into_range k r x) w
+  pub steps-tail : (y : NodeName) → y ≡ insertion_parent p.trees r → is_text (kind_of p.trees r.start.node) ≡ true →
+      made o (inserting_before_tail k r y x) w ≡ made o (inserting_into_range k r x) w
   steps-tail y parent text =
       ap (λ z. made o (inserting_before_tail k r z x) w) parent
       ∙ ap (world_after o w)
-      (sym (cond-true (is_text (kind_of p.trees r.start.node)) ((splitting r.start.node r.start.offset and_then inserting_at k x (insertion_parent p.trees r) (Some (next_name p))) p) (inserting_at k x (insertion_parent p.trees r) (start_reference p.trees r) p) text))
+      (sym (cond-true (is_text (kind_of p.trees r.start.node))
+      ((splitting r.start.node r.start.offset and_then inserting_at k x (insertion_parent p.trees r) (Some (next_name p))) p)
+      (inserting_at k x (insertion_parent p.trees r) (start_reference p.trees r) p) text))
 
   -- and where none is
-  pub steps-plain : (y : NodeName) (reference : Option NodeName) → y ≡ insertion_parent p.trees r → reference ≡ start_reference p.trees r → is_text (kind_of p.trees r.start.node) ≡ false
+  pub steps-plain : (y : NodeName) (reference : Option NodeName) → y ≡ insertion_parent p.trees r → reference ≡ start_reference p.trees r →
+      is_text (kind_of p.trees r.start.node) ≡ false
       → made o (inserting_at k x y reference) w ≡ made o (inserting_into_range k r x) w
   steps-plain y reference parent before plain =
       ap (λ z. made o (inserting_at k x z reference) w) parent
       ∙ ap (λ b. made o (inserting_at k x (insertion_parent p.trees r) b) w) before
       ∙ ap (world_after o w)
-      (sym (cond-false (is_text (kind_of p.trees r.start.node)) ((splitting r.start.node r.start.offset and_then inserting_at k x (insertion_parent p.trees r) (Some (next_name p))) p) (inserting_at k x (insertion_parent p.trees r) (start_reference p.trees r) p) plain))
+      (sym (cond-false (is_text (kind_of p.trees r.start.node))
+      ((splitting r.start.node r.start.offset and_then inserting_at k x (insertion_parent p.trees r) (Some (next_name p))) p)
+      (inserting_at k x (insertion_parent p.trees r) (start_reference p.trees r) p) plain))
 
   -- ---- of the range of the number
   module _ (there : range_at p k ≡ Some r) where
@@ -80,4 +90,5 @@ module _ (o : Owner) (w : World) (k : ℕ) (r : Range NodeName) (x : NodeName) w
     tests-at = ap (λ a. option_map_or (λ (s : Range NodeName). insert_node_refusal p.trees s x) a None) there
 
     pub refusal-at : inserting_refusal p k x ≡ option_or (insert_node_refusal p.trees r x) (limit_on p.node_count (made_by_insert_node p r))
-    refusal-at = ap (λ a. option_map_or (λ (s : Range NodeName). option_or (insert_node_refusal p.trees s x) (limit_on p.node_count (made_by_insert_node p s))) a None) there
+    refusal-at = ap (λ a. option_map_or (λ (s : Range NodeName). option_or (insert_node_refusal p.trees s x)
+        (limit_on p.node_count (made_by_insert_node p s))) a None) there

@@ -22,7 +22,8 @@ use Rattle.dom_range_ops.proofs.Between.{IsBounded, IsBetween, Leads, start-with
 use Rattle.dom_range_ops.proofs.Sides.{after-yes}
 
 -- a key is found by its name
-pub key-found : (f : NamedTrees) → TellApart f → (o : Option ℕ) (k : ℕ) → ForSome o (λ j. j < length f.names) → k < length f.names → option_map (name_at f.names) o ≡ Some (name_at f.names k) → o ≡ Some k
+pub key-found : (f : NamedTrees) → TellApart f → (o : Option ℕ) (k : ℕ) → ForSome o (λ j. j < length f.names) → k < length f.names →
+    option_map (name_at f.names) o ≡ Some (name_at f.names k) → o ≡ Some k
 key-found f distinct None k node at e = cc
 key-found f distinct (Some j) k node at e = ap Some (distinct j k (node j refl) at (same_Some (name_at f.names j) (name_at f.names k) e))
 
@@ -60,7 +61,12 @@ module _ (f : NamedTrees) (once : StandOnce f) (only : StandAlone f) (points : P
   -- the range is bounded
   pub is-bounded : IsBounded f.trees (range_at_points f.names points)
   is-bounded = record {
-    ends = record { once = Once-forest f once only; start = Has-forest f once points.start.0 bounded.ends.start; end = Has-forest f once points.end.0 bounded.ends.end; one_root = bounded.ends.one_root };
+    ends = record {
+      once = Once-forest f once only;
+      start = Has-forest f once points.start.0 bounded.ends.start;
+      end = Has-forest f once points.end.0 bounded.ends.end;
+      one_root = bounded.ends.one_root;
+    };
     within = bounded.within;
     leaves = λ x i k. bounded.leaves x (is_in-from x (nodes_around f.trees r) i) k;
   }
@@ -68,7 +74,10 @@ module _ (f : NamedTrees) (once : StandOnce f) (only : StandAlone f) (points : P
   module _ (top : ℕ) (e : name_at f.names top ≡ root_of f.trees (name_at f.names points.start.0)) where
     -- both points stand in the tree
     within-top : (k : ℕ) → k < length f.names → IsWithin f.trees (root_of f.trees (name_at f.names points.start.0)) (name_at f.names k) → StandsIn f top k
-    within-top k node w = record { node = node; within = above-within f.trees (name_at f.names top) (name_at f.names k) (subst (λ t. IsWithin f.trees t (name_at f.names k)) (sym e) w) }
+    within-top k node w = record {
+      node = node;
+      within = above-within f.trees (name_at f.names top) (name_at f.names k) (subst (λ t. IsWithin f.trees t (name_at f.names k)) (sym e) w);
+    }
 
     pub stands-start : StandsIn f top points.start.0
     stands-start = within-top points.start.0 bounded.ends.start (start-within f.trees r is-bounded)
@@ -77,18 +86,24 @@ module _ (f : NamedTrees) (once : StandOnce f) (only : StandAlone f) (points : P
     stands-end = within-top points.end.0 bounded.ends.end (end-within f.trees r is-bounded)
 
     -- the walk begins at the first node behind the start
-    pub from-start : (at : Option ℕ) → option_map (name_at f.names) at ≡ first_of (nodes_after f.trees (name_at f.names top) r.start) → nodes_after f.trees (root_of f.trees r.start.node) r.start ≡ from_node f.trees (name_at f.names top) (option_map (name_at f.names) at)
+    pub from-start : (at : Option ℕ) → option_map (name_at f.names) at ≡ first_of (nodes_after f.trees (name_at f.names top) r.start) →
+        nodes_after f.trees (root_of f.trees r.start.node) r.start ≡ from_node f.trees (name_at f.names top) (option_map (name_at f.names) at)
     from-start at is =
-        after-from f.trees (root_of f.trees r.start.node) r.start (start-within f.trees r is-bounded) (option_map (name_at f.names) at) (is ∙ ap (λ t. first_of (nodes_after f.trees t r.start)) e)
+        after-from f.trees (root_of f.trees r.start.node) r.start (start-within f.trees r is-bounded) (option_map (name_at f.names) at)
+        (is ∙ ap (λ t. first_of (nodes_after f.trees t r.start)) e)
         ∙ ap (λ t. from_node f.trees t (option_map (name_at f.names) at)) (sym e)
 
-    pub leads-from : is_before f.trees r.end r.start ≡ false → (at : Option ℕ) → option_map (name_at f.names) at ≡ first_of (nodes_after f.trees (name_at f.names top) r.start) → Leads f.trees r (from_node f.trees (name_at f.names top) (option_map (name_at f.names) at))
+    pub leads-from : is_before f.trees r.end r.start ≡ false → (at : Option ℕ) →
+        option_map (name_at f.names) at ≡ first_of (nodes_after f.trees (name_at f.names top) r.start) →
+        Leads f.trees r (from_node f.trees (name_at f.names top) (option_map (name_at f.names) at))
     leads-from ordered at is = subst (Leads f.trees r) (from-start at is) (leads-start f.trees r is-bounded ordered)
 
     pub text-from : (at : Option ℕ) → option_map (name_at f.names) at ≡ first_of (nodes_after f.trees (name_at f.names top) r.start)
-        → contained_text f.trees r (from_node f.trees (name_at f.names top) (option_map (name_at f.names) at)) ≡ contained_text f.trees r (nodes_around f.trees r)
+        → contained_text f.trees r (from_node f.trees (name_at f.names top) (option_map (name_at f.names) at)) ≡ contained_text f.trees r
+        (nodes_around f.trees r)
     text-from at is = ap (contained_text f.trees r) (sym (from-start at is)) ∙ sym (text-start f.trees r is-bounded)
 
     -- where it stops
-    pub stop-is : (stop : Option ℕ) → option_map (name_at f.names) stop ≡ first_of (nodes_after f.trees (name_at f.names top) r.end) → option_map (name_at f.names) stop ≡ first_of (nodes_after f.trees (root_of f.trees r.start.node) r.end)
+    pub stop-is : (stop : Option ℕ) → option_map (name_at f.names) stop ≡ first_of (nodes_after f.trees (name_at f.names top) r.end) →
+        option_map (name_at f.names) stop ≡ first_of (nodes_after f.trees (root_of f.trees r.start.node) r.end)
     stop-is stop is = is ∙ ap (λ t. first_of (nodes_after f.trees t r.end)) e

@@ -22,7 +22,8 @@ pub kid-first : (ts : Trees) (p : NodeName) (index : ℕ) (at : Option NodeName)
 kid-first ts p index at e = record { front = []; back = children_of ts p; kids = refl; first = e; goal = refl }
 
 -- the next one
-pub kid-next : (ts : Trees) (p x : NodeName) (index left : ℕ) (next : Option NodeName) → Once ts → Has ts p → IsAtKid ts p index (suc left) (Some x) → next ≡ next_sibling ts x → IsAtKid ts p index left next
+pub kid-next : (ts : Trees) (p x : NodeName) (index left : ℕ) (next : Option NodeName) → Once ts → Has ts p →
+    IsAtKid ts p index (suc left) (Some x) → next ≡ next_sibling ts x → IsAtKid ts p index left next
 kid-next ts p x index left next once h k e =
     let s = first_split k.back x (sym k.first) in
     let whole : children_of ts p ≡ k.front ++ x ∷ s.0 = k.kids ∙ ap (λ xs. k.front ++ xs) s.1 in
@@ -32,7 +33,8 @@ kid-next ts p x index left next once h k e =
       front = k.front ++ x ∷ [];
       back = s.0;
       kids = whole ∙ sym (append_assoc k.front (x ∷ []) s.0);
-      first = e ∙ (ap (λ (o : Option NodeName). first_of (items_after name_eq x (option_map_or (children_of ts) o (x ∷ [])))) up.0 ∙ ap (λ xs. first_of (items_after name_eq x xs)) whole ∙ ap first_of (after-split x k.front s.0 apart));
+      first = e ∙ (ap (λ (o : Option NodeName). first_of (items_after name_eq x (option_map_or (children_of ts) o (x ∷ [])))) up.0 ∙
+          ap (λ xs. first_of (items_after name_eq x xs)) whole ∙ ap first_of (after-split x k.front s.0 apart));
       goal = k.goal ∙ ap (drop (suc left)) s.1;
     }
 

@@ -40,7 +40,8 @@ module _ (n : Node) (c r : Trees) (once : Once (tree n c r)) where
 
   root-inside : (x : NodeName) → Has c x → root_of (tree n c r) x ≡ n.name
   root-inside x h =
-      ap (λ path. unwrap_or (last_of path) x) (above-below n c r x once h) ∙ ap (λ (o : Option NodeName). unwrap_or o x) (last_of-end (inclusive_ancestors c x) n.name)
+      ap (λ path. unwrap_or (last_of path) x) (above-below n c r x once h) ∙ ap (λ (o : Option NodeName). unwrap_or o x)
+      (last_of-end (inclusive_ancestors c x) n.name)
 
   -- and of those behind it
   root-beside : (x : NodeName) → Has r x → root_of (tree n c r) x ≡ root_of r x
@@ -65,7 +66,8 @@ root-root ts x once h = root-path ts (root_of ts x) x once h (root-above ts x h)
 -- ---- the nodes of one tree among all
 
 -- a test that only nodes of one tree pass leaves the same of all nodes as of those of that tree
-pub filter-tree : (ts : Trees) (top : NodeName) (p : NodeName → Bool) → Once ts → Has ts top → root_of ts top ≡ top → ((y : NodeName) → Has ts y → p y ≡ true → root_of ts y ≡ top)
+pub filter-tree : (ts : Trees) (top : NodeName) (p : NodeName → Bool) → Once ts → Has ts top → root_of ts top ≡ top →
+    ((y : NodeName) → Has ts y → p y ≡ true → root_of ts y ≡ top)
     → filter p (names_of (nodes ts)) ≡ filter p (inclusive_descendants ts top)
 filter-tree none top p once h e only = absurd h
 filter-tree (tree n c r) top p once (inl here) e only =
@@ -73,11 +75,13 @@ filter-tree (tree n c r) top p once (inl here) e only =
     ∙ (filter-append p (n.name ∷ names_of (nodes c)) (names_of (nodes r))
     ∙ (ap (λ xs. filter p (n.name ∷ names_of (nodes c)) ++ xs) (filter-none p (names_of (nodes r)) (λ y i. off y (Has-names r y i)))
     ∙ (append-nil (filter p (n.name ∷ names_of (nodes c)))
-    ∙ ap (filter p) (sym (ap (λ (us : Trees). names_of (nodes us)) (subtree-here n c r top here) ∙ (names-tree n c none ∙ ap (λ xs. n.name ∷ xs) (append-nil (names_of (nodes c)))))))))
+    ∙ ap (filter p) (sym (ap (λ (us : Trees). names_of (nodes us)) (subtree-here n c r top here) ∙
+    (names-tree n c none ∙ ap (λ xs. n.name ∷ xs) (append-nil (names_of (nodes c)))))))))
   where
     off : (y : NodeName) → Has r y → p y ≡ false
     off y h = elim (cases_Bool (p y)) [
-      | inl t ↦ absurd (once.1 (subst (Has r) (only y (inr (inr h)) t ∙ sym here) (subst (Has r) (sym (root-beside n c r once y h)) (Has-above r (root_of r y) y once.4 h (root-above r y h)))))
+      | inl t ↦ absurd (once.1 (subst (Has r) (only y (inr (inr h)) t ∙ sym here)
+          (subst (Has r) (sym (root-beside n c r once y h)) (Has-above r (root_of r y) y once.4 h (root-above r y h)))))
       | inr f ↦ f
     ]
 filter-tree (tree n c r) top p once (inr (inl h)) e only = absurd (once.0 (subst (Has c) (sym e ∙ root-inside n c r once top h) h))
@@ -118,14 +122,19 @@ module _ (ts : Trees) (r : Range NodeName) (ends : HasOneTree ts r) where
       let at_start = known ts ends.once r.start.node (v.0 ∷ v.1) v.2 in
       let at_end = known ts ends.once r.end.node (w.0 ∷ w.1) w.2 in
       let at_y = known ts ends.once y (u.0 ∷ u.1) u.2 in
-      let one : v.0 ≡ w.0 = same_Some v.0 w.0 (ap first_of (sym at_start) ∙ (path-tree ts ends.once r.start.node r.end.node ends.start ends.end ends.one_root ∙ ap first_of at_end)) in
+      let one : v.0 ≡ w.0 = same_Some v.0 w.0
+      (ap first_of (sym at_start) ∙
+      (path-tree ts ends.once r.start.node r.end.node ends.start ends.end ends.one_root ∙ ap first_of at_end)) in
       elim (cases_Bool (eqb u.0 v.0)) [
         | inl same ↦
             place-same ts 0 (root_of ts y) (root_of ts r.start.node) ends.once u.4 v.4 (u.3 ∙ (ap (λ m. Some (m ∷ [])) (eqb-true u.0 v.0 same) ∙ sym v.3))
         | inr other ↦
             let off : u.0 ≡ v.0 → ⊥ = λ same. true≢false (sym (eq-eqb u.0 v.0 same) ∙ other) in
-            let first = ltb-true v.0 u.0 (sym (before-beside ts r.start.node y r.start.offset 0 [] v.0 u.0 v.1 u.1 at_start at_y (λ same. off (sym same))) ∙ parts.0) in
-            let second = ltb-true u.0 w.0 (sym (before-beside ts y r.end.node (length_of ts y) r.end.offset [] u.0 w.0 u.1 w.1 at_y at_end (λ same. off (same ∙ sym one))) ∙ parts.1) in
+            let first = ltb-true v.0 u.0
+            (sym (before-beside ts r.start.node y r.start.offset 0 [] v.0 u.0 v.1 u.1 at_start at_y (λ same. off (sym same))) ∙ parts.0) in
+            let second = ltb-true u.0 w.0
+            (sym (before-beside ts y r.end.node (length_of ts y) r.end.offset [] u.0 w.0 u.1 w.1 at_y at_end
+            (λ same. off (same ∙ sym one))) ∙ parts.1) in
             absurd (omega arith)
       ]
 
@@ -133,7 +142,10 @@ module _ (ts : Trees) (r : Range NodeName) (ends : HasOneTree ts r) where
   pub text-tree : range_text_of ts r ≡ text_among ts r (nodes_around ts r)
   text-tree =
       ap (λ xs. whole (flat_map (text_part ts r) xs))
-      (filter-tree ts (root_of ts r.start.node) (is_contained ts r) ends.once (Has-above ts (root_of ts r.start.node) r.start.node ends.once ends.start (root-above ts r.start.node ends.start)) (root-root ts r.start.node ends.once ends.start) contained-root)
+      (filter-tree ts (root_of ts r.start.node) (is_contained ts r) ends.once
+      (Has-above ts (root_of ts r.start.node) r.start.node ends.once ends.start (root-above ts r.start.node ends.start))
+      (root-root ts r.start.node ends.once ends.start) contained-root)
     where
       whole : List ℕ → List ℕ
-      whole xs = if name_eq r.start.node r.end.node && is_text (kind_of ts r.start.node) then text_part ts r r.start.node else text_part ts r r.start.node ++ xs ++ text_part ts r r.end.node
+      whole xs = if name_eq r.start.node r.end.node && is_text (kind_of ts r.start.node) then text_part ts r r.start.node else text_part ts r
+          r.start.node ++ xs ++ text_part ts r r.end.node

@@ -1,5 +1,6 @@
 -- Where the places of two nodes of a tree part: by which stands before the other in tree order.
-use Rattle.std.proofs.Common.{◌≡◌, ◌⊎◌, inl, inr, ℕ, zero, suc, ◌<◌, ◌≤◌, List, [], ◌∷◌, ◌++◌, length, Option, Some, None, refl, sym, ap, subst, ◌∙◌, arith, append_assoc, length-append}
+use Rattle.std.proofs.Common.{◌≡◌, ◌⊎◌, inl, inr, ℕ, zero, suc, ◌<◌, ◌≤◌, List, [], ◌∷◌, ◌++◌, length, Option, Some, None, refl, sym, ap, subst, ◌∙◌}
+use Rattle.std.proofs.Common.{arith, append_assoc, length-append}
 use Rattle.std.specs.Option.{option_map_or}
 use Rattle.std.proofs.lemmas.List.{append-nil}
 use Rattle.std.proofs.lemmas.List.Concat.{flat_map-cons}
@@ -43,13 +44,15 @@ joined-in ts (x ∷ xs) y i = elim (In-parts y (inclusive_descendants ts x) (joi
 
 module _ (ts : Trees) (once : Once ts) where
   -- a child's place
-  pub kid-place : (p s : NodeName) → Has ts p → (front back : List NodeName) → children_of ts p ≡ front ++ s ∷ back → place_of ts s ≡ place_of ts p ++ length front ∷ []
+  pub kid-place : (p s : NodeName) → Has ts p → (front back : List NodeName) → children_of ts p ≡ front ++ s ∷ back →
+      place_of ts s ≡ place_of ts p ++ length front ∷ []
   kid-place p s h front back e =
       let i : In s (children_of ts p) = subst (In s) (sym e) (In-right s front (s ∷ back) (inl refl)) in
       let up = parent-of_child ts p s once h i in
       let apart : In s front → ⊥ = λ j. Single-apart s front (s ∷ back) (subst Single e (children-single ts p once h)) j (inl refl) in
       let index : index_of ts s ≡ length front =
-      ap (λ o. length (items_before name_eq s (option_map_or (children_of ts) o (s ∷ [])))) up.0 ∙ (ap (λ xs. length (items_before name_eq s xs)) e ∙ ap (length {A = NodeName}) (before-split s front back apart)) in
+      ap (λ o. length (items_before name_eq s (option_map_or (children_of ts) o (s ∷ [])))) up.0 ∙
+      (ap (λ xs. length (items_before name_eq s xs)) e ∙ ap (length {A = NodeName}) (before-split s front back apart)) in
       path-child ts once s p up.1 up.0 ∙ ap (λ k. place_of ts p ++ k ∷ []) index
 
   -- where a node other than the top stands among its parent's children
@@ -84,7 +87,8 @@ module _ (ts : Trees) (once : Once ts) where
   deep top x w le = let long = ap (length {A = NodeName}) (above-present ts x (stands_in ts top x w)).1 in omega (arith, long, le)
 
   -- the place of a node in the tree of another one begins with that one's
-  place-in : (n : ℕ) (top x : NodeName) → IsWithin ts top x → length (inclusive_ancestors ts x) ≤ n → (rest : List ℕ) × (place_of ts x ≡ place_of ts top ++ rest)
+  place-in : (n : ℕ) (top x : NodeName) → IsWithin ts top x → length (inclusive_ancestors ts x) ≤ n → (rest : List ℕ) ×
+      (place_of ts x ≡ place_of ts top ++ rest)
   place-in zero top x w le = absurd (deep top x w le)
   place-in (suc n) top x w le = elim (same_or_not x top) [
     | inl same ↦ ([], ap (place_of ts) same ∙ sym (append-nil (place_of ts top)))
@@ -93,12 +97,14 @@ module _ (ts : Trees) (once : Once ts) where
         let r = place-in n top h.parent h.within (shallower n top x h le) in
         let at = stands_in ts top h.parent h.within in (
           r.0 ++ length h.front ∷ [],
-          kid-place h.parent x at h.front h.back h.kids ∙ (ap (λ path. path ++ length h.front ∷ []) r.1 ∙ append_assoc (place_of ts top) r.0 (length h.front ∷ [])),
+          kid-place h.parent x at h.front h.back h.kids ∙
+              (ap (λ path. path ++ length h.front ∷ []) r.1 ∙ append_assoc (place_of ts top) r.0 (length h.front ∷ [])),
         )
   ]
 
   -- a node of a child's tree stands under its parent
-  pub under-kid : (p s y : NodeName) → Has ts p → (front back : List NodeName) → children_of ts p ≡ front ++ s ∷ back → In y (inclusive_descendants ts s) → (rest : List ℕ) × (place_of ts y ≡ place_of ts p ++ length front ∷ rest)
+  pub under-kid : (p s y : NodeName) → Has ts p → (front back : List NodeName) → children_of ts p ≡ front ++ s ∷ back →
+      In y (inclusive_descendants ts s) → (rest : List ℕ) × (place_of ts y ≡ place_of ts p ++ length front ∷ rest)
   under-kid p s y h front back e i =
       let at = (parent-of_child ts p s once h (subst (In s) (sym e) (In-right s front (s ∷ back) (inl refl)))).1 in
       let r = place-in (length (inclusive_ancestors ts y)) s y (record { once = once; top_stands = at; stands = Has-names (subtree ts s) y i }) (omega arith) in
@@ -119,10 +125,20 @@ module _ (ts : Trees) (once : Once ts) where
               let first = items_before name_eq s.0 h.back in
               let front = h.front ++ x ∷ first in
               let kids : children_of ts h.parent ≡ front ++ s.0 ∷ items_after name_eq s.0 h.back =
-              h.kids ∙ (ap (λ xs. h.front ++ x ∷ xs) (split_at s.0 h.back s.1) ∙ sym (append_assoc h.front (x ∷ first) (s.0 ∷ items_after name_eq s.0 h.back))) in
+              h.kids ∙ (ap (λ xs. h.front ++ x ∷ xs) (split_at s.0 h.back s.1) ∙
+              sym (append_assoc h.front (x ∷ first) (s.0 ∷ items_after name_eq s.0 h.back))) in
               let r = under-kid h.parent s.0 y at front (items_after name_eq s.0 h.back) kids s.2 in
               let longer = length-append h.front (x ∷ first) in
-              record { common = place_of ts h.parent; first = length h.front; second = length front; first_rest = []; second_rest = r.0; first_place = mine; second_place = r.1; less = omega (arith, longer) }
+              record {
+                common = place_of ts h.parent;
+                first = length h.front;
+                second = length front;
+                first_rest = [];
+                second_rest = r.0;
+                first_place = mine;
+                second_place = r.1;
+                less = omega (arith, longer);
+              }
           | inr j ↦
               let k = beyond-parted n top h.parent y h.within (shallower n top x h le) j in
               record {
@@ -131,7 +147,8 @@ module _ (ts : Trees) (once : Once ts) where
                 second = k.second;
                 first_rest = k.first_rest ++ length h.front ∷ [];
                 second_rest = k.second_rest;
-                first_place = mine ∙ (ap (λ path. path ++ length h.front ∷ []) k.first_place ∙ append_assoc k.common (k.first ∷ k.first_rest) (length h.front ∷ []));
+                first_place = mine ∙ (ap (λ path. path ++ length h.front ∷ []) k.first_place ∙ append_assoc k.common (k.first ∷ k.first_rest)
+                    (length h.front ∷ []));
                 second_place = k.second_place;
                 less = k.less;
               }
@@ -139,7 +156,8 @@ module _ (ts : Trees) (once : Once ts) where
   ]
 
   -- before a node stands what is before it, or above it
-  ahead-parted : (n : ℕ) (top x y : NodeName) → IsWithin ts top x → length (inclusive_ancestors ts x) ≤ n → In y (ahead_of ts top x) → Parted ts y x ⊎ Under ts y x
+  ahead-parted : (n : ℕ) (top x y : NodeName) → IsWithin ts top x → length (inclusive_ancestors ts x) ≤ n → In y (ahead_of ts top x) →
+      Parted ts y x ⊎ Under ts y x
   ahead-parted zero top x y w le i = absurd (deep top x w le)
   ahead-parted (suc n) top x y w le i = elim (same_or_not x top) [
     | inl same ↦ absurd (subst (In y) (ap (ahead_of ts top) same ∙ (top_places ts top (subst (IsWithin ts top) same w)).0) i)
@@ -147,7 +165,8 @@ module _ (ts : Trees) (once : Once ts) where
         let h = has-place top x w other in
         let at = stands_in ts top h.parent h.within in
         let mine = kid-place h.parent x at h.front h.back h.kids in
-        elim (In-parts y (ahead_of ts top h.parent) (h.parent ∷ joined ts h.front) (subst (In y) (child_places ts top h.parent x h.front h.back h.within h.kids).1 i)) [
+        elim (In-parts y (ahead_of ts top h.parent) (h.parent ∷ joined ts h.front)
+        (subst (In y) (child_places ts top h.parent x h.front h.back h.within h.kids).1 i)) [
           | inl j ↦ elim (ahead-parted n top h.parent y h.within (shallower n top x h le) j) [
             | inl k ↦ inl record {
               common = k.common;
@@ -156,7 +175,8 @@ module _ (ts : Trees) (once : Once ts) where
               first_rest = k.first_rest;
               second_rest = k.second_rest ++ length h.front ∷ [];
               first_place = k.first_place;
-              second_place = mine ∙ (ap (λ path. path ++ length h.front ∷ []) k.second_place ∙ append_assoc k.common (k.second ∷ k.second_rest) (length h.front ∷ []));
+              second_place = mine ∙ (ap (λ path. path ++ length h.front ∷ []) k.second_place ∙ append_assoc k.common (k.second ∷ k.second_rest)
+                  (length h.front ∷ []));
               less = k.less;
             }
             | inr k ↦ inr record {
@@ -171,10 +191,20 @@ module _ (ts : Trees) (once : Once ts) where
                 let s = joined-in ts h.front y g in
                 let first = items_before name_eq s.0 h.front in
                 let later = items_after name_eq s.0 h.front in
-                let kids : children_of ts h.parent ≡ first ++ s.0 ∷ (later ++ x ∷ h.back) = h.kids ∙ (ap (λ xs. xs ++ x ∷ h.back) (split_at s.0 h.front s.1) ∙ append_assoc first (s.0 ∷ later) (x ∷ h.back)) in
+                let kids : children_of ts h.parent ≡ first ++ s.0 ∷ (later ++ x ∷ h.back) =
+                h.kids ∙ (ap (λ xs. xs ++ x ∷ h.back) (split_at s.0 h.front s.1) ∙ append_assoc first (s.0 ∷ later) (x ∷ h.back)) in
                 let r = under-kid h.parent s.0 y at first (later ++ x ∷ h.back) kids s.2 in
                 let longer = ap (length {A = NodeName}) (split_at s.0 h.front s.1) ∙ length-append first (s.0 ∷ later) in
-                inl record { common = place_of ts h.parent; first = length first; second = length h.front; first_rest = r.0; second_rest = []; first_place = r.1; second_place = mine; less = omega (arith, longer) }
+                inl record {
+                  common = place_of ts h.parent;
+                  first = length first;
+                  second = length h.front;
+                  first_rest = r.0;
+                  second_rest = [];
+                  first_place = r.1;
+                  second_place = mine;
+                  less = omega (arith, longer);
+                }
           ]
         ]
   ]

@@ -18,7 +18,8 @@ items-followed nothing b = refl
 items-followed (whole x rest) b = ap (λ xs. whole_item x ∷ xs) (items-followed rest b)
 items-followed (cut x from to rest) b = ap (λ xs. cut_item x from to ∷ xs) (items-followed rest b)
 items-followed (clone x inside rest) b =
-    ap (λ xs. clone_item x ∷ (items_of inside ++ end_item ∷ xs)) (items-followed rest b) ∙ ap (λ xs. clone_item x ∷ xs) (sym (append_assoc (items_of inside) (end_item ∷ items_of rest) (items_of b)))
+    ap (λ xs. clone_item x ∷ (items_of inside ++ end_item ∷ xs)) (items-followed rest b) ∙
+    ap (λ xs. clone_item x ∷ xs) (sym (append_assoc (items_of inside) (end_item ∷ items_of rest) (items_of b)))
 
 -- those of nodes as they are
 pub items-whole : (xs : List NodeName) → items_of (all_whole xs) ≡ map whole_item xs
@@ -58,8 +59,10 @@ top-is n m c d e = cc
 node-there : (ts : Trees) (x : NodeName) (n : Node) (c : Trees) → Once ts → Has ts x → subtree ts x ≡ tree n c none → InNodes n (nodes ts)
 node-there none x n c once h is = absurd h
 node-there (tree m d s) x n c once (inl e) is = inl (top-is n m c d (sym is ∙ subtree-here m d s x e))
-node-there (tree m d s) x n c once (inr (inl h)) is = inr (node-left n (nodes d) (nodes s) (node-there d x n c once.3 h (sym (subtree-below m d s x once h) ∙ is)))
-node-there (tree m d s) x n c once (inr (inr h)) is = inr (node-right n (nodes d) (nodes s) (node-there s x n c once.4 h (sym (subtree-beside m d s x once h) ∙ is)))
+node-there (tree m d s) x n c once (inr (inl h)) is =
+    inr (node-left n (nodes d) (nodes s) (node-there d x n c once.3 h (sym (subtree-below m d s x once h) ∙ is)))
+node-there (tree m d s) x n c once (inr (inr h)) is =
+    inr (node-right n (nodes d) (nodes s) (node-there s x n c once.4 h (sym (subtree-beside m d s x once h) ∙ is)))
 
 module _ (ts : Trees) (p : NodeName) (once : Once ts) (h : Has ts p) where
   -- what is below a node stands once
@@ -76,7 +79,8 @@ module _ (ts : Trees) (p : NodeName) (once : Once ts) (h : Has ts p) where
       let all : Once (tree w.0 w.1 none) = subst Once w.2 (Once-subtree ts p once h) in
       let there : Has w.1 y = root-there w.1 y (subst (λ (us : Trees). In y (names_of (roots (trees_below us)))) w.2 i) in
       ap (λ (us : Trees). subtree (trees_below us) y) w.2
-      ∙ (sym (subtree-below w.0 w.1 none y all there) ∙ (ap (λ (us : Trees). subtree us y) (sym w.2) ∙ subtree-within ts p y once h (subst (λ (us : Trees). Has us y) (sym w.2) (inr (inl there)))))
+      ∙ (sym (subtree-below w.0 w.1 none y all there) ∙
+      (ap (λ (us : Trees). subtree us y) (sym w.2) ∙ subtree-within ts p y once h (subst (λ (us : Trees). Has us y) (sym w.2) (inr (inl there)))))
 
 module _ (ts : Trees) (x : NodeName) (taken : NodeName → Bool) (from to : ℕ) where
   -- the items of some trees
@@ -89,7 +93,8 @@ module _ (ts : Trees) (x : NodeName) (taken : NodeName → Bool) (from to : ℕ)
       if above then (if has_units then cut_item y from to ∷ [] else clone_item y ∷ (inside ++ end_item ∷ [])) else wholes_if passes (y ∷ [])
 
   -- those of a first tree and of the trees behind it
-  tree-items : (n : Node) (c rest : Trees) → along (tree n c rest) ≡ items_with (is_inclusive_ancestor ts n.name x) (taken n.name) (has_data n.kind) n.name (along c) ++ along rest
+  tree-items : (n : Node) (c rest : Trees) →
+      along (tree n c rest) ≡ items_with (is_inclusive_ancestor ts n.name x) (taken n.name) (has_data n.kind) n.name (along c) ++ along rest
   tree-items n c rest = by (is_inclusive_ancestor ts n.name x) (taken n.name) (has_data n.kind)
     where
       y : NodeName
@@ -102,7 +107,8 @@ module _ (ts : Trees) (x : NodeName) (taken : NodeName → Bool) (from to : ℕ)
       others = pieces_along ts x taken from to rest
 
       by : (above passes has_units : Bool)
-          → items_of (if above then (if has_units then cut y from to others else clone y inside others) else (if passes then whole y others else others)) ≡ items_with above passes has_units y (items_of inside) ++ items_of others
+          → items_of (if above then (if has_units then cut y from to others else clone y inside others) else
+          (if passes then whole y others else others)) ≡ items_with above passes has_units y (items_of inside) ++ items_of others
       by true passes true = refl
       by true passes false = ap (λ xs. clone_item y ∷ xs) (sym (append_assoc (items_of inside) (end_item ∷ []) (items_of others)))
       by false true has_units = refl
@@ -123,7 +129,8 @@ module _ (ts : Trees) (x : NodeName) (taken : NodeName → Bool) (from to : ℕ)
       let others : flat_map f (names_of (roots rest)) ≡ flat_map g (names_of (roots rest)) =
       flat-same f g (names_of (roots rest)) (λ y i. ap along (subtree-beside n c rest y once (root-there rest y i))) in
       tree-items n c rest
-      ∙ (ap (λ xs. xs ++ along rest) (sym first) ∙ (ap (λ xs. f n.name ++ xs) (roots-items rest once.4 ∙ sym others) ∙ sym (flat_map-cons f n.name (names_of (roots rest)))))
+      ∙ (ap (λ xs. xs ++ along rest) (sym first) ∙
+      (ap (λ xs. f n.name ++ xs) (roots-items rest once.4 ∙ sym others) ∙ sym (flat_map-cons f n.name (names_of (roots rest)))))
 
   module _ (once : Once ts) (y : NodeName) (h : Has ts y) where
     -- those of all that is below a node, child by child
@@ -137,7 +144,8 @@ module _ (ts : Trees) (x : NodeName) (taken : NodeName → Bool) (from to : ℕ)
     items-at =
         let w = subtree-present ts y h in
         let kind : has_data w.0.kind ≡ has_data (kind_of ts y) =
-        ap (λ (m : Node). has_data m.kind) (sym (node_in-self ts once w.0 (node-there ts y w.0 w.1 once h w.2))) ∙ ap (λ (z : NodeName). has_data (kind_of ts z)) w.3 in
+        ap (λ (m : Node). has_data m.kind) (sym (node_in-self ts once w.0 (node-there ts y w.0 w.1 once h w.2))) ∙
+        ap (λ (z : NodeName). has_data (kind_of ts z)) w.3 in
         let all = λ (z : NodeName) (b : Bool) (xs : List Item). items_with (is_inclusive_ancestor ts z x) (taken z) b z xs in
         ap along w.2
         ∙ (tree-items w.0 w.1 none
@@ -151,5 +159,7 @@ module _ (ts : Trees) (x : NodeName) (taken : NodeName → Bool) (from to : ℕ)
     items-beside e = items-at ∙ ap (λ b. items_with b (taken y) (has_data (kind_of ts y)) y (flat_map node_items (children_of ts y))) e
 
     -- of a node of the path a clone is made, with what is taken of its children, or of a part of its data
-    pub items-on : is_inclusive_ancestor ts y x ≡ true → node_items y ≡ (if has_data (kind_of ts y) then cut_item y from to ∷ [] else clone_item y ∷ (flat_map node_items (children_of ts y) ++ end_item ∷ []))
+    pub items-on : is_inclusive_ancestor ts y x ≡ true →
+        node_items y ≡ (if has_data (kind_of ts y) then cut_item y from to ∷ [] else clone_item
+        y ∷ (flat_map node_items (children_of ts y) ++ end_item ∷ []))
     items-on e = items-at ∙ ap (λ b. items_with b (taken y) (has_data (kind_of ts y)) y (flat_map node_items (children_of ts y))) e

@@ -23,29 +23,35 @@ use Rattle.dom_range_ops.proofs.PieceRuns.{from-kids, up-to-first}
 use Rattle.dom_range_ops.proofs.PieceSides.{last-member, tail-same}
 
 -- the first that passes a test
-find-there : (p : NodeName → Bool) (xs : List NodeName) (x : NodeName) (rest : List NodeName) → ((y : NodeName) → In y xs → p y ≡ false) → p x ≡ true → find p (xs ++ x ∷ rest) ≡ Some x
+find-there : (p : NodeName → Bool) (xs : List NodeName) (x : NodeName) (rest : List NodeName) → ((y : NodeName) → In y xs → p y ≡ false) →
+    p x ≡ true → find p (xs ++ x ∷ rest) ≡ Some x
 find-there p [] x rest off e = rw e refl
 find-there p (y ∷ xs) x rest off e = rw (off y (inl refl)) (find-there p xs x rest (λ z i. off z (inr i)) e)
 
 -- the last node of a path is above all of it
-last-above : (ts : Trees) (once : Once ts) (rest : List NodeName) (x : NodeName) (path : List NodeName) → Has ts x → inclusive_ancestors ts x ≡ (x ∷ path) ++ rest → (y : NodeName) → last_of (x ∷ path) ≡ Some y → (a : NodeName) → In a (x ∷ path)
+last-above : (ts : Trees) (once : Once ts) (rest : List NodeName) (x : NodeName) (path : List NodeName) → Has ts x →
+    inclusive_ancestors ts x ≡ (x ∷ path) ++ rest → (y : NodeName) → last_of (x ∷ path) ≡ Some y → (a : NodeName) → In a (x ∷ path)
     → In y (inclusive_ancestors ts a)
-last-above ts once rest x path h e y last a (inl same) = subst (λ z. In y (inclusive_ancestors ts z)) (sym same) (subst (In y) (sym e) (In-left y (x ∷ path) rest (last-member x y path last)))
+last-above ts once rest x path h e y last a (inl same) =
+    subst (λ z. In y (inclusive_ancestors ts z)) (sym same) (subst (In y) (sym e) (In-left y (x ∷ path) rest (last-member x y path last)))
 last-above ts once rest x [] h e y last a (inr i) = absurd i
 last-above ts once rest x (p ∷ path) h e y last a (inr i) =
     let up = above-parent ts x p once h (ap (λ xs. first_of (drop 1 xs)) e) in
     last-above ts once rest p path up.1 (tail-same x (inclusive_ancestors ts p) ((p ∷ path) ++ rest) (sym up.0 ∙ e)) y last a i
 
-module _ (ts : Trees) (r : Range NodeName) (is : IsRange ts r) (c : NodeName) (rest start_path end_path : List NodeName) (parts : PartAt ts r c rest start_path end_path) where
+module _ (ts : Trees) (r : Range NodeName) (is : IsRange ts r) (c : NodeName) (rest start_path end_path : List NodeName)
+    (parts : PartAt ts r c rest start_path end_path) where
   -- ---- the lowest common inclusive ancestor
 
   -- the last node of the start's path is not above the end
   start-apart : (y : NodeName) → In y (children_of ts c) → last_of start_path ≡ Some y → is_inclusive_ancestor ts y r.end.node ≡ false
-  start-apart y i last = kid-off ts is.once c rest parts.there r.end end_path (end_course ts r is c rest start_path end_path parts) is.end y i (parts.apart y last)
+  start-apart y i last = kid-off ts is.once c rest parts.there r.end end_path (end_course ts r is c rest start_path end_path parts) is.end y i
+      (parts.apart y last)
 
   -- nor is that of the end's above the start
   end-apart : (y : NodeName) → In y (children_of ts c) → last_of end_path ≡ Some y → is_inclusive_ancestor ts y r.start.node ≡ false
-  end-apart y i last = kid-off ts is.once c rest parts.there r.start start_path (start_course ts r is c rest start_path end_path parts) is.start y i (λ same. parts.apart y same last)
+  end-apart y i last = kid-off ts is.once c rest parts.there r.start start_path (start_course ts r is c rest start_path end_path parts) is.start y
+      i (λ same. parts.apart y same last)
 
   -- no node of the start's path is above the end
   path-off : Course ts is.once c rest r.start start_path → (a : NodeName) → In a start_path → is_inclusive_ancestor ts a r.end.node ≡ false
@@ -53,7 +59,8 @@ module _ (ts : Trees) (r : Range NodeName) (is : IsRange ts r) (c : NodeName) (r
   path-off (inside y more whole last among below) a i =
       is_in-not a (inclusive_ancestors ts r.end.node)
       (λ j.
-      let above = last-above ts is.once (c ∷ rest) r.start.node more is.start (parts.start ∙ ap (λ xs. xs ++ c ∷ rest) whole) y (ap last_of (sym whole) ∙ last) a (subst (In a) whole i) in
+      let above = last-above ts is.once (c ∷ rest) r.start.node more is.start (parts.start ∙ ap (λ xs. xs ++ c ∷ rest) whole) y
+      (ap last_of (sym whole) ∙ last) a (subst (In a) whole i) in
       In-not y (inclusive_ancestors ts r.end.node) (start-apart y among last) (above-along ts y a r.end.node is.once is.end above j))
 
   common-is : common_ancestor ts r ≡ c
@@ -66,7 +73,9 @@ module _ (ts : Trees) (r : Range NodeName) (is : IsRange ts r) (c : NodeName) (r
   -- ---- the run between
 
   -- it is what is contained
-  pub run-is : is_before ts r.end r.start ≡ false → up_to (first_from ts r.end end_path) (from_sibling ts (first_behind ts r.start start_path)) ≡ filter (is_contained ts r) (children_of ts (common_ancestor ts r))
+  pub run-is : is_before ts r.end r.start ≡ false →
+      up_to (first_from ts r.end end_path) (from_sibling ts (first_behind ts r.start start_path)) ≡ filter (is_contained ts r)
+      (children_of ts (common_ancestor ts r))
   run-is ordered =
       let o = follows ts r is c rest start_path end_path parts ordered in
       let s = at_start ts r is c rest start_path end_path parts in
@@ -74,15 +83,18 @@ module _ (ts : Trees) (r : Range NodeName) (is : IsRange ts r) (c : NodeName) (r
       let whole : children_of ts c ≡ (s.front ++ s.middle) ++ s.back = s.kids ∙ sym (append_assoc s.front s.middle s.back) in
       let single = Single-right (s.front ++ s.middle) s.back (subst Single whole (children-single ts c is.once parts.there)) in
       ap (up_to (first_from ts r.end end_path))
-      (from-kids ts is.once c parts.there (s.front ++ s.middle) s.back whole (first_behind ts r.start start_path) (begins ts is.once c rest parts.there r.start start_path (start_course ts r is c rest start_path end_path parts)) ∙ o.back)
-      ∙ (up-to-first o.between (e.middle ++ e.back) (subst Single o.back single) (first_from ts r.end end_path) (stops ts is.once c rest parts.there r.end end_path (end_course ts r is c rest start_path end_path parts))
+      (from-kids ts is.once c parts.there (s.front ++ s.middle) s.back whole (first_behind ts r.start start_path)
+      (begins ts is.once c rest parts.there r.start start_path (start_course ts r is c rest start_path end_path parts)) ∙ o.back)
+      ∙ (up-to-first o.between (e.middle ++ e.back) (subst Single o.back single) (first_from ts r.end end_path)
+      (stops ts is.once c rest parts.there r.end end_path (end_course ts r is c rest start_path end_path parts))
       ∙ (sym (between-contained ts r is c rest start_path end_path parts o) ∙ ap (λ x. filter (is_contained ts r) (children_of ts x)) (sym common-is)))
 
   -- ---- the whole
 
   -- the start's side, the contained children, and the end's side
   pub items-apart : items_of (pieces_apart ts r)
-      ≡ side_items ts r.start true start_path ++ (map whole_item (filter (is_contained ts r) (children_of ts (common_ancestor ts r))) ++ side_items ts r.end false end_path)
+      ≡ side_items ts r.start true start_path ++
+      (map whole_item (filter (is_contained ts r) (children_of ts (common_ancestor ts r))) ++ side_items ts r.end false end_path)
   items-apart =
       let below = trees_below (subtree ts (common_ancestor ts r)) in
       let contained = filter (is_contained ts r) (children_of ts (common_ancestor ts r)) in
@@ -98,7 +110,8 @@ module _ (ts : Trees) (r : Range NodeName) (is : IsRange ts r) (c : NodeName) (r
       items-followed first (all_whole contained followed_by later)
       ∙ (ap (λ xs. xs ++ items_of (all_whole contained followed_by later)) first_is
       ∙ ap (λ xs. side_items ts r.start true start_path ++ xs)
-      (items-followed (all_whole contained) later ∙ (ap (λ xs. xs ++ items_of later) (items-whole contained) ∙ ap (λ xs. map whole_item contained ++ xs) later_is)))
+      (items-followed (all_whole contained) later ∙
+      (ap (λ xs. xs ++ items_of later) (items-whole contained) ∙ ap (λ xs. map whole_item contained ++ xs) later_is)))
 
 -- ---- by keys
 
@@ -112,9 +125,11 @@ module _ (f : NamedTrees) (once : StandOnce f) (only : StandAlone f) (points : P
     leaves = λ x i e. spanned.leaves x (is_in-from x (nodes_around f.trees (range_at_points f.names points)) i) e;
   }
 
-  pub part-at : (start_path end_path : List ℕ) (w : ArePaths f points start_path end_path) → PartAt f.trees (range_at_points f.names points) w.top w.above (map (name_at f.names) start_path) (map (name_at f.names) end_path)
+  pub part-at : (start_path end_path : List ℕ) (w : ArePaths f points start_path end_path) →
+      PartAt f.trees (range_at_points f.names points) w.top w.above (map (name_at f.names) start_path) (map (name_at f.names) end_path)
   part-at start_path end_path w = record {
-    there = Has-above f.trees w.top (name_at f.names points.start.0) is-range.once is-range.start (subst (In w.top) (sym w.start) (In-right w.top (map (name_at f.names) start_path) (w.top ∷ w.above) (inl refl)));
+    there = Has-above f.trees w.top (name_at f.names points.start.0) is-range.once is-range.start
+        (subst (In w.top) (sym w.start) (In-right w.top (map (name_at f.names) start_path) (w.top ∷ w.above) (inl refl)));
     start = w.start;
     end = w.end;
     apart = w.apart;

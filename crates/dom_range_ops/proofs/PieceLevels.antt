@@ -1,11 +1,13 @@
 -- How a boundary point stands to the trees of the children of a node above it.
-use Rattle.std.proofs.Common.{◌≡◌, ◌⊎◌, inl, inr, ℕ, ◌<◌, ◌≤◌, suc, true, false, List, [], ◌∷◌, ◌++◌, length, take, drop, refl, sym, ap, subst, ◌∙◌, arith, append_assoc, length-append, length-take, true≢false}
+use Rattle.std.proofs.Common.{◌≡◌, ◌⊎◌, inl, inr, ℕ, ◌<◌, ◌≤◌, suc, true, false, List, [], ◌∷◌, ◌++◌, length, take, drop, refl, sym, ap, subst, ◌∙◌}
+use Rattle.std.proofs.Common.{arith, append_assoc, length-append, length-take, true≢false}
 use Rattle.std.proofs.lemmas.Bool.{cases_Bool, cond-false, lt-ltb, le-ltb, le-leb, lt-leb}
 use Rattle.dom_base.specs.declared.NodeName.{NodeName}
 use Rattle.dom_model.specs.Names.{name_eq, items_before, items_after}
 use Rattle.dom_model.specs.Place.{Boundary, place_of, is_before}
 use Rattle.dom_model.specs.Ranges.{at}
-use Rattle.dom_model.specs.Tree.{Trees, node_in, kind_of, has_data, children_of, inclusive_ancestors, inclusive_descendants, is_inclusive_ancestor, length_of, subtree}
+use Rattle.dom_model.specs.Tree.{Trees, node_in, kind_of, has_data, children_of, inclusive_ancestors, inclusive_descendants, is_inclusive_ancestor}
+use Rattle.dom_model.specs.Tree.{length_of, subtree}
 use Rattle.dom_ranges.proofs.Before.{before-same, before-up, before-down, before-beside}
 use Rattle.dom_traversal.proofs.Children.{In-names}
 use Rattle.dom_traversal.proofs.Lists.{In, is_in-not, split_at}
@@ -64,7 +66,8 @@ module _ (ts : Trees) (once : Once ts) where
   ]
 
   -- nor does its last point come before it
-  pub above-end : (b : Boundary NodeName) → b.offset ≤ length_of ts b.node → (z : NodeName) → (has_data (kind_of ts z) ≡ true → children_of ts z ≡ []) → Has ts z → In b.node (inclusive_descendants ts z)
+  pub above-end : (b : Boundary NodeName) → b.offset ≤ length_of ts b.node → (z : NodeName) →
+      (has_data (kind_of ts z) ≡ true → children_of ts z ≡ []) → Has ts z → In b.node (inclusive_descendants ts z)
       → is_before ts (at z (length_of ts z)) b ≡ false
   above-end b fits z leaf h i = elim (descend z b.node h i) [
     | inl same ↦
@@ -76,22 +79,26 @@ module _ (ts : Trees) (once : Once ts) where
         ∙ elim (cases_Bool (has_data (kind_of ts z))) [
           | inl e ↦ absurd (let none = ap (length {A = NodeName}) (leaf e) in omega (arith, low, none))
           | inr e ↦
-              let size : length_of ts z ≡ length (children_of ts z) = cond-false (has_data (kind_of ts z)) (length (node_in ts z).text) (length (children_of ts z)) e in
+              let size : length_of ts z ≡ length (children_of ts z) =
+              cond-false (has_data (kind_of ts z)) (length (node_in ts z).text) (length (children_of ts z)) e in
               lt-leb (length_of ts z) u.child (omega (arith, low, size))
         ]
   ]
 
   -- a node behind a point is not above the point's node
   pub behind-off : (b : Boundary NodeName) (z : NodeName) → Has ts z → Has ts b.node → IsBehind b z → is_inclusive_ancestor ts z b.node ≡ false
-  behind-off b z h g w = is_in-not z (inclusive_ancestors ts b.node) (λ i. true≢false (sym (w.after 0) ∙ above-start b z h (In-names (subtree ts z) b.node (below-from_above ts z b.node once g i))))
+  behind-off b z h g w = is_in-not z (inclusive_ancestors ts b.node)
+      (λ i. true≢false (sym (w.after 0) ∙ above-start b z h (In-names (subtree ts z) b.node (below-from_above ts z b.node once g i))))
 
   -- nor is one in front of it
   pub ahead-off : (b : Boundary NodeName) (z : NodeName) → Has ts z → Has ts b.node → IsAhead b z → is_inclusive_ancestor ts z b.node ≡ false
-  ahead-off b z h g w = is_in-not z (inclusive_ancestors ts b.node) (λ i. by (descend z b.node h (In-names (subtree ts z) b.node (below-from_above ts z b.node once g i))))
+  ahead-off b z h g w = is_in-not z (inclusive_ancestors ts b.node)
+      (λ i. by (descend z b.node h (In-names (subtree ts z) b.node (below-from_above ts z b.node once g i))))
     where
       by : (b.node ≡ z) ⊎ IsBelow z b.node → ⊥
       by (inl same) = true≢false (sym (w.before b.offset) ∙ (before-same ts z b.node b.offset b.offset (sym same) ∙ le-ltb b.offset b.offset (omega arith)))
-      by (inr u) = true≢false (sym (w.before (suc u.child)) ∙ (before-down ts z b.node (suc u.child) b.offset u.child u.rest u.place ∙ lt-leb (suc u.child) u.child (omega arith)))
+      by (inr u) = true≢false (sym (w.before (suc u.child)) ∙
+          (before-down ts z b.node (suc u.child) b.offset u.child u.rest u.place ∙ lt-leb (suc u.child) u.child (omega arith)))
 
   -- ---- the children of a node above a point
 
@@ -118,11 +125,14 @@ module _ (ts : Trees) (once : Once ts) where
 
   module _ (p : NodeName) (h : Has ts p) (b : Boundary NodeName) (l : Level p b) where
     -- where a child in front stands
-    front-kids : (k : NodeName) → In k l.front → children_of ts p ≡ items_before name_eq k l.front ++ k ∷ (items_after name_eq k l.front ++ (l.middle ++ l.back))
-    front-kids k i = l.kids ∙ (ap (λ xs. xs ++ (l.middle ++ l.back)) (split_at k l.front i) ∙ append_assoc (items_before name_eq k l.front) (k ∷ items_after name_eq k l.front) (l.middle ++ l.back))
+    front-kids : (k : NodeName) → In k l.front →
+        children_of ts p ≡ items_before name_eq k l.front ++ k ∷ (items_after name_eq k l.front ++ (l.middle ++ l.back))
+    front-kids k i = l.kids ∙ (ap (λ xs. xs ++ (l.middle ++ l.back)) (split_at k l.front i) ∙ append_assoc (items_before name_eq k l.front)
+        (k ∷ items_after name_eq k l.front) (l.middle ++ l.back))
 
     front-index : (k : NodeName) → In k l.front → length (items_before name_eq k l.front) < length l.front
-    front-index k i = let longer = ap (length {A = NodeName}) (split_at k l.front i) ∙ length-append (items_before name_eq k l.front) (k ∷ items_after name_eq k l.front) in omega (arith, longer)
+    front-index k i = let longer = ap (length {A = NodeName}) (split_at k l.front i) ∙ length-append (items_before name_eq k l.front)
+        (k ∷ items_after name_eq k l.front) in omega (arith, longer)
 
     -- and one behind
     abbrev until : NodeName → List NodeName
@@ -154,8 +164,10 @@ module _ (ts : Trees) (once : Once ts) where
               let kids = l.kids ∙ ap (λ xs. l.front ++ (xs ++ l.back)) s.alone in
               let q = under-kid ts once p s.child b.node h l.front l.back kids s.inside in
               record {
-                before = λ n. before-beside ts z b.node n b.offset (place_of ts p) index (length l.front) r.0 q.0 r.1 q.1 (λ e. omega (arith, low, e)) ∙ lt-ltb index (length l.front) low;
-                apart = λ n. before-beside ts b.node z b.offset n (place_of ts p) (length l.front) index q.0 r.0 q.1 r.1 (λ e. omega (arith, low, e)) ∙ le-ltb (length l.front) index (omega (arith, low));
+                before = λ n. before-beside ts z b.node n b.offset (place_of ts p) index (length l.front) r.0 q.0 r.1 q.1
+                    (λ e. omega (arith, low, e)) ∙ lt-ltb index (length l.front) low;
+                apart = λ n. before-beside ts b.node z b.offset n (place_of ts p) (length l.front) index q.0 r.0 q.1 r.1
+                    (λ e. omega (arith, low, e)) ∙ le-ltb (length l.front) index (omega (arith, low));
               }
         ]
 

@@ -1,5 +1,6 @@
 -- What lies between the ends of a range among the children of their lowest common ancestor.
-use Rattle.std.proofs.Common.{◌≡◌, ◌⊎◌, inl, inr, ◌≤◌, Bool, true, false, ◌&&◌, List, ◌∷◌, [], ◌++◌, Some, refl, sym, ap, subst, ◌∙◌, append_assoc, arith, true≢false}
+use Rattle.std.proofs.Common.{◌≡◌, ◌⊎◌, inl, inr, ◌≤◌, Bool, true, false, ◌&&◌, List, ◌∷◌, [], ◌++◌, Some, refl, sym, ap, subst, ◌∙◌, append_assoc}
+use Rattle.std.proofs.Common.{arith, true≢false}
 use Rattle.std.specs.Prelude.{filter}
 use Rattle.std.proofs.lemmas.Bool.{and_parts, false_from_ne_true, le-ltb}
 use Rattle.std.proofs.lemmas.List.{append-nil}
@@ -37,7 +38,8 @@ module _ (ts : Trees) (r : Range NodeName) where
 
   -- where the end comes before the start nothing is
   pub none-contained : is_before ts r.end r.start ≡ true → (z : NodeName) → is_contained ts r z ≡ false
-  none-contained reversed z = false_from_ne_true (is_contained ts r z) (λ t. by (and_parts (is_before ts r.start (at z 0)) (is_before ts (at z (length_of ts z)) r.end) t))
+  none-contained reversed z = false_from_ne_true (is_contained ts r z)
+      (λ t. by (and_parts (is_before ts r.start (at z 0)) (is_before ts (at z (length_of ts z)) r.end) t))
     where
       by : (is_before ts r.start (at z 0) ≡ true) × (is_before ts (at z (length_of ts z)) r.end ≡ true) → ⊥
       by both =
@@ -46,7 +48,8 @@ module _ (ts : Trees) (r : Range NodeName) where
           let start = boundary_place ts r.start in
           let end = boundary_place ts r.end in
           let ahead = before-less last end start both.1 (before-turned end start reversed) in
-          true≢false (sym (before-less last start first ahead (before-turned start first both.0)) ∙ (before-same ts z z (length_of ts z) 0 refl ∙ le-ltb (length_of ts z) 0 (omega arith)))
+          true≢false (sym (before-less last start first ahead (before-turned start first both.0)) ∙
+          (before-same ts z z (length_of ts z) 0 refl ∙ le-ltb (length_of ts z) 0 (omega arith)))
 
 -- What is asked of a range: its ends are nodes of the trees, the second within its node, and no Text and no Comment of their
 -- tree has children.
@@ -64,7 +67,8 @@ pub record PartAt (ts : Trees) (r : Range NodeName) (c : NodeName) (rest start_p
   pub end : inclusive_ancestors ts r.end.node ≡ end_path ++ c ∷ rest
   pub apart : (y : NodeName) → last_of start_path ≡ Some y → last_of end_path ≡ Some y → ⊥
 
-module _ (ts : Trees) (r : Range NodeName) (is : IsRange ts r) (c : NodeName) (rest start_path end_path : List NodeName) (parts : PartAt ts r c rest start_path end_path) where
+module _ (ts : Trees) (r : Range NodeName) (is : IsRange ts r) (c : NodeName) (rest start_path end_path : List NodeName)
+    (parts : PartAt ts r c rest start_path end_path) where
   -- ---- how each end parts the children
 
   abbrev pub start_course : Course ts is.once c rest r.start start_path
@@ -86,7 +90,8 @@ module _ (ts : Trees) (r : Range NodeName) (is : IsRange ts r) (c : NodeName) (r
   end-last z i = middle-last ts is.once c rest r.end end_path end_course z i
 
   -- what is in the tree of a child is of the tree of the range
-  pub below-leaves : (y : NodeName) → In y (children_of ts c) → (x : NodeName) → In x (inclusive_descendants ts y) → has_data (kind_of ts x) ≡ true → children_of ts x ≡ []
+  pub below-leaves : (y : NodeName) → In y (children_of ts c) → (x : NodeName) → In x (inclusive_descendants ts y) →
+      has_data (kind_of ts x) ≡ true → children_of ts x ≡ []
   below-leaves y among x i =
       let top = root_of ts r.start.node in
       let up = parent-of_child ts c y is.once parts.there among in
@@ -122,7 +127,8 @@ module _ (ts : Trees) (r : Range NodeName) (is : IsRange ts r) (c : NodeName) (r
       overlap : (z : NodeName) → In z s.front ⊎ In z s.middle → In z e.middle ⊎ In z e.back → ⊥
       overlap z (inl i) (inl j) = turned ((in-front ts is.once c parts.there r.start s z r.end.node i (end-last z j).1).before r.end.offset)
       overlap z (inl i) (inr j) =
-          turned (before-less (boundary_place ts r.end) (boundary_place ts (at z 0)) (boundary_place ts r.start) ((is-behind ts is.once c rest parts.there r.end e z j).after 0) ((is-ahead ts is.once c rest parts.there r.start s z i).apart 0))
+          turned (before-less (boundary_place ts r.end) (boundary_place ts (at z 0)) (boundary_place ts r.start)
+          ((is-behind ts is.once c rest parts.there r.end e z j).after 0) ((is-ahead ts is.once c rest parts.there r.start s z i).apart 0))
       overlap z (inr i) (inl j) = parts.apart z (start-last z i).0 (end-last z j).0
       overlap z (inr i) (inr j) = turned ((in-back ts is.once c parts.there r.end e z r.start.node j (start-last z i).1).after r.start.offset)
 
@@ -154,7 +160,8 @@ module _ (ts : Trees) (r : Range NodeName) (is : IsRange ts r) (c : NodeName) (r
 
       first : (z : NodeName) → In z s.front ⊎ In z s.middle → p z ≡ false
       first z (inl i) = not-start ts r z ((is-ahead ts is.once c rest parts.there r.start s z i).apart 0)
-      first z (inr i) = not-start ts r z (above-start ts is.once r.start z (stands z (middle-kid ts is.once c rest parts.there r.start s z i)) (start-last z i).1)
+      first z (inr i) = not-start ts r z
+          (above-start ts is.once r.start z (stands z (middle-kid ts is.once c rest parts.there r.start s z i)) (start-last z i).1)
 
       later : (z : NodeName) → In z e.middle ⊎ In z e.back → p z ≡ false
       later z (inl i) =
@@ -165,5 +172,6 @@ module _ (ts : Trees) (r : Range NodeName) (is : IsRange ts r) (c : NodeName) (r
       among : (z : NodeName) → In z o.between → p z ≡ true
       among z i =
           let after = (is-behind ts is.once c rest parts.there r.start s z (subst (In z) (sym o.back) (In-left z o.between (e.middle ++ e.back) i))).after 0 in
-          let before = (is-ahead ts is.once c rest parts.there r.end e z (subst (In z) (sym o.front) (In-right z (s.front ++ s.middle) o.between i))).before (length_of ts z) in
+          let before = (is-ahead ts is.once c rest parts.there r.end e z
+          (subst (In z) (sym o.front) (In-right z (s.front ++ s.middle) o.between i))).before (length_of ts z) in
           ap (λ b. b && is_before ts (at z (length_of ts z)) r.end) after ∙ before

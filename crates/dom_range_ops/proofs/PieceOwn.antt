@@ -6,11 +6,13 @@ use Rattle.dom_base.specs.declared.NodeName.{NodeName}
 use Rattle.dom_base.specs.declared.Owner.{Owner}
 use Rattle.dom_isolation.specs.Bounds.{IsWithin}
 use Rattle.dom_isolation.specs.Tables.{HasEnds}
-use Rattle.dom_model.specs.Extract.{Pieces, nothing, whole, cut, clone, pieces_along, pieces_behind, pieces_in_front, tree_holding, all_whole, ◌followed_by◌, common_ancestor, is_in_one_data, pieces_apart, pieces_of}
+use Rattle.dom_model.specs.Extract.{Pieces, nothing, whole, cut, clone, pieces_along, pieces_behind, pieces_in_front, tree_holding, all_whole}
+use Rattle.dom_model.specs.Extract.{◌followed_by◌, common_ancestor, is_in_one_data, pieces_apart, pieces_of}
 use Rattle.dom_model.specs.Names.{name_eq, is_in}
 use Rattle.dom_model.specs.Place.{is_before}
 use Rattle.dom_model.specs.Ranges.{Range, at, is_collapsed, is_contained}
-use Rattle.dom_model.specs.Tree.{Trees, none, tree, Node, names_of, roots, has_data, inclusive_ancestors, is_inclusive_ancestor, inclusive_descendants, length_of, root_of, subtree, trees_below}
+use Rattle.dom_model.specs.Tree.{Trees, none, tree, Node, names_of, roots, has_data, inclusive_ancestors, is_inclusive_ancestor}
+use Rattle.dom_model.specs.Tree.{inclusive_descendants, length_of, root_of, subtree, trees_below}
 use Rattle.dom_tree.proofs.Owned.{read_own, stays_own}
 use Rattle.dom_ranges.specs.declared.table.Points.{Points}
 use Rattle.dom_tree.specs.Forest.{NamedTrees}
@@ -38,15 +40,18 @@ found-in p d (x ∷ xs) all among i = elim (cases_Bool (p x)) [
 -- a node of the tree that holds one node alone is one of the trees
 holding-in : (ts : Trees) (x other : NodeName) (d : Trees) (y : NodeName) → Has (tree_holding ts x other d) y → Has d y
 holding-in ts x other none y h = h
-holding-in ts x other (tree n c rest) y h = by (holding-in ts x other rest y) (is_inclusive_ancestor ts n.name x && not (is_inclusive_ancestor ts n.name other)) h
+holding-in ts x other (tree n c rest) y h =
+    by (holding-in ts x other rest y) (is_inclusive_ancestor ts n.name x && not (is_inclusive_ancestor ts n.name other)) h
   where
-    by : (Has (tree_holding ts x other rest) y → Has rest y) → (b : Bool) → Has (if b then tree n c none else tree_holding ts x other rest) y → Has (tree n c rest) y
+    by : (Has (tree_holding ts x other rest) y → Has rest y) → (b : Bool) → Has (if b then tree n c none else tree_holding ts x other rest) y →
+        Has (tree n c rest) y
     by others true (inl e) = inl e
     by others true (inr (inl i)) = inr (inl i)
     by others true (inr (inr i)) = absurd i
     by others false i = inr (inr (others i))
 
-module _ (ts : Trees) (owned : AreOwned ts) (o : Owner) (r : Range NodeName) (ends : HasOneTree ts r) (start : r.start.node.owner ≡ o) (end : r.end.node.owner ≡ o) where
+module _ (ts : Trees) (owned : AreOwned ts) (o : Owner) (r : Range NodeName) (ends : HasOneTree ts r) (start : r.start.node.owner ≡ o)
+    (end : r.end.node.owner ≡ o) where
   abbrev own : Trees
   own = trees_of_owner o ts
 
@@ -64,11 +69,14 @@ module _ (ts : Trees) (owned : AreOwned ts) (o : Owner) (r : Range NodeName) (en
     owner : x.owner ≡ o
 
   -- pieces along the path to a node, where the same nodes are above it and pass the test
-  along-own : (x : NodeName) → ((y : NodeName) → is_inclusive_ancestor ts y x ≡ is_inclusive_ancestor own y x) → (p q : NodeName → Bool) (from to : ℕ) (d : Trees) → ((y : NodeName) → Has d y → p y ≡ q y) → pieces_along ts x p from to d ≡ pieces_along own x q from to d
+  along-own : (x : NodeName) → ((y : NodeName) → is_inclusive_ancestor ts y x ≡ is_inclusive_ancestor own y x) →
+      (p q : NodeName → Bool) (from to : ℕ) (d : Trees) → ((y : NodeName) → Has d y → p y ≡ q y) →
+      pieces_along ts x p from to d ≡ pieces_along own x q from to d
   along-own x above p q from to none same = refl
   along-own x above p q from to (tree n c rest) same =
       let pieces = λ (over passes : Bool) (inside others : Pieces).
-      (if over then (if has_data n.kind then cut n.name from to others else clone n.name inside others) else (if passes then whole n.name others else others)) in
+      (if over then (if has_data n.kind then cut n.name from to others else clone n.name inside others) else
+      (if passes then whole n.name others else others)) in
       let over = is_inclusive_ancestor own n.name x in
       let inside = pieces_along ts x p from to c in
       let others = pieces_along ts x p from to rest in
@@ -82,7 +90,8 @@ module _ (ts : Trees) (owned : AreOwned ts) (o : Owner) (r : Range NodeName) (en
   start-own d near =
       let p = λ (x : NodeName). is_before ts r.start (at x 0) in
       let q = λ (x : NodeName). is_before own r.start (at x 0) in
-      along-own r.start.node starts-own p q r.start.offset (length_of ts r.start.node) d (λ y h. let w = near y h in behind-own ts owned o r ends start end y w.there w.root w.owner)
+      along-own r.start.node starts-own p q r.start.offset (length_of ts r.start.node) d
+      (λ y h. let w = near y h in behind-own ts owned o r ends start end y w.there w.root w.owner)
       ∙ ap (λ k. pieces_along own r.start.node q r.start.offset k d) (read_own ts owned o r.start.node start).size
 
   -- and in front of the end
@@ -92,7 +101,8 @@ module _ (ts : Trees) (owned : AreOwned ts) (o : Owner) (r : Range NodeName) (en
       (λ y h. let w = near y h in in_front-own ts owned o r ends start end y w.there w.root w.owner)
 
   -- the tree that holds one end alone
-  holding-own : (x other : NodeName) → ((y : NodeName) → is_inclusive_ancestor ts y x ≡ is_inclusive_ancestor own y x) → ((y : NodeName) → is_inclusive_ancestor ts y other ≡ is_inclusive_ancestor own y other) → (d : Trees)
+  holding-own : (x other : NodeName) → ((y : NodeName) → is_inclusive_ancestor ts y x ≡ is_inclusive_ancestor own y x) →
+      ((y : NodeName) → is_inclusive_ancestor ts y other ≡ is_inclusive_ancestor own y other) → (d : Trees)
       → tree_holding ts x other d ≡ tree_holding own x other d
   holding-own x other above apart none = refl
   holding-own x other above apart (tree n c rest) =
@@ -107,7 +117,8 @@ module _ (ts : Trees) (owned : AreOwned ts) (o : Owner) (r : Range NodeName) (en
       test-same (λ a. is_inclusive_ancestor ts a r.end.node) (λ a. is_inclusive_ancestor own a r.end.node) ends-own (inclusive_ancestors ts r.start.node)
       ∙ ap (λ xs. unwrap_or (find (λ a. is_inclusive_ancestor own a r.end.node) xs) r.start.node) (read_own ts owned o r.start.node start).path
     where
-      test-same : (p q : NodeName → Bool) → ((x : NodeName) → p x ≡ q x) → (xs : List NodeName) → unwrap_or (find p xs) r.start.node ≡ unwrap_or (find q xs) r.start.node
+      test-same : (p q : NodeName → Bool) → ((x : NodeName) → p x ≡ q x) → (xs : List NodeName) →
+          unwrap_or (find p xs) r.start.node ≡ unwrap_or (find q xs) r.start.node
       test-same p q same [] = refl
       test-same p q same (x ∷ xs) = elim (cases_Bool (q x)) [
         | inl e ↦ rw (same x, e) refl
@@ -128,7 +139,8 @@ module _ (ts : Trees) (owned : AreOwned ts) (o : Owner) (r : Range NodeName) (en
       record {
         there = there;
         root = sym (root-path ts c x ends.once there (above-from_below ts c x ends.once stands deep)) ∙ root-path ts c r.start.node ends.once ends.start above;
-        owner = (stays_own ts owned o c ((stays_own ts owned o r.start.node start).path c (is_in-from c path above))).inside x (is_in-from x (inclusive_descendants ts c) (In-names (subtree ts c) x deep));
+        owner = (stays_own ts owned o c ((stays_own ts owned o r.start.node start).path c (is_in-from c path above))).inside x
+            (is_in-from x (inclusive_descendants ts c) (In-names (subtree ts c) x deep));
       }
 
   -- the pieces of the range where no Text or Comment has both ends
@@ -140,36 +152,47 @@ module _ (ts : Trees) (owned : AreOwned ts) (o : Owner) (r : Range NodeName) (en
       let above : In c path = found-in (λ a. is_inclusive_ancestor ts a r.end.node) r.start.node path path (λ y i. i) own_start in
       let below = trees_below (subtree ts c) in
       let same : below ≡ trees_below (subtree own (common_ancestor own r)) =
-      ap trees_below (read_own ts owned o c ((stays_own ts owned o r.start.node start).path c (is_in-from c path above))).alone ∙ ap (λ (x : NodeName). trees_below (subtree own x)) common-own in
-      let first : pieces_behind ts r.start (tree_holding ts r.start.node r.end.node below) ≡ pieces_behind own r.start (tree_holding own r.start.node r.end.node below) =
+      ap trees_below (read_own ts owned o c ((stays_own ts owned o r.start.node start).path c (is_in-from c path above))).alone ∙
+      ap (λ (x : NodeName). trees_below (subtree own x)) common-own in
+      let first : pieces_behind ts r.start (tree_holding ts r.start.node r.end.node below) ≡ pieces_behind own r.start
+      (tree_holding own r.start.node r.end.node below) =
       start-own (tree_holding ts r.start.node r.end.node below) (λ x h. common-near x (holding-in ts r.start.node r.end.node below x h))
       ∙ ap (pieces_behind own r.start) (holding-own r.start.node r.end.node starts-own ends-own below) in
       let middle : filter (is_contained ts r) (names_of (roots below)) ≡ filter (is_contained own r) (names_of (roots below)) =
-      filter-same (is_contained ts r) (is_contained own r) (names_of (roots below)) (λ y i. let w = common-near y (root-there below y i) in contained-own ts owned o r ends start end y w.there w.root w.owner) in
-      let later : pieces_in_front ts r.end (tree_holding ts r.end.node r.start.node below) ≡ pieces_in_front own r.end (tree_holding own r.end.node r.start.node below) =
+      filter-same (is_contained ts r) (is_contained own r) (names_of (roots below))
+      (λ y i. let w = common-near y (root-there below y i) in contained-own ts owned o r ends start end y w.there w.root w.owner) in
+      let later : pieces_in_front ts r.end (tree_holding ts r.end.node r.start.node below) ≡ pieces_in_front own r.end
+      (tree_holding own r.end.node r.start.node below) =
       end-own (tree_holding ts r.end.node r.start.node below) (λ x h. common-near x (holding-in ts r.end.node r.start.node below x h))
       ∙ ap (pieces_in_front own r.end) (holding-own r.end.node r.start.node ends-own starts-own below) in
       let own_pieces = λ (us : Trees). pieces_behind own r.start (tree_holding own r.start.node r.end.node us)
       followed_by all_whole (filter (is_contained own r) (names_of (roots us)))
       followed_by pieces_in_front own r.end (tree_holding own r.end.node r.start.node us) in
-      ap (λ q. q followed_by all_whole (filter (is_contained ts r) (names_of (roots below))) followed_by pieces_in_front ts r.end (tree_holding ts r.end.node r.start.node below)) first
-      ∙ (ap (λ xs. pieces_behind own r.start (tree_holding own r.start.node r.end.node below) followed_by all_whole xs followed_by pieces_in_front ts r.end (tree_holding ts r.end.node r.start.node below)) middle
-      ∙ (ap (λ q. pieces_behind own r.start (tree_holding own r.start.node r.end.node below) followed_by all_whole (filter (is_contained own r) (names_of (roots below))) followed_by q) later ∙ ap own_pieces same))
+      ap (λ q. q followed_by all_whole (filter (is_contained ts r) (names_of (roots below))) followed_by pieces_in_front ts r.end
+      (tree_holding ts r.end.node r.start.node below)) first
+      ∙ (ap (λ xs. pieces_behind own r.start (tree_holding own r.start.node r.end.node below) followed_by all_whole xs followed_by pieces_in_front
+      ts r.end (tree_holding ts r.end.node r.start.node below)) middle
+      ∙ (ap (λ q. pieces_behind own r.start (tree_holding own r.start.node r.end.node below) followed_by all_whole
+      (filter (is_contained own r) (names_of (roots below))) followed_by q) later ∙ ap own_pieces same))
 
   -- the pieces of the range
   pub pieces-own : pieces_of ts r ≡ pieces_of own r
   pieces-own =
       let one : Pieces = cut r.start.node r.start.offset r.end.offset nothing in
       let all = λ (in_one : Bool) (apart : Pieces). (if is_collapsed name_eq r then nothing else (if in_one then one else apart)) in
-      ap (λ (n : Node). all (name_eq r.start.node r.end.node && has_data n.kind) (pieces_apart ts r)) (read_own ts owned o r.start.node start).node ∙ ap (all (is_in_one_data own r)) apart-own
+      ap (λ (n : Node). all (name_eq r.start.node r.end.node && has_data n.kind) (pieces_apart ts r))
+      (read_own ts owned o r.start.node start).node ∙ ap (all (is_in_one_data own r)) apart-own
 
 -- ---- by keys
 
-module _ (f : NamedTrees) (once : StandOnce f) (only : StandAlone f) (owned : AreOwned f.trees) (o : Owner) (ts : Trees) (own_is : trees_of_owner o f.trees ≡ ts) (points : Points) (r : Range NodeName) (is : r ≡ range_at_points f.names points) (ends : HasEnds ts r) where
+module _ (f : NamedTrees) (once : StandOnce f) (only : StandAlone f) (owned : AreOwned f.trees) (o : Owner) (ts : Trees)
+    (own_is : trees_of_owner o f.trees ≡ ts) (points : Points) (r : Range NodeName) (is : r ≡ range_at_points f.names points)
+    (ends : HasEnds ts r) where
   -- what is asked of a range between two points holds where it does of the owner's range
   pub are-spanned : points.start.0 < length f.names → points.end.0 < length f.names → IsWithin ts r.end → AreLeaves f points → AreSpanned f points
   are-spanned start end fits leaves =
-      let size = (read_own f.trees owned o r.end.node (end-there f once only owned o ts own_is points r is ends).0).size ∙ ap (λ us. length_of us r.end.node) own_is in
+      let size = (read_own f.trees owned o r.end.node (end-there f once only owned o ts own_is points r is ends).0).size ∙
+      ap (λ us. length_of us r.end.node) own_is in
       record {
         ends = are-ends f once only owned o ts own_is points r is ends start end;
         within = subst (λ (s : Range NodeName). s.end.offset ≤ length_of f.trees s.end.node) is (subst (λ n. r.end.offset ≤ n) (sym size) fits);
@@ -180,4 +203,6 @@ module _ (f : NamedTrees) (once : StandOnce f) (only : StandAlone f) (owned : Ar
   pub pieces-points : pieces_of f.trees (range_at_points f.names points) ≡ pieces_of ts r
   pieces-points =
       ap (pieces_of f.trees) (sym is)
-      ∙ (pieces-own f.trees owned o r (one-tree f once only owned o ts own_is points r is ends) (start-there f once only owned o ts own_is points r is ends).0 (end-there f once only owned o ts own_is points r is ends).0 ∙ ap (λ us. pieces_of us r) own_is)
+      ∙ (pieces-own f.trees owned o r (one-tree f once only owned o ts own_is points r is ends)
+      (start-there f once only owned o ts own_is points r is ends).0 (end-there f once only owned o ts own_is points r is ends).0 ∙
+      ap (λ us. pieces_of us r) own_is)

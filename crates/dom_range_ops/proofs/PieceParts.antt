@@ -1,5 +1,6 @@
 -- What is taken of the child of the ends' lowest common ancestor in whose tree one of them is.
-use Rattle.std.proofs.Common.{◌≡◌, inl, inr, Bool, true, false, true≢false, not, ◌&&◌, List, [], ◌∷◌, ◌++◌, take, drop, Option, Some, None, refl, sym, ap, subst, ◌∙◌}
+use Rattle.std.proofs.Common.{◌≡◌, inl, inr, Bool, true, false, true≢false, not, ◌&&◌, List, [], ◌∷◌, ◌++◌, take, drop, Option, Some, None, refl, sym}
+use Rattle.std.proofs.Common.{ap, subst, ◌∙◌}
 use Rattle.std.specs.Option.{option_map_or}
 use Rattle.std.proofs.lemmas.Bool.{cases_Bool, cond-true, cond-false}
 use Rattle.std.proofs.lemmas.List.{take-append-drop}
@@ -8,7 +9,8 @@ use Rattle.dom_base.specs.declared.NodeName.{NodeName}
 use Rattle.dom_model.specs.Extract.{pieces_along, tree_holding}
 use Rattle.dom_model.specs.Names.{name_eq, first_of, last_of, items_before, items_after}
 use Rattle.dom_model.specs.Place.{Boundary}
-use Rattle.dom_model.specs.Tree.{Trees, none, tree, kind_of, has_data, names_of, roots, children_of, inclusive_ancestors, is_inclusive_ancestor, inclusive_descendants, siblings, next_sibling, subtree, trees_below}
+use Rattle.dom_model.specs.Tree.{Trees, none, tree, kind_of, has_data, names_of, roots, children_of, inclusive_ancestors, is_inclusive_ancestor}
+use Rattle.dom_model.specs.Tree.{inclusive_descendants, siblings, next_sibling, subtree, trees_below}
 use Rattle.dom_traversal.proofs.Children.{In-names, Has-names, child-of_parent, parent-of_child}
 use Rattle.dom_traversal.proofs.Lists.{In, In-left, In-right, In-parts, is_in-from, no_last, same_or_not, split_at}
 use Rattle.dom_traversal.proofs.Shapes.{Has, Once, subtree-here, subtree-beside, above-parent, above-present, above-from_below, below-from_above}
@@ -35,10 +37,12 @@ module _ (ts : Trees) (x other : NodeName) where
   none-held : (d : Trees) → ((z : NodeName) → In z (names_of (roots d)) → is_inclusive_ancestor ts z x ≡ false) → tree_holding ts x other d ≡ none
   none-held none off = refl
   none-held (tree n c rest) off =
-      cond-false (holds n.name) (tree n c none) (tree_holding ts x other rest) (holds-not n.name (off n.name (inl refl))) ∙ none-held rest (λ z i. off z (inr i))
+      cond-false (holds n.name) (tree n c none) (tree_holding ts x other rest) (holds-not n.name (off n.name (inl refl))) ∙
+      none-held rest (λ z i. off z (inr i))
 
   -- it is that of the one root that does
-  one-held : (d : Trees) → Once d → (y : NodeName) → In y (names_of (roots d)) → holds y ≡ true → ((z : NodeName) → In z (names_of (roots d)) → holds z ≡ true → z ≡ y) → tree_holding ts x other d ≡ subtree d y
+  one-held : (d : Trees) → Once d → (y : NodeName) → In y (names_of (roots d)) → holds y ≡ true →
+      ((z : NodeName) → In z (names_of (roots d)) → holds z ≡ true → z ≡ y) → tree_holding ts x other d ≡ subtree d y
   one-held none once y i e only = absurd i
   one-held (tree n c rest) once y i e only = elim (cases_Bool (holds n.name)) [
     | inl t ↦ cond-true (holds n.name) (tree n c none) (tree_holding ts x other rest) t ∙ sym (subtree-here n c rest y (only n.name (inl refl) t))
@@ -54,7 +58,8 @@ module _ (ts : Trees) (x other : NodeName) where
 
 module _ (ts : Trees) (once : Once ts) (c : NodeName) (rest : List NodeName) where
   -- the last node of the path is a child of that one
-  last-child : (x : NodeName) (path : List NodeName) → Has ts x → inclusive_ancestors ts x ≡ (x ∷ path) ++ c ∷ rest → (y : NodeName) → last_of (x ∷ path) ≡ Some y → In y (children_of ts c)
+  last-child : (x : NodeName) (path : List NodeName) → Has ts x → inclusive_ancestors ts x ≡ (x ∷ path) ++ c ∷ rest → (y : NodeName) →
+      last_of (x ∷ path) ≡ Some y → In y (children_of ts c)
   last-child x [] h e y last =
       subst (λ z. In z (children_of ts c)) (same_Some x y last) (child-of_parent ts x c once h (ap (λ xs. first_of (drop 1 xs)) e)).1
   last-child x (p ∷ path) h e y last =
@@ -64,7 +69,8 @@ module _ (ts : Trees) (once : Once ts) (c : NodeName) (rest : List NodeName) whe
   -- an end is at the common ancestor, or in the tree of this child of it, from which a path leads down to it
   pub data Course (b : Boundary NodeName) (path : List NodeName) : Type 0 where
     at_top : path ≡ [] → b.node ≡ c → Course b path
-    inside : (y : NodeName) (more : List NodeName) → path ≡ b.node ∷ more → last_of path ≡ Some y → In y (children_of ts c) → In b.node (inclusive_descendants ts y) → Course b path
+    inside : (y : NodeName) (more : List NodeName) → path ≡ b.node ∷ more → last_of path ≡ Some y → In y (children_of ts c) →
+        In b.node (inclusive_descendants ts y) → Course b path
 
   pub course : (b : Boundary NodeName) (path : List NodeName) → Has ts b.node → inclusive_ancestors ts b.node ≡ path ++ c ∷ rest → Course b path
   course b [] h e = at_top refl (first-same b.node c (above-present ts b.node h).0 rest (sym (above-present ts b.node h).1 ∙ e))
@@ -85,14 +91,29 @@ module _ (ts : Trees) (once : Once ts) (c : NodeName) (rest : List NodeName) whe
   kids = children_of ts c
 
   pub level : (b : Boundary NodeName) (path : List NodeName) → Course b path → Level ts once c b
-  level b path (at_top empty same) = record { front = take b.offset kids; middle = []; back = drop b.offset kids; kids = sym (take-append-drop b.offset kids); shape = inl record { same = same; none = refl; first = refl; later = refl } }
-  level b path (inside y more whole last i below) = record { front = items_before name_eq y kids; middle = y ∷ []; back = items_after name_eq y kids; kids = split_at y kids i; shape = inr record { child = y; alone = refl; inside = below } }
+  level b path (at_top empty same) = record {
+    front = take b.offset kids;
+    middle = [];
+    back = drop b.offset kids;
+    kids = sym (take-append-drop b.offset kids);
+    shape = inl record { same = same; none = refl; first = refl; later = refl };
+  }
+  level b path (inside y more whole last i below) =
+      record {
+        front = items_before name_eq y kids;
+        middle = y ∷ [];
+        back = items_after name_eq y kids;
+        kids = split_at y kids i;
+        shape = inr record { child = y; alone = refl; inside = below };
+      }
 
   -- the child in the middle is the last of the path
-  pub middle-last : (b : Boundary NodeName) (path : List NodeName) (w : Course b path) (z : NodeName) → In z (level b path w).middle → (last_of path ≡ Some z) × In b.node (inclusive_descendants ts z)
+  pub middle-last : (b : Boundary NodeName) (path : List NodeName) (w : Course b path) (z : NodeName) → In z (level b path w).middle →
+      (last_of path ≡ Some z) × In b.node (inclusive_descendants ts z)
   unfolding level
   middle-last b path (at_top empty same) z i = absurd i
-  middle-last b path (inside y more whole last among below) z (inl e) = (last ∙ ap Some (sym e), subst (λ x. In b.node (inclusive_descendants ts x)) (sym e) below)
+  middle-last b path (inside y more whole last among below) z (inl e) =
+      (last ∙ ap Some (sym e), subst (λ x. In b.node (inclusive_descendants ts x)) (sym e) below)
   middle-last b path (inside y more whole last among below) z (inr i) = absurd i
 
   module _ (there : Has ts c) where
@@ -118,7 +139,8 @@ module _ (ts : Trees) (once : Once ts) (c : NodeName) (rest : List NodeName) whe
       is-behind i = in-back ts once c there b l z z i (self-in ts once z (kid-stands z (back-kid i)))
 
     -- no other child than the last of the path is above the end
-    pub kid-off : (b : Boundary NodeName) (path : List NodeName) → Course b path → Has ts b.node → (z : NodeName) → In z kids → (last_of path ≡ Some z → ⊥) → is_inclusive_ancestor ts z b.node ≡ false
+    pub kid-off : (b : Boundary NodeName) (path : List NodeName) → Course b path → Has ts b.node → (z : NodeName) → In z kids →
+        (last_of path ≡ Some z → ⊥) → is_inclusive_ancestor ts z b.node ≡ false
     kid-off b path w h z i other =
         let l = level b path w in
         elim (In-parts z l.front (l.middle ++ l.back) (subst (In z) l.kids i)) [
@@ -140,10 +162,12 @@ module _ (ts : Trees) (once : Once ts) (c : NodeName) (rest : List NodeName) whe
     unfolding level
     begins b path (at_top empty same) = ap (first_behind ts b) empty ∙ ap (λ x. first_of (drop b.offset (children_of ts x))) same
     begins b path (inside y more whole last among below) =
-        ap (λ o. option_map_or (next_sibling ts) o (first_of (drop b.offset (children_of ts b.node)))) last ∙ ap (λ xs. first_of (items_after name_eq y xs)) (kid-siblings y among)
+        ap (λ o. option_map_or (next_sibling ts) o (first_of (drop b.offset (children_of ts b.node)))) last ∙
+        ap (λ xs. first_of (items_after name_eq y xs)) (kid-siblings y among)
 
     -- and the first that is not in front of it
-    pub stops : (b : Boundary NodeName) (path : List NodeName) (w : Course b path) → first_from ts b path ≡ first_of ((level b path w).middle ++ (level b path w).back)
+    pub stops : (b : Boundary NodeName) (path : List NodeName) (w : Course b path) →
+        first_from ts b path ≡ first_of ((level b path w).middle ++ (level b path w).back)
     unfolding level
     stops b path (at_top empty same) = ap (first_from ts b) empty ∙ ap (λ x. first_of (drop b.offset (children_of ts x))) same
     stops b path (inside y more whole last among below) = ap (λ o. option_map_or Some o (first_of (drop b.offset (children_of ts b.node)))) last
@@ -152,10 +176,12 @@ module _ (ts : Trees) (once : Once ts) (c : NodeName) (rest : List NodeName) whe
 
     module _ (b : Boundary NodeName) (path : List NodeName) (h : Has ts b.node) (up : inclusive_ancestors ts b.node ≡ path ++ c ∷ rest)
         (other : NodeName) (apart : (y : NodeName) → In y kids → last_of path ≡ Some y → is_inclusive_ancestor ts y other ≡ false)
-        (leaves : (y : NodeName) → In y kids → (x : NodeName) → In x (inclusive_descendants ts y) → has_data (kind_of ts x) ≡ true → children_of ts x ≡ []) where
+        (leaves : (y : NodeName) → In y kids → (x : NodeName) → In x (inclusive_descendants ts y) → has_data (kind_of ts x) ≡ true →
+        children_of ts x ≡ []) where
       -- what is taken of the child that holds the end and not the other one, behind the end or in front of it
       pub side-held : (behind : Bool)
-          → items_of (pieces_along ts b.node (taken ts once b behind) (from ts once b behind) (to ts once b behind) (tree_holding ts b.node other (trees_below (subtree ts c)))) ≡ side_items ts b behind path
+          → items_of (pieces_along ts b.node (taken ts once b behind) (from ts once b behind) (to ts once b behind)
+          (tree_holding ts b.node other (trees_below (subtree ts c)))) ≡ side_items ts b behind path
       side-held behind = by (course b path h up)
         where
           below_c : Trees
@@ -166,14 +192,21 @@ module _ (ts : Trees) (once : Once ts) (c : NodeName) (rest : List NodeName) whe
 
           by : Course b path → along (tree_holding ts b.node other below_c) ≡ side_items ts b behind path
           by (at_top empty same) =
-              ap along (none-held ts b.node other below_c (λ z i. kid-off b path (at_top empty same) h z i (λ last. none-some z (ap last_of (sym empty) ∙ last)))) ∙ ap (side_items ts b behind) (sym empty)
+              ap along (none-held ts b.node other below_c
+              (λ z i. kid-off b path (at_top empty same) h z i (λ last. none-some z (ap last_of (sym empty) ∙ last)))) ∙
+              ap (side_items ts b behind) (sym empty)
           by (inside y more whole last among below) =
-              let above : is_inclusive_ancestor ts y b.node ≡ true = is_in-from y (inclusive_ancestors ts b.node) (above-from_below ts y b.node once (kid-stands y among) (Has-names (subtree ts y) b.node below)) in
+              let above : is_inclusive_ancestor ts y b.node ≡ true =
+              is_in-from y (inclusive_ancestors ts b.node)
+              (above-from_below ts y b.node once (kid-stands y among) (Has-names (subtree ts y) b.node below)) in
               let hold : holds ts b.node other y ≡ true = ap (λ t. t && not (is_inclusive_ancestor ts y other)) above ∙ ap not (apart y among last) in
               let only : (z : NodeName) → In z kids → holds ts b.node other z ≡ true → z ≡ y =
               λ z i t. elim (same_or_not z y) [
                 | inl e ↦ e
-                | inr off ↦ absurd (true≢false (sym t ∙ holds-not ts b.node other z (kid-off b path (inside y more whole last among below) h z i (λ l. off (same_Some z y (sym l ∙ last))))))
+                | inr off ↦ absurd (true≢false
+                    (sym t ∙ holds-not ts b.node other z
+                    (kid-off b path (inside y more whole last among below) h z i (λ l. off (same_Some z y (sym l ∙ last))))))
               ] in
               ap along (one-held ts b.node other below_c (once-below ts c once there) y among hold only ∙ child-tree ts c once there y among)
-              ∙ (side-is ts once b behind h y (kid-stands y among) (leaves y among) more (c ∷ rest) (up ∙ ap (λ xs. xs ++ c ∷ rest) whole) (ap last_of (sym whole) ∙ last) ∙ ap (side_items ts b behind) (sym whole))
+              ∙ (side-is ts once b behind h y (kid-stands y among) (leaves y among) more (c ∷ rest) (up ∙ ap (λ xs. xs ++ c ∷ rest) whole)
+              (ap last_of (sym whole) ∙ last) ∙ ap (side_items ts b behind) (sym whole))

@@ -1,5 +1,6 @@
 -- The paths from the ends of a range up to the children of their lowest common inclusive ancestor, by keys.
-use Rattle.std.proofs.Common.{◌≡◌, ℕ, zero, suc, ◌<◌, ◌≤◌, ◌-◌, List, [], ◌∷◌, ◌++◌, length, map, take, drop, get_or, Some, refl, sym, ap, subst, ◌∙◌, arith, length-drop}
+use Rattle.std.proofs.Common.{◌≡◌, ℕ, zero, suc, ◌<◌, ◌≤◌, ◌-◌, List, [], ◌∷◌, ◌++◌, length, map, take, drop, get_or, Some, refl, sym, ap, subst, ◌∙◌}
+use Rattle.std.proofs.Common.{arith, length-drop}
 use Rattle.std.specs.Prelude.{unwrap_or}
 use Rattle.std.specs.List.{AllByRecursion}
 use Rattle.std.proofs.Math.Seq.{take-suc}
@@ -34,7 +35,8 @@ all-take P (suc m) (k ∷ ks) all = (all.0, all-take P m ks all.1)
 -- ---- last items
 
 -- the last of the first so many
-pub last-taken : (names : List NodeName) (ks : List ℕ) (m : ℕ) → 0 < m → m ≤ length ks → last_of (map (name_at names) (take m ks)) ≡ Some (name_at names (get_or ks (m - 1) 0))
+pub last-taken : (names : List NodeName) (ks : List ℕ) (m : ℕ) → 0 < m → m ≤ length ks →
+    last_of (map (name_at names) (take m ks)) ≡ Some (name_at names (get_or ks (m - 1) 0))
 last-taken names ks zero l le = absurd (omega (arith, l))
 last-taken names ks (suc m) l le =
     let here : suc m - 1 ≡ m = omega arith in
@@ -51,7 +53,8 @@ all-taken (k ∷ ks) (suc m) l = ap (λ js. k ∷ js) (all-taken ks m (omega (ar
 
 -- ---- where the paths part
 
-module _ (f : NamedTrees) (once : StandOnce f) (only : StandAlone f) (distinct : TellApart f) (points : Points) (ends : AreEnds f points) (first second : List ℕ) where
+module _ (f : NamedTrees) (once : StandOnce f) (only : StandAlone f) (distinct : TellApart f) (points : Points) (ends : AreEnds f points)
+    (first second : List ℕ) where
   abbrev above : ℕ → List NodeName
   above k = inclusive_ancestors f.trees (name_at f.names k)
 
@@ -67,13 +70,16 @@ module _ (f : NamedTrees) (once : StandOnce f) (only : StandAlone f) (distinct :
   some-names (j ∷ ks) k node e = omega arith
 
   -- the last of a node's inclusive ancestors is its root
-  last-root : (ks : List ℕ) (k : ℕ) → k < length f.names → named ks ≡ above k → name_at f.names (get_or ks (length ks - 1) 0) ≡ root_of f.trees (name_at f.names k)
+  last-root : (ks : List ℕ) (k : ℕ) → k < length f.names → named ks ≡ above k →
+      name_at f.names (get_or ks (length ks - 1) 0) ≡ root_of f.trees (name_at f.names k)
   last-root ks k node e =
       let last = last-taken f.names ks (length ks) (some-names ks k node e) (omega arith) in
-      let is : last_of (above k) ≡ Some (name_at f.names (get_or ks (length ks - 1) 0)) = ap last_of (sym e) ∙ (ap (λ js. last_of (named js)) (sym (all-taken ks (length ks) (omega arith))) ∙ last) in
+      let is : last_of (above k) ≡ Some (name_at f.names (get_or ks (length ks - 1) 0)) =
+      ap last_of (sym e) ∙ (ap (λ js. last_of (named js)) (sym (all-taken ks (length ks) (omega arith))) ∙ last) in
       sym (ap (λ o. unwrap_or o (name_at f.names k)) is)
 
-  pub paths-part : named first ≡ above points.start.0 → named second ≡ above points.end.0 → AllByRecursion (λ k. k < length f.names) first → AllByRecursion (λ k. k < length f.names) second
+  pub paths-part : named first ≡ above points.start.0 → named second ≡ above points.end.0 → AllByRecursion (λ k. k < length f.names) first →
+      AllByRecursion (λ k. k < length f.names) second
       → (m n : ℕ) → EndAlike first second m n → ArePaths f points (take m first) (take n second)
   paths-part start end start_nodes end_nodes m n a = by (drop m first) refl
     where
@@ -83,7 +89,9 @@ module _ (f : NamedTrees) (once : StandOnce f) (only : StandAlone f) (distinct :
           let in_first = a.first in
           let in_second = a.second in
           a.apart l k
-          (distinct (get_or first (m - 1) 0) (get_or second (n - 1) 0) (all-at (λ j. j < length f.names) first (m - 1) start_nodes (omega (arith, l, in_first))) (all-at (λ j. j < length f.names) second (n - 1) end_nodes (omega (arith, k, in_second))) same)
+          (distinct (get_or first (m - 1) 0) (get_or second (n - 1) 0)
+          (all-at (λ j. j < length f.names) first (m - 1) start_nodes (omega (arith, l, in_first)))
+          (all-at (λ j. j < length f.names) second (n - 1) end_nodes (omega (arith, k, in_second))) same)
 
       apart : (y : NodeName) → last_of (named (take m first)) ≡ Some y → last_of (named (take n second)) ≡ Some y → ⊥
       apart y e g = both m n a.first a.second refl refl
@@ -97,7 +105,8 @@ module _ (f : NamedTrees) (once : StandOnce f) (only : StandAlone f) (distinct :
               differ l k (same_Some _ _ (sym (last-taken f.names first m l a.first) ∙ (e ∙ (sym g ∙ last-taken f.names second n k a.second))))
 
       split : (xs : List ℕ) (k j : ℕ) (ks : List ℕ) → drop k xs ≡ j ∷ ks → named xs ≡ named (take k xs) ++ name_at f.names j ∷ named ks
-      split xs k j ks e = ap named (sym (take-append-drop k xs)) ∙ (map-append (name_at f.names) (take k xs) (drop k xs) ∙ ap (λ js. named (take k xs) ++ named js) e)
+      split xs k j ks e = ap named (sym (take-append-drop k xs)) ∙
+          (map-append (name_at f.names) (take k xs) (drop k xs) ∙ ap (λ js. named (take k xs) ++ named js) e)
 
       -- no key at all in common: but the root is
       none : drop m first ≡ [] → ⊥

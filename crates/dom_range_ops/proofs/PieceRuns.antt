@@ -1,5 +1,6 @@
 -- Pieces that are added one by one, and runs of siblings.
-use Rattle.std.proofs.Common.{◌≡◌, inl, ℕ, ◌<◌, suc, List, [], ◌∷◌, ◌++◌, length, map, take, drop, Option, Some, None, refl, sym, ap, subst, ◌∙◌, append_assoc, arith}
+use Rattle.std.proofs.Common.{◌≡◌, inl, ℕ, ◌<◌, suc, List, [], ◌∷◌, ◌++◌, length, map, take, drop, Option, Some, None, refl, sym, ap, subst, ◌∙◌}
+use Rattle.std.proofs.Common.{append_assoc, arith}
 use Rattle.std.specs.List.{AllByRecursion}
 use Rattle.std.specs.Option.{option_map, option_map_or, ForSome}
 use Rattle.std.proofs.lemmas.List.{append-nil, map_push, take-append-drop}
@@ -62,21 +63,27 @@ module _ (ts : Trees) (once : Once ts) where
           let all : siblings ts x ≡ children_of ts p = ap (λ q. option_map_or (children_of ts) q (x ∷ [])) up in
           let is : o ≡ first_of (items_after name_eq x (children_of ts p)) = e ∙ ap (λ xs. first_of (items_after name_eq x xs)) all in
           ap (items_after name_eq x) all
-          ∙ (from-next x (children_of ts p) (children-single ts p once c.0) c.1 o is ∙ same p c.0 o (λ y there. let s = first_split (items_after name_eq x (children_of ts p)) y (sym is ∙ there) in after-in x y (children_of ts p) (subst (In y) (sym s.1) (inl refl))))
+          ∙ (from-next x (children_of ts p) (children-single ts p once c.0) c.1 o is ∙
+          same p c.0 o (λ y there. let s = first_split (items_after name_eq x (children_of ts p)) y (sym is ∙ there) in after-in x y
+          (children_of ts p) (subst (In y) (sym s.1) (inl refl))))
         where
-          same : (q : NodeName) → Has ts q → (v : Option NodeName) → ((y : NodeName) → v ≡ Some y → In y (children_of ts q)) → from_item (children_of ts q) v ≡ from_sibling ts v
+          same : (q : NodeName) → Has ts q → (v : Option NodeName) → ((y : NodeName) → v ≡ Some y → In y (children_of ts q)) →
+              from_item (children_of ts q) v ≡ from_sibling ts v
           same q at_q None among = refl
-          same q at_q (Some y) among = ap (λ w. y ∷ items_after name_eq y (option_map_or (children_of ts) w (y ∷ []))) (sym (parent-of_child ts q y once at_q (among y refl)).0)
+          same q at_q (Some y) among = ap (λ w. y ∷ items_after name_eq y (option_map_or (children_of ts) w (y ∷ [])))
+              (sym (parent-of_child ts q y once at_q (among y refl)).0)
 
   -- children from the first of them on
-  pub from-kids : (p : NodeName) → Has ts p → (front xs : List NodeName) → children_of ts p ≡ front ++ xs → (o : Option NodeName) → o ≡ first_of xs → from_sibling ts o ≡ xs
+  pub from-kids : (p : NodeName) → Has ts p → (front xs : List NodeName) → children_of ts p ≡ front ++ xs → (o : Option NodeName) →
+      o ≡ first_of xs → from_sibling ts o ≡ xs
   from-kids p h front [] e o is = ap (from_sibling ts) is
   from-kids p h front (x ∷ xs) e o is =
       let among = subst (In x) (sym e) (In-right x front (x ∷ xs) (inl refl)) in
       let up = (parent-of_child ts p x once h among).0 in
       let apart : In x front → ⊥ = λ i. Single-apart x front (x ∷ xs) (subst Single e (children-single ts p once h)) i (inl refl) in
       ap (from_sibling ts) is
-      ∙ (ap (λ w. x ∷ items_after name_eq x (option_map_or (children_of ts) w (x ∷ []))) up ∙ (ap (λ ys. x ∷ items_after name_eq x ys) e ∙ ap (λ ys. x ∷ ys) (after-split x front xs apart)))
+      ∙ (ap (λ w. x ∷ items_after name_eq x (option_map_or (children_of ts) w (x ∷ []))) up ∙
+      (ap (λ ys. x ∷ items_after name_eq x ys) e ∙ ap (λ ys. x ∷ ys) (after-split x front xs apart)))
 
 -- those in front of others
 pub up-to-first : (xs ys : List NodeName) → Single (xs ++ ys) → (o : Option NodeName) → o ≡ first_of ys → up_to o (xs ++ ys) ≡ xs
@@ -100,7 +107,8 @@ up-to-none (Some y) = refl
 -- a walk along siblings: those that were passed, and what they are
 pub record Passes (ts : Trees) (names : List NodeName) (from until at : Option ℕ) (old new : List Piece) : Type 0 where
   pub done : List NodeName
-  pub whole : up_to (option_map (name_at names) until) (from_sibling ts (option_map (name_at names) from)) ≡ done ++ up_to (option_map (name_at names) until) (from_sibling ts (option_map (name_at names) at))
+  pub whole : up_to (option_map (name_at names) until) (from_sibling ts (option_map (name_at names) from)) ≡ done ++
+      up_to (option_map (name_at names) until) (from_sibling ts (option_map (name_at names) at))
   pub node : ForSome at (λ k. k < length names)
   pub added : Adds names old new (map whole_item done)
 
@@ -109,7 +117,8 @@ module _ (f : NamedTrees) (once : StandOnce f) (only : StandAlone f) (distinct :
   pub passes-first : ForSome from (λ k. k < length f.names) → Passes f.trees f.names from until from old old
   passes-first node = record { done = []; whole = refl; node = node; added = adds-none f.names old }
 
-  module _ (at next : Option ℕ) (key : ℕ) (new : List Piece) (p : Passes f.trees f.names from until at old new) (is : at ≡ Some key) (value : option_map (name_at f.names) next ≡ next_sibling f.trees (name_at f.names key)) where
+  module _ (at next : Option ℕ) (key : ℕ) (new : List Piece) (p : Passes f.trees f.names from until at old new) (is : at ≡ Some key)
+      (value : option_map (name_at f.names) next ≡ next_sibling f.trees (name_at f.names key)) where
     -- behind the node come the others
     abbrev x : NodeName
     x = name_at f.names key
@@ -118,28 +127,35 @@ module _ (f : NamedTrees) (once : StandOnce f) (only : StandAlone f) (distinct :
     others = sibling-next f.trees (Once-forest f once only) x (Has-forest f once key (p.node key is)) (option_map (name_at f.names) next) value
 
     -- one more is passed
-    pub passes-more : (until ≡ Some key → ⊥) → ForSome until (λ k. k < length f.names) → ForSome next (λ k. k < length f.names) → (then : List Piece) → then ≡ new ++ Whole key ∷ [] → Passes f.trees f.names from until next old then
+    pub passes-more : (until ≡ Some key → ⊥) → ForSome until (λ k. k < length f.names) → ForSome next (λ k. k < length f.names) →
+        (then : List Piece) → then ≡ new ++ Whole key ∷ [] → Passes f.trees f.names from until next old then
     passes-more off stop node then grown =
         let u = option_map (name_at f.names) until in
         let rest = from_sibling f.trees (option_map (name_at f.names) next) in
-        let apart = λ (y : NodeName) (there : u ≡ Some y) (same : x ≡ y). off (key-found f distinct until key stop (p.node key is) (there ∙ ap Some (sym same))) in
+        let apart = λ (y : NodeName) (there : u ≡ Some y) (same : x ≡ y). off
+        (key-found f distinct until key stop (p.node key is) (there ∙ ap Some (sym same))) in
         let step : up_to u (from_sibling f.trees (option_map (name_at f.names) at)) ≡ x ∷ up_to u rest =
-        ap (λ o. up_to u (from_sibling f.trees (option_map (name_at f.names) o))) is ∙ (up-to-more u x (items_after name_eq x (siblings f.trees x)) apart ∙ ap (λ ys. x ∷ up_to u ys) others) in
+        ap (λ o. up_to u (from_sibling f.trees (option_map (name_at f.names) o))) is ∙
+        (up-to-more u x (items_after name_eq x (siblings f.trees x)) apart ∙ ap (λ ys. x ∷ up_to u ys) others) in
         record {
           done = p.done ++ x ∷ [];
           whole = p.whole ∙ (ap (λ ys. p.done ++ ys) step ∙ sym (append_assoc p.done (x ∷ []) (up_to u rest)));
           node = node;
-          added = subst (Adds f.names old then) (sym (map_push whole_item p.done x)) (adds-on f.names old new then (map whole_item p.done) (whole_item x ∷ []) p.added (adds-one f.names new then (Whole key) grown (p.node key is)));
+          added = subst (Adds f.names old then) (sym (map_push whole_item p.done x))
+              (adds-on f.names old new then (map whole_item p.done) (whole_item x ∷ []) p.added
+              (adds-one f.names new then (Whole key) grown (p.node key is)));
         }
 
     -- fewer are left
     pub passes-fewer : length (from_sibling f.trees (option_map (name_at f.names) next)) < length (from_sibling f.trees (option_map (name_at f.names) at))
     passes-fewer =
-        let longer : length (from_sibling f.trees (option_map (name_at f.names) at)) ≡ suc (length (items_after name_eq x (siblings f.trees x))) = ap (λ o. length (from_sibling f.trees (option_map (name_at f.names) o))) is in
+        let longer : length (from_sibling f.trees (option_map (name_at f.names) at)) ≡ suc (length (items_after name_eq x (siblings f.trees x))) =
+        ap (λ o. length (from_sibling f.trees (option_map (name_at f.names) o))) is in
         omega (arith, longer, ap (length {A = NodeName}) others)
 
   -- at the end
-  pub passes-all : (at : Option ℕ) (new : List Piece) → Passes f.trees f.names from until at old new → up_to (option_map (name_at f.names) until) (from_sibling f.trees (option_map (name_at f.names) at)) ≡ []
+  pub passes-all : (at : Option ℕ) (new : List Piece) → Passes f.trees f.names from until at old new →
+      up_to (option_map (name_at f.names) until) (from_sibling f.trees (option_map (name_at f.names) at)) ≡ []
       → Adds f.names old new (map whole_item (up_to (option_map (name_at f.names) until) (from_sibling f.trees (option_map (name_at f.names) from))))
   passes-all at new p none =
       subst (λ xs. Adds f.names old new (map whole_item xs)) (sym (p.whole ∙ (ap (λ ys. p.done ++ ys) none ∙ append-nil p.done))) p.added
@@ -148,15 +164,18 @@ module _ (f : NamedTrees) (once : StandOnce f) (only : StandAlone f) (distinct :
 
 module _ (ts : Trees) (once : Once ts) (p : NodeName) (h : Has ts p) (offset : ℕ) where
   -- those in front of an offset
-  pub run-before : (from until : Option NodeName) → from ≡ first_of (children_of ts p) → until ≡ first_of (drop offset (children_of ts p)) → up_to until (from_sibling ts from) ≡ take offset (children_of ts p)
+  pub run-before : (from until : Option NodeName) → from ≡ first_of (children_of ts p) → until ≡ first_of (drop offset (children_of ts p)) →
+      up_to until (from_sibling ts from) ≡ take offset (children_of ts p)
   run-before from until first stop =
       let kids = children_of ts p in
       let parts = take-append-drop offset kids in
-      ap (up_to until) (from-kids ts once p h [] kids refl from first ∙ sym parts) ∙ up-to-first (take offset kids) (drop offset kids) (subst Single (sym parts) (children-single ts p once h)) until stop
+      ap (up_to until) (from-kids ts once p h [] kids refl from first ∙ sym parts) ∙ up-to-first (take offset kids) (drop offset kids)
+      (subst Single (sym parts) (children-single ts p once h)) until stop
 
   -- and those from it on
   pub run-behind : (from : Option NodeName) → from ≡ first_of (drop offset (children_of ts p)) → from_sibling ts from ≡ drop offset (children_of ts p)
-  run-behind from first = from-kids ts once p h (take offset (children_of ts p)) (drop offset (children_of ts p)) (sym (take-append-drop offset (children_of ts p))) from first
+  run-behind from first = from-kids ts once p h (take offset (children_of ts p)) (drop offset (children_of ts p))
+      (sym (take-append-drop offset (children_of ts p))) from first
 
 -- ---- items that are added one after the other
 
@@ -171,9 +190,14 @@ pub partway-first : (names : List NodeName) (old : List Piece) (all : List Item)
 partway-first names old all = record { done = []; whole = refl; added = adds-none names old }
 
 -- some more are added
-pub partway-more : (names : List NodeName) (old new then : List Piece) (all left some less : List Item) → Partway names old new all left → Adds names new then some → left ≡ some ++ less → Partway names old then all less
+pub partway-more : (names : List NodeName) (old new then : List Piece) (all left some less : List Item) → Partway names old new all left →
+    Adds names new then some → left ≡ some ++ less → Partway names old then all less
 partway-more names old new then all left some less p more e =
-    record { done = p.done ++ some; whole = p.whole ∙ (ap (λ xs. p.done ++ xs) e ∙ sym (append_assoc p.done some less)); added = adds-on names old new then p.done some p.added more }
+    record {
+      done = p.done ++ some;
+      whole = p.whole ∙ (ap (λ xs. p.done ++ xs) e ∙ sym (append_assoc p.done some less));
+      added = adds-on names old new then p.done some p.added more;
+    }
 
 -- none are left
 pub partway-all : (names : List NodeName) (old new : List Piece) (all left : List Item) → Partway names old new all left → left ≡ [] → Adds names old new all

@@ -33,14 +33,17 @@ last-member x y [] e = inl (sym (same_Some x y e))
 last-member x y (z ∷ zs) e = inr (last-member z y zs e)
 
 -- the items of nodes that are all taken as they are, or not at all
-flat-wholes : (f : NodeName → List Item) (taken : Bool) (xs : List NodeName) → ((z : NodeName) → In z xs → f z ≡ wholes_if taken (z ∷ [])) → flat_map f xs ≡ wholes_if taken xs
+flat-wholes : (f : NodeName → List Item) (taken : Bool) (xs : List NodeName) → ((z : NodeName) → In z xs → f z ≡ wholes_if taken (z ∷ [])) →
+    flat_map f xs ≡ wholes_if taken xs
 flat-wholes f true [] h = refl
 flat-wholes f false [] h = refl
-flat-wholes f true (x ∷ xs) h = flat_map-cons f x xs ∙ (ap (λ ys. ys ++ flat_map f xs) (h x (inl refl)) ∙ ap (λ ys. whole_item x ∷ ys) (flat-wholes f true xs (λ z i. h z (inr i))))
+flat-wholes f true (x ∷ xs) h = flat_map-cons f x xs ∙
+    (ap (λ ys. ys ++ flat_map f xs) (h x (inl refl)) ∙ ap (λ ys. whole_item x ∷ ys) (flat-wholes f true xs (λ z i. h z (inr i))))
 flat-wholes f false (x ∷ xs) h = flat_map-cons f x xs ∙ (ap (λ ys. ys ++ flat_map f xs) (h x (inl refl)) ∙ flat-wholes f false xs (λ z i. h z (inr i)))
 
 -- of the first nodes none and all others, or all and none of the others
-one-part : (behind : Bool) (first later : List NodeName) (items : List Item) → (wholes_if (not behind) first ++ wholes_if behind later) ++ items ≡ map whole_item (if behind then later else first) ++ items
+one-part : (behind : Bool) (first later : List NodeName) (items : List Item) →
+    (wholes_if (not behind) first ++ wholes_if behind later) ++ items ≡ map whole_item (if behind then later else first) ++ items
 one-part true first later items = refl
 one-part false first later items = ap (λ xs. xs ++ items) (append-nil (map whole_item first))
 
@@ -76,7 +79,8 @@ module _ (ts : Trees) (once : Once ts) (b : Boundary NodeName) (behind : Bool) w
       by true = a.after 0
       by false = a.apart (length_of ts z)
 
-  module _ (point : Has ts b.node) (top : NodeName) (top_stands : Has ts top) (leaves : (x : NodeName) → In x (inclusive_descendants ts top) → has_data (kind_of ts x) ≡ true → children_of ts x ≡ []) where
+  module _ (point : Has ts b.node) (top : NodeName) (top_stands : Has ts top)
+      (leaves : (x : NodeName) → In x (inclusive_descendants ts top) → has_data (kind_of ts x) ≡ true → children_of ts x ≡ []) where
     -- a node in the tree
     in-tree : (x : NodeName) → Has ts x → In top (inclusive_ancestors ts x) → IsWithin ts top x
     in-tree x h i = record { once = once; top_stands = top_stands; stands = below-from_above ts top x once h i }
@@ -91,40 +95,64 @@ module _ (ts : Trees) (once : Once ts) (b : Boundary NodeName) (behind : Bool) w
     -- those above it
     above-items : (z : NodeName) → Has ts z → In b.node (inclusive_descendants ts z)
         → side_of z ≡ (if has_data (kind_of ts z) then cut_item z from to ∷ [] else clone_item z ∷ (flat_map side_of (children_of ts z) ++ end_item ∷ []))
-    above-items z h i = items-on ts b.node taken from to once z h (is_in-from z (inclusive_ancestors ts b.node) (above-from_below ts z b.node once h (Has-names (subtree ts z) b.node i)))
+    above-items z h i = items-on ts b.node taken from to once z h
+        (is_in-from z (inclusive_ancestors ts b.node) (above-from_below ts z b.node once h (Has-names (subtree ts z) b.node i)))
 
     -- of a level
-    level-items : (p : NodeName) → IsWithin ts top p → (l : Level ts once p b) → flat_map side_of (children_of ts p) ≡ wholes_if (not behind) l.front ++ (flat_map side_of l.middle ++ wholes_if behind l.back)
+    level-items : (p : NodeName) → IsWithin ts top p → (l : Level ts once p b) →
+        flat_map side_of (children_of ts p) ≡ wholes_if (not behind) l.front ++ (flat_map side_of l.middle ++ wholes_if behind l.back)
     level-items p w l =
         let h = stands_in ts top p w in
         let stands : (z : NodeName) → In z (children_of ts p) → Has ts z = λ z i. stands_in ts top z (within-child ts top p z w i) in
         let in_front : (z : NodeName) → In z l.front → Has ts z = λ z i. stands z (subst (In z) (sym l.kids) (In-left z l.front (l.middle ++ l.back) i)) in
-        let in_back : (z : NodeName) → In z l.back → Has ts z = λ z i. stands z (subst (In z) (sym l.kids) (In-right z l.front (l.middle ++ l.back) (In-right z l.middle l.back i))) in
+        let in_back : (z : NodeName) → In z l.back → Has ts z =
+        λ z i. stands z (subst (In z) (sym l.kids) (In-right z l.front (l.middle ++ l.back) (In-right z l.middle l.back i))) in
         ap (flat_map side_of) l.kids
         ∙ (flat_map-append side_of l.front (l.middle ++ l.back)
-        ∙ (ap (λ xs. xs ++ flat_map side_of (l.middle ++ l.back)) (flat-wholes side_of (not behind) l.front (λ z i. ahead-items z (in_front z i) (in-front ts once p h b l z z i (self-in ts once z (in_front z i)))))
+        ∙ (ap (λ xs. xs ++ flat_map side_of (l.middle ++ l.back))
+        (flat-wholes side_of (not behind) l.front
+        (λ z i. ahead-items z (in_front z i) (in-front ts once p h b l z z i (self-in ts once z (in_front z i)))))
         ∙ ap (λ xs. wholes_if (not behind) l.front ++ xs)
         (flat_map-append side_of l.middle l.back
-        ∙ ap (λ xs. flat_map side_of l.middle ++ xs) (flat-wholes side_of behind l.back (λ z i. later-items z (in_back z i) (in-back ts once p h b l z z i (self-in ts once z (in_back z i))))))))
+        ∙ ap (λ xs. flat_map side_of l.middle ++ xs)
+        (flat-wholes side_of behind l.back
+        (λ z i. later-items z (in_back z i) (in-back ts once p h b l z z i (self-in ts once z (in_back z i))))))))
 
     -- of a node above the point, whose child on the path this is
-    path-items : (p x : NodeName) → IsWithin ts top p → In x (children_of ts p) → In b.node (inclusive_descendants ts x) → In b.node (inclusive_descendants ts p)
-        → side_of p ≡ clone_item p ∷ ((wholes_if (not behind) (items_before name_eq x (children_of ts p)) ++ (side_of x ++ wholes_if behind (items_after name_eq x (children_of ts p)))) ++ end_item ∷ [])
+    path-items : (p x : NodeName) → IsWithin ts top p → In x (children_of ts p) → In b.node (inclusive_descendants ts x) →
+        In b.node (inclusive_descendants ts p)
+        → side_of p ≡ clone_item p ∷ ((wholes_if (not behind) (items_before name_eq x (children_of ts p)) ++
+        (side_of x ++ wholes_if behind (items_after name_eq x (children_of ts p)))) ++ end_item ∷ [])
     path-items p x w i inside below =
         let kids = children_of ts p in
-        let l : Level ts once p b = record { front = items_before name_eq x kids; middle = x ∷ []; back = items_after name_eq x kids; kids = split_at x kids i; shape = inr record { child = x; alone = refl; inside = inside } } in
-        let no_data : has_data (kind_of ts p) ≡ false = elim (cases_Bool (has_data (kind_of ts p))) [ inl e ↦ absurd (subst (In x) (leaves p (In-names (subtree ts top) p w.stands) e) i) | inr e ↦ e ] in
+        let l : Level ts once p b = record {
+          front = items_before name_eq x kids;
+          middle = x ∷ [];
+          back = items_after name_eq x kids;
+          kids = split_at x kids i;
+          shape = inr record { child = x; alone = refl; inside = inside };
+        } in
+        let no_data : has_data (kind_of ts p) ≡ false =
+        elim (cases_Bool (has_data (kind_of ts p)))
+        [ inl e ↦ absurd (subst (In x) (leaves p (In-names (subtree ts top) p w.stands) e) i) | inr e ↦ e ] in
         above-items p (stands_in ts top p w) below
         ∙ (cond-false (has_data (kind_of ts p)) (cut_item p from to ∷ []) (clone_item p ∷ (flat_map side_of kids ++ end_item ∷ [])) no_data
         ∙ ap (λ xs. clone_item p ∷ (xs ++ end_item ∷ []))
-        (level-items p w l ∙ ap (λ xs. wholes_if (not behind) (items_before name_eq x kids) ++ (xs ++ wholes_if behind (items_after name_eq x kids))) (flat_map-cons side_of x [] ∙ append-nil (side_of x))))
+        (level-items p w l ∙ ap (λ xs. wholes_if (not behind) (items_before name_eq x kids) ++
+        (xs ++ wholes_if behind (items_after name_eq x kids))) (flat_map-cons side_of x [] ∙ append-nil (side_of x))))
 
     -- of the point's node
     end-of : IsWithin ts top b.node → side_of b.node ≡ end_items ts b behind
     end-of w =
         let x = b.node in
         let kids = children_of ts x in
-        let l : Level ts once x b = record { front = take b.offset kids; middle = []; back = drop b.offset kids; kids = sym (take-append-drop b.offset kids); shape = inl record { same = refl; none = refl; first = refl; later = refl } } in
+        let l : Level ts once x b = record {
+          front = take b.offset kids;
+          middle = [];
+          back = drop b.offset kids;
+          kids = sym (take-append-drop b.offset kids);
+          shape = inl record { same = refl; none = refl; first = refl; later = refl };
+        } in
         above-items x point (self-in ts once x point)
         ∙ ap (λ xs. if has_data (kind_of ts x) then cut_item x from to ∷ [] else clone_item x ∷ xs)
         (ap (λ xs. xs ++ end_item ∷ []) (level-items x w l) ∙ one-part behind (take b.offset kids) (drop b.offset kids) (end_item ∷ []))
@@ -133,7 +161,8 @@ module _ (ts : Trees) (once : Once ts) (b : Boundary NodeName) (behind : Bool) w
 
     -- one level, written out
     regroup : (a before_items inner behind_items c : List Item) (p : NodeName)
-        → a ++ ((clone_item p ∷ ((before_items ++ (inner ++ behind_items)) ++ end_item ∷ [])) ++ c) ≡ (a ++ clone_item p ∷ before_items) ++ (inner ++ (behind_items ++ end_item ∷ c))
+        → a ++ ((clone_item p ∷ ((before_items ++ (inner ++ behind_items)) ++ end_item ∷ [])) ++ c) ≡ (a ++ clone_item p ∷ before_items) ++
+        (inner ++ (behind_items ++ end_item ∷ c))
     regroup a u v w c p =
         ap (λ xs. a ++ clone_item p ∷ xs)
         (append_assoc (u ++ (v ++ w)) (end_item ∷ []) c
@@ -141,7 +170,8 @@ module _ (ts : Trees) (once : Once ts) (b : Boundary NodeName) (behind : Bool) w
         ∙ sym (append_assoc a (clone_item p ∷ u) (v ++ (w ++ end_item ∷ c)))
 
     -- what is taken of the tree of the path's last node, by what is taken of its first
-    path-up : (x : NodeName) (path rest : List NodeName) → Has ts x → inclusive_ancestors ts x ≡ (x ∷ path) ++ rest → last_of (x ∷ path) ≡ Some top → In b.node (inclusive_descendants ts x)
+    path-up : (x : NodeName) (path rest : List NodeName) → Has ts x → inclusive_ancestors ts x ≡ (x ∷ path) ++ rest →
+        last_of (x ∷ path) ≡ Some top → In b.node (inclusive_descendants ts x)
         → side_of top ≡ heads ts (not behind) (x ∷ path) ++ (side_of x ++ tails ts behind (x ∷ path))
     path-up x [] rest h above last inside = ap side_of (sym (same_Some x top last)) ∙ sym (append-nil (side_of x))
     path-up x (p ∷ path) rest h above last inside =
@@ -153,17 +183,23 @@ module _ (ts : Trees) (once : Once ts) (b : Boundary NodeName) (behind : Bool) w
         let w = in-tree p up.1 (subst (In top) (sym higher) (In-left top (p ∷ path) rest (last-member p top path last))) in
         path-up p path rest up.1 higher last below
         ∙ (ap (λ xs. heads ts (not behind) (p ∷ path) ++ (xs ++ tails ts behind (p ∷ path))) (path-items p x w among inside below)
-        ∙ (regroup (heads ts (not behind) (p ∷ path)) (wholes_if (not behind) (items_before name_eq x (children_of ts p))) (side_of x) (wholes_if behind (items_after name_eq x (children_of ts p))) (tails ts behind (p ∷ path)) p
-        ∙ ap (λ xs. heads ts (not behind) (x ∷ p ∷ path) ++ (side_of x ++ (wholes_if behind (items_after name_eq x xs) ++ end_item ∷ tails ts behind (p ∷ path)))) (sym (ap (λ o. option_map_or (children_of ts) o (x ∷ [])) parent))))
+        ∙ (regroup (heads ts (not behind) (p ∷ path)) (wholes_if (not behind) (items_before name_eq x (children_of ts p))) (side_of x)
+        (wholes_if behind (items_after name_eq x (children_of ts p))) (tails ts behind (p ∷ path)) p
+        ∙ ap (λ xs. heads ts (not behind) (x ∷ p ∷ path) ++
+        (side_of x ++ (wholes_if behind (items_after name_eq x xs) ++ end_item ∷ tails ts behind (p ∷ path))))
+        (sym (ap (λ o. option_map_or (children_of ts) o (x ∷ [])) parent))))
       where
-        below-point : (q z : NodeName) → Has ts q → Has ts z → In q (inclusive_ancestors ts z) → In b.node (inclusive_descendants ts z) → Has (subtree ts q) b.node
+        below-point : (q z : NodeName) → Has ts q → Has ts z → In q (inclusive_ancestors ts z) → In b.node (inclusive_descendants ts z) →
+            Has (subtree ts q) b.node
         below-point q z at_q at_z i j =
             let stands = Has-names (subtree ts z) b.node j in
             let h = Has-subtree ts z b.node once stands in
             below-from_above ts q b.node once h (above-along ts q z b.node once h i (above-from_below ts z b.node once at_z stands))
 
     -- so all that is taken of it
-    pub side-is : (path rest : List NodeName) → inclusive_ancestors ts b.node ≡ (b.node ∷ path) ++ rest → last_of (b.node ∷ path) ≡ Some top → side_of top ≡ side_items ts b behind (b.node ∷ path)
+    pub side-is : (path rest : List NodeName) → inclusive_ancestors ts b.node ≡ (b.node ∷ path) ++ rest → last_of (b.node ∷ path) ≡ Some top →
+        side_of top ≡ side_items ts b behind (b.node ∷ path)
     side-is path rest above last =
         let w = in-tree b.node point (subst (In top) (sym above) (In-left top (b.node ∷ path) rest (last-member b.node top path last))) in
-        path-up b.node path rest point above last (self-in ts once b.node point) ∙ ap (λ xs. heads ts (not behind) (b.node ∷ path) ++ (xs ++ tails ts behind (b.node ∷ path))) (end-of w)
+        path-up b.node path rest point above last (self-in ts once b.node point) ∙
+        ap (λ xs. heads ts (not behind) (b.node ∷ path) ++ (xs ++ tails ts behind (b.node ∷ path))) (end-of w)

@@ -1,5 +1,6 @@
 -- Steps along a path, and counts of pieces.
-use Rattle.std.proofs.Common.{◌≡◌, ℕ, suc, ◌+◌, ◌-◌, ◌<◌, ◌≤◌, Bool, not, List, [], ◌∷◌, ◌++◌, length, map, drop, get_or, Some, refl, sym, ap, ◌∙◌, append_assoc, arith, length-drop}
+use Rattle.std.proofs.Common.{◌≡◌, ℕ, suc, ◌+◌, ◌-◌, ◌<◌, ◌≤◌, Bool, not, List, [], ◌∷◌, ◌++◌, length, map, drop, get_or, Some, refl, sym, ap, ◌∙◌}
+use Rattle.std.proofs.Common.{append_assoc, arith, length-drop}
 use Rattle.std.specs.Prelude.{slice_get}
 use Rattle.std.proofs.Math.Seq.{drop-cons}
 use Rattle.dom_base.specs.declared.NodeName.{NodeName}
@@ -26,27 +27,39 @@ module _ (ts : Trees) (names : List NodeName) (path : List ℕ) where
   one i l = ap (map (name_at names)) (drop-cons path (suc i) 0 l)
 
   -- one node further in
-  pub heads-step : (before : Bool) (i : ℕ) → suc i < length path → heads ts before (from i) ≡ heads ts before (from (suc i)) ++ (clone_item (at (suc i)) ∷ wholes_if before (items_before name_eq (at i) (children_of ts (at (suc i)))))
+  pub heads-step : (before : Bool) (i : ℕ) → suc i < length path →
+      heads ts before (from i) ≡ heads ts before (from (suc i)) ++
+      (clone_item (at (suc i)) ∷ wholes_if before (items_before name_eq (at i) (children_of ts (at (suc i)))))
   heads-step before i l =
-      ap (heads ts before) (two i l) ∙ ap (λ xs. heads ts before xs ++ (clone_item (at (suc i)) ∷ wholes_if before (items_before name_eq (at i) (children_of ts (at (suc i)))))) (sym (one i l))
+      ap (heads ts before) (two i l) ∙ ap
+      (λ xs. heads ts before xs ++ (clone_item (at (suc i)) ∷ wholes_if before (items_before name_eq (at i) (children_of ts (at (suc i))))))
+      (sym (one i l))
 
   -- one node further out
-  pub tails-step : (behind : Bool) (i : ℕ) → suc i < length path → tails ts behind (from i) ≡ (wholes_if behind (items_after name_eq (at i) (siblings ts (at i))) ++ end_item ∷ []) ++ tails ts behind (from (suc i))
+  pub tails-step : (behind : Bool) (i : ℕ) → suc i < length path →
+      tails ts behind (from i) ≡ (wholes_if behind (items_after name_eq (at i) (siblings ts (at i))) ++ end_item ∷ []) ++
+      tails ts behind (from (suc i))
   tails-step behind i l =
       let taken = wholes_if behind (items_after name_eq (at i) (siblings ts (at i))) in
-      ap (tails ts behind) (two i l) ∙ (ap (λ xs. taken ++ end_item ∷ tails ts behind xs) (sym (one i l)) ∙ sym (append_assoc taken (end_item ∷ []) (tails ts behind (from (suc i)))))
+      ap (tails ts behind) (two i l) ∙ (ap (λ xs. taken ++ end_item ∷ tails ts behind xs) (sym (one i l)) ∙
+      sym (append_assoc taken (end_item ∷ []) (tails ts behind (from (suc i)))))
 
   -- the same by keys that were read
   pub heads-keys : (before : Bool) (i j node child : ℕ) → suc i < length path → suc i ≡ j → node ≡ get_or path j 0 → child ≡ get_or path i 0
-      → heads ts before (from j) ++ (clone_item (name_at names node) ∷ wholes_if before (items_before name_eq (name_at names child) (children_of ts (name_at names node)))) ≡ heads ts before (from i)
+      → heads ts before (from j) ++ (clone_item (name_at names node) ∷ wholes_if before
+      (items_before name_eq (name_at names child) (children_of ts (name_at names node)))) ≡ heads ts before (from i)
   heads-keys before i j node child l up node_is child_is =
-      let all = λ (k n m : ℕ). heads ts before (from k) ++ (clone_item (name_at names n) ∷ wholes_if before (items_before name_eq (name_at names m) (children_of ts (name_at names n)))) in
-      ap (λ n. all j n child) node_is ∙ (ap (all j (get_or path j 0)) child_is ∙ (ap (λ k. all k (get_or path k 0) (get_or path i 0)) (sym up) ∙ sym (heads-step before i l)))
+      let all = λ (k n m : ℕ). heads ts before (from k) ++
+      (clone_item (name_at names n) ∷ wholes_if before (items_before name_eq (name_at names m) (children_of ts (name_at names n)))) in
+      ap (λ n. all j n child) node_is ∙ (ap (all j (get_or path j 0)) child_is ∙
+      (ap (λ k. all k (get_or path k 0) (get_or path i 0)) (sym up) ∙ sym (heads-step before i l)))
 
   pub tails-keys : (behind : Bool) (i j child : ℕ) → suc i < length path → suc i ≡ j → child ≡ get_or path i 0
-      → tails ts behind (from i) ≡ (wholes_if behind (items_after name_eq (name_at names child) (siblings ts (name_at names child))) ++ end_item ∷ []) ++ tails ts behind (from j)
+      → tails ts behind (from i) ≡ (wholes_if behind (items_after name_eq (name_at names child) (siblings ts (name_at names child))) ++
+      end_item ∷ []) ++ tails ts behind (from j)
   tails-keys behind i j child l up child_is =
-      let all = λ (k m : ℕ). (wholes_if behind (items_after name_eq (name_at names m) (siblings ts (name_at names m))) ++ end_item ∷ []) ++ tails ts behind (from k) in
+      let all = λ (k m : ℕ). (wholes_if behind (items_after name_eq (name_at names m) (siblings ts (name_at names m))) ++ end_item ∷ []) ++
+      tails ts behind (from k) in
       tails-step behind i l ∙ (ap (all (suc i)) (sym child_is) ∙ ap (λ k. all k child) up)
 
   -- of the last node, or none, there are none
@@ -68,15 +81,18 @@ module _ (ts : Trees) (names : List NodeName) (path : List ℕ) where
 
 -- what is taken along a path that is not empty
 pub side-some : (ts : Trees) (b : Boundary NodeName) (behind : Bool) (names : List NodeName) (ks : List ℕ) → 0 < length ks
-    → side_items ts b behind (map (name_at names) ks) ≡ heads ts (not behind) (map (name_at names) ks) ++ (end_items ts b behind ++ tails ts behind (map (name_at names) ks))
+    → side_items ts b behind (map (name_at names) ks) ≡ heads ts (not behind) (map (name_at names) ks) ++
+    (end_items ts b behind ++ tails ts behind (map (name_at names) ks))
 side-some ts b behind names [] l = absurd (omega (arith, l))
 side-some ts b behind names (k ∷ ks) l = refl
 
 -- the last name of a path, by the last key
-pub last-named : (names : List NodeName) (ks : List ℕ) (k : ℕ) → slice_get ks (length ks - 1) ≡ Some k → last_of (map (name_at names) ks) ≡ Some (name_at names k)
+pub last-named : (names : List NodeName) (ks : List ℕ) (k : ℕ) → slice_get ks (length ks - 1) ≡ Some k →
+    last_of (map (name_at names) ks) ≡ Some (name_at names k)
 last-named names [] k e = cc
 last-named names (j ∷ []) k e = let same : j ≡ k = cc in ap (λ i. Some (name_at names i)) same
-last-named names (j ∷ i ∷ ks) k e = last-named names (i ∷ ks) k (ap (slice_get (j ∷ i ∷ ks)) (let here : suc (length (i ∷ ks) - 1) ≡ length (j ∷ i ∷ ks) - 1 = omega arith in here) ∙ e)
+last-named names (j ∷ i ∷ ks) k e = last-named names (i ∷ ks) k
+    (ap (slice_get (j ∷ i ∷ ks)) (let here : suc (length (i ∷ ks) - 1) ≡ length (j ∷ i ∷ ks) - 1 = omega arith in here) ∙ e)
 
 -- ---- counts
 

@@ -29,7 +29,9 @@ module _ (ts : Trees) (top : NodeName) (b : Boundary NodeName) (w : IsWithin ts 
       let kids = children_of ts b.node in
       let front = joined ts (take b.offset kids) in
       let back = joined ts (drop b.offset kids) in
-      let parts : joined ts kids ≡ front ++ back = ap (joined ts) (sym (take-append-drop b.offset kids)) ∙ flat_map-append (inclusive_descendants ts) (take b.offset kids) (drop b.offset kids) in
+      let parts : joined ts kids ≡ front ++ back =
+      ap (joined ts) (sym (take-append-drop b.offset kids)) ∙ flat_map-append (inclusive_descendants ts) (take b.offset kids)
+      (drop b.offset kids) in
       splits ts top b.node w
       ∙ (ap (λ xs. ahead_of ts top b.node ++ (xs ++ beyond ts top b.node)) (here ts top b.node w ∙ ap (λ xs. b.node ∷ xs) parts)
       ∙ (ap (λ xs. ahead_of ts top b.node ++ b.node ∷ xs) (append_assoc front back (beyond ts top b.node))
@@ -40,7 +42,8 @@ module _ (ts : Trees) (top : NodeName) (b : Boundary NodeName) (w : IsWithin ts 
   before-no y i = elim (In-parts y (ahead_of ts top b.node) (b.node ∷ joined ts (take b.offset (children_of ts b.node))) i) [
     | inl j ↦ elim (ahead-apart ts w.once top b.node y w j) [
       | inl k ↦
-          before-beside ts b.node y b.offset 0 k.common k.second k.first k.second_rest k.first_rest k.second_place k.first_place (λ same. let l = k.less in omega (arith, l, same))
+          before-beside ts b.node y b.offset 0 k.common k.second k.first k.second_rest k.first_rest k.second_place k.first_place
+          (λ same. let l = k.less in omega (arith, l, same))
           ∙ le-ltb k.second k.first (let l = k.less in omega (arith, l))
       | inr k ↦ before-up ts b.node y b.offset 0 k.child k.rest k.place ∙ le-ltb k.child 0 (omega arith)
     ]
@@ -52,7 +55,9 @@ module _ (ts : Trees) (top : NodeName) (b : Boundary NodeName) (w : IsWithin ts 
           let first = items_before name_eq s.0 (take b.offset kids) in
           let later = items_after name_eq s.0 (take b.offset kids) in
           let parts = split_at s.0 (take b.offset kids) s.1 in
-          let whole : kids ≡ first ++ s.0 ∷ (later ++ drop b.offset kids) = sym (take-append-drop b.offset kids) ∙ (ap (λ xs. xs ++ drop b.offset kids) parts ∙ append_assoc first (s.0 ∷ later) (drop b.offset kids)) in
+          let whole : kids ≡ first ++ s.0 ∷ (later ++ drop b.offset kids) =
+          sym (take-append-drop b.offset kids) ∙
+          (ap (λ xs. xs ++ drop b.offset kids) parts ∙ append_assoc first (s.0 ∷ later) (drop b.offset kids)) in
           let r = under-kid ts w.once b.node s.0 y (stands_in ts top b.node w) first (later ++ drop b.offset kids) whole s.2 in
           let longer = ap (length {A = NodeName}) parts ∙ length-append first (s.0 ∷ later) in
           let few = length-take b.offset kids in
@@ -70,7 +75,9 @@ module _ (ts : Trees) (top : NodeName) (b : Boundary NodeName) (w : IsWithin ts 
         let later = items_after name_eq s.0 (drop b.offset kids) in
         let parts = split_at s.0 (drop b.offset kids) s.1 in
         let front = take b.offset kids ++ first in
-        let whole : kids ≡ front ++ s.0 ∷ later = sym (take-append-drop b.offset kids) ∙ (ap (λ xs. take b.offset kids ++ xs) parts ∙ sym (append_assoc (take b.offset kids) first (s.0 ∷ later))) in
+        let whole : kids ≡ front ++ s.0 ∷ later =
+        sym (take-append-drop b.offset kids) ∙
+        (ap (λ xs. take b.offset kids ++ xs) parts ∙ sym (append_assoc (take b.offset kids) first (s.0 ∷ later))) in
         let r = under-kid ts w.once b.node s.0 y (stands_in ts top b.node w) front later whole s.2 in
         let longer = ap (length {A = NodeName}) parts ∙ length-append first (s.0 ∷ later) in
         let left = length-drop b.offset kids in
@@ -79,5 +86,6 @@ module _ (ts : Trees) (top : NodeName) (b : Boundary NodeName) (w : IsWithin ts 
         before-down ts b.node y b.offset 0 (length front) r.0 r.1 ∙ le-leb b.offset (length front) (omega (arith, longer, left, few, both))
     | inr j ↦
         let k = behind-apart ts w.once top b.node y w j in
-        before-beside ts b.node y b.offset 0 k.common k.first k.second k.first_rest k.second_rest k.first_place k.second_place (λ same. let l = k.less in omega (arith, l, same)) ∙ lt-ltb k.first k.second k.less
+        before-beside ts b.node y b.offset 0 k.common k.first k.second k.first_rest k.second_rest k.first_place k.second_place
+        (λ same. let l = k.less in omega (arith, l, same)) ∙ lt-ltb k.first k.second k.less
   ]

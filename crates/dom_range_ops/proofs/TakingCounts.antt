@@ -6,7 +6,9 @@ use Rattle.std.specs.Option.{option_map_or}
 use Rattle.dom_base.specs.declared.NodeName.{NodeName}
 use Rattle.dom_isolation.proofs.Lists.{all-append}
 use Rattle.dom_isolation.proofs.PartSteps.{count-step}
-use Rattle.dom_model.specs.Changes.{Plan, ◌and_then◌, in_turn, doing, steps_of, Observing, observed, suppressed, telling, removing, removing_from, has_document, changing_document, adopting, document_below, placed_nodes, emptying, making_room, placing, sibling_before, inserting_nodes, inserting}
+use Rattle.dom_model.specs.Changes.{Plan, ◌and_then◌, in_turn, doing, steps_of, Observing, observed, suppressed, telling, removing, removing_from}
+use Rattle.dom_model.specs.Changes.{has_document, changing_document, adopting, document_below, placed_nodes, emptying, making_room, placing}
+use Rattle.dom_model.specs.Changes.{sibling_before, inserting_nodes, inserting}
 use Rattle.dom_model.specs.Extract.{making_below}
 use Rattle.dom_model.specs.Names.{is_empty}
 use Rattle.dom_model.specs.Output.{Change, child_list}
@@ -40,7 +42,8 @@ none-each : {A : Type 0} (f : A → Plan) → ((x : A) → PlansNone (f x)) → 
 none-each f h [] p = tt
 none-each f h (x ∷ xs) p = all-append MakesNone (f x p) (in_turn f xs (after p (f x p))) (h x p) (none-each f h xs (after p (f x p)))
 
-none-if : (b : Bool) (steps more : List Step) → AllByRecursion MakesNone steps → AllByRecursion MakesNone more → AllByRecursion MakesNone (if b then steps else more)
+none-if : (b : Bool) (steps more : List Step) → AllByRecursion MakesNone steps → AllByRecursion MakesNone more →
+    AllByRecursion MakesNone (if b then steps else more)
 none-if true steps more a c = a
 none-if false steps more a c = c
 
@@ -56,7 +59,8 @@ none-removing : (how : Observing) (x : NodeName) → PlansNone (removing how x)
 none-removing how x p = none-map (removing_from how x p.trees) (λ parent. (tt, none-telling how _)) (parent_of p.trees x)
 
 none-adopting : (d x : NodeName) → PlansNone (adopting d x)
-none-adopting d x = none-then (removing observed x) (changing_document d x) (none-removing observed x) (λ p. none-if (not (has_document p.trees d x)) (set_document x d ∷ []) [] (tt, tt) tt)
+none-adopting d x = none-then (removing observed x) (changing_document d x) (none-removing observed x)
+    (λ p. none-if (not (has_document p.trees d x)) (set_document x d ∷ []) [] (tt, tt) tt)
 
 none-placing : (parent : NodeName) (before : Option NodeName) (x : NodeName) → PlansNone (placing parent before x)
 none-placing parent before x p =
@@ -64,9 +68,11 @@ none-placing parent before x p =
     none-then (adopting d x) (doing (place x parent before)) (none-adopting d x) (λ q. (tt, tt)) p
 
 none-emptying : (node : NodeName) (children : List NodeName) → PlansNone (emptying node children)
-none-emptying node children = none-then (in_turn (removing suppressed) children) (doing (queue_record (child_list node [] children None None))) (none-each (removing suppressed) (none-removing suppressed) children) (λ p. (tt, tt))
+none-emptying node children = none-then (in_turn (removing suppressed) children) (doing (queue_record (child_list node [] children None None)))
+    (none-each (removing suppressed) (none-removing suppressed) children) (λ p. (tt, tt))
 
-none-inserting_nodes : (how : Observing) (node : NodeName) (moved : List NodeName) (parent : NodeName) (before : Option NodeName) → PlansNone (inserting_nodes how node moved parent before)
+none-inserting_nodes : (how : Observing) (node : NodeName) (moved : List NodeName) (parent : NodeName) (before : Option NodeName) →
+    PlansNone (inserting_nodes how node moved parent before)
 none-inserting_nodes how node moved parent before p =
     let told = child_list parent moved [] (sibling_before p.trees parent before) before in
     let emptied : Plan = if is_fragment (kind_of p.trees node) then emptying node moved else steps_of [] in
@@ -74,7 +80,8 @@ none-inserting_nodes how node moved parent before p =
     let each = in_turn (placing parent before) moved in
     none-then (emptied and_then room and_then each) (steps_of (telling how told))
     (none-then (emptied and_then room) each
-    (none-then emptied room (empties (is_fragment (kind_of p.trees node))) (λ q. none-map (λ child. make_room parent (index_of q.trees child) (length moved) ∷ []) (λ child. (tt, tt)) before))
+    (none-then emptied room (empties (is_fragment (kind_of p.trees node)))
+    (λ q. none-map (λ child. make_room parent (index_of q.trees child) (length moved) ∷ []) (λ child. (tt, tt)) before))
     (none-each (placing parent before) (none-placing parent before) moved)) (λ q. none-telling how told) p
   where
     empties : (b : Bool) → PlansNone (if b then emptying node moved else steps_of [])
@@ -87,7 +94,8 @@ none-inserting how node parent before p =
     none-if (is_empty moved) [] (inserting_nodes how node moved parent before p) tt (none-inserting_nodes how node moved parent before p)
 
 -- an insertion
-pub count-inserting : (how : Observing) (node parent : NodeName) (before : Option NodeName) (p : Part) → (after p (inserting how node parent before p)).node_count ≡ p.node_count
+pub count-inserting : (how : Observing) (node parent : NodeName) (before : Option NodeName) (p : Part) →
+    (after p (inserting how node parent before p)).node_count ≡ p.node_count
 count-inserting how node parent before p = count-none p (inserting how node parent before p) (none-inserting how node parent before p)
 
 -- a new node below another one

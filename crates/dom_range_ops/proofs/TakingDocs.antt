@@ -7,7 +7,7 @@ use Rattle.dom_base.specs.declared.Owner.{Owner}
 use Rattle.dom_base.specs.declared.Owner.TheVariants.{Page}
 use Rattle.dom_isolation.specs.Worlds.{IsPart}
 use Rattle.dom_isolation.proofs.Descents.{ancestor-inside}
-use Rattle.dom_isolation.proofs.KindCommands.{has_node-times}
+use Rattle.dom_isolation.proofs.KindLines.{has_node-times}
 use Rattle.dom_isolation.proofs.PlanTexts.{new-may}
 use Rattle.dom_isolation.proofs.Tests.{by_cases}
 use Rattle.dom_model.proofs.PartLaws.{owner-part_of}
@@ -40,8 +40,11 @@ pub plans-below : (o : Owner) (top : NodeName) (n : Node) → n.name.owner ≡ o
 plans-below o top n is = plans_then o (doing (make n)) (inserting observed n.name top None) (λ p own. (tt, tt)) (plans_inserting o observed n.name top None is)
 
 -- A node n was made, with the next name of the owner of a node `top`.
-module _ (d e : DocState) (top : ℕ) (n : Node) (here : top < length d.names) (alone : IsAlone d.world (owner_in d top)) (part : IsPart (part_of d.world (owner_in d top))) (stands : has_node (trees_in d top) (name_in d top) ≡ true)
-    (named : n.name ≡ next_name (part_of d.world (owner_in d top))) (names : e.names ≡ d.names ++ next_name (part_of d.world (owner_in d top)) ∷ []) (world : e.world ≡ made (owner_in d top) (doing (make n)) d.world) where
+module _ (d e : DocState) (top : ℕ) (n : Node) (here : top < length d.names) (alone : IsAlone d.world (owner_in d top))
+    (part : IsPart (part_of d.world (owner_in d top))) (stands : has_node (trees_in d top) (name_in d top) ≡ true)
+    (named : n.name ≡ next_name (part_of d.world (owner_in d top)))
+    (names : e.names ≡ d.names ++ next_name (part_of d.world (owner_in d top)) ∷ [])
+    (world : e.world ≡ made (owner_in d top) (doing (make n)) d.world) where
   abbrev o : Owner
   o = owner_in d top
 
@@ -68,7 +71,8 @@ module _ (d e : DocState) (top : ℕ) (n : Node) (here : top < length d.names) (
       let may = new-may p n (name_in d top) part (has_node-times p.trees (name_in d top) stands) in
       let q = part_step p (make n) in
       ap (λ (r : Part). is_inclusive_ancestor r.trees (next_name p) (name_in d top)) new-part
-      ∙ by_cases (is_inclusive_ancestor q.trees (next_name p) (name_in d top)) (λ k. absurd (let a = ancestor-inside q.trees (next_name p) (name_in d top) k in let b = may.apart in omega arith)) (λ k. k)
+      ∙ by_cases (is_inclusive_ancestor q.trees (next_name p) (name_in d top))
+      (λ k. absurd (let a = ancestor-inside q.trees (next_name p) (name_in d top) k in let b = may.apart in omega arith)) (λ k. k)
 
   -- it may be placed below that one
   pub new-moves : MayMove e top None new
@@ -76,12 +80,14 @@ module _ (d e : DocState) (top : ℕ) (n : Node) (here : top < length d.names) (
       record {
         node = let a = ap (λ (ns : List NodeName). length ns) names in let b = length-append d.names (next_name p ∷ []) in omega arith;
         owner = ap (λ (y : NodeName). y.owner) new-name ∙ new-owner ∙ sym (ap (λ (y : NodeName). y.owner) top-name);
-        not_above = ap (λ (y : NodeName). is_inclusive_ancestor (part_of e.world y.owner).trees (name_in e new) y) top-name ∙ ap (λ (y : NodeName). is_inclusive_ancestor (part_of e.world o).trees y (name_in d top)) new-name ∙ apart;
+        not_above = ap (λ (y : NodeName). is_inclusive_ancestor (part_of e.world y.owner).trees (name_in e new) y) top-name ∙
+            ap (λ (y : NodeName). is_inclusive_ancestor (part_of e.world o).trees y (name_in d top)) new-name ∙ apart;
         apart = λ b is. absurd (cc);
       }
 
   -- and both are one plan
-  pub below-made : (f : DocState) → f ≡ planned (owner_in e top) (inserting observed (name_in e new) (name_in e top) None) e → f.world ≡ made o (making_below (name_in d top) n) d.world
+  pub below-made : (f : DocState) → f ≡ planned (owner_in e top) (inserting observed (name_in e new) (name_in e top) None) e →
+      f.world ≡ made o (making_below (name_in d top) n) d.world
   below-made f is =
       let put : Plan = inserting observed n.name (name_in d top) None in
       ap (λ (s : DocState). s.world) is
@@ -91,12 +97,16 @@ module _ (d e : DocState) (top : ℕ) (n : Node) (here : top < length d.names) (
       ∙ sym (made_then o (doing (make n)) put d.world alone (λ q own. (tt, tt)))
 
 -- what the forest has of a node of an owner is what its part has of it
-pub node-read : (d : DocState) (f : NamedTrees) (o : Owner) (k : ℕ) → AreOwned f.trees → f.names ≡ d.names → trees_of_owner o f.trees ≡ (part_of d.world o).trees → owner_in d k ≡ o → node_in f.trees (name_at f.names k) ≡ node_in (part_of d.world o).trees (name_in d k)
+pub node-read : (d : DocState) (f : NamedTrees) (o : Owner) (k : ℕ) → AreOwned f.trees → f.names ≡ d.names →
+    trees_of_owner o f.trees ≡ (part_of d.world o).trees → owner_in d k ≡ o →
+    node_in f.trees (name_at f.names k) ≡ node_in (part_of d.world o).trees (name_in d k)
 node-read d f o k owned names own is =
-    ap (λ (ns : List NodeName). node_in f.trees (name_at ns k)) names ∙ (read_own f.trees owned o (name_in d k) is).node ∙ ap (λ us. node_in us (name_in d k)) own
+    ap (λ (ns : List NodeName). node_in f.trees (name_at ns k)) names ∙ (read_own f.trees owned o (name_in d k) is).node ∙
+    ap (λ us. node_in us (name_in d k)) own
 
 -- a new node below another one, and code units that go
-pub units-made : (d e g : DocState) (top node : ℕ) (n : Node) (from count : ℕ) → IsAlone d.world (owner_in d top) → n.name.owner ≡ owner_in d top → owner_in d node ≡ owner_in d top → name_in e node ≡ name_in d node →
+pub units-made : (d e g : DocState) (top node : ℕ) (n : Node) (from count : ℕ) → IsAlone d.world (owner_in d top) →
+    n.name.owner ≡ owner_in d top → owner_in d node ≡ owner_in d top → name_in e node ≡ name_in d node →
     e.world ≡ made (owner_in d top) (making_below (name_in d top) n) d.world → g ≡ planned (owner_in e node) (replacing_data (name_in e node) from count []) e →
     g.world ≡ made (owner_in d top) (making_below (name_in d top) n and_then replacing_data (name_in d node) from count []) d.world
 units-made d e g top node n from count alone own owner same world is =

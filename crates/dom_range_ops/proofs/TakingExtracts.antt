@@ -26,14 +26,18 @@ use Rattle.dom_range_ops.specs.declared.pieces.Piece.{Piece}
 use Rattle.dom_tree.specs.Forest.{name_at}
 
 -- the steps for items that may be taken are in their owner's part
-pub plans-items : (o : Owner) (into : NodeName) (p : Part) → IsPart p → p.owner ≡ o → (items : List Item) → AllByRecursion (MayBeTaken into p.trees) items → (clones : List NodeName) → PlansOwn o (taking_items into clones items)
+pub plans-items : (o : Owner) (into : NodeName) (p : Part) → IsPart p → p.owner ≡ o → (items : List Item) →
+    AllByRecursion (MayBeTaken into p.trees) items → (clones : List NodeName) → PlansOwn o (taking_items into clones items)
 plans-items o into p i is [] h clones = λ q own. tt
 plans-items o into p i is (item ∷ items) h clones = λ q own.
-    plans_then o (taking_item (top_of into clones) item) (taking_items into (clones_after (next_name q) item clones) items) (plans-item o into (top_of into clones) p item i is h.0)
+    plans_then o (taking_item (top_of into clones) item) (taking_items into (clones_after (next_name q) item clones) items)
+    (plans-item o into (top_of into clones) p item i is h.0)
     (plans-items o into p i is items h.1 (clones_after (next_name q) item clones)) q own
 
 -- A fragment was made for an owner.
-module _ (d e : DocState) (o : Owner) (into : ℕ) (n : Node) (alone : IsAlone d.world o) (names : e.names ≡ d.names ++ next_name (part_of d.world o) ∷ []) (world : e.world ≡ made o (doing (make n)) d.world) (key : into ≡ length d.names) where
+module _ (d e : DocState) (o : Owner) (into : ℕ) (n : Node) (alone : IsAlone d.world o)
+    (names : e.names ≡ d.names ++ next_name (part_of d.world o) ∷ []) (world : e.world ≡ made o (doing (make n)) d.world)
+    (key : into ≡ length d.names) where
   abbrev p : Part
   p = part_of d.world o
 
@@ -48,7 +52,8 @@ module _ (d e : DocState) (o : Owner) (into : ℕ) (n : Node) (alone : IsAlone d
 
   pub items-same : (pieces : List Piece) → AllByRecursion (IsPieceOf d.names) pieces → map (item_in e.names) pieces ≡ map (item_in d.names) pieces
   items-same [] h = refl
-  items-same (piece ∷ pieces) h = ap (λ i. i ∷ map (item_in e.names) pieces) (item-same d e (next_name p ∷ []) names piece h.0) ∙ ap (λ is. item_in d.names piece ∷ is) (items-same pieces h.1)
+  items-same (piece ∷ pieces) h = ap (λ i. i ∷ map (item_in e.names) pieces) (item-same d e (next_name p ∷ []) names piece h.0) ∙
+      ap (λ is. item_in d.names piece ∷ is) (items-same pieces h.1)
 
   pub pieces-kept : (pieces : List Piece) → AllByRecursion (IsPieceOf d.names) pieces → AllByRecursion (IsPieceOf e.names) pieces
   pieces-kept [] h = tt
@@ -58,20 +63,25 @@ module _ (d e : DocState) (o : Owner) (into : ℕ) (n : Node) (alone : IsAlone d
   into-node = let size = ap (λ (ns : List NodeName). length ns) names in let more = length-append d.names (next_name p ∷ []) in omega arith
 
   -- pieces may be taken into it
-  pub may-after : (pieces : List Piece) → AllByRecursion (IsPieceOf d.names) pieces → MayTake (part_step p (make n)) (next_name p) [] (map (item_in d.names) pieces) → MayTake (part_of e.world (owner_in e into)) (name_in e into) [] (map (item_in e.names) pieces)
+  pub may-after : (pieces : List Piece) → AllByRecursion (IsPieceOf d.names) pieces →
+      MayTake (part_step p (make n)) (next_name p) [] (map (item_in d.names) pieces) →
+      MayTake (part_of e.world (owner_in e into)) (name_in e into) [] (map (item_in e.names) pieces)
   may-after pieces nodes may =
       subst (λ (r : Owner). MayTake (part_of e.world r) (name_in e into) [] (map (item_in e.names) pieces)) (sym into-owner)
       (subst (λ (q : Part). MayTake q (name_in e into) [] (map (item_in e.names) pieces)) (sym fragment-part)
       (subst (λ (x : NodeName). MayTake (part_step p (make n)) x [] (map (item_in e.names) pieces)) (sym into-name)
       (subst (λ (items : List Item). MayTake (part_step p (make n)) (next_name p) [] items) (sym (items-same pieces nodes)) may)))
 
-  module _ (pieces : List Piece) (nodes : AllByRecursion (IsPieceOf d.names) pieces) (part : IsPart (part_of e.world o)) (alone-then : IsAlone e.world o) (may : MayTake (part_step (part_of d.world o) (make n)) (next_name (part_of d.world o)) [] (map (item_in d.names) pieces))
+  module _ (pieces : List Piece) (nodes : AllByRecursion (IsPieceOf d.names) pieces) (part : IsPart (part_of e.world o))
+      (alone-then : IsAlone e.world o) (may : MayTake (part_step (part_of d.world o) (make n)) (next_name (part_of d.world o)) []
+      (map (item_in d.names) pieces))
       (f : DocState) (taken : f.world ≡ made (owner_in e into) (taking_items (name_in e into) [] (map (item_in e.names) pieces)) e.world) where
     abbrev items : List Item
     items = map (item_in d.names) pieces
 
     own-items : PlansOwn o (taking_items (next_name (part_of d.world o)) [] (map (item_in d.names) pieces))
-    own-items = plans-items o (next_name p) (part_of e.world o) part (owner-part_of e.world o) items (subst (λ (q : Part). AllByRecursion (MayBeTaken (next_name p) q.trees) items) (sym fragment-part) may.taken) []
+    own-items = plans-items o (next_name p) (part_of e.world o) part (owner-part_of e.world o) items
+        (subst (λ (q : Part). AllByRecursion (MayBeTaken (next_name p) q.trees) items) (sym fragment-part) may.taken) []
 
     pub taken-world : f.world ≡ made o (taking_items (next_name (part_of d.world o)) [] (map (item_in d.names) pieces)) e.world
     taken-world =
@@ -81,7 +91,9 @@ module _ (d e : DocState) (o : Owner) (into : ℕ) (n : Node) (alone : IsAlone d
         ∙ ap (λ is. made o (taking_items (next_name p) [] is) e.world) (items-same pieces nodes)
 
     -- the names then
-    pub names-then : f.names ≡ e.names ++ new_names (owner_in e into) (part_of e.world (owner_in e into)).node_count (made_by (map (item_in e.names) pieces)) → f.names ≡ d.names ++ new_names o (part_of d.world o).node_count (suc (made_by (map (item_in d.names) pieces)))
+    pub names-then : f.names ≡ e.names ++ new_names (owner_in e into) (part_of e.world (owner_in e into)).node_count
+        (made_by (map (item_in e.names) pieces)) →
+        f.names ≡ d.names ++ new_names o (part_of d.world o).node_count (suc (made_by (map (item_in d.names) pieces)))
     names-then more =
         more
         ∙ ap (λ r. e.names ++ new_names r (part_of e.world r).node_count (made_by (map (item_in e.names) pieces))) into-owner
@@ -98,10 +110,14 @@ module _ (d e : DocState) (o : Owner) (into : ℕ) (n : Node) (alone : IsAlone d
         (range-kept o (doing (make n)) d.world e.world alone (λ q own. (tt, tt)) world k h)
 
     -- and the range is put at its new place
-    pub extracted : (g : DocState) (k : ℕ) (r : Range NodeName) → g ≡ stepped o (set_range k r) f → g.world ≡ made o (doing (make n) and_then taking_items (next_name (part_of d.world o)) [] (map (item_in d.names) pieces) and_then doing (set_range k r)) d.world
+    pub extracted : (g : DocState) (k : ℕ) (r : Range NodeName) → g ≡ stepped o (set_range k r) f →
+        g.world ≡ made o (doing (make n) and_then taking_items (next_name (part_of d.world o)) [] (map (item_in d.names) pieces) and_then doing
+        (set_range k r)) d.world
     extracted g k r put =
         let fill = taking_items (next_name p) [] items in
-        let first : f.world ≡ made o (doing (make n) and_then fill) d.world = taken-world ∙ ap (made o fill) world ∙ sym (made_then o (doing (make n)) fill d.world alone (λ q own. (tt, tt))) in
+        let first : f.world ≡ made o (doing (make n) and_then fill) d.world =
+        taken-world ∙ ap (made o fill) world ∙ sym (made_then o (doing (make n)) fill d.world alone (λ q own. (tt, tt))) in
         ap (λ (s : DocState). s.world) put
         ∙ ap (made o (doing (set_range k r))) first
-        ∙ sym (made_then o (doing (make n) and_then fill) (doing (set_range k r)) d.world alone (plans_then o (doing (make n)) fill (λ q own. (tt, tt)) own-items))
+        ∙ sym (made_then o (doing (make n) and_then fill) (doing (set_range k r)) d.world alone
+        (plans_then o (doing (make n)) fill (λ q own. (tt, tt)) own-items))

@@ -5,7 +5,8 @@ use Rattle.std.proofs.lemmas.List.{append-nil}
 use Rattle.dom_base.specs.declared.NodeName.{NodeName}
 use Rattle.dom_isolation.proofs.PlanPlaces.{after-append}
 use Rattle.dom_model.specs.Changes.{Plan, ◌and_then◌, doing, observed, inserting}
-use Rattle.dom_model.specs.Extract.{Pieces, nothing, whole, cut, clone, clone_part, making_below, taking, pieces_of, new_fragment_node, own_document, both_at, new_place, extracting}
+use Rattle.dom_model.specs.Extract.{Pieces, nothing, whole, cut, clone, clone_part, making_below, taking, pieces_of, new_fragment_node, own_document}
+use Rattle.dom_model.specs.Extract.{both_at, new_place, extracting}
 use Rattle.dom_model.specs.Part.{Part, next_name}
 use Rattle.dom_model.specs.Ranges.{Range}
 use Rattle.dom_model.specs.Steps.{after, make, set_range}
@@ -40,23 +41,28 @@ items-taking into (whole x rest) clones more p =
     let top = top_of into clones in
     let one : Plan = inserting observed x top None in
     let last = taking_items into clones more in
-    then-same one (taking_items into clones (items_of rest ++ more)) (taking top rest and_then last) p (items-taking into rest clones more) ∙ sym (then-assoc one (taking top rest) last p)
+    then-same one (taking_items into clones (items_of rest ++ more)) (taking top rest and_then last) p (items-taking into rest clones more) ∙
+    sym (then-assoc one (taking top rest) last p)
 items-taking into (cut x from to rest) clones more p =
     let top = top_of into clones in
     let one : Plan = making_below top (clone_part (next_name p) from to (node_in p.trees x)) and_then replacing_data x from (to - from) [] in
     let last = taking_items into clones more in
-    then-same one (taking_items into clones (items_of rest ++ more)) (taking top rest and_then last) p (items-taking into rest clones more) ∙ sym (then-assoc one (taking top rest) last p)
+    then-same one (taking_items into clones (items_of rest ++ more)) (taking top rest and_then last) p (items-taking into rest clones more) ∙
+    sym (then-assoc one (taking top rest) last p)
 items-taking into (clone x inside rest) clones more p =
     let top = top_of into clones in
     let new = next_name p in
     let one = making_below top (with_name new (node_in p.trees x)) in
     let last = taking_items into clones more in
     let behind = items_of rest ++ more in
-    let deep : (q : Part) → taking_items into (new ∷ clones) ((items_of inside ++ end_item ∷ items_of rest) ++ more) q ≡ (taking new inside and_then (taking top rest and_then last)) q =
+    let deep : (q : Part) → taking_items into (new ∷ clones) ((items_of inside ++ end_item ∷ items_of rest) ++ more)
+    q ≡ (taking new inside and_then (taking top rest and_then last)) q =
     λ q. ap (λ items. taking_items into (new ∷ clones) items q) (append_assoc (items_of inside) (end_item ∷ items_of rest) more)
     ∙ items-taking into inside (new ∷ clones) (end_item ∷ behind) q
-    ∙ then-same (taking new inside) (taking_items into (new ∷ clones) (end_item ∷ behind)) (taking top rest and_then last) q (items-taking into rest clones more) in
-    then-same one (taking_items into (new ∷ clones) ((items_of inside ++ end_item ∷ items_of rest) ++ more)) (taking new inside and_then (taking top rest and_then last)) p deep
+    ∙ then-same (taking new inside) (taking_items into (new ∷ clones) (end_item ∷ behind)) (taking top rest and_then last) q
+    (items-taking into rest clones more) in
+    then-same one (taking_items into (new ∷ clones) ((items_of inside ++ end_item ∷ items_of rest) ++ more))
+    (taking new inside and_then (taking top rest and_then last)) p deep
     ∙ sym (then-assoc one (taking new inside) (taking top rest and_then last) p)
     ∙ sym (then-assoc (one and_then taking new inside) (taking top rest) last p)
 
@@ -68,10 +74,12 @@ items-all into pieces p =
     ∙ append-nil (taking into pieces p)
 
 -- so the steps of an extraction are those with the items of its pieces
-pub items-extracting : (k : ℕ) (r : Range NodeName) (p : Part) → extracting_items k r.start.node (new_place p.trees r) (items_of (pieces_of p.trees r)) p ≡ extracting k r p
+pub items-extracting : (k : ℕ) (r : Range NodeName) (p : Part) →
+    extracting_items k r.start.node (new_place p.trees r) (items_of (pieces_of p.trees r)) p ≡ extracting k r p
 items-extracting k r p =
     let into = next_name p in
     let first = doing (make (new_fragment_node into (own_document p.trees r.start.node))) in
     let pieces = pieces_of p.trees r in
-    then-first (first and_then taking_items into [] (items_of pieces)) (first and_then taking into pieces) (doing (set_range k (both_at (new_place p.trees r)))) p
+    then-first (first and_then taking_items into [] (items_of pieces)) (first and_then taking into pieces)
+    (doing (set_range k (both_at (new_place p.trees r)))) p
     (then-same first (taking_items into [] (items_of pieces)) (taking into pieces) p (items-all into pieces))

@@ -1,11 +1,12 @@
 -- Pieces that are taken one after another.
-use Rattle.std.proofs.Common.{zero, suc, ◌≡◌, ◌<◌, ◌≤◌, ℕ, ◌+◌, ◌-◌, List, [], ◌∷◌, ◌++◌, length, map, drop, None, refl, sym, ap, ◌∙◌, subst, arith, append_assoc, get_or, drop-cons, add-one}
+use Rattle.std.proofs.Common.{zero, suc, ◌≡◌, ◌<◌, ◌≤◌, ℕ, ◌+◌, ◌-◌, List, [], ◌∷◌, ◌++◌, length, map, drop, None, refl, sym, ap, ◌∙◌, subst, arith}
+use Rattle.std.proofs.Common.{append_assoc, get_or, drop-cons, add-one}
 use Rattle.std.specs.List.{AllByRecursion}
 use Rattle.std.proofs.lemmas.List.{append-nil}
 use Rattle.dom_base.specs.declared.NodeName.{NodeName}
 use Rattle.dom_base.specs.declared.Owner.{Owner}
 use Rattle.dom_isolation.specs.Worlds.{IsPart}
-use Rattle.dom_isolation.proofs.KindCommands.{has_node-times}
+use Rattle.dom_isolation.proofs.KindLines.{has_node-times}
 use Rattle.dom_model.proofs.PartLaws.{owner-part_of}
 use Rattle.dom_model.specs.Changes.{observed}
 use Rattle.dom_model.specs.Extract.{clone_part, making_below}
@@ -28,7 +29,8 @@ use Rattle.dom_range_ops.specs.declared.pieces.Piece.{Piece}
 use Rattle.dom_range_ops.specs.declared.pieces.Piece.TheVariants.{Whole, Cut, Clone, End}
 
 -- the steps for an item that may be taken are in its owner's part
-pub plans-item : (o : Owner) (into top : NodeName) (p : Part) (item : Item) → IsPart p → p.owner ≡ o → MayBeTaken into p.trees item → PlansOwn o (taking_item top item)
+pub plans-item : (o : Owner) (into top : NodeName) (p : Part) (item : Item) → IsPart p → p.owner ≡ o → MayBeTaken into p.trees item →
+    PlansOwn o (taking_item top item)
 plans-item o into top p (whole_item x) i is h = plans_inserting o observed x top None (i.owned x (has_node-times p.trees x h.there) ∙ is)
 plans-item o into top p (cut_item x from to) i is h = λ q own.
     let n = clone_part (next_name q) from to (node_in q.trees x) in
@@ -60,11 +62,13 @@ pub record Progress (d : DocState) (into : ℕ) (pieces left : List Piece) (e : 
       ≡ made (owner_in d into) (taking_items (name_in d into) [] (map (item_in d.names) pieces)) d.world
 
 -- at first all are
-pub progress-first : (d : DocState) (into : ℕ) (pieces : List Piece) → AllByRecursion (IsPieceOf d.names) pieces → MayTake (part_of d.world (owner_in d into)) (name_in d into) [] (map (item_in d.names) pieces) → Progress d into pieces pieces d []
+pub progress-first : (d : DocState) (into : ℕ) (pieces : List Piece) → AllByRecursion (IsPieceOf d.names) pieces →
+    MayTake (part_of d.world (owner_in d into)) (name_in d into) [] (map (item_in d.names) pieces) → Progress d into pieces pieces d []
 progress-first d into pieces nodes may = record { more = []; longer = sym (append-nil d.names); own = tt; nodes = nodes; may = may; names = refl; world = refl }
 
 -- a piece of nodes that stay is the same item
-pub item-same : (d e : DocState) (more : List NodeName) → e.names ≡ d.names ++ more → (piece : Piece) → IsPieceOf d.names piece → item_in e.names piece ≡ item_in d.names piece
+pub item-same : (d e : DocState) (more : List NodeName) → e.names ≡ d.names ++ more → (piece : Piece) → IsPieceOf d.names piece →
+    item_in e.names piece ≡ item_in d.names piece
 item-same d e more names (Whole x) h = ap (λ y. whole_item y) (name-kept d e more x names h)
 item-same d e more names (Cut x from to) h = ap (λ y. cut_item y from to) (name-kept d e more x names h)
 item-same d e more names (Clone x) h = ap (λ y. clone_item y) (name-kept d e more x names h)
@@ -78,7 +82,8 @@ piece-kept d e more names (Clone x) h = node-kept d e more x names h
 piece-kept d e more names End h = tt
 
 -- The next piece.
-module _ (d : DocState) (into : ℕ) (here : into < length d.names) (pieces : List Piece) (piece : Piece) (left : List Piece) (e : DocState) (ks : List ℕ) (g : Progress d into pieces (piece ∷ left) e ks) where
+module _ (d : DocState) (into : ℕ) (here : into < length d.names) (pieces : List Piece) (piece : Piece) (left : List Piece) (e : DocState)
+    (ks : List ℕ) (g : Progress d into pieces (piece ∷ left) e ks) where
   abbrev o : Owner
   o = owner_in d into
 
@@ -107,7 +112,12 @@ module _ (d : DocState) (into : ℕ) (here : into < length d.names) (pieces : Li
   pub next-may : MayTake (part_of e.world (owner_in e into)) (name_in e into) (names_in e ks) (item_in e.names piece ∷ [])
   next-may =
       let may : MayTake p x (names_in e ks) (item ∷ []) =
-      record { bounds = g.may.bounds; takers = g.may.takers; taken = (g.may.taken.0, tt); limited = let a = g.may.limited in let b = made-more item rest in omega arith } in
+      record {
+        bounds = g.may.bounds;
+        takers = g.may.takers;
+        taken = (g.may.taken.0, tt);
+        limited = let a = g.may.limited in let b = made-more item rest in omega arith;
+      } in
       subst (λ (i : Item). MayTake (part_of e.world (owner_in e into)) (name_in e into) (names_in e ks) (i ∷ [])) (sym same-item)
       (subst (λ (y : NodeName). MayTake (part_of e.world y.owner) y (names_in e ks) (item ∷ [])) (sym same-into) may)
 
@@ -118,7 +128,8 @@ module _ (d : DocState) (into : ℕ) (here : into < length d.names) (pieces : Li
   module _ (alone : IsAlone e.world o) (part : IsPart (part_of e.world (owner_in d into))) (f : DocState) (js : List ℕ)
       (names : f.names ≡ e.names ++ new_names (owner_in e into) (part_of e.world (owner_in e into)).node_count (made_by (item_in e.names piece ∷ [])))
       (world : f.world ≡ made (owner_in e into) (taking_item (top_of (name_in e into) (names_in e ks)) (item_in e.names piece)) e.world)
-      (clones : names_in f js ≡ clones_after (next_name (part_of e.world (owner_in e into))) (item_in e.names piece) (names_in e ks)) (own : AllByRecursion (IsOwnNode f into) js) where
+      (clones : names_in f js ≡ clones_after (next_name (part_of e.world (owner_in e into))) (item_in e.names piece) (names_in e ks))
+      (own : AllByRecursion (IsOwnNode f into) js) where
     abbrev top : NodeName
     top = top_of (name_in d into) (names_in e ks)
 
@@ -159,7 +170,8 @@ module _ (d : DocState) (into : ℕ) (here : into < length d.names) (pieces : Li
           longer = item-names ∙ ap (λ ns. ns ++ new) g.longer ∙ append_assoc d.names g.more new;
           own = own;
           nodes = g.nodes.1;
-          may = subst (λ (q : Part). MayTake q x (names_in f js) rest) (sym part-then) (subst (λ (cs : List NodeName). MayTake (after p (taking_item top item p)) x cs rest) (sym item-clones) on);
+          may = subst (λ (q : Part). MayTake q x (names_in f js) rest) (sym part-then)
+              (subst (λ (cs : List NodeName). MayTake (after p (taking_item top item p)) x cs rest) (sym item-clones) on);
           names = ap (λ ns. ns ++ new_names o (part_of f.world o).node_count (made_by rest)) item-names
               ∙ ap (λ k. (e.names ++ new) ++ new_names o k (made_by rest)) count
               ∙ append_assoc e.names new (new_names o (p.node_count + made_by (item ∷ [])) (made_by rest))

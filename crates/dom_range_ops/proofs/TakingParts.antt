@@ -7,9 +7,9 @@ use Rattle.dom_base.specs.declared.NodeName.{NodeName}
 use Rattle.dom_isolation.specs.Bounds.{HasBounds}
 use Rattle.dom_isolation.specs.Worlds.{IsPart}
 use Rattle.dom_isolation.proofs.Descents.{ancestor-inside}
-use Rattle.dom_isolation.proofs.Insides.{inside-no_ancestor, times-has_node}
+use Rattle.dom_isolation.proofs.InsideAncestors.{inside-no_ancestor, times-has_node}
 use Rattle.dom_isolation.proofs.KeptOffsets.{insertion-keeps, make-keeps, data-keeps}
-use Rattle.dom_isolation.proofs.KindCommands.{has_node-times}
+use Rattle.dom_isolation.proofs.KindLines.{has_node-times}
 use Rattle.dom_isolation.proofs.Lists.{all-then}
 use Rattle.dom_isolation.proofs.NodesRead.{node-new}
 use Rattle.dom_isolation.proofs.PartSteps.{next-absent}
@@ -38,17 +38,21 @@ pub taken-of : (into : NodeName) (p : Part) (x : NodeName) → OldIn into.number
 taken-of into p x o =
     record {
       there = times-has_node p.trees x o.there;
-      apart = λ z k. by_cases (is_inclusive_ancestor p.trees x z) (λ e. absurd (let a = ancestor-inside p.trees x z e in let b = o.alone z k in omega arith)) (λ e. e);
+      apart = λ z k. by_cases (is_inclusive_ancestor p.trees x z)
+          (λ e. absurd (let a = ancestor-inside p.trees x z e in let b = o.alone z k in omega arith)) (λ e. e);
     }
 
 -- after changes that place others below a taker
-taken-still : (into top : NodeName) (p q : Part) → into.number ≤ top.number → IsPart p → Changed (Some top) p q → (x : NodeName) → IsTaken into p.trees x → IsTaken into q.trees x
+taken-still : (into top : NodeName) (p q : Part) → into.number ≤ top.number → IsPart p → Changed (Some top) p q → (x : NodeName) →
+    IsTaken into p.trees x → IsTaken into q.trees x
 taken-still into top p q le i c x t = taken-of into q x (old-still into.number top p q le c x (old-of into p x i t))
 
 -- each item
-item-still : (into top : NodeName) (p q : Part) → into.number ≤ top.number → IsPart p → Changed (Some top) p q → (item : Item) → MayBeTaken into p.trees item → MayBeTaken into q.trees item
+item-still : (into top : NodeName) (p q : Part) → into.number ≤ top.number → IsPart p → Changed (Some top) p q → (item : Item) →
+    MayBeTaken into p.trees item → MayBeTaken into q.trees item
 item-still into top p q le i c (whole_item x) h = taken-still into top p q le i c x h
-item-still into top p q le i c (cut_item x from to) h = (taken-still into top p q le i c x h.0, ap has_data (c.kinds x (has_node-times p.trees x h.0.there)) ∙ h.1)
+item-still into top p q le i c (cut_item x from to) h =
+    (taken-still into top p q le i c x h.0, ap has_data (c.kinds x (has_node-times p.trees x h.0.there)) ∙ h.1)
 item-still into top p q le i c (clone_item x) h =
     let kind = c.kinds x (has_node-times p.trees x h.0.there) in
     (taken-still into top p q le i c x h.0, ap has_data kind ∙ h.1, ap is_shadow kind ∙ h.2)
@@ -61,7 +65,8 @@ taker-still into p q c x t =
     record { there = times-has_node q.trees x (still c x there); no_data = ap has_data (c.kinds x there) ∙ t.no_data; new = t.new }
 
 -- the node into which items go is a taker
-pub top-takes : (into : NodeName) (ts : Trees) (clones : List NodeName) → AllByRecursion (IsTaker into ts) (into ∷ clones) → IsTaker into ts (top_of into clones)
+pub top-takes : (into : NodeName) (ts : Trees) (clones : List NodeName) → AllByRecursion (IsTaker into ts) (into ∷ clones) →
+    IsTaker into ts (top_of into clones)
 top-takes into ts [] h = h.0
 top-takes into ts (x ∷ clones) h = h.1.0
 
@@ -86,18 +91,22 @@ put-below into top p n e i h t =
     let may : MayGo top q n.name = subst (MayGo top q) (sym e) (new-may p n top i there) in
     let put = leads-inserting observed n.name top None q first.changed.part may in
     let apart : is_inclusive_ancestor q.trees n.name top ≡ false =
-    by_cases (is_inclusive_ancestor q.trees n.name top) (λ k. absurd (let a = ancestor-inside q.trees n.name top k in let b = may.apart in omega arith)) (λ k. k) in
+    by_cases (is_inclusive_ancestor q.trees n.name top)
+    (λ k. absurd (let a = ancestor-inside q.trees n.name top k in let b = may.apart in omega arith)) (λ k. k) in
     let taker = taker-still into p q first.changed top t in
     let made : node_in q.trees (next_name p) ≡ with_name (next_name p) n = node-new (with_name (next_name p) n) p.trees (next-absent p i) in
     record {
       leads = leads-making_below top n p e i there;
-      bounds = insertion-keeps observed n.name top None q first.changed.part (times-has_node q.trees n.name may.there) taker.there apart taker.no_data (make-keeps p n i h);
+      bounds = insertion-keeps observed n.name top None q first.changed.part (times-has_node q.trees n.name may.there) taker.there apart
+          taker.no_data (make-keeps p n i h);
       there = still put.changed (next_name p) (new-there p n);
       kind = put.changed.kinds (next_name p) (new-there p n) ∙ ap (λ (m : Node). m.kind) made;
     }
 
 -- each item
-item-leaves : (into : NodeName) (clones : List NodeName) (p : Part) → IsPart p → HasBounds p → AllByRecursion (IsTaker into p.trees) (into ∷ clones) → into.number ≤ p.node_count → (item : Item) → MayBeTaken into p.trees item → Leaves into clones p (taking_item (top_of into clones) item p) item
+item-leaves : (into : NodeName) (clones : List NodeName) (p : Part) → IsPart p → HasBounds p →
+    AllByRecursion (IsTaker into p.trees) (into ∷ clones) → into.number ≤ p.node_count → (item : Item) → MayBeTaken into p.trees item →
+    Leaves into clones p (taking_item (top_of into clones) item p) item
 item-leaves into clones p i h t le (whole_item x) m =
     let top = top_of into clones in
     let taker = top-takes into p.trees clones t in
@@ -163,7 +172,8 @@ made-more (clone_item x) items = omega arith
 made-more end_item items = omega arith
 
 -- so the others may be taken then
-pub takes-on : (into : NodeName) (clones : List NodeName) (p : Part) (item : Item) (items : List Item) → IsPart p → into.number ≤ p.node_count → MayTake p into clones (item ∷ items) →
+pub takes-on : (into : NodeName) (clones : List NodeName) (p : Part) (item : Item) (items : List Item) → IsPart p → into.number ≤ p.node_count →
+    MayTake p into clones (item ∷ items) →
     MayTake (after p (taking_item (top_of into clones) item p)) into (clones_after (next_name p) item clones) items
 takes-on into clones p item items i le m =
     let top = top_of into clones in
@@ -172,7 +182,8 @@ takes-on into clones p item items i le m =
     record {
       bounds = left.bounds;
       takers = left.takers;
-      taken = all-then (MayBeTaken into p.trees) (MayBeTaken into q.trees) (item-still into top p q (top-takes into p.trees clones m.takers).new i left.leads.changed) items m.taken.1;
+      taken = all-then (MayBeTaken into p.trees) (MayBeTaken into q.trees)
+          (item-still into top p q (top-takes into p.trees clones m.takers).new i left.leads.changed) items m.taken.1;
       limited = let c = count-item top p item in let d = m.limited in let e = made-more item items in omega arith;
     }
 

@@ -1,5 +1,6 @@
 -- A piece that may be taken, by its key.
-use Rattle.std.proofs.Common.{zero, suc, ◌≡◌, ◌<◌, ℕ, ◌-◌, false, List, [], ◌∷◌, ◌++◌, length, map, reverse, length-append, None, refl, sym, ap, ◌∙◌, subst, arith}
+use Rattle.std.proofs.Common.{zero, suc, ◌≡◌, ◌<◌, ℕ, ◌-◌, false, List, [], ◌∷◌, ◌++◌, length, map, reverse, length-append, None, refl, sym, ap, ◌∙◌}
+use Rattle.std.proofs.Common.{subst, arith}
 use Rattle.std.specs.Prelude.{slice_get, unwrap_or}
 use Rattle.std.specs.List.{AllByRecursion}
 use Rattle.std.proofs.Math.Seq.{get_or-append_seam}
@@ -8,7 +9,7 @@ use Rattle.dom_base.specs.declared.Owner.{Owner}
 use Rattle.dom_base.specs.declared.Owner.TheVariants.{Page}
 use Rattle.dom_isolation.specs.Bounds.{HasBounds}
 use Rattle.dom_isolation.specs.Worlds.{IsPart}
-use Rattle.dom_isolation.proofs.KindCommands.{has_node-times}
+use Rattle.dom_isolation.proofs.KindLines.{has_node-times}
 use Rattle.dom_isolation.proofs.Lists.{all-append, all-then}
 use Rattle.dom_model.proofs.PartLaws.{owner-part_of}
 use Rattle.dom_model.specs.Names.{node_of}
@@ -31,13 +32,19 @@ or-one P (j ∷ ks) zero k h g = h.0
 or-one P (j ∷ ks) (suc i) k h g = or-one P ks i k h.1 g
 
 -- nodes of an owner stay such where others come
-pub own-kept : (d e : DocState) (more : List NodeName) (into : ℕ) → e.names ≡ d.names ++ more → into < length d.names → (ks : List ℕ) → AllByRecursion (IsOwnNode d into) ks → AllByRecursion (IsOwnNode e into) ks
+pub own-kept : (d e : DocState) (more : List NodeName) (into : ℕ) → e.names ≡ d.names ++ more → into < length d.names → (ks : List ℕ) →
+    AllByRecursion (IsOwnNode d into) ks → AllByRecursion (IsOwnNode e into) ks
 own-kept d e more into names here ks h =
     all-then (IsOwnNode d into) (IsOwnNode e into)
-    (λ k own. (node-kept d e more k names own.0, ap (λ (y : NodeName). y.owner) (name-kept d e more k names own.0) ∙ own.1 ∙ sym (ap (λ (y : NodeName). y.owner) (name-kept d e more into names here)))) ks h
+    (λ k own. (
+      node-kept d e more k names own.0,
+      ap (λ (y : NodeName). y.owner) (name-kept d e more k names own.0) ∙ own.1 ∙
+          sym (ap (λ (y : NodeName). y.owner) (name-kept d e more into names here)),
+    )) ks h
 
 -- so do their names
-pub names-same : (d e : DocState) (more : List NodeName) (into : ℕ) → e.names ≡ d.names ++ more → (ks : List ℕ) → AllByRecursion (IsOwnNode d into) ks → names_in e ks ≡ names_in d ks
+pub names-same : (d e : DocState) (more : List NodeName) (into : ℕ) → e.names ≡ d.names ++ more → (ks : List ℕ) →
+    AllByRecursion (IsOwnNode d into) ks → names_in e ks ≡ names_in d ks
 names-same d e more into names ks h = ap reverse (each ks h)
   where
     each : (ks : List ℕ) → AllByRecursion (IsOwnNode d into) ks → map (name_in e) ks ≡ map (name_in d) ks
@@ -45,22 +52,27 @@ names-same d e more into names ks h = ap reverse (each ks h)
     each (k ∷ ks) g = ap (λ x. x ∷ map (name_in e) ks) (name-kept d e more k names g.0.0) ∙ ap (λ xs. name_in d k ∷ xs) (each ks g.1)
 
 -- with a new one
-pub names-pushed : (d e : DocState) (y : NodeName) (into new : ℕ) → e.names ≡ d.names ++ y ∷ [] → new ≡ length d.names → (ks : List ℕ) → AllByRecursion (IsOwnNode d into) ks → names_in e (ks ++ new ∷ []) ≡ y ∷ names_in d ks
+pub names-pushed : (d e : DocState) (y : NodeName) (into new : ℕ) → e.names ≡ d.names ++ y ∷ [] → new ≡ length d.names → (ks : List ℕ) →
+    AllByRecursion (IsOwnNode d into) ks → names_in e (ks ++ new ∷ []) ≡ y ∷ names_in d ks
 names-pushed d e y into new names key ks h =
-    let is : name_in e new ≡ y = ap (name_in e) key ∙ ap (λ (ns : List NodeName). name_at ns (length d.names)) names ∙ get_or-append_seam d.names y [] (node_of Page 0) in
+    let is : name_in e new ≡ y = ap (name_in e) key ∙ ap (λ (ns : List NodeName). name_at ns (length d.names)) names ∙
+    get_or-append_seam d.names y [] (node_of Page 0) in
     stack-push (name_in e) ks new ∙ ap (λ x. x ∷ names_in e ks) is ∙ ap (λ xs. y ∷ xs) (names-same d e (y ∷ []) into names ks h)
 
 -- which is the owner's
-pub own-pushed : (d e : DocState) (y : NodeName) (into new : ℕ) → e.names ≡ d.names ++ y ∷ [] → new ≡ length d.names → y.owner ≡ owner_in d into → into < length d.names → (ks : List ℕ) → AllByRecursion (IsOwnNode d into) ks → AllByRecursion (IsOwnNode e into) (ks ++ new ∷ [])
+pub own-pushed : (d e : DocState) (y : NodeName) (into new : ℕ) → e.names ≡ d.names ++ y ∷ [] → new ≡ length d.names → y.owner ≡ owner_in d into →
+    into < length d.names → (ks : List ℕ) → AllByRecursion (IsOwnNode d into) ks → AllByRecursion (IsOwnNode e into) (ks ++ new ∷ [])
 own-pushed d e y into new names key owner here ks h =
-    let is : name_in e new ≡ y = ap (name_in e) key ∙ ap (λ (ns : List NodeName). name_at ns (length d.names)) names ∙ get_or-append_seam d.names y [] (node_of Page 0) in
+    let is : name_in e new ≡ y = ap (name_in e) key ∙ ap (λ (ns : List NodeName). name_at ns (length d.names)) names ∙
+    get_or-append_seam d.names y [] (node_of Page 0) in
     let size = ap (λ (ns : List NodeName). length ns) names in
     let more = length-append d.names (y ∷ []) in
     all-append (IsOwnNode e into) ks (new ∷ []) (own-kept d e (y ∷ []) into names here ks h)
     ((omega arith, ap (λ (x : NodeName). x.owner) is ∙ owner ∙ sym (ap (λ (x : NodeName). x.owner) (name-kept d e (y ∷ []) into names here))), tt)
 
 module _ (d : DocState) (into : ℕ) (ks : List ℕ) (piece : Piece) (here : into < length d.names) (own : AllByRecursion (IsOwnNode d into) ks)
-    (may : MayTake (part_of d.world (owner_in d into)) (name_in d into) (names_in d ks) (item_in d.names piece ∷ [])) (part : IsPart (part_of d.world (owner_in d into))) (top : ℕ) (is-top : top ≡ unwrap_or (slice_get ks (length ks - 1)) into) where
+    (may : MayTake (part_of d.world (owner_in d into)) (name_in d into) (names_in d ks) (item_in d.names piece ∷ []))
+    (part : IsPart (part_of d.world (owner_in d into))) (top : ℕ) (is-top : top ≡ unwrap_or (slice_get ks (length ks - 1)) into) where
   abbrev o : Owner
   o = owner_in d into
 
@@ -104,7 +116,8 @@ module _ (d : DocState) (into : ℕ) (ks : List ℕ) (piece : Piece) (here : int
       }
 
   -- steps at the owner of that node
-  pub at-top : (e : DocState) (item : Item) → e.world ≡ made (owner_in d top) (taking_item (name_in d top) item) d.world → item ≡ item_in d.names piece → e.world ≡ made o (taking_item (top_of (name_in d into) (names_in d ks)) (item_in d.names piece)) d.world
+  pub at-top : (e : DocState) (item : Item) → e.world ≡ made (owner_in d top) (taking_item (name_in d top) item) d.world →
+      item ≡ item_in d.names piece → e.world ≡ made o (taking_item (top_of (name_in d into) (names_in d ks)) (item_in d.names piece)) d.world
   at-top e item world is =
       world
       ∙ ap (λ w. made w (taking_item (name_in d top) item) d.world) top-own.1
@@ -112,7 +125,8 @@ module _ (d : DocState) (into : ℕ) (ks : List ℕ) (piece : Piece) (here : int
       ∙ ap (λ i. made o (taking_item (top_of (name_in d into) (names_in d ks)) i) d.world) is
 
   -- the names with a new one
-  pub one-name : (e : DocState) → e.names ≡ d.names ++ next_name (part_of d.world (owner_in d top)) ∷ [] → made_by (item_in d.names piece ∷ []) ≡ 1 → e.names ≡ d.names ++ new_names o p.node_count (made_by (item_in d.names piece ∷ []))
+  pub one-name : (e : DocState) → e.names ≡ d.names ++ next_name (part_of d.world (owner_in d top)) ∷ [] →
+      made_by (item_in d.names piece ∷ []) ≡ 1 → e.names ≡ d.names ++ new_names o p.node_count (made_by (item_in d.names piece ∷ []))
   one-name e names one =
       names
       ∙ ap (λ w. d.names ++ next_name (part_of d.world w) ∷ []) top-own.1

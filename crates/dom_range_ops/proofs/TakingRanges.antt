@@ -7,9 +7,9 @@ use Rattle.dom_isolation.specs.Bounds.{HasBounds}
 use Rattle.dom_isolation.specs.Tables.{HasEnds}
 use Rattle.dom_isolation.specs.Worlds.{IsPart, times_in}
 use Rattle.dom_isolation.proofs.FitPieces.{IsClonable, common_below, fit-apart, fit-pieces, whole-pieces}
-use Rattle.dom_isolation.proofs.Insides.{no_parent-root, times-has_node}
+use Rattle.dom_isolation.proofs.InsideAncestors.{no_parent-root, times-has_node}
 use Rattle.dom_isolation.proofs.KeptOffsets.{make-keeps}
-use Rattle.dom_isolation.proofs.KindCommands.{has_node-times}
+use Rattle.dom_isolation.proofs.KindLines.{has_node-times}
 use Rattle.dom_isolation.proofs.Lists.{all-append, all-then}
 use Rattle.dom_isolation.proofs.NodesRead.{node-new}
 use Rattle.dom_isolation.proofs.PartSteps.{next-absent}
@@ -17,7 +17,7 @@ use Rattle.dom_isolation.proofs.PlanContents.{OldIn, old-there}
 use Rattle.dom_isolation.proofs.PlanPlaces.{Changed, still, leads-one}
 use Rattle.dom_isolation.proofs.PlanTexts.{new-there}
 use Rattle.dom_isolation.proofs.Plans.{AreFit, AllWhole}
-use Rattle.dom_isolation.proofs.RangePlans.{common-read}
+use Rattle.dom_isolation.proofs.ExtractionPlans.{common-read}
 use Rattle.dom_isolation.proofs.TableSteps.{There}
 use Rattle.dom_isolation.proofs.Tests.{by_cases}
 use Rattle.dom_isolation.proofs.TreeChangeLaws.{nodes-named, nodes-then, root-below_none, times-below}
@@ -55,7 +55,8 @@ module _ (p : Part) (r : Range NodeName) (part : IsPart p) (ends : HasEnds p.tre
   below-lower a x m =
       let t : There p x = let b = times-below (subtree p.trees a) x in let c = times-subtree p.trees a x in omega arith in (
         t,
-        λ k. by_cases (is_shadow (kind_of p.trees x)) (λ s. absurd (let off = root-below_none p.trees part.unique x (no_parent-root p.trees x t (shadows x s)) a in omega arith)) (λ s. s),
+        λ k. by_cases (is_shadow (kind_of p.trees x))
+            (λ s. absurd (let off = root-below_none p.trees part.unique x (no_parent-root p.trees x t (shadows x s)) a in omega arith)) (λ s. s),
       )
 
   -- a start in a Text or Comment that has both ends
@@ -65,7 +66,8 @@ module _ (p : Part) (r : Range NodeName) (part : IsPart p) (ends : HasEnds p.tre
   -- so are the nodes of the pieces
   pieces-lower : AllWhole IsLower (pieces_of p.trees r)
   pieces-lower =
-      whole-pieces IsLower p.trees r (λ e. (start-there, λ k. absurd (true≢false (sym (in-data e) ∙ k)))) (nodes-named IsLower (common_below p.trees r) (below-lower (common_ancestor p.trees r)))
+      whole-pieces IsLower p.trees r (λ e. (start-there, λ k. absurd (true≢false (sym (in-data e) ∙ k))))
+      (nodes-named IsLower (common_below p.trees r) (below-lower (common_ancestor p.trees r)))
 
   -- what is cut is a Text or a Comment, and what is cloned is not
   abbrev AreKinds : Pieces → Type 0
@@ -79,7 +81,9 @@ module _ (p : Part) (r : Range NodeName) (part : IsPart p) (ends : HasEnds p.tre
       let IsOpen = λ (x : NodeName). has_data (kind_of ts x) ≡ false in
       let Read : Node → Type 0 = λ n. (1 ≤ times_in ts n.name) × (n ≡ node_in ts n.name) in
       let below = common_below ts r in
-      let clonable = nodes-then Read (IsClonable IsData IsOpen) (λ n h. let kind = sym (ap (λ (m : Node). has_data m.kind) h.1) in ((λ d. kind ∙ d), (λ d. kind ∙ d))) below (common-read ts r part.unique) in
+      let clonable = nodes-then Read (IsClonable IsData IsOpen)
+      (λ n h. let kind = sym (ap (λ (m : Node). has_data m.kind) h.1) in ((λ d. kind ∙ d), (λ d. kind ∙ d))) below
+      (common-read ts r part.unique) in
       fit-pieces Any IsData IsOpen ts r in-data
       (fit-apart Any IsData IsOpen ts r clonable (nodes-named (λ x. is_before ts r.start (at x 0) ≡ true → Any x) below (λ x m k. tt))
       (nodes-named (λ x. is_inclusive_ancestor ts x r.end.node ≡ false → Any x) (tree_holding ts r.end.node r.start.node below) (λ x m k. tt)))
@@ -93,7 +97,8 @@ module _ (p : Part) (r : Range NodeName) (part : IsPart p) (ends : HasEnds p.tre
       ((h.0.0, k.0, h.0.1 k.0), all-append (IsItemIn p) (items_of inner) (end_item ∷ items_of rest) (items-in inner h.1 k.1) (tt, items-in rest h.2 k.2))
 
   -- With the fragment that is made they may be taken.
-  module _ (n : Node) (named : n ≡ record n { name = next_name p }) (no_data : has_data n.kind ≡ false) (bounds : HasBounds p) (few : suc p.node_count + made_by (items_of (pieces_of p.trees r)) ≤ 1000000) where
+  module _ (n : Node) (named : n ≡ record n { name = next_name p }) (no_data : has_data n.kind ≡ false) (bounds : HasBounds p)
+      (few : suc p.node_count + made_by (items_of (pieces_of p.trees r)) ≤ 1000000) where
     abbrev q : Part
     q = part_step p (make n)
 
@@ -114,7 +119,15 @@ module _ (p : Part) (r : Range NodeName) (part : IsPart p) (ends : HasEnds p.tre
         let made : node_in q.trees (next_name p) ≡ with_name (next_name p) n = node-new (with_name (next_name p) n) p.trees (next-absent p part) in
         record {
           bounds = make-keeps p n part bounds;
-          takers = (record { there = times-has_node q.trees (next_name p) (new-there p n); no_data = ap (λ (m : Node). has_data m.kind) made ∙ no_data; new = omega arith }, tt);
-          taken = all-then (IsItemIn p) (MayBeTaken (next_name p) q.trees) item-may (items_of (pieces_of p.trees r)) (items-in (pieces_of p.trees r) pieces-lower pieces-kinds);
+          takers = (
+            record {
+              there = times-has_node q.trees (next_name p) (new-there p n);
+              no_data = ap (λ (m : Node). has_data m.kind) made ∙ no_data;
+              new = omega arith;
+            },
+            tt,
+          );
+          taken = all-then (IsItemIn p) (MayBeTaken (next_name p) q.trees) item-may (items_of (pieces_of p.trees r))
+              (items-in (pieces_of p.trees r) pieces-lower pieces-kinds);
           limited = few;
         }

@@ -24,8 +24,10 @@ module _ (f : ℕ → NodeName) where
   pub stack-top : (ks : List ℕ) (into : ℕ) → f (unwrap_or (slice_get ks (length ks - 1)) into) ≡ top_of (f into) (reverse (map f ks))
   stack-top ks into = by (last-or ks)
     where
-      by : (ks ≡ []) ⊎ ((front : List ℕ) × (k : ℕ) × (ks ≡ front ++ k ∷ [])) → f (unwrap_or (slice_get ks (length ks - 1)) into) ≡ top_of (f into) (reverse (map f ks))
-      by (inl none) = ap (λ (js : List ℕ). f (unwrap_or (slice_get js (length js - 1)) into)) none ∙ ap (λ (js : List ℕ). top_of (f into) (reverse (map f js))) (sym none)
+      by : (ks ≡ []) ⊎ ((front : List ℕ) × (k : ℕ) × (ks ≡ front ++ k ∷ [])) →
+          f (unwrap_or (slice_get ks (length ks - 1)) into) ≡ top_of (f into) (reverse (map f ks))
+      by (inl none) = ap (λ (js : List ℕ). f (unwrap_or (slice_get js (length js - 1)) into)) none ∙
+          ap (λ (js : List ℕ). top_of (f into) (reverse (map f js))) (sym none)
       by (inr some) =
           let front = some.0 in
           let k = some.1 in

@@ -14,7 +14,8 @@ use Rattle.dom_range_ops.specs.Texts.{range_at_points, nodes_around}
 
 -- no Text and no Comment of a range's tree has children
 abbrev pub AreLeaves : NamedTrees → Points → Type 0
-AreLeaves f points = (x : NodeName) → is_in name_eq x (nodes_around f.trees (range_at_points f.names points)) ≡ true → has_data (kind_of f.trees x) ≡ true → children_of f.trees x ≡ []
+AreLeaves f points = (x : NodeName) → is_in name_eq x (nodes_around f.trees (range_at_points f.names points)) ≡ true →
+    has_data (kind_of f.trees x) ≡ true → children_of f.trees x ≡ []
 
 -- both ends are nodes of one tree of their owner, where no Text and no Comment has children, and the second is within its node
 pub record IsRangeIn (d : DocState) (points : Points) : Type 0 where

@@ -38,4 +38,5 @@ names_given p k = of_range p k [] (λ r. tail_names p r.start.node)
 
 -- the offset behind the nodes that are inserted before a reference, or last
 abbrev pub offset_behind : Trees → NodeName → NodeName → Option NodeName → ℕ
-offset_behind ts parent node reference = option_map_or (index_of ts) reference (length_of ts parent) + (if is_fragment (kind_of ts node) then length_of ts node else 1)
+offset_behind ts parent node reference =
+    option_map_or (index_of ts) reference (length_of ts parent) + (if is_fragment (kind_of ts node) then length_of ts node else 1)

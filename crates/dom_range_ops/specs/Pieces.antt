@@ -1,5 +1,6 @@
 -- What an extraction takes, as a list.
-use Rattle.std.specs.Prelude.{◌≡◌, ℕ, ◌<◌, suc, Bool, not, List, [], ◌∷◌, ◌++◌, map, length, take, drop, ◌-◌, ◌≤◌, slice_index, Option, Some, None, if◌then◌else◌}
+use Rattle.std.specs.Prelude.{◌≡◌, ℕ, ◌<◌, suc, Bool, not, List, [], ◌∷◌, ◌++◌, map, length, take, drop, ◌-◌, ◌≤◌, slice_index, Option, Some, None}
+use Rattle.std.specs.Prelude.{if◌then◌else◌}
 use Rattle.std.specs.List.{AllByRecursion}
 use Rattle.std.specs.Option.{option_map_or}
 use Rattle.dom_base.specs.declared.NodeName.{NodeName}

@@ -39,4 +39,5 @@ nodes_around ts r = inclusive_descendants ts (root_of ts r.start.node)
 pub record AreBounded (f : NamedTrees) (points : Points) : Type 0 where
   pub ends : AreEnds f points
   pub within : points.end.1 ≤ length_of f.trees (name_at f.names points.end.0)
-  pub leaves : (x : NodeName) → is_in name_eq x (nodes_around f.trees (range_at_points f.names points)) ≡ true → is_text (kind_of f.trees x) ≡ true → children_of f.trees x ≡ []
+  pub leaves : (x : NodeName) → is_in name_eq x (nodes_around f.trees (range_at_points f.names points)) ≡ true →
+      is_text (kind_of f.trees x) ≡ true → children_of f.trees x ≡ []

@@ -19,7 +19,8 @@ use std::alloc::{AllocError, Global};
 /// It is refused where memory is refused.
 pub(crate) fn clone_node(alloc: Global, forest: &Forest, key: Key) -> Result<NodeData, AllocError>
     requires { key < length forest.now.names }
-    ensures value { IfOk result (λ copy. (x : Name) → node_from forest.now.names x copy ≡ with_name x (node_in forest.now.trees (name_at forest.now.names key))) }
+    ensures value { IfOk result (λ copy. (x : Name) →
+        node_from forest.now.names x copy ≡ with_name x (node_in forest.now.trees (name_at forest.now.names key))) }
     ensures kind { IfOk result (λ copy. copy.kind ≡ kind_of forest.now.trees (name_at forest.now.names key)) }
     ensures document { IfOk result (λ copy. ForSome copy.document (λ d. d < length forest.now.names)) }
 {
@@ -36,7 +37,8 @@ pub(crate) fn clone_units(
     to: usize,
 ) -> Result<NodeData, AllocError>
     requires { key < length forest.now.names }
-    ensures value { IfOk result (λ copy. (x : Name) → node_from forest.now.names x copy ≡ clone_part x from to (node_in forest.now.trees (name_at forest.now.names key))) }
+    ensures value { IfOk result (λ copy. (x : Name) →
+        node_from forest.now.names x copy ≡ clone_part x from to (node_in forest.now.trees (name_at forest.now.names key))) }
     ensures kind { IfOk result (λ copy. copy.kind ≡ kind_of forest.now.trees (name_at forest.now.names key)) }
     ensures document { IfOk result (λ copy. ForSome copy.document (λ d. d < length forest.now.names)) }
 {
@@ -47,7 +49,8 @@ pub(crate) fn clone_units(
 /// What a node holds, but for its code units, with these.
 fn data_with(alloc: Global, forest: &Forest, key: Key, text: DomStr) -> Result<NodeData, AllocError>
     requires { key < length forest.now.names }
-    ensures value { IfOk result (λ copy. (x : Name) → node_from forest.now.names x copy ≡ record (node_in forest.now.trees (name_at forest.now.names key)) { name = x; text = text.items }) }
+    ensures value { IfOk result (λ copy. (x : Name) →
+        node_from forest.now.names x copy ≡ record (node_in forest.now.trees (name_at forest.now.names key)) { name = x; text = text.items }) }
     ensures kind { IfOk result (λ copy. copy.kind ≡ kind_of forest.now.trees (name_at forest.now.names key)) }
     ensures document { IfOk result (λ copy. ForSome copy.document (λ d. d < length forest.now.names)) }
 {
@@ -67,7 +70,8 @@ fn attributes(
     key: Key,
 ) -> Result<IndexMap<String, DomStr>, AllocError>
     requires { key < length forest.now.names }
-    ensures { IfOk result (λ copied. map (λ e. attribute_from (string_bytes e.0) e.1.items) copied.entries ≡ (node_in forest.now.trees (name_at forest.now.names key)).attributes) }
+    ensures { IfOk result (λ copied. map (λ e. attribute_from (string_bytes e.0) e.1.items)
+        copied.entries ≡ (node_in forest.now.trees (name_at forest.now.names key)).attributes) }
 {
     forest.attributes_have_own_names(key);
     let mut copied = IndexMap::new(alloc);

@@ -24,7 +24,8 @@ pub(crate) fn outermost_contained(
 ) -> Result<Vec<Key>, AllocError>
     requires bounded { AreBounded forest.now points.now }
     requires leaves { AreLeaves forest.now points.now }
-    ensures value { IfOk result (λ keys. map (name_at forest.now.names) keys.items ≡ outermost_contained forest.now.trees (range_at_points forest.now.names points.now)) }
+    ensures value { IfOk result (λ keys. map (name_at forest.now.names) keys.items ≡ outermost_contained forest.now.trees
+        (range_at_points forest.now.names points.now)) }
     ensures nodes { IfOk result (λ keys. AllByRecursion (λ k. k < length forest.now.names) keys.items) }
 {
     forest.nodes_stand_once();
@@ -39,7 +40,9 @@ pub(crate) fn outermost_contained(
 fn path_below(alloc: Global, forest: &Forest, last: Key, first: Key) -> Result<Vec<Key>, AllocError>
     requires last_is_node { last < length forest.now.names }
     requires first_is_node { first < length forest.now.names }
-    ensures value { IfOk result (λ keys. map (name_at forest.now.names) keys.items ≡ filter (λ a. not (is_inclusive_ancestor forest.now.trees a (name_at forest.now.names first))) (inclusive_ancestors forest.now.trees (name_at forest.now.names last))) }
+    ensures value { IfOk result (λ keys. map (name_at forest.now.names) keys.items ≡ filter
+        (λ a. not (is_inclusive_ancestor forest.now.trees a (name_at forest.now.names first)))
+        (inclusive_ancestors forest.now.trees (name_at forest.now.names last))) }
     ensures nodes { IfOk result (λ keys. AllByRecursion (λ k. k < length forest.now.names) keys.items) }
 {
     forest.nodes_stand_once();
@@ -71,10 +74,14 @@ fn outermost_between(
 ) -> Result<Vec<Key>, AllocError>
     requires bounded { AreBounded forest.now points.now }
     requires leaves { AreLeaves forest.now points.now }
-    requires ordered { is_before forest.now.trees (range_at_points forest.now.names points.now).end (range_at_points forest.now.names points.now).start ≡ false }
-    requires path { map (name_at forest.now.names) path.items ≡ filter (λ a. not (is_inclusive_ancestor forest.now.trees a (name_at forest.now.names points.now.start.0))) (inclusive_ancestors forest.now.trees (name_at forest.now.names points.now.end.0)) }
+    requires ordered { is_before forest.now.trees (range_at_points forest.now.names points.now).end
+        (range_at_points forest.now.names points.now).start ≡ false }
+    requires path { map (name_at forest.now.names) path.items ≡ filter
+        (λ a. not (is_inclusive_ancestor forest.now.trees a (name_at forest.now.names points.now.start.0)))
+        (inclusive_ancestors forest.now.trees (name_at forest.now.names points.now.end.0)) }
     requires path_nodes { AllByRecursion (λ k. k < length forest.now.names) path.items }
-    ensures value { IfOk result (λ keys. map (name_at forest.now.names) keys.items ≡ outermost_contained forest.now.trees (range_at_points forest.now.names points.now)) }
+    ensures value { IfOk result (λ keys. map (name_at forest.now.names) keys.items ≡ outermost_contained forest.now.trees
+        (range_at_points forest.now.names points.now)) }
     ensures nodes { IfOk result (λ keys. AllByRecursion (λ k. k < length forest.now.names) keys.items) }
 {
     forest.nodes_stand_once();

@@ -68,7 +68,8 @@ fn both_at(place: (Key, usize)) -> Points
 /// What is in a range is deleted, of which the parts are found first.
 fn delete_contents(alloc: Global, doc: &mut Doc, points: &Points) -> Result<(), AllocError>
     requires { IsRangeIn doc.old points.now }
-    ensures { OnOk result (doc.new ≡ planned (owner_in doc.old points.now.start.0) (deleting_contents (trees_in doc.old points.now.start.0) (range_at_points doc.old.names points.now)) doc.old) }
+    ensures { OnOk result (doc.new ≡ planned (owner_in doc.old points.now.start.0)
+        (deleting_contents (trees_in doc.old points.now.start.0) (range_at_points doc.old.names points.now)) doc.old) }
 {
     doc.laws();
     let first = points.start.0;
@@ -109,8 +110,10 @@ fn is_within_one(doc: &Doc, points: &Points) -> bool
 /// The nodes of a document that a range contains and whose parents it does not, in tree order.
 fn contained_in(alloc: Global, doc: &Doc, points: &Points) -> Result<Vec<Key>, AllocError>
     requires { IsRangeIn doc.now points.now }
-    ensures value { IfOk result (λ keys. map (name_in doc.now) keys.items ≡ outermost_contained (trees_in doc.now points.now.start.0) (range_at_points doc.now.names points.now)) }
-    ensures nodes { IfOk result (λ keys. AllByRecursion (λ k. (k < length doc.now.names) × (owner_in doc.now k ≡ owner_in doc.now points.now.start.0)) keys.items) }
+    ensures value { IfOk result (λ keys. map (name_in doc.now) keys.items ≡ outermost_contained (trees_in doc.now points.now.start.0)
+        (range_at_points doc.now.names points.now)) }
+    ensures nodes { IfOk result (λ keys. AllByRecursion
+        (λ k. (k < length doc.now.names) × (owner_in doc.now k ≡ owner_in doc.now points.now.start.0)) keys.items) }
 {
     let forest = doc.forest();
     forest.nodes_stand_once();
@@ -122,7 +125,8 @@ fn part_at(doc: &Doc, points: &Points, key: Key) -> Option<(usize, usize)>
     requires range { IsRangeIn doc.now points.now }
     requires node { key < length doc.now.names }
     requires owner { owner_in doc.now key ≡ owner_in doc.now points.now.start.0 }
-    ensures { cutting (name_in doc.now key) result ≡ cutting_data (trees_in doc.now points.now.start.0) (range_at_points doc.now.names points.now) (name_in doc.now key) }
+    ensures { cutting (name_in doc.now key) result ≡ cutting_data (trees_in doc.now points.now.start.0) (range_at_points doc.now.names points.now)
+        (name_in doc.now key) }
 {
     let forest = doc.forest();
     forest.nodes_stand_once();
@@ -133,7 +137,8 @@ fn part_at(doc: &Doc, points: &Points, key: Key) -> Option<(usize, usize)>
 fn part_in(forest: &Forest, points: &Points, key: Key) -> Option<(usize, usize)>
     requires node { key < length forest.now.names }
     requires ends { AreEnds forest.now points.now }
-    ensures { cutting (name_at forest.now.names key) result ≡ cutting_data forest.now.trees (range_at_points forest.now.names points.now) (name_at forest.now.names key) }
+    ensures { cutting (name_at forest.now.names key) result ≡ cutting_data forest.now.trees (range_at_points forest.now.names points.now)
+        (name_at forest.now.names key) }
 {
     forest.nodes_stand_once();
     if !has_data(forest, key) {

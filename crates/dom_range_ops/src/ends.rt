@@ -17,7 +17,8 @@ use node_arena::Key;
 /// Whether both ends of a range are one boundary point (DOM Standard, 5.3: collapsed), whatever the names of the
 /// nodes are that tell them apart.
 pub(crate) fn is_collapsed(points: &Points) -> bool
-    ensures { (names : List Name) → (name_at names points.now.start.0 ≡ name_at names points.now.end.0 → points.now.start.0 ≡ points.now.end.0) → result ≡ is_collapsed name_eq (range_at_points names points.now) }
+    ensures { (names : List Name) → (name_at names points.now.start.0 ≡ name_at names points.now.end.0 → points.now.start.0 ≡ points.now.end.0) →
+        result ≡ is_collapsed name_eq (range_at_points names points.now) }
 {
     let (first, from) = points.start;
     let (last, to) = points.end;
@@ -69,7 +70,8 @@ pub(crate) fn outermost_apart(forest: &Forest, first: Key, last: Key) -> Key
     requires apart { is_inclusive_ancestor forest.now.trees (name_at forest.now.names first) (name_at forest.now.names last) ≡ false }
     ensures node { result < length forest.now.names }
     ensures above { is_inclusive_ancestor forest.now.trees (name_at forest.now.names result) (name_at forest.now.names first) ≡ true }
-    ensures alone { filter (λ a. not (is_inclusive_ancestor forest.now.trees a (name_at forest.now.names last))) (inclusive_ancestors forest.now.trees (name_at forest.now.names result)) ≡ name_at forest.now.names result ∷ [] }
+    ensures alone { filter (λ a. not (is_inclusive_ancestor forest.now.trees a (name_at forest.now.names last)))
+        (inclusive_ancestors forest.now.trees (name_at forest.now.names result)) ≡ name_at forest.now.names result ∷ [] }
 {
     forest.nodes_stand_once();
     let Some(parent) = forest.parent(first) else {

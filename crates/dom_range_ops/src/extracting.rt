@@ -45,12 +45,18 @@ pub fn extract(alloc: Global, doc: &mut Doc, owner: Owner, number: u32) -> Resul
     requires bounds { HasBounds (part_of doc.old.world owner) }
     requires roots { ShadowRootsHaveNoParent (part_of doc.old.world owner).trees }
     ensures key { IfOk result (λ key. key ≡ length doc.old.names) }
-    ensures names { OnOk result (ForSome (range_at (part_of doc.old.world owner) number) (λ r. doc.new.names ≡ doc.old.names ++ new_names owner (part_of doc.old.world owner).node_count (made_by_extracting (part_of doc.old.world owner) r))) }
+    ensures names { OnOk result (ForSome (range_at (part_of doc.old.world owner) number)
+        (λ r. doc.new.names ≡ doc.old.names ++ new_names owner (part_of doc.old.world owner).node_count
+        (made_by_extracting (part_of doc.old.world owner) r))) }
     ensures world { OnOk result (doc.new.world ≡ made owner (λ p. plan_of_range p number (extracting number)) doc.old.world) }
 
     // The limit is the only refusal, and changes nothing; nothing else but memory stops an extraction.
-    ensures refused { (r : RefusalOf) → result ≡ Err (Fault.Refused r) → of_range (part_of doc.old.world owner) number None (λ range. limit_on (part_of doc.old.world owner).node_count (made_by_extracting (part_of doc.old.world owner) range)) ≡ Some r }
-    ensures stopped { (r : RefusalOf) → of_range (part_of doc.old.world owner) number None (λ range. limit_on (part_of doc.old.world owner).node_count (made_by_extracting (part_of doc.old.world owner) range)) ≡ Some r → (result ≡ Err (Fault.Refused r)) ⊎ (result ≡ Err Fault.Memory) }
+    ensures refused { (r : RefusalOf) → result ≡ Err (Fault.Refused r) →
+        of_range (part_of doc.old.world owner) number None
+        (λ range. limit_on (part_of doc.old.world owner).node_count (made_by_extracting (part_of doc.old.world owner) range)) ≡ Some r }
+    ensures stopped { (r : RefusalOf) → of_range (part_of doc.old.world owner) number None
+        (λ range. limit_on (part_of doc.old.world owner).node_count (made_by_extracting (part_of doc.old.world owner) range)) ≡ Some r →
+        (result ≡ Err (Fault.Refused r)) ⊎ (result ≡ Err Fault.Memory) }
     ensures unchanged { (r : RefusalOf) → result ≡ Err (Fault.Refused r) → doc.new ≡ doc.old }
     ensures ready { IsReady doc.old → OnOk result (IsReady doc.new) }
     ensures there { IsReady doc.old → OnOk result (is_some (range_at (part_of doc.new.world owner) number) ≡ true) }
@@ -77,7 +83,8 @@ pub fn extract(alloc: Global, doc: &mut Doc, owner: Owner, number: u32) -> Resul
 /// The pieces that an extraction takes of a range of a document, in order.
 fn pieces_in(alloc: Global, doc: &Doc, points: &Points) -> Result<Vec<Piece>, AllocError>
     requires { IsRangeIn doc.now points.now }
-    ensures value { IfOk result (λ pieces. map (item_in doc.now.names) pieces.items ≡ items_of (pieces_of (trees_in doc.now points.now.start.0) (range_at_points doc.now.names points.now))) }
+    ensures value { IfOk result (λ pieces. map (item_in doc.now.names) pieces.items ≡ items_of
+        (pieces_of (trees_in doc.now points.now.start.0) (range_at_points doc.now.names points.now))) }
     ensures nodes { IfOk result (λ pieces. AllByRecursion (IsPieceOf doc.now.names) pieces.items) }
 {
     let forest = doc.forest();
@@ -111,10 +118,16 @@ fn extract_pieces(
     requires place_is_node { place.0 < length doc.old.names }
     requires place_owner { owner_in doc.old place.0 ≡ owner }
     requires pieces_are_nodes { AllByRecursion (IsPieceOf doc.old.names) pieces.now }
-    requires may_take { MayTake (part_step (part_of doc.old.world owner) (make (new_fragment_node (next_name (part_of doc.old.world owner)) (own_document (part_of doc.old.world owner).trees (name_in doc.old start))))) (next_name (part_of doc.old.world owner)) [] (map (item_in doc.old.names) pieces.now) }
+    requires may_take { MayTake (part_step (part_of doc.old.world owner)
+        (make (new_fragment_node (next_name (part_of doc.old.world owner))
+        (own_document (part_of doc.old.world owner).trees (name_in doc.old start))))) (next_name (part_of doc.old.world owner)) []
+        (map (item_in doc.old.names) pieces.now) }
     ensures key { IfOk result (λ key. key ≡ length doc.old.names) }
-    ensures names { OnOk result (doc.new.names ≡ doc.old.names ++ new_names owner (part_of doc.old.world owner).node_count (suc (made_by (map (item_in doc.old.names) pieces.now)))) }
-    ensures world { OnOk result (doc.new.world ≡ made owner (extracting_items number (name_in doc.old start) (at (name_in doc.old place.0) place.1) (map (item_in doc.old.names) pieces.now)) doc.old.world) }
+    ensures names { OnOk result (doc.new.names ≡ doc.old.names ++ new_names owner (part_of doc.old.world owner).node_count
+        (suc (made_by (map (item_in doc.old.names) pieces.now)))) }
+    ensures world { OnOk result (doc.new.world ≡ made owner
+        (extracting_items number (name_in doc.old start) (at (name_in doc.old place.0) place.1) (map (item_in doc.old.names) pieces.now))
+        doc.old.world) }
     ensures other { IfErr result (λ fault. fault ≡ Fault.Memory) }
 {
     doc.laws();
@@ -164,7 +177,8 @@ fn add_fragment(
     requires limited { (part_of doc.old.world owner).node_count < 1000000 }
     ensures key { IfOk result (λ key. key ≡ length doc.old.names) }
     ensures names { OnOk result (doc.new.names ≡ doc.old.names ++ next_name (part_of doc.old.world owner) ∷ []) }
-    ensures world { OnOk result (doc.new.world ≡ made owner (doing (make (new_fragment_node (next_name (part_of doc.old.world owner)) (option_map (name_in doc.old) document)))) doc.old.world) }
+    ensures world { OnOk result (doc.new.world ≡ made owner
+        (doing (make (new_fragment_node (next_name (part_of doc.old.world owner)) (option_map (name_in doc.old) document)))) doc.old.world) }
     ensures other { IfErr result (λ fault. fault ≡ Fault.Memory) }
 {
     let fragment = NodeData {

@@ -6,12 +6,14 @@ ghost use Rattle.dom_isolation.specs.Bounds.{HasBounds};
 ghost use Rattle.dom_model.specs.CommandRefusals.{limit_on, made_by_insert_node};
 ghost use Rattle.dom_model.specs.Part.{range_at, next_name};
 ghost use Rattle.dom_model.specs.Ranges.{at};
-ghost use Rattle.dom_model.specs.RangeOps.{start_reference, insertion_parent, cannot_take_node, insert_node_refusal, ending_at, inserting_before, inserting_at, inserting_into_range};
+ghost use Rattle.dom_model.specs.RangeOps.{start_reference, insertion_parent, cannot_take_node, insert_node_refusal, ending_at, inserting_before};
+ghost use Rattle.dom_model.specs.RangeOps.{inserting_at, inserting_into_range};
 ghost use Rattle.dom_model.specs.Tree.{kind_of, has_data, is_text, children_of, length_of, is_inclusive_ancestor};
 ghost use Rattle.dom_model.specs.World.{part_of};
 ghost use Rattle.dom_mutation.specs.Doc.{made, planned, name_in, owner_in, trees_in, MayMove, IsChild};
 ghost use Rattle.dom_mutation.specs.Ready.{IsReady};
-ghost use Rattle.dom_range_ops.specs.Insertions.{inserting_node, inserting_before_tail, node_refusal, inserting_refusal, names_given, tail_names, offset_behind};
+ghost use Rattle.dom_range_ops.specs.Insertions.{inserting_node, inserting_before_tail, node_refusal, inserting_refusal, names_given, tail_names};
+ghost use Rattle.dom_range_ops.specs.Insertions.{offset_behind};
 ghost use Rattle.dom_range_ops.specs.Texts.{range_at_points};
 ghost use Rattle.dom_tree.specs.Forest.{err_of};
 
@@ -36,8 +38,10 @@ pub fn insert_node(doc: &mut Doc, owner: Owner, number: u32, node: Key) -> Resul
 
     // A refusal is one of these, in their order, and changes nothing; nothing else but memory stops an insertion.
     ensures tested { (r : RefusalOf) → node_refusal (part_of doc.old.world owner) number (name_in doc.old node) ≡ Some r → result ≡ Err (Fault.Refused r) }
-    ensures refused { (r : RefusalOf) → result ≡ Err (Fault.Refused r) → inserting_refusal (part_of doc.old.world owner) number (name_in doc.old node) ≡ Some r }
-    ensures stopped { (r : RefusalOf) → inserting_refusal (part_of doc.old.world owner) number (name_in doc.old node) ≡ Some r → (result ≡ Err (Fault.Refused r)) ⊎ (result ≡ Err Fault.Memory) }
+    ensures refused { (r : RefusalOf) → result ≡ Err (Fault.Refused r) →
+        inserting_refusal (part_of doc.old.world owner) number (name_in doc.old node) ≡ Some r }
+    ensures stopped { (r : RefusalOf) → inserting_refusal (part_of doc.old.world owner) number (name_in doc.old node) ≡ Some r →
+        (result ≡ Err (Fault.Refused r)) ⊎ (result ≡ Err Fault.Memory) }
     ensures unchanged { (r : RefusalOf) → result ≡ Err (Fault.Refused r) → doc.new ≡ doc.old }
     ensures ready { IsReady doc.old → OnOk result (IsReady doc.new) }
     ensures there { IsReady doc.old → OnOk result (is_some (range_at (part_of doc.new.world owner) number) ≡ true) }
@@ -171,9 +175,14 @@ fn insert_tested(
     requires bounds { HasBounds (part_of doc.old.world owner) }
     requires within { points.now.start.1 ≤ length_of (part_of doc.old.world owner).trees (name_in doc.old points.now.start.0) }
     ensures names { OnOk result (doc.new.names ≡ doc.old.names ++ tail_names (part_of doc.old.world owner) (name_in doc.old points.now.start.0)) }
-    ensures world { OnOk result (doc.new.world ≡ made owner (inserting_into_range number (range_at_points doc.old.names points.now) (name_in doc.old node)) doc.old.world) }
-    ensures refused { (r : RefusalOf) → result ≡ Err (Fault.Refused r) → limit_on (part_of doc.old.world owner).node_count (made_by_insert_node (part_of doc.old.world owner) (range_at_points doc.old.names points.now)) ≡ Some r }
-    ensures stopped { (r : RefusalOf) → limit_on (part_of doc.old.world owner).node_count (made_by_insert_node (part_of doc.old.world owner) (range_at_points doc.old.names points.now)) ≡ Some r → (result ≡ Err (Fault.Refused r)) ⊎ (result ≡ Err Fault.Memory) }
+    ensures world { OnOk result (doc.new.world ≡ made owner
+        (inserting_into_range number (range_at_points doc.old.names points.now) (name_in doc.old node)) doc.old.world) }
+    ensures refused { (r : RefusalOf) → result ≡ Err (Fault.Refused r) →
+        limit_on (part_of doc.old.world owner).node_count
+        (made_by_insert_node (part_of doc.old.world owner) (range_at_points doc.old.names points.now)) ≡ Some r }
+    ensures stopped { (r : RefusalOf) → limit_on (part_of doc.old.world owner).node_count
+        (made_by_insert_node (part_of doc.old.world owner) (range_at_points doc.old.names points.now)) ≡ Some r →
+        (result ≡ Err (Fault.Refused r)) ⊎ (result ≡ Err Fault.Memory) }
     ensures unchanged { (r : RefusalOf) → result ≡ Err (Fault.Refused r) → doc.new ≡ doc.old }
 {
     doc.laws();
@@ -205,9 +214,11 @@ fn insert_before_tail(
     requires bounds { HasBounds (part_of doc.old.world owner) }
     requires within { points.now.start.1 ≤ length_of (part_of doc.old.world owner).trees (name_in doc.old points.now.start.0) }
     ensures names { OnOk result (doc.new.names ≡ doc.old.names ++ next_name (part_of doc.old.world owner) ∷ []) }
-    ensures world { OnOk result (doc.new.world ≡ made owner (inserting_before_tail number (range_at_points doc.old.names points.now) (name_in doc.old parent) (name_in doc.old node)) doc.old.world) }
+    ensures world { OnOk result (doc.new.world ≡ made owner
+        (inserting_before_tail number (range_at_points doc.old.names points.now) (name_in doc.old parent) (name_in doc.old node)) doc.old.world) }
     ensures refused { (r : RefusalOf) → result ≡ Err (Fault.Refused r) → limit_on (part_of doc.old.world owner).node_count 1 ≡ Some r }
-    ensures stopped { (r : RefusalOf) → limit_on (part_of doc.old.world owner).node_count 1 ≡ Some r → (result ≡ Err (Fault.Refused r)) ⊎ (result ≡ Err Fault.Memory) }
+    ensures stopped { (r : RefusalOf) → limit_on (part_of doc.old.world owner).node_count 1 ≡ Some r → (result ≡ Err (Fault.Refused r)) ⊎
+        (result ≡ Err Fault.Memory) }
     ensures unchanged { (r : RefusalOf) → result ≡ Err (Fault.Refused r) → doc.new ≡ doc.old }
 {
     doc.laws();
@@ -236,7 +247,8 @@ fn insert_at(
     requires open { has_data (kind_of (trees_in doc.old parent) (name_in doc.old parent)) ≡ false }
     requires child_is_child { ForSome child (IsChild doc.old parent) }
     requires bounds { HasBounds (part_of doc.old.world owner) }
-    ensures { OnOk result (doc.new ≡ planned owner (inserting_at number (name_in doc.old node) (name_in doc.old parent) (option_map (name_in doc.old) child)) doc.old) }
+    ensures { OnOk result (doc.new ≡ planned owner
+        (inserting_at number (name_in doc.old node) (name_in doc.old parent) (option_map (name_in doc.old) child)) doc.old) }
 {
     doc.laws();
     let reference = doc.reference_for(parent, node, child);
@@ -260,7 +272,8 @@ fn insert_before(
     requires may_move { MayMove doc.old parent reference node }
     requires child_is_child { ForSome reference (IsChild doc.old parent) }
     requires bounds { HasBounds (part_of doc.old.world owner) }
-    ensures { OnOk result (doc.new ≡ planned owner (inserting_before number (name_in doc.old node) (name_in doc.old parent) (option_map (name_in doc.old) reference)) doc.old) }
+    ensures { OnOk result (doc.new ≡ planned owner
+        (inserting_before number (name_in doc.old node) (name_in doc.old parent) (option_map (name_in doc.old) reference)) doc.old) }
 {
     doc.laws();
     let child = reference;

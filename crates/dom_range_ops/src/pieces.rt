@@ -38,7 +38,8 @@ pub(crate) fn pieces_between(
     points: &Points,
 ) -> Result<Vec<Piece>, AllocError>
     requires { AreSpanned forest.now points.now }
-    ensures { IfOk result (λ pieces. AreItems forest.now.names pieces.items (items_of (pieces_of forest.now.trees (range_at_points forest.now.names points.now)))) }
+    ensures { IfOk result (λ pieces. AreItems forest.now.names pieces.items
+        (items_of (pieces_of forest.now.trees (range_at_points forest.now.names points.now)))) }
 {
     forest.nodes_stand_once();
     let mut pieces = Vec::new(alloc);
@@ -57,7 +58,8 @@ pub(crate) fn pieces_between(
 /// The same of a range that is neither collapsed nor in one Text or Comment.
 fn pieces_apart(alloc: Global, forest: &Forest, points: &Points) -> Result<Vec<Piece>, AllocError>
     requires { AreSpanned forest.now points.now }
-    ensures { IfOk result (λ pieces. AreItems forest.now.names pieces.items (items_of (pieces_apart forest.now.trees (range_at_points forest.now.names points.now)))) }
+    ensures { IfOk result (λ pieces. AreItems forest.now.names pieces.items
+        (items_of (pieces_apart forest.now.trees (range_at_points forest.now.names points.now)))) }
 {
     forest.nodes_stand_once();
     let start_path = inclusive_ancestors(alloc, forest, points.start.0)?;

@@ -16,7 +16,8 @@ use node_arena::Key;
 pub(crate) fn node_after(forest: &Forest, point: (Key, usize), top: Key) -> Option<Key>
     requires top_is_node { top < length forest.now.names }
     requires stands { StandsIn forest.now top point.0 }
-    ensures value { option_map (name_at forest.now.names) result ≡ first_of (nodes_after forest.now.trees (name_at forest.now.names top) (at (name_at forest.now.names point.0) point.1)) }
+    ensures value { option_map (name_at forest.now.names) result ≡ first_of
+        (nodes_after forest.now.trees (name_at forest.now.names top) (at (name_at forest.now.names point.0) point.1)) }
     ensures stands { ForSome result (StandsIn forest.now top) }
 {
     forest.nodes_stand_once();
@@ -48,7 +49,8 @@ pub(crate) fn child_at(forest: &Forest, node: Key, index: usize) -> Option<Key>
 pub(crate) fn beyond(forest: &Forest, key: Key, top: Key) -> Option<Key>
     requires top_is_node { top < length forest.now.names }
     requires stands { StandsIn forest.now top key }
-    ensures value { option_map (name_at forest.now.names) result ≡ first_of (beyond forest.now.trees (name_at forest.now.names top) (name_at forest.now.names key)) }
+    ensures value { option_map (name_at forest.now.names) result ≡ first_of
+        (beyond forest.now.trees (name_at forest.now.names top) (name_at forest.now.names key)) }
     ensures stands { ForSome result (StandsIn forest.now top) }
 {
     forest.nodes_stand_once();

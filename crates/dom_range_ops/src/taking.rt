@@ -32,8 +32,11 @@ pub(crate) fn take_pieces(
     requires into_is_node { into < length doc.old.names }
     requires pieces_are_nodes { AllByRecursion (IsPieceOf doc.old.names) pieces.now }
     requires may_take { MayTake (part_of doc.old.world (owner_in doc.old into)) (name_in doc.old into) [] (map (item_in doc.old.names) pieces.now) }
-    ensures names { OnOk result (doc.new.names ≡ doc.old.names ++ new_names (owner_in doc.old into) (part_of doc.old.world (owner_in doc.old into)).node_count (made_by (map (item_in doc.old.names) pieces.now))) }
-    ensures world { OnOk result (doc.new.world ≡ made (owner_in doc.old into) (taking_items (name_in doc.old into) [] (map (item_in doc.old.names) pieces.now)) doc.old.world) }
+    ensures names { OnOk result (doc.new.names ≡ doc.old.names ++
+        new_names (owner_in doc.old into) (part_of doc.old.world (owner_in doc.old into)).node_count
+        (made_by (map (item_in doc.old.names) pieces.now))) }
+    ensures world { OnOk result (doc.new.world ≡ made (owner_in doc.old into)
+        (taking_items (name_in doc.old into) [] (map (item_in doc.old.names) pieces.now)) doc.old.world) }
     ensures other { IfErr result (λ fault. fault ≡ Fault.Memory) }
 {
     doc.laws();
@@ -56,10 +59,14 @@ fn take_piece(
     requires into_is_node { into < length doc.old.names }
     requires clones_are_nodes { AllByRecursion (IsOwnNode doc.old into) clones.old.items }
     requires piece_is_node { IsPieceOf doc.old.names piece }
-    requires may_take { MayTake (part_of doc.old.world (owner_in doc.old into)) (name_in doc.old into) (names_in doc.old clones.old.items) (item_in doc.old.names piece ∷ []) }
-    ensures names { OnOk result (doc.new.names ≡ doc.old.names ++ new_names (owner_in doc.old into) (part_of doc.old.world (owner_in doc.old into)).node_count (made_by (item_in doc.old.names piece ∷ []))) }
-    ensures world { OnOk result (doc.new.world ≡ made (owner_in doc.old into) (taking_item (top_of (name_in doc.old into) (names_in doc.old clones.old.items)) (item_in doc.old.names piece)) doc.old.world) }
-    ensures clones { OnOk result (names_in doc.new clones.new.items ≡ clones_after (next_name (part_of doc.old.world (owner_in doc.old into))) (item_in doc.old.names piece) (names_in doc.old clones.old.items)) }
+    requires may_take { MayTake (part_of doc.old.world (owner_in doc.old into)) (name_in doc.old into) (names_in doc.old clones.old.items)
+        (item_in doc.old.names piece ∷ []) }
+    ensures names { OnOk result (doc.new.names ≡ doc.old.names ++
+        new_names (owner_in doc.old into) (part_of doc.old.world (owner_in doc.old into)).node_count (made_by (item_in doc.old.names piece ∷ []))) }
+    ensures world { OnOk result (doc.new.world ≡ made (owner_in doc.old into)
+        (taking_item (top_of (name_in doc.old into) (names_in doc.old clones.old.items)) (item_in doc.old.names piece)) doc.old.world) }
+    ensures clones { OnOk result (names_in doc.new clones.new.items ≡ clones_after (next_name (part_of doc.old.world (owner_in doc.old into)))
+        (item_in doc.old.names piece) (names_in doc.old clones.old.items)) }
     ensures clones_are_nodes { OnOk result (AllByRecursion (IsOwnNode doc.new into) clones.new.items) }
     ensures other { IfErr result (λ fault. fault ≡ Fault.Memory) }
 {
@@ -106,7 +113,8 @@ fn take_units(
     requires no_data { has_data (kind_of (trees_in doc.old top) (name_in doc.old top)) ≡ false }
     requires limited { (part_of doc.old.world (owner_in doc.old top)).node_count < 1000000 }
     ensures names { OnOk result (doc.new.names ≡ doc.old.names ++ next_name (part_of doc.old.world (owner_in doc.old top)) ∷ []) }
-    ensures world { OnOk result (doc.new.world ≡ made (owner_in doc.old top) (taking_item (name_in doc.old top) (cut_item (name_in doc.old node) from to)) doc.old.world) }
+    ensures world { OnOk result (doc.new.world ≡ made (owner_in doc.old top)
+        (taking_item (name_in doc.old top) (cut_item (name_in doc.old node) from to)) doc.old.world) }
     ensures other { IfErr result (λ fault. fault ≡ Fault.Memory) }
 {
     doc.laws();
@@ -128,7 +136,8 @@ fn take_clone(alloc: Global, doc: &mut Doc, top: Key, node: Key) -> Result<Key, 
     requires limited { (part_of doc.old.world (owner_in doc.old top)).node_count < 1000000 }
     ensures key { IfOk result (λ key. key ≡ length doc.old.names) }
     ensures names { OnOk result (doc.new.names ≡ doc.old.names ++ next_name (part_of doc.old.world (owner_in doc.old top)) ∷ []) }
-    ensures world { OnOk result (doc.new.world ≡ made (owner_in doc.old top) (taking_item (name_in doc.old top) (clone_item (name_in doc.old node))) doc.old.world) }
+    ensures world { OnOk result (doc.new.world ≡ made (owner_in doc.old top)
+        (taking_item (name_in doc.old top) (clone_item (name_in doc.old node))) doc.old.world) }
     ensures other { IfErr result (λ fault. fault ≡ Fault.Memory) }
 {
     let forest = doc.forest();
@@ -146,7 +155,9 @@ fn add_below(doc: &mut Doc, top: Key, node: NodeData) -> Result<Key, Fault>
     requires limited { (part_of doc.old.world (owner_in doc.old top)).node_count < 1000000 }
     ensures key { IfOk result (λ key. key ≡ length doc.old.names) }
     ensures names { OnOk result (doc.new.names ≡ doc.old.names ++ next_name (part_of doc.old.world (owner_in doc.old top)) ∷ []) }
-    ensures world { OnOk result (doc.new.world ≡ made (owner_in doc.old top) (making_below (name_in doc.old top) (node_from doc.old.names (next_name (part_of doc.old.world (owner_in doc.old top))) node)) doc.old.world) }
+    ensures world { OnOk result (doc.new.world ≡ made (owner_in doc.old top)
+        (making_below (name_in doc.old top) (node_from doc.old.names (next_name (part_of doc.old.world (owner_in doc.old top))) node))
+        doc.old.world) }
     ensures other { IfErr result (λ fault. fault ≡ Fault.Memory) }
 {
     doc.laws();

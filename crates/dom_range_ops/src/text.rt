@@ -26,7 +26,8 @@ pub fn range_text(alloc: Global, doc: &Doc, owner: Owner, number: u32) -> Result
     requires there { is_some (range_at (part_of doc.now.world owner) number) ≡ true }
     requires ends { ForSome (range_at (part_of doc.now.world owner) number) (HasEnds (part_of doc.now.world owner).trees) }
     requires bounds { HasBounds (part_of doc.now.world owner) }
-    ensures { IfOk result (λ text. ForSome (range_at (part_of doc.now.world owner) number) (λ r. text.items ≡ range_text_of (part_of doc.now.world owner).trees r)) }
+    ensures { IfOk result (λ text. ForSome (range_at (part_of doc.now.world owner) number)
+        (λ r. text.items ≡ range_text_of (part_of doc.now.world owner).trees r)) }
 {
     let points = doc.range_points(owner, number);
     let forest = doc.forest();
@@ -37,7 +38,8 @@ pub fn range_text(alloc: Global, doc: &Doc, owner: Owner, number: u32) -> Result
 /// The text between two points of one tree.
 fn text_between(alloc: Global, forest: &Forest, points: &Points) -> Result<DomStr, AllocError>
     requires { AreBounded forest.now points.now }
-    ensures { IfOk result (λ text. text.items ≡ text_among forest.now.trees (range_at_points forest.now.names points.now) (nodes_around forest.now.trees (range_at_points forest.now.names points.now))) }
+    ensures { IfOk result (λ text. text.items ≡ text_among forest.now.trees (range_at_points forest.now.names points.now)
+        (nodes_around forest.now.trees (range_at_points forest.now.names points.now))) }
 {
     forest.nodes_stand_once();
     let first = points.start.0;
@@ -54,7 +56,8 @@ fn text_between(alloc: Global, forest: &Forest, points: &Points) -> Result<DomSt
 /// The text of the nodes that are contained between two points of one tree is put behind a text.
 fn push_contained(text: &mut DomStr, forest: &Forest, points: &Points) -> Result<(), AllocError>
     requires { AreBounded forest.now points.now }
-    ensures { OnOk result (text.new.items ≡ text.old.items ++ contained_text forest.now.trees (range_at_points forest.now.names points.now) (nodes_around forest.now.trees (range_at_points forest.now.names points.now))) }
+    ensures { OnOk result (text.new.items ≡ text.old.items ++ contained_text forest.now.trees (range_at_points forest.now.names points.now)
+        (nodes_around forest.now.trees (range_at_points forest.now.names points.now))) }
 {
     forest.nodes_stand_once();
     if is_before(forest, points.end, points.start) {
@@ -66,8 +69,10 @@ fn push_contained(text: &mut DomStr, forest: &Forest, points: &Points) -> Result
 /// The same where the second point does not come before the first: the nodes are walked from the first one on.
 fn push_between(text: &mut DomStr, forest: &Forest, points: &Points) -> Result<(), AllocError>
     requires bounded { AreBounded forest.now points.now }
-    requires ordered { is_before forest.now.trees (range_at_points forest.now.names points.now).end (range_at_points forest.now.names points.now).start ≡ false }
-    ensures { OnOk result (text.new.items ≡ text.old.items ++ contained_text forest.now.trees (range_at_points forest.now.names points.now) (nodes_around forest.now.trees (range_at_points forest.now.names points.now))) }
+    requires ordered { is_before forest.now.trees (range_at_points forest.now.names points.now).end
+        (range_at_points forest.now.names points.now).start ≡ false }
+    ensures { OnOk result (text.new.items ≡ text.old.items ++ contained_text forest.now.trees (range_at_points forest.now.names points.now)
+        (nodes_around forest.now.trees (range_at_points forest.now.names points.now))) }
 {
     forest.nodes_stand_once();
     let last = points.end.0;

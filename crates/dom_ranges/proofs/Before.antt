@@ -1,5 +1,6 @@
 -- The order of boundary points by the places of their nodes: it is decided where the places part.
-use Rattle.std.proofs.Common.{◌≡◌, inl, inr, ℕ, ◌+◌, ◌*◌, ◌<◌, Bool, true, false, List, [], ◌∷◌, ◌++◌, map, eqb, ltb, nat_lt, nat_le, refl, sym, ap, ◌∙◌, arith, true≢false}
+use Rattle.std.proofs.Common.{◌≡◌, inl, inr, ℕ, ◌+◌, ◌*◌, ◌<◌, Bool, true, false, List, [], ◌∷◌, ◌++◌, map, eqb, ltb, nat_lt, nat_le, refl, sym, ap}
+use Rattle.std.proofs.Common.{◌∙◌, arith, true≢false}
 use Rattle.std.specs.Prelude.{◌&&◌, ◌||◌}
 use Rattle.std.proofs.lemmas.Bool.{eq-eqb, eqb-true, lt-ltb, ltb-true, leb-true, leb-false, cases_Bool, false_from_ne_true}
 use Rattle.std.proofs.lemmas.List.{map-append, append_assoc}
@@ -69,7 +70,8 @@ module _ (ts : Trees) (x y : NodeName) (i j : ℕ) where
       ∙ (ap (λ xs. list_before (xs ++ (2 * i) ∷ []) (map odd (place_of ts y) ++ (2 * j) ∷ [])) (map-append odd (place_of ts y) (c ∷ rest))
       ∙ (ap (λ xs. list_before xs (map odd (place_of ts y) ++ (2 * j) ∷ [])) (append_assoc (map odd (place_of ts y)) (odd c ∷ map odd rest) ((2 * i) ∷ []))
       ∙ (before-common (map odd (place_of ts y)) (odd c ∷ (map odd rest ++ (2 * i) ∷ [])) ((2 * j) ∷ [])
-      ∙ (before-parted (odd c) (2 * j) (map odd rest ++ (2 * i) ∷ []) [] (λ f. omega (arith, f)) ∙ lt-same (odd c) (2 * j) c j (λ l. omega (arith, l)) (λ l. omega (arith, l))))))
+      ∙ (before-parted (odd c) (2 * j) (map odd rest ++ (2 * i) ∷ []) [] (λ f. omega (arith, f)) ∙
+      lt-same (odd c) (2 * j) c j (λ l. omega (arith, l)) (λ l. omega (arith, l))))))
 
   -- the second node is below the first, in or below its child c
   pub before-down : (c : ℕ) (rest : List ℕ) → place_of ts y ≡ place_of ts x ++ c ∷ rest → is_before ts (at x i) (at y j) ≡ nat_le i c
@@ -81,14 +83,16 @@ module _ (ts : Trees) (x y : NodeName) (i j : ℕ) where
       ∙ (before-parted (2 * i) (odd c) [] (map odd rest ++ (2 * j) ∷ []) (λ f. omega (arith, f)) ∙ lt-le i c))))
 
   -- they stand in or below different children of one node
-  pub before-beside : (zs : List ℕ) (c d : ℕ) (xs ys : List ℕ) → place_of ts x ≡ zs ++ c ∷ xs → place_of ts y ≡ zs ++ d ∷ ys → (c ≡ d → ⊥) → is_before ts (at x i) (at y j) ≡ nat_lt c d
+  pub before-beside : (zs : List ℕ) (c d : ℕ) (xs ys : List ℕ) → place_of ts x ≡ zs ++ c ∷ xs → place_of ts y ≡ zs ++ d ∷ ys → (c ≡ d → ⊥) →
+      is_before ts (at x i) (at y j) ≡ nat_lt c d
   before-beside zs c d xs ys e f off =
       ap (λ ps. list_before (map odd ps ++ (2 * i) ∷ []) (map odd (place_of ts y) ++ (2 * j) ∷ [])) e
       ∙ (ap (λ ps. list_before (map odd (zs ++ c ∷ xs) ++ (2 * i) ∷ []) (map odd ps ++ (2 * j) ∷ [])) f
       ∙ (ap (λ ps. list_before ps (map odd (zs ++ d ∷ ys) ++ (2 * j) ∷ [])) (shape c xs i)
       ∙ (ap (list_before (map odd zs ++ odd c ∷ (map odd xs ++ (2 * i) ∷ []))) (shape d ys j)
       ∙ (before-common (map odd zs) (odd c ∷ (map odd xs ++ (2 * i) ∷ [])) (odd d ∷ (map odd ys ++ (2 * j) ∷ []))
-      ∙ (before-parted (odd c) (odd d) (map odd xs ++ (2 * i) ∷ []) (map odd ys ++ (2 * j) ∷ []) (λ g. off (omega (arith, g))) ∙ lt-same (odd c) (odd d) c d (λ l. omega (arith, l)) (λ l. omega (arith, l)))))))
+      ∙ (before-parted (odd c) (odd d) (map odd xs ++ (2 * i) ∷ []) (map odd ys ++ (2 * j) ∷ []) (λ g. off (omega (arith, g))) ∙
+      lt-same (odd c) (odd d) c d (λ l. omega (arith, l)) (λ l. omega (arith, l)))))))
     where
       shape : (m : ℕ) (ms : List ℕ) (n : ℕ) → map odd (zs ++ m ∷ ms) ++ (2 * n) ∷ [] ≡ map odd zs ++ odd m ∷ (map odd ms ++ (2 * n) ∷ [])
       shape m ms n = ap (λ ps. ps ++ (2 * n) ∷ []) (map-append odd zs (m ∷ ms)) ∙ append_assoc (map odd zs) (odd m ∷ map odd ms) ((2 * n) ∷ [])

@@ -34,7 +34,8 @@ module _ (f : NamedTrees) (once : StandOnce f) (only : StandAlone f) where
       omega (arith, long)
 
   -- a child's path
-  pub path-up : (k p : ℕ) → k < length f.names → Some (name_at f.names p) ≡ parent_of f.trees (name_at f.names k) → path_at f k ≡ path_at f p ++ index_of f.trees (name_at f.names k) ∷ []
+  pub path-up : (k p : ℕ) → k < length f.names → Some (name_at f.names p) ≡ parent_of f.trees (name_at f.names k) →
+      path_at f k ≡ path_at f p ++ index_of f.trees (name_at f.names k) ∷ []
   path-up k p node e = path-child f.trees (Once-forest f once only) (name_at f.names k) (name_at f.names p) (Has-forest f once k node) (sym e)
 
   -- a child is one level deeper
@@ -57,7 +58,8 @@ module _ (f : NamedTrees) (once : StandOnce f) (only : StandAlone f) where
       )
 
   -- the path through a child of what is reached
-  pub path-through : (key top child : ℕ) → Reaches f key top (Some child) → (rest : List ℕ) × (path_at f key ≡ path_at f top ++ index_of f.trees (name_at f.names child) ∷ rest)
+  pub path-through : (key top child : ℕ) → Reaches f key top (Some child) → (rest : List ℕ) ×
+      (path_at f key ≡ path_at f top ++ index_of f.trees (name_at f.names child) ∷ rest)
   path-through key top child r =
       let i = index_of f.trees (name_at f.names child) in
       (r.2.0, r.2.1 ∙ (ap (λ path. path ++ r.2.0) (path-up child top r.0 (sym r.1)) ∙ append_assoc (path_at f top) (i ∷ []) r.2.0))
@@ -75,25 +77,31 @@ module _ (f : NamedTrees) (once : StandOnce f) (only : StandAlone f) where
   reached-here key top (Some child) r level = absurd (omega (arith, level, reached-deep key top child r))
 
   -- one level more
-  pub reached-up : (key top above : ℕ) (child : Option ℕ) → top < length f.names → Some (name_at f.names above) ≡ parent_of f.trees (name_at f.names top) → Reaches f key top child → Reaches f key above (Some top)
+  pub reached-up : (key top above : ℕ) (child : Option ℕ) → top < length f.names →
+      Some (name_at f.names above) ≡ parent_of f.trees (name_at f.names top) → Reaches f key top child → Reaches f key above (Some top)
   reached-up key top above child node e r = (node, sym e, path-reached key top child r)
 
   -- the first number of a path is that of all paths through it
-  pub first-through : (key top : ℕ) (rest : List ℕ) → top < length f.names → path_at f key ≡ path_at f top ++ rest → first_of (path_at f key) ≡ first_of (path_at f top)
+  pub first-through : (key top : ℕ) (rest : List ℕ) → top < length f.names → path_at f key ≡ path_at f top ++ rest →
+      first_of (path_at f key) ≡ first_of (path_at f top)
   first-through key top rest node e = ap first_of e ∙ first-append (path_at f top) rest (depth-node top node)
 
   -- nodes of one tree have paths with one first number
-  pub first-same : (j k : ℕ) → j < length f.names → k < length f.names → same_root f.trees (name_at f.names j) (name_at f.names k) ≡ true → first_of (path_at f j) ≡ first_of (path_at f k)
-  first-same j k node other e = path-tree f.trees (Once-forest f once only) (name_at f.names j) (name_at f.names k) (Has-forest f once j node) (Has-forest f once k other) e
+  pub first-same : (j k : ℕ) → j < length f.names → k < length f.names → same_root f.trees (name_at f.names j) (name_at f.names k) ≡ true →
+      first_of (path_at f j) ≡ first_of (path_at f k)
+  first-same j k node other e = path-tree f.trees (Once-forest f once only) (name_at f.names j) (name_at f.names k) (Has-forest f once j node)
+      (Has-forest f once k other) e
 
   module _ (distinct : TellApart f) where
     -- nodes at one path are one
     pub key-same : (j k : ℕ) → j < length f.names → k < length f.names → path_at f j ≡ path_at f k → j ≡ k
     key-same j k node other e =
-        distinct j k node other (path-same f.trees (Once-forest f once only) (name_at f.names j) (name_at f.names k) (Has-forest f once j node) (Has-forest f once k other) e)
+        distinct j k node other (path-same f.trees (Once-forest f once only) (name_at f.names j) (name_at f.names k) (Has-forest f once j node)
+        (Has-forest f once k other) e)
 
     -- two roots of one tree are one
-    pub roots-same : (j k : ℕ) → j < length f.names → k < length f.names → depth_at f j ≡ 1 → depth_at f k ≡ 1 → first_of (path_at f j) ≡ first_of (path_at f k) → j ≡ k
+    pub roots-same : (j k : ℕ) → j < length f.names → k < length f.names → depth_at f j ≡ 1 → depth_at f k ≡ 1 →
+        first_of (path_at f j) ≡ first_of (path_at f k) → j ≡ k
     roots-same j k node other d e first =
         let v = one-item (path_at f j) d in
         let w = one-item (path_at f k) e in
@@ -114,5 +122,6 @@ module _ (f : NamedTrees) (once : StandOnce f) (only : StandAlone f) where
           second_rest = ys;
           first_path = e ∙ (ap (λ path. path ++ xs) (path-up low above node up) ∙ append_assoc (path_at f above) (i ∷ []) xs);
           second_path = g ∙ (ap (λ path. path ++ ys) (path-up other above other_node over) ∙ append_assoc (path_at f above) (j ∷ []) ys);
-          apart = λ same. apart (key-same low other node other_node (path-up low above node up ∙ (ap (λ n. path_at f above ++ n ∷ []) same ∙ sym (path-up other above other_node over))));
+          apart = λ same. apart (key-same low other node other_node
+              (path-up low above node up ∙ (ap (λ n. path_at f above ++ n ∷ []) same ∙ sym (path-up other above other_node over))));
         }

@@ -1,5 +1,6 @@
 -- Listed ends that change places while those at one node are brought together and put back in order.
-use Rattle.std.proofs.Common.{◌≡◌, ◌≢◌, ◌⊎◌, inl, inr, ℕ, ◌+◌, ◌-◌, ◌<◌, ◌≤◌, List, [], ◌∷◌, zero, suc, set, length, get_or, take, drop, ◌++◌, refl, sym, ap, ◌∙◌, subst, arith}
+use Rattle.std.proofs.Common.{◌≡◌, ◌≢◌, ◌⊎◌, inl, inr, ℕ, ◌+◌, ◌-◌, ◌<◌, ◌≤◌, List, [], ◌∷◌, zero, suc, set, length, get_or, take, drop, ◌++◌, refl}
+use Rattle.std.proofs.Common.{sym, ap, ◌∙◌, subst, arith}
 use Rattle.std.specs.List.{SwappedAt, RotatedLeft, remove}
 use Rattle.std.specs.List.Sorted.{IsPermutation}
 use Rattle.std.proofs.lemmas.List.Edits.{length-remove, get_or-remove_below, get_or-remove_above}
@@ -7,7 +8,8 @@ use Rattle.std.proofs.lemmas.List.Sorted.{IsPermutation-remove, IsPermutation-tr
 use borrow.Rule.Slice.PartMut.{put_mid, mid_of}
 use Rattle.std.specs.Prelude.{true}
 use Rattle.std.proofs.lemmas.Bool.{cases_eq, cases_lt, cases_order, le-leb, lt-ltb}
-use Rattle.std.proofs.lemmas.List.{append-nil, drop_at, take_all, get_or-take, get_or-drop, length-drop, length-append, length-set, get_or-set_same, get_or-set_other, take-set-le, drop-set-lt, get_or_append_left, get_or-append_right, length-take-le}
+use Rattle.std.proofs.lemmas.List.{append-nil, drop_at, take_all, get_or-take, get_or-drop, length-drop, length-append, length-set, get_or-set_same}
+use Rattle.std.proofs.lemmas.List.{get_or-set_other, take-set-le, drop-set-lt, get_or_append_left, get_or-append_right, length-take-le}
 use Rattle.dom_ranges.specs.declared.ends.RangeEnd.{RangeEnd}
 use Rattle.dom_ranges.specs.declared.ends.Part.{Part}
 use Rattle.dom_ranges.specs.Listed.{AreAt, IsFirm, IsSortedBeside, IsSortedByNode, IsSortedIn, IsTurned, HasChanged, is_in}
@@ -16,8 +18,10 @@ use Rattle.dom_ranges.specs.Listed.{AreAt, IsFirm, IsSortedBeside, IsSortedByNod
 le_same : (a b c e : ℕ) → a ≡ c → b ≡ e → c ≤ e → a ≤ b
 le_same a b c e p q l = omega (arith, p, q, l)
 
-module _ (es now : List RangeEnd) (low high node kept i : ℕ) (order : low ≤ kept) (behind : kept ≤ i) (inside : i < high) (within : high ≤ length es) (same : length now ≡ length es)
-    (swapped : SwappedAt es now kept i) (other : (d : RangeEnd) → (get_or es i d).node ≢ node) (sorted : IsSortedBeside es low high node) (gathered : AreAt es kept i node) where
+module _ (es now : List RangeEnd) (low high node kept i : ℕ) (order : low ≤ kept) (behind : kept ≤ i) (inside : i < high)
+    (within : high ≤ length es) (same : length now ≡ length es)
+    (swapped : SwappedAt es now kept i) (other : (d : RangeEnd) → (get_or es i d).node ≢ node) (sorted : IsSortedBeside es low high node)
+    (gathered : AreAt es kept i node) where
   -- one end more stands before those at the node
   pub AreAt-more : AreAt now (kept + 1) (i + 1) node
   AreAt-more k d from to = elim (cases_eq k i) [
@@ -26,7 +30,8 @@ module _ (es now : List RangeEnd) (low high node kept i : ℕ) (order : low ≤ 
   ]
 
   -- what stands at a place now stood at another, where it was no end at the node if it is none
-  stood : (k : ℕ) (d : RangeEnd) → IsFirm low high node k (get_or now k d) → ((k ≡ kept) × (get_or now k d ≡ get_or es i d)) ⊎ (((k < kept) ⊎ (i < k)) × (get_or now k d ≡ get_or es k d))
+  stood : (k : ℕ) (d : RangeEnd) → IsFirm low high node k (get_or now k d) → ((k ≡ kept) × (get_or now k d ≡ get_or es i d)) ⊎
+      (((k < kept) ⊎ (i < k)) × (get_or now k d ≡ get_or es k d))
   stood k d firm = elim (cases_eq k kept) [
     | inl e ↦ inl (e, ap (λ (t : ℕ). get_or now t d) e ∙ swapped.0 d)
     | inr off ↦ elim (cases_eq k i) [
@@ -79,13 +84,19 @@ module _ (es now : List RangeEnd) (low high node kept i : ℕ) (order : low ≤ 
       firm_at k e f = subst (IsFirm low high node k) e f
 
 -- a part of a list that was rotated
-pub IsTurned-rotated : (es ys : List RangeEnd) (first middle behind : ℕ) → first ≤ middle → middle ≤ behind → behind ≤ length es → RotatedLeft (mid_of first (behind - first) es) ys (length (mid_of first (behind - first) es)) (middle - first)
+pub IsTurned-rotated : (es ys : List RangeEnd) (first middle behind : ℕ) → first ≤ middle → middle ≤ behind → behind ≤ length es →
+    RotatedLeft (mid_of first (behind - first) es) ys (length (mid_of first (behind - first) es)) (middle - first)
     → length ys ≡ length (mid_of first (behind - first) es) → IsTurned es (put_mid first (behind - first) es ys) first middle behind
 IsTurned-rotated es ys first middle behind one two within rotated same =
     record {
       outside = λ k d p. elim p [ inl l ↦ before k d l | inr l ↦ after k d l ];
-      second = λ k d l m. part k d l (omega (arith, m, one)) ∙ (rotated.0 (k - first) d (omega (arith, size, m, l)) ∙ was (k - first + (middle - first)) (k + middle - first) d (omega (arith, l)) (omega (arith, m, l)));
-      first_part = λ k d l m. part k d (omega (arith, m, two)) l ∙ (rotated.1 (k - first) d (omega (arith, size, m, two)) (omega (arith, size, l, m, two)) ∙ was (k - first + (middle - first) - length (mid_of first (behind - first) es)) (k + middle - behind) d (omega (arith, size, l, m)) (omega (arith, size, l, m)));
+      second = λ k d l m. part k d l (omega (arith, m, one)) ∙
+          (rotated.0 (k - first) d (omega (arith, size, m, l)) ∙ was (k - first + (middle - first)) (k + middle - first) d (omega (arith, l))
+          (omega (arith, m, l)));
+      first_part = λ k d l m. part k d (omega (arith, m, two)) l ∙
+          (rotated.1 (k - first) d (omega (arith, size, m, two)) (omega (arith, size, l, m, two)) ∙
+          was (k - first + (middle - first) - length (mid_of first (behind - first) es)) (k + middle - behind) d (omega (arith, size, l, m))
+          (omega (arith, size, l, m)));
     }
   where
     size : length (mid_of first (behind - first) es) ≡ behind - first
@@ -113,7 +124,8 @@ IsTurned-rotated es ys first middle behind one two within rotated same =
     was j i d e l = get_or-take (behind - first) (drop first es) j d l ∙ (get_or-drop first es j d ∙ ap (λ (t : ℕ). get_or es t d) e)
 
 -- what stands between two places of a list, as it is turned
-module _ (es now : List RangeEnd) (first middle behind : ℕ) (one : first ≤ middle) (two : middle ≤ behind) (within : behind ≤ length es) (same : length now ≡ length es) (turned : IsTurned es now first middle behind) where
+module _ (es now : List RangeEnd) (first middle behind : ℕ) (one : first ≤ middle) (two : middle ≤ behind) (within : behind ≤ length es)
+    (same : length now ≡ length es) (turned : IsTurned es now first middle behind) where
   -- where what stands at a place stood before
   stood_before : (k : ℕ) (d : RangeEnd)
       → (((k < first) ⊎ (behind ≤ k)) × (get_or now k d ≡ get_or es k d))
@@ -139,29 +151,40 @@ module _ (es now : List RangeEnd) (first middle behind : ℕ) (one : first ≤ m
     | inl p ↦ elim (stood_before b d) [
       | inl q ↦ by a b p.1 q.1 (keeps a b d le (omega (arith, same)) (λ f g h i. out a p.0 f (omega (arith, g))))
       | inr q ↦ elim q [
-        | inl r ↦ by a (b + middle - first) p.1 r.2 (keeps a (b + middle - first) d (omega (arith, le, r.0)) (omega (arith, r.1)) (λ f g h i. out a p.0 f (omega (arith, g))))
-        | inr r ↦ by a (b + middle - behind) p.1 r.2 (keeps a (b + middle - behind) d (below a p.0 (omega (arith, le, r.0)) (b + middle - behind) (omega (arith, r.1))) (omega (arith, r.0)) (λ f g h i. out a p.0 f (omega (arith, g))))
+        | inl r ↦ by a (b + middle - first) p.1 r.2
+            (keeps a (b + middle - first) d (omega (arith, le, r.0)) (omega (arith, r.1)) (λ f g h i. out a p.0 f (omega (arith, g))))
+        | inr r ↦ by a (b + middle - behind) p.1 r.2
+            (keeps a (b + middle - behind) d (below a p.0 (omega (arith, le, r.0)) (b + middle - behind) (omega (arith, r.1)))
+            (omega (arith, r.0)) (λ f g h i. out a p.0 f (omega (arith, g))))
       ]
     ]
     | inr p ↦ elim p [
       | inl p ↦ elim (stood_before b d) [
-        | inl q ↦ by (a + middle - first) b p.2 q.1 (keeps (a + middle - first) b d (above b q.0 (omega (arith, le, p.0)) (a + middle - first) (omega (arith, p.1))) (omega (arith, same)) (λ f g h i. omega (arith, g, p.0)))
+        | inl q ↦ by (a + middle - first) b p.2 q.1
+            (keeps (a + middle - first) b d (above b q.0 (omega (arith, le, p.0)) (a + middle - first) (omega (arith, p.1))) (omega (arith, same))
+            (λ f g h i. omega (arith, g, p.0)))
         | inr q ↦ elim q [
-          | inl r ↦ by (a + middle - first) (b + middle - first) p.2 r.2 (keeps (a + middle - first) (b + middle - first) d (omega (arith, le)) (omega (arith, r.1)) (λ f g h i. omega (arith, g, p.0)))
-          | inr r ↦ by (a + middle - first) (b + middle - behind) p.2 r.2 (turns (b + middle - behind) (a + middle - first) d (omega (arith, r.1)) (omega (arith, r.0)) (omega (arith, p.0)) (omega (arith, p.1)))
+          | inl r ↦ by (a + middle - first) (b + middle - first) p.2 r.2
+              (keeps (a + middle - first) (b + middle - first) d (omega (arith, le)) (omega (arith, r.1)) (λ f g h i. omega (arith, g, p.0)))
+          | inr r ↦ by (a + middle - first) (b + middle - behind) p.2 r.2
+              (turns (b + middle - behind) (a + middle - first) d (omega (arith, r.1)) (omega (arith, r.0)) (omega (arith, p.0)) (omega (arith, p.1)))
         ]
       ]
       | inr p ↦ elim (stood_before b d) [
-        | inl q ↦ by (a + middle - behind) b p.2 q.1 (keeps (a + middle - behind) b d (above b q.0 (omega (arith, le, p.1)) (a + middle - behind) (omega (arith, p.0))) (omega (arith, same)) (λ f g h i. far b q.0 (omega (arith, h)) i))
+        | inl q ↦ by (a + middle - behind) b p.2 q.1
+            (keeps (a + middle - behind) b d (above b q.0 (omega (arith, le, p.1)) (a + middle - behind) (omega (arith, p.0)))
+            (omega (arith, same)) (λ f g h i. far b q.0 (omega (arith, h)) i))
         | inr q ↦ elim q [
           | inl r ↦ absurd (omega (arith, le, p.1, r.1))
-          | inr r ↦ by (a + middle - behind) (b + middle - behind) p.2 r.2 (keeps (a + middle - behind) (b + middle - behind) d (omega (arith, le)) (omega (arith, r.0)) (λ f g h i. omega (arith, h, r.0)))
+          | inr r ↦ by (a + middle - behind) (b + middle - behind) p.2 r.2
+              (keeps (a + middle - behind) (b + middle - behind) d (omega (arith, le)) (omega (arith, r.0)) (λ f g h i. omega (arith, h, r.0)))
         ]
       ]
     ]
   ]
     where
-      by : (i j : ℕ) → get_or now a d ≡ get_or es i d → get_or now b d ≡ get_or es j d → (get_or es i d).node ≤ (get_or es j d).node → (get_or now a d).node ≤ (get_or now b d).node
+      by : (i j : ℕ) → get_or now a d ≡ get_or es i d → get_or now b d ≡ get_or es j d → (get_or es i d).node ≤ (get_or es j d).node →
+          (get_or now a d).node ≤ (get_or now b d).node
       by i j e f l = le_same _ _ _ _ (ap (λ (x : RangeEnd). x.node) e) (ap (λ (x : RangeEnd). x.node) f) l
 
       out : (k : ℕ) → (k < first) ⊎ (behind ≤ k) → first ≤ k → k < behind → ⊥
@@ -177,15 +200,19 @@ module _ (es now : List RangeEnd) (first middle behind : ℕ) (one : first ≤ m
       above k p l j m = elim p [ inl f ↦ absurd (omega (arith, f, l)) | inr f ↦ omega (arith, f, m) ]
 
 -- the ends before and behind those at the node are sorted each
-pub IsSortedIn-front : (es : List RangeEnd) (first high node : ℕ) → first ≤ length es → IsSortedBeside es first high node → IsSortedIn es (record { first = 0; behind = first })
+pub IsSortedIn-front : (es : List RangeEnd) (first high node : ℕ) → first ≤ length es → IsSortedBeside es first high node →
+    IsSortedIn es (record { first = 0; behind = first })
 IsSortedIn-front es first high node within sorted i j d from le l = sorted i j d le (omega arith) (inl (omega arith)) (inl l)
 
-pub IsSortedIn-back : (es : List RangeEnd) (first high node n : ℕ) → n ≡ length es → IsSortedBeside es first high node → IsSortedIn es (record { first = high; behind = n })
+pub IsSortedIn-back : (es : List RangeEnd) (first high node n : ℕ) → n ≡ length es → IsSortedBeside es first high node →
+    IsSortedIn es (record { first = high; behind = n })
 IsSortedIn-back es first high node n e sorted i j d from le l = sorted i j d le (omega (arith, e)) (inr (inl from)) (inr (inl (omega arith)))
 
-module _ (es now : List RangeEnd) (first high node : ℕ) (order : first ≤ high) (within : high ≤ length es) (same : length now ≡ length es) (gathered : AreAt es first high node) (sorted : IsSortedBeside es first high node) where
+module _ (es now : List RangeEnd) (first high node : ℕ) (order : first ≤ high) (within : high ≤ length es) (same : length now ≡ length es)
+    (gathered : AreAt es first high node) (sorted : IsSortedBeside es first high node) where
   -- the ends at the node come before some that stand before them
-  pub IsSortedByNode-earlier : (before : ℕ) → before < first → ((k : ℕ) (d : RangeEnd) → k < before → (get_or es k d).node ≤ node) → ((k : ℕ) (d : RangeEnd) → before ≤ k → k < first → node < (get_or es k d).node)
+  pub IsSortedByNode-earlier : (before : ℕ) → before < first → ((k : ℕ) (d : RangeEnd) → k < before → (get_or es k d).node ≤ node) →
+      ((k : ℕ) (d : RangeEnd) → before ≤ k → k < first → node < (get_or es k d).node)
       → IsTurned es now before first high → IsSortedByNode now
   IsSortedByNode-earlier before some less more turned =
       IsSortedByNode-turned es now before first high (omega arith) order within same turned
@@ -208,7 +235,9 @@ module _ (es now : List RangeEnd) (first high node : ℕ) (order : first ≤ hig
       (λ i j d f g h k. omega (arith, more i d f g, gathered j d h k))
 
   -- the ends at the node come behind some that stand behind them
-  pub IsSortedByNode-later : (behind : ℕ) → high ≤ behind → behind ≤ length es → ((k : ℕ) (d : RangeEnd) → k < first → (get_or es k d).node ≤ node) → ((k : ℕ) (d : RangeEnd) → high ≤ k → k < behind → (get_or es k d).node ≤ node)
+  pub IsSortedByNode-later : (behind : ℕ) → high ≤ behind → behind ≤ length es →
+      ((k : ℕ) (d : RangeEnd) → k < first → (get_or es k d).node ≤ node) →
+      ((k : ℕ) (d : RangeEnd) → high ≤ k → k < behind → (get_or es k d).node ≤ node)
       → ((k : ℕ) (d : RangeEnd) → behind ≤ k → k < length es → node < (get_or es k d).node) → IsTurned es now first high behind → IsSortedByNode now
   IsSortedByNode-later behind from inside less next more turned =
       IsSortedByNode-turned es now first high behind order from inside same turned
@@ -243,25 +272,33 @@ AreAt-grown es kept i node here gathered k d from to = elim (cases_eq k i) [
 
 -- one end more is not at the node
 pub others-more : (es now : List RangeEnd) (low node kept i : ℕ) → SwappedAt es now kept i → kept ≤ i → ((d : RangeEnd) → (get_or es i d).node ≢ node)
-    → ((k : ℕ) (d : RangeEnd) → low ≤ k → k < kept → (get_or es k d).node ≢ node) → (k : ℕ) (d : RangeEnd) → low ≤ k → k < kept + 1 → (get_or now k d).node ≢ node
+    → ((k : ℕ) (d : RangeEnd) → low ≤ k → k < kept → (get_or es k d).node ≢ node) → (k : ℕ) (d : RangeEnd) → low ≤ k → k < kept + 1 →
+    (get_or now k d).node ≢ node
 others-more es now low node kept i swapped le other others k d from to e = elim (cases_eq k kept) [
   | inl f ↦ other d (sym (ap (λ (x : RangeEnd). x.node) (ap (λ (t : ℕ). get_or now t d) f ∙ swapped.0 d)) ∙ e)
   | inr off ↦ others k d from (omega (arith, off)) (sym (ap (λ (x : RangeEnd). x.node) (swapped.2 k d off (λ g. omega (arith, g, off)))) ∙ e)
 ]
 
 -- one end at another node: the list is sorted but for it
-pub IsSortedBeside-set : (es : List RangeEnd) (i node : ℕ) (x : RangeEnd) → i < length es → x.node ≡ node → IsSortedByNode es → IsSortedBeside (set es i x) i (i + 1) node
+pub IsSortedBeside-set : (es : List RangeEnd) (i node : ℕ) (x : RangeEnd) → i < length es → x.node ≡ node → IsSortedByNode es →
+    IsSortedBeside (set es i x) i (i + 1) node
 IsSortedBeside-set es i node x within at sorted a b d le l p q =
-    le_same _ _ _ _ (ap (λ (y : RangeEnd). y.node) (get_or-set_other es i a x d (off a p))) (ap (λ (y : RangeEnd). y.node) (get_or-set_other es i b x d (off b q))) (sorted a b d le (omega (arith, l, length-set es i x)))
+    le_same _ _ _ _ (ap (λ (y : RangeEnd). y.node) (get_or-set_other es i a x d (off a p)))
+    (ap (λ (y : RangeEnd). y.node) (get_or-set_other es i b x d (off b q))) (sorted a b d le (omega (arith, l, length-set es i x)))
   where
     off : (k : ℕ) → IsFirm i (i + 1) node k (get_or (set es i x) k d) → k ≢ i
     off k f e = elim f [
       | inl m ↦ omega (arith, m, e)
-      | inr g ↦ elim g [ inl m ↦ omega (arith, m, e) | inr h ↦ h (ap (λ t. (get_or (set es i x) t d).node) e ∙ (ap (λ (y : RangeEnd). y.node) (get_or-set_same es i x d within) ∙ at)) ]
+      | inr g ↦ elim g [
+        | inl m ↦ omega (arith, m, e)
+        | inr h ↦ h
+            (ap (λ t. (get_or (set es i x) t d).node) e ∙ (ap (λ (y : RangeEnd). y.node) (get_or-set_same es i x d within) ∙ at))
+      ]
     ]
 
 -- two ends at a node behind a sorted list
-pub IsSortedBeside-pushed : (es : List RangeEnd) (node : ℕ) (x y : RangeEnd) → x.node ≡ node → y.node ≡ node → IsSortedByNode es → IsSortedBeside (es ++ x ∷ y ∷ []) (length es) (length es + 2) node
+pub IsSortedBeside-pushed : (es : List RangeEnd) (node : ℕ) (x y : RangeEnd) → x.node ≡ node → y.node ≡ node → IsSortedByNode es →
+    IsSortedBeside (es ++ x ∷ y ∷ []) (length es) (length es + 2) node
 IsSortedBeside-pushed es node x y at_x at_y sorted a b d le l p q =
     le_same _ _ _ _ (ap (λ (z : RangeEnd). z.node) (get_or_append_left es (x ∷ y ∷ []) d a (low a (omega (arith, le, l, length-append es (x ∷ y ∷ []))) p)))
     (ap (λ (z : RangeEnd). z.node) (get_or_append_left es (x ∷ y ∷ []) d b (low b (omega (arith, l, length-append es (x ∷ y ∷ []))) q)))
@@ -279,7 +316,8 @@ IsSortedBeside-pushed es node x y at_x at_y sorted a b d le l p q =
         | inl n ↦ absurd (omega (arith, m, n))
         | inr h ↦ elim (cases_lt k (length es)) [
           | inl n ↦ n
-          | inr n ↦ absurd (h (ap (λ (z : RangeEnd). z.node) (get_or-append_right es (x ∷ y ∷ []) (length es) k d refl n) ∙ new (k - length es) (omega (arith, m, n))))
+          | inr n ↦ absurd (h (ap (λ (z : RangeEnd). z.node) (get_or-append_right es (x ∷ y ∷ []) (length es) k d refl n) ∙
+              new (k - length es) (omega (arith, m, n))))
         ]
       ]
     ]
@@ -289,28 +327,36 @@ pub IsSortedByNode-removed : (es : List RangeEnd) (i : ℕ) → i < length es �
 IsSortedByNode-removed es i within sorted a b d le l =
     let size = length-remove es i within in
     elim (cases_lt b i) [
-      | inl m ↦ le_same _ _ _ _ (ap (λ (x : RangeEnd). x.node) (get_or-remove_below es i d a (omega (arith, m, le)) within)) (ap (λ (x : RangeEnd). x.node) (get_or-remove_below es i d b m within)) (sorted a b d le (omega (arith, m, within)))
+      | inl m ↦ le_same _ _ _ _ (ap (λ (x : RangeEnd). x.node) (get_or-remove_below es i d a (omega (arith, m, le)) within))
+          (ap (λ (x : RangeEnd). x.node) (get_or-remove_below es i d b m within)) (sorted a b d le (omega (arith, m, within)))
       | inr m ↦ elim (cases_lt a i) [
-        | inl n ↦ le_same _ _ _ _ (ap (λ (x : RangeEnd). x.node) (get_or-remove_below es i d a n within)) (ap (λ (x : RangeEnd). x.node) (get_or-remove_above es i d b m within)) (sorted a (b + 1) d (omega (arith, le)) (omega (arith, l, size)))
-        | inr n ↦ le_same _ _ _ _ (ap (λ (x : RangeEnd). x.node) (get_or-remove_above es i d a n within)) (ap (λ (x : RangeEnd). x.node) (get_or-remove_above es i d b m within)) (sorted (a + 1) (b + 1) d (omega (arith, le)) (omega (arith, l, size)))
+        | inl n ↦ le_same _ _ _ _ (ap (λ (x : RangeEnd). x.node) (get_or-remove_below es i d a n within))
+            (ap (λ (x : RangeEnd). x.node) (get_or-remove_above es i d b m within)) (sorted a (b + 1) d (omega (arith, le)) (omega (arith, l, size)))
+        | inr n ↦ le_same _ _ _ _ (ap (λ (x : RangeEnd). x.node) (get_or-remove_above es i d a n within))
+            (ap (λ (x : RangeEnd). x.node) (get_or-remove_above es i d b m within))
+            (sorted (a + 1) (b + 1) d (omega (arith, le)) (omega (arith, l, size)))
       ]
     ]
 
 -- an end that was set and then taken out
 pub remove-set : (es : List RangeEnd) (i : ℕ) (x : RangeEnd) → remove (set es i x) i ≡ remove es i
-remove-set es i x = ap (λ xs. xs ++ drop (suc i) (set es i x)) (take-set-le i es i x (omega arith)) ∙ ap (λ xs. take i es ++ xs) (drop-set-lt (suc i) es i x (omega arith))
+remove-set es i x = ap (λ xs. xs ++ drop (suc i) (set es i x)) (take-set-le i es i x (omega arith)) ∙
+    ap (λ xs. take i es ++ xs) (drop-set-lt (suc i) es i x (omega arith))
 
 -- an end that changed, in a list that was put in order
-pub HasChanged-set : (es now : List RangeEnd) (i : ℕ) (x y : RangeEnd) → i < length es → ((d : RangeEnd) → get_or es i d ≡ x) → IsPermutation (set es i y) now → HasChanged es now (x ∷ []) (y ∷ [])
+pub HasChanged-set : (es now : List RangeEnd) (i : ℕ) (x y : RangeEnd) → i < length es → ((d : RangeEnd) → get_or es i d ≡ x) →
+    IsPermutation (set es i y) now → HasChanged es now (x ∷ []) (y ∷ [])
 HasChanged-set es now i x y within here moved =
     let inside : i < length (set es i y) = omega (arith, within, length-set es i y) in
     record {
       rest = remove es i;
       before = IsPermutation-remove es i x within (sym (here x));
-      after = IsPermutation-trans _ _ _ (subst (λ (xs : List RangeEnd). IsPermutation (y ∷ xs) (set es i y)) (remove-set es i y) (IsPermutation-sym _ _ (IsPermutation-remove (set es i y) i y inside (sym (get_or-set_same es i y y within))))) moved;
+      after = IsPermutation-trans _ _ _ (subst (λ (xs : List RangeEnd). IsPermutation (y ∷ xs) (set es i y)) (remove-set es i y)
+          (IsPermutation-sym _ _ (IsPermutation-remove (set es i y) i y inside (sym (get_or-set_same es i y y within))))) moved;
     }
 
 -- a list whose slice was written whole
 pub written-back : (xs ys : List RangeEnd) (n : ℕ) → length ys ≡ length xs → length xs ≤ n → take n (ys ++ drop (length ys) xs) ≡ ys
 written-back xs ys n same fits =
-    ap (λ zs. take n (ys ++ zs)) (ap (drop (length ys)) (sym (append-nil xs)) ∙ drop_at xs [] (length ys) (sym same)) ∙ (ap (take n) (append-nil ys) ∙ take_all n ys (omega (arith, same, fits)))
+    ap (λ zs. take n (ys ++ zs)) (ap (drop (length ys)) (sym (append-nil xs)) ∙ drop_at xs [] (length ys) (sym same)) ∙
+    (ap (take n) (append-nil ys) ∙ take_all n ys (omega (arith, same, fits)))

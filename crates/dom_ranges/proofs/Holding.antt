@@ -17,7 +17,8 @@ list_of-map : {X Y : Type 0} (f : X → Y) (es : List (Owner × List X)) (o : Ow
 list_of-map f [] o = refl
 list_of-map f (e ∷ es) o = by (owner_eq o e.0) (list_of-map f es o)
   where
-    by : (b : Bool) → list_of (map (λ e. (e.0, map f e.1)) es) o ≡ map f (list_of es o) → cond b (map f e.1) (list_of (map (λ e. (e.0, map f e.1)) es) o) ≡ map f (cond b e.1 (list_of es o))
+    by : (b : Bool) → list_of (map (λ e. (e.0, map f e.1)) es) o ≡ map f (list_of es o) →
+        cond b (map f e.1) (list_of (map (λ e. (e.0, map f e.1)) es) o) ≡ map f (cond b e.1 (list_of es o))
     by true more = refl
     by false more = more
 
@@ -27,13 +28,15 @@ same_test k Page = refl
 same_test k (Component j) = refl
 
 -- the list of a component is found by its key
-list_of-entries : {X Y : Type 0} (f : X → List Y) (k : ℕ) (es : List (Owner × X)) → list_of (map (λ e. (e.0, f e.1)) es) (Component k) ≡ option_map_or f (lookup (OwnerImpl.ghosts.eq (Component k)) es) []
+list_of-entries : {X Y : Type 0} (f : X → List Y) (k : ℕ) (es : List (Owner × X)) →
+    list_of (map (λ e. (e.0, f e.1)) es) (Component k) ≡ option_map_or f (lookup (OwnerImpl.ghosts.eq (Component k)) es) []
 list_of-entries f k [] = refl
 list_of-entries f k (e ∷ es) =
     by (owner_eq (Component k) e.0) (OwnerImpl.ghosts.eq (Component k) e.0) (same_test k e.0) (list_of-entries f k es)
   where
     by : (b c : Bool) → b ≡ c → list_of (map (λ e. (e.0, f e.1)) es) (Component k) ≡ option_map_or f (lookup (OwnerImpl.ghosts.eq (Component k)) es) []
-        → cond b (f e.1) (list_of (map (λ e. (e.0, f e.1)) es) (Component k)) ≡ option_map_or f (cond c (Some e.1) (lookup (OwnerImpl.ghosts.eq (Component k)) es)) []
+        → cond b (f e.1) (list_of (map (λ e. (e.0, f e.1)) es) (Component k)) ≡ option_map_or f
+        (cond c (Some e.1) (lookup (OwnerImpl.ghosts.eq (Component k)) es)) []
     by true true same more = refl
     by true false same more = absurd (true≢false same)
     by false true same more = absurd (true≢false (sym same))

@@ -17,7 +17,8 @@ module _ (f : NamedTrees) (top : ℕ) where
   from_key at y = In y (from_node f.trees (name_at f.names top) (option_map (name_at f.names) at))
 
   -- from the top on are all
-  pub all-from_top : StandOnce f → StandAlone f → top < length f.names → (y : NodeName) → In y (inclusive_descendants f.trees (name_at f.names top)) → from_key (Some top) y
+  pub all-from_top : StandOnce f → StandAlone f → top < length f.names → (y : NodeName) →
+      In y (inclusive_descendants f.trees (name_at f.names top)) → from_key (Some top) y
   all-from_top once only node y i =
       let x = name_at f.names top in
       let w = IsWithin-itself f once only top node in
@@ -34,7 +35,8 @@ module _ (f : NamedTrees) (top : ℕ) where
       rw same record { node = node; within = above-within f.trees (name_at f.names top) (name_at f.names top) (IsWithin-itself f once only top node) }
 
   -- of the names from a key on those that are not its own are from the next key on
-  pub next-from : (k : ℕ) (at next : Option ℕ) → at ≡ Some k → behind f.trees (name_at f.names top) (name_at f.names k) ≡ from_node f.trees (name_at f.names top) (option_map (name_at f.names) next)
+  pub next-from : (k : ℕ) (at next : Option ℕ) → at ≡ Some k →
+      behind f.trees (name_at f.names top) (name_at f.names k) ≡ from_node f.trees (name_at f.names top) (option_map (name_at f.names) next)
       → (y : NodeName) → (y ≡ name_at f.names k → ⊥) → from_key at y → from_key next y
   next-from k at next is e y other i = elim (subst (λ o. from_key o y) is i) [
     | inl same ↦ absurd (other same)

@@ -1,5 +1,6 @@
 -- The ends of all ranges as a rule moves them: in two steps, or not at all.
-use Rattle.std.proofs.Common.{◌≡◌, inl, inr, ℕ, suc, ◌+◌, ◌-◌, ◌<◌, Bool, true, false, cond, List, [], ◌∷◌, length, get_or, Option, Some, None, is_some, eqb, nat_lt, refl, sym, ap, ◌∙◌, subst, arith}
+use Rattle.std.proofs.Common.{◌≡◌, inl, inr, ℕ, suc, ◌+◌, ◌-◌, ◌<◌, Bool, true, false, cond, List, [], ◌∷◌, length, get_or, Option, Some, None}
+use Rattle.std.proofs.Common.{is_some, eqb, nat_lt, refl, sym, ap, ◌∙◌, subst, arith}
 use Rattle.std.specs.Prelude.{slice_get, ◌&&◌}
 use Rattle.std.specs.Option.{option_map, ForSome}
 use Rattle.std.proofs.lemmas.Bool.{eqb-true, ltb-true, false_from_ne_true}
@@ -53,7 +54,8 @@ moves-none g live same slot = by (get live slot) refl
         ap Some (both_same r.start r.end (g r.start) (g r.end) (sym h.0) (sym h.1))
 
 -- a rule in two steps
-pub moves-twice : (f g h : Boundary ℕ → Boundary ℕ) (live mid after : Slab Points) → Moves f live mid → Moves g mid after → ((b : Boundary ℕ) → h b ≡ g (f b)) → Moves h live after
+pub moves-twice : (f g h : Boundary ℕ → Boundary ℕ) (live mid after : Slab Points) → Moves f live mid → Moves g mid after →
+    ((b : Boundary ℕ) → h b ≡ g (f b)) → Moves h live after
 moves-twice f g h live mid after first second both slot =
     second slot ∙ (through (get mid slot) ∙ (ap (option_map (map_ends g)) (first slot) ∙ whole (get live slot)))
   where
@@ -71,7 +73,8 @@ moves-twice f g h live mid after first second both slot =
 
 -- by the list of ends
 pub each-listed : (P : Boundary ℕ → Type 0) (live : Slab Points) (es : List RangeEnd) → IsListed live es
-    → ((k : ℕ) (d : RangeEnd) (b : Boundary ℕ) → k < length es → point_at live (get_or es k d).slot (get_or es k d).is_end ≡ Some b → b.node ≡ (get_or es k d).node → P b) → OfEach P live
+    → ((k : ℕ) (d : RangeEnd) (b : Boundary ℕ) → k < length es → point_at live (get_or es k d).slot (get_or es k d).is_end ≡ Some b →
+    b.node ≡ (get_or es k d).node → P b) → OfEach P live
 each-listed P live es listed holds slot p there = (one false, one true)
   where
     one : (e : Bool) → P (end_of e p)
@@ -91,7 +94,8 @@ module _ (P : Boundary ℕ → Type 0) (live : Slab Points) (n : Numbers) (v : R
 
   -- and the other way round
   pub each-shown : OfEach P live → (o : Owner) → EachRange (BothEnds P) (ranges_of v o)
-  each-shown each o k r e = by (slice_get (slots_of n o) k) (sym (slice_get-map (range_kept live) (slots_of n o) k) ∙ (ap (λ (rs : RangeList). slice_get rs k) (sym (shows o)) ∙ e))
+  each-shown each o k r e = by (slice_get (slots_of n o) k)
+      (sym (slice_get-map (range_kept live) (slots_of n o) k) ∙ (ap (λ (rs : RangeList). slice_get rs k) (sym (shows o)) ∙ e))
     where
       held : (slot : ℕ) (t : Option Points) → get live slot ≡ t → Some (option_map range_from t) ≡ Some (Some r) → BothEnds P r
       held slot None f g = cc
@@ -126,7 +130,8 @@ ends-kept f [] each = refl
 ends-kept f (None ∷ rs) each = ap (λ zs. None ∷ zs) (ends-kept f rs (λ k r e. each (suc k) r e))
 ends-kept f (Some r ∷ rs) each =
     let h = each 0 r refl in
-    cons_same (Some (map_ends f r)) (Some r) (ends_by f rs) rs (ap Some (both_same (f r.start) (f r.end) r.start r.end h.0 h.1)) (ends-kept f rs (λ k s e. each (suc k) s e))
+    cons_same (Some (map_ends f r)) (Some r) (ends_by f rs) rs (ap Some (both_same (f r.start) (f r.end) r.start r.end h.0 h.1))
+    (ends-kept f rs (λ k s e. each (suc k) s e))
 
 -- ranges of which each end is moved alike
 pub ends-alike : (f g : Boundary ℕ → Boundary ℕ) (rs : RangeList) → EachRange (BothEnds (λ b. f b ≡ g b)) rs → ends_by f rs ≡ ends_by g rs
@@ -134,12 +139,14 @@ ends-alike f g [] each = refl
 ends-alike f g (None ∷ rs) each = ap (λ zs. None ∷ zs) (ends-alike f g rs (λ k r e. each (suc k) r e))
 ends-alike f g (Some r ∷ rs) each =
     let h = each 0 r refl in
-    cons_same (Some (map_ends f r)) (Some (map_ends g r)) (ends_by f rs) (ends_by g rs) (ap Some (both_same (f r.start) (f r.end) (g r.start) (g r.end) h.0 h.1)) (ends-alike f g rs (λ k s e. each (suc k) s e))
+    cons_same (Some (map_ends f r)) (Some (map_ends g r)) (ends_by f rs) (ends_by g rs)
+    (ap Some (both_same (f r.start) (f r.end) (g r.start) (g r.end) h.0 h.1)) (ends-alike f g rs (λ k s e. each (suc k) s e))
 
 -- ---- an index that is looked for only as far as ends stand
 
 -- a join by a number that stands for the index
-pub join-near : (first size next parent index near : ℕ) (b : Boundary ℕ) → IsNear parent index near b → after_join eqb first size next parent near b ≡ after_join eqb first size next parent index b
+pub join-near : (first size next parent index near : ℕ) (b : Boundary ℕ) → IsNear parent index near b →
+    after_join eqb first size next parent near b ≡ after_join eqb first size next parent index b
 join-near first size next parent index near b (inl e) = ap (λ (i : ℕ). after_join eqb first size next parent i b) e
 join-near first size next parent index near b (inr h) =
     ap (λ (t : Bool). cond (eqb b.node next) (at first (b.offset + size)) (cond t (at first size) b)) (tests (eqb b.node parent) refl)
@@ -148,7 +155,8 @@ join-near first size next parent index near b (inr h) =
     tests false e = refl
     tests true e =
         let below = h.1 (eqb-true b.node parent e) in
-        false_from_ne_true (eqb b.offset near) (λ f. omega (arith, below, eqb-true b.offset near f)) ∙ sym (false_from_ne_true (eqb b.offset index) (λ f. omega (arith, below, h.0, eqb-true b.offset index f)))
+        false_from_ne_true (eqb b.offset near) (λ f. omega (arith, below, eqb-true b.offset near f)) ∙
+        sym (false_from_ne_true (eqb b.offset index) (λ f. omega (arith, below, h.0, eqb-true b.offset index f)))
 
 -- ---- a removal in two steps
 
@@ -172,7 +180,8 @@ module _ (inside : ℕ → Bool) (parent index : ℕ) where
 -- ---- the table after all ends were moved
 
 -- what a table keeps
-pub kept-moved : (rule : Boundary ℕ → Boundary ℕ) (live after : Slab Points) (n : Numbers) (es now : List RangeEnd) → Moves rule live after → IsHeld live n → IsListed after now → IsSortedByNode now → es ≡ now
+pub kept-moved : (rule : Boundary ℕ → Boundary ℕ) (live after : Slab Points) (n : Numbers) (es now : List RangeEnd) → Moves rule live after →
+    IsHeld live n → IsListed after now → IsSortedByNode now → es ≡ now
     → IsHeld after n × IsListed after es × IsSortedByNode es
 kept-moved rule live after n es now moved held listed sorted same = (
   IsHeld-same live after n n (HoldSame-moved (map_ends rule) live after moved) (λ o. refl) held,

@@ -1,5 +1,6 @@
 -- The list of ends, each once, as ends come, go and change their nodes.
-use Rattle.std.proofs.Common.{◌≡◌, ◌≢◌, ◌⊎◌, inl, inr, ℕ, zero, suc, ◌+◌, ◌<◌, ◌≤◌, Bool, true, false, cond, List, [], ◌∷◌, ◌++◌, length, get_or, ◌-◌, Option, Some, None, is_some, IsSome, eqb, refl, sym, ap, ◌∙◌, subst, arith, true≢false}
+use Rattle.std.proofs.Common.{◌≡◌, ◌≢◌, ◌⊎◌, inl, inr, ℕ, zero, suc, ◌+◌, ◌<◌, ◌≤◌, Bool, true, false, cond, List, [], ◌∷◌, ◌++◌, length, get_or, ◌-◌}
+use Rattle.std.proofs.Common.{Option, Some, None, is_some, IsSome, eqb, refl, sym, ap, ◌∙◌, subst, arith, true≢false}
 use Rattle.std.specs.Prelude.{◌&&◌, not}
 use Rattle.std.specs.List.{All}
 use Rattle.std.specs.Option.{option_map}
@@ -7,7 +8,8 @@ use Rattle.std.specs.List.Sorted.{IsPermutation}
 use Rattle.std.proofs.lemmas.Bool.{cases_Bool, cases_eq, cases_lt, eq-eqb, eqb-true}
 use Rattle.std.proofs.lemmas.List.{get_or-append_right, get_or_append_left, length-append}
 use Rattle.std.proofs.lemmas.List.Sums.{sum_by-cons, sum_by-append, get_or-le-sum_by}
-use Rattle.std.proofs.lemmas.List.Sorted.{IsPermutation-refl, IsPermutation-cons, IsPermutation-trans, IsPermutation-append_comm, All-permutation, sum_by-IsPermutation}
+use Rattle.std.proofs.lemmas.List.Sorted.{IsPermutation-refl, IsPermutation-cons, IsPermutation-trans, IsPermutation-append_comm, All-permutation}
+use Rattle.std.proofs.lemmas.List.Sorted.{sum_by-IsPermutation}
 use Rattle.std.proofs.lemmas.Option.{same_Some}
 use Rattle.slab.specs.Slab.{Slab, get, Updates}
 use Rattle.dom_model.specs.Place.{Boundary}
@@ -54,7 +56,8 @@ listed-counts es k d l =
     omega (arith, h, ap bit (is_end_of-same e))
 
 -- an end that is counted is listed
-pub counts-listed : (slot : ℕ) (is_end : Bool) (es : List RangeEnd) → 1 ≤ times slot is_end es → (k : ℕ) × (k < length es) × ((d : RangeEnd) → is_end_of slot is_end (get_or es k d) ≡ true)
+pub counts-listed : (slot : ℕ) (is_end : Bool) (es : List RangeEnd) → 1 ≤ times slot is_end es → (k : ℕ) × (k < length es) ×
+    ((d : RangeEnd) → is_end_of slot is_end (get_or es k d) ≡ true)
 counts-listed slot is_end [] l = absurd (omega (arith, l))
 counts-listed slot is_end (e ∷ es) l = elim (cases_Bool (is_end_of slot is_end e)) [
   | inl f ↦ (0, omega arith, λ d. f)
@@ -78,7 +81,8 @@ module _ (live after : Slab Points) (es now xs ys : List RangeEnd) (listed : IsL
       let e = get_or changed.rest k d in
       let back = All-permutation (Stands live) es (xs ++ changed.rest) changed.before listed.standing in
       let stood : Stands live e =
-      subst (Stands live) (get_or-append_right xs changed.rest (length xs) (length xs + k) d refl (omega arith) ∙ ap (λ t. get_or changed.rest t d) (omega arith))
+      subst (Stands live) (get_or-append_right xs changed.rest (length xs) (length xs + k) d refl (omega arith) ∙
+      ap (λ t. get_or changed.rest t d) (omega arith))
       (back (length xs + k) d (omega (arith, l, length-append xs changed.rest))) in
       let once = was_times e.slot e.is_end in
       let here = listed-counts changed.rest k d l in
@@ -94,10 +98,18 @@ module _ (live after : Slab Points) (es now xs ys : List RangeEnd) (listed : IsL
   pub IsListed-changed : IsListed after now
   IsListed-changed =
       record {
-        counted = λ s b. omega (arith, sum_by-IsPermutation (one_if s b) (ys ++ changed.rest) now changed.after, sum_by-append (one_if s b) ys changed.rest, was_times s b, counts s b);
+        counted = λ s b. omega (
+          arith,
+          sum_by-IsPermutation (one_if s b) (ys ++ changed.rest) now changed.after,
+          sum_by-append (one_if s b) ys
+              changed.rest,
+          was_times s b,
+          counts s b,
+        );
         standing = All-permutation (Stands after) (ys ++ changed.rest) now changed.after (λ k d l. elim (cases_lt k (length ys)) [
           | inl m ↦ subst (Stands after) (sym (get_or_append_left ys changed.rest d k m)) (stands k d m)
-          | inr m ↦ subst (Stands after) (sym (get_or-append_right ys changed.rest (length ys) k d refl m)) (rest_stands (k - length ys) d (omega (arith, l, m, length-append ys changed.rest)))
+          | inr m ↦ subst (Stands after) (sym (get_or-append_right ys changed.rest (length ys) k d refl m))
+              (rest_stands (k - length ys) d (omega (arith, l, m, length-append ys changed.rest)))
         ]);
       }
 
@@ -119,7 +131,9 @@ is_end_of-alike slot true x y g h = ap (λ n. eqb n slot && x.is_end) g ∙ ap (
 is_end_of-alike slot false x y g h = ap (λ n. eqb n slot && not x.is_end) g ∙ ap (λ t. eqb y.slot slot && not t) h
 
 -- lists of the same ends
-pub times-same : (slot : ℕ) (is_end : Bool) (xs ys : List RangeEnd) → length ys ≡ length xs → ((k : ℕ) (d : RangeEnd) → (get_or ys k d).slot ≡ (get_or xs k d).slot) → ((k : ℕ) (d : RangeEnd) → (get_or ys k d).is_end ≡ (get_or xs k d).is_end)
+pub times-same : (slot : ℕ) (is_end : Bool) (xs ys : List RangeEnd) → length ys ≡ length xs →
+    ((k : ℕ) (d : RangeEnd) → (get_or ys k d).slot ≡ (get_or xs k d).slot) →
+    ((k : ℕ) (d : RangeEnd) → (get_or ys k d).is_end ≡ (get_or xs k d).is_end)
     → times slot is_end ys ≡ times slot is_end xs
 times-same slot is_end [] [] l e f = refl
 times-same slot is_end [] (y ∷ ys) l e f = absurd (omega (arith, l))
@@ -127,15 +141,20 @@ times-same slot is_end (x ∷ xs) [] l e f = absurd (omega (arith, l))
 times-same slot is_end (x ∷ xs) (y ∷ ys) l e f =
     sum_by-cons (one_if slot is_end) y ys
     ∙ (ap (λ n. n + times slot is_end ys) (ap bit (is_end_of-alike slot is_end y x (e 0 x) (f 0 x)))
-    ∙ (ap (λ n. one_if slot is_end x + n) (times-same slot is_end xs ys (omega (arith, l)) (λ k d. e (suc k) d) (λ k d. f (suc k) d)) ∙ sym (sum_by-cons (one_if slot is_end) x xs)))
+    ∙ (ap (λ n. one_if slot is_end x + n) (times-same slot is_end xs ys (omega (arith, l)) (λ k d. e (suc k) d) (λ k d. f (suc k) d)) ∙
+    sym (sum_by-cons (one_if slot is_end) x xs)))
 
 -- a list in another order
 pub IsListed-permuted : (live : Slab Points) (es now : List RangeEnd) → IsListed live es → IsPermutation es now → IsListed live now
 IsListed-permuted live es now listed moved =
-    record { counted = λ s b. sum_by-IsPermutation (one_if s b) es now moved ∙ listed.counted s b; standing = All-permutation (Stands live) es now moved listed.standing }
+    record {
+      counted = λ s b. sum_by-IsPermutation (one_if s b) es now moved ∙ listed.counted s b;
+      standing = All-permutation (Stands live) es now moved listed.standing;
+    }
 
 -- a listed end's place is its own
-pub places-once : (live : Slab Points) (es : List RangeEnd) → IsListed live es → (slot : ℕ) (is_end : Bool) (j k : ℕ) (d : RangeEnd) → j < length es → k < length es
+pub places-once : (live : Slab Points) (es : List RangeEnd) → IsListed live es → (slot : ℕ) (is_end : Bool) (j k : ℕ) (d : RangeEnd) →
+    j < length es → k < length es
     → is_end_of slot is_end (get_or es j d) ≡ true → is_end_of slot is_end (get_or es k d) ≡ true → j ≡ k
 places-once live es listed slot is_end = counted-once slot is_end es (by (is_some (get live slot)) (listed.counted slot is_end))
   where
@@ -148,7 +167,8 @@ pub end-same : (x y : RangeEnd) → x.slot ≡ y.slot → x.is_end ≡ y.is_end 
 end-same x y e f g = ap (λ n. end_in x.slot x.is_end n) g ∙ (ap (λ b. end_in x.slot b y.node) f ∙ ap (λ s. end_in s y.is_end y.node) e)
 
 -- the end of a range that is there is listed once
-pub listed-once : (live : Slab Points) (es : List RangeEnd) → IsListed live es → (slot : ℕ) (is_end : Bool) (p : Points) → get live slot ≡ Some p → IsListedOnce es (end_in slot is_end (end_of is_end p).node)
+pub listed-once : (live : Slab Points) (es : List RangeEnd) → IsListed live es → (slot : ℕ) (is_end : Bool) (p : Points) →
+    get live slot ≡ Some p → IsListedOnce es (end_in slot is_end (end_of is_end p).node)
 listed-once live es listed slot is_end p there =
     let w = counts-listed slot is_end es (omega (arith, listed.counted slot is_end, ap bit (ap is_some there))) in
     record {
@@ -158,20 +178,25 @@ listed-once live es listed slot is_end p there =
       alone = λ k d l e f. it k d l e f;
     }
   where
-    it : (k : ℕ) (d : RangeEnd) → k < length es → (get_or es k d).slot ≡ slot → (get_or es k d).is_end ≡ is_end → get_or es k d ≡ end_in slot is_end (end_of is_end p).node
+    it : (k : ℕ) (d : RangeEnd) → k < length es → (get_or es k d).slot ≡ slot → (get_or es k d).is_end ≡ is_end →
+        get_or es k d ≡ end_in slot is_end (end_of is_end p).node
     it k d l e f =
         end-same (get_or es k d) (end_in slot is_end (end_of is_end p).node) e f
         (same_Some _ _ (sym (listed.standing k d l) ∙ (ap (λ s. option_map (λ (b : Boundary ℕ). b.node) (point_at live s (get_or es k d).is_end)) e
-        ∙ (ap (λ t. option_map (λ (b : Boundary ℕ). b.node) (point_at live slot t)) f ∙ ap (λ (m : Option Points). option_map (λ (b : Boundary ℕ). b.node) (option_map (end_of is_end) m)) there))))
+        ∙ (ap (λ t. option_map (λ (b : Boundary ℕ). b.node) (point_at live slot t)) f ∙
+        ap (λ (m : Option Points). option_map (λ (b : Boundary ℕ). b.node) (option_map (end_of is_end) m)) there))))
 
 -- a range of which first the start and then the end was put
-pub both-put : (m : Option Points) (p : Points) → IsSome m → option_map (with_end_at true p.end.0 p.end.1) (option_map (with_end_at false p.start.0 p.start.1) m) ≡ Some p
+pub both-put : (m : Option Points) (p : Points) → IsSome m →
+    option_map (with_end_at true p.end.0 p.end.1) (option_map (with_end_at false p.start.0 p.start.1) m) ≡ Some p
 both-put None p i = absurd (true≢false (sym i))
 both-put (Some q) p i = refl
 
 -- one end of a range was put
-pub IsListed-put : (live after : Slab Points) (es now : List RangeEnd) (slot : ℕ) (is_end : Bool) (node offset : ℕ) (p : Points) → IsListed live es → get live slot ≡ Some p → get after slot ≡ option_map (with_end_at is_end node offset) (get live slot)
-    → ((s : ℕ) → s ≢ slot → get after s ≡ get live s) → HasChanged es now (end_in slot is_end (end_of is_end p).node ∷ []) (end_in slot is_end node ∷ []) → IsListed after now
+pub IsListed-put : (live after : Slab Points) (es now : List RangeEnd) (slot : ℕ) (is_end : Bool) (node offset : ℕ) (p : Points) →
+    IsListed live es → get live slot ≡ Some p → get after slot ≡ option_map (with_end_at is_end node offset) (get live slot)
+    → ((s : ℕ) → s ≢ slot → get after s ≡ get live s) →
+    HasChanged es now (end_in slot is_end (end_of is_end p).node ∷ []) (end_in slot is_end node ∷ []) → IsListed after now
 IsListed-put live after es now slot is_end node offset p listed there put others changed =
     IsListed-changed live after es now (end_in slot is_end (end_of is_end p).node ∷ []) (end_in slot is_end node ∷ []) listed changed counts points stands
   where
@@ -179,11 +204,17 @@ IsListed-put live after es now slot is_end node offset p listed there put others
     here = put ∙ ap (option_map (with_end_at is_end node offset)) there
 
     held : (s : ℕ) → is_some (get after s) ≡ is_some (get live s)
-    held s = elim (cases_eq s slot) [ inl e ↦ ap (λ t. is_some (get after t)) e ∙ (ap is_some here ∙ (sym (ap is_some there) ∙ ap (λ t. is_some (get live t)) (sym e))) | inr off ↦ ap is_some (others s off) ]
+    held s = elim (cases_eq s slot) [
+      | inl e ↦ ap (λ t. is_some (get after t)) e ∙
+          (ap is_some here ∙ (sym (ap is_some there) ∙ ap (λ t. is_some (get live t)) (sym e)))
+      | inr off ↦ ap is_some (others s off)
+    ]
 
-    counts : (s : ℕ) (b : Bool) → times s b (end_in slot is_end node ∷ []) + cond (is_some (get live s)) 1 0 ≡ times s b (end_in slot is_end (end_of is_end p).node ∷ []) + cond (is_some (get after s)) 1 0
+    counts : (s : ℕ) (b : Bool) → times s b (end_in slot is_end node ∷ []) + cond (is_some (get live s)) 1 0 ≡ times s b
+        (end_in slot is_end (end_of is_end p).node ∷ []) + cond (is_some (get after s)) 1 0
     counts s b =
-        ap {B = ℕ} (λ t. 0 + cond t 1 0 + cond (is_some (get live s)) 1 0) (is_end_of-alike s b (end_in slot is_end node) (end_in slot is_end (end_of is_end p).node) refl refl)
+        ap {B = ℕ} (λ t. 0 + cond t 1 0 + cond (is_some (get live s)) 1 0)
+        (is_end_of-alike s b (end_in slot is_end node) (end_in slot is_end (end_of is_end p).node) refl refl)
         ∙ ap {B = ℕ} (λ t. times s b (end_in slot is_end (end_of is_end p).node ∷ []) + cond t 1 0) (sym (held s))
 
     same_ends : (b c : Bool) (q : Points) → b ≢ c → end_of b (with_end_at c node offset q) ≡ end_of b q
@@ -192,12 +223,19 @@ IsListed-put live after es now slot is_end node offset p listed there put others
     same_ends false true q off = refl
     same_ends false false q off = absurd (off refl)
 
-    points : (s : ℕ) (b : Bool) → times s b (end_in slot is_end (end_of is_end p).node ∷ []) ≡ 0 → (point_at after s b ≡ point_at live s b) ⊎ (get live s ≡ None)
+    points : (s : ℕ) (b : Bool) → times s b (end_in slot is_end (end_of is_end p).node ∷ []) ≡ 0 → (point_at after s b ≡ point_at live s b) ⊎
+        (get live s ≡ None)
     points s b none = elim (cases_eq s slot) [
       | inr off ↦ inl (ap (option_map (end_of b)) (others s off))
       | inl e ↦
-          let apart : (b ≡ is_end → ⊥) = λ f. one_not_none (is_end_of s b (end_in slot is_end (end_of is_end p).node)) none (ap (λ t. is_end_of t b (end_in slot is_end (end_of is_end p).node)) e ∙ (ap (λ (t : Bool). is_end_of slot t (end_in slot is_end (end_of is_end p).node)) f ∙ is_end_of-same (end_in slot is_end (end_of is_end p).node))) in
-          inl (ap (λ t. point_at after t b) e ∙ (ap (option_map (end_of b)) here ∙ (ap Some (same_ends b is_end p apart) ∙ (sym (ap (option_map (end_of b)) there) ∙ ap (λ t. point_at live t b) (sym e)))))
+          let apart : (b ≡ is_end → ⊥) =
+          λ f. one_not_none (is_end_of s b (end_in slot is_end (end_of is_end p).node)) none
+          (ap (λ t. is_end_of t b (end_in slot is_end (end_of is_end p).node)) e ∙
+          (ap (λ (t : Bool). is_end_of slot t (end_in slot is_end (end_of is_end p).node)) f ∙
+          is_end_of-same (end_in slot is_end (end_of is_end p).node))) in
+          inl (ap (λ t. point_at after t b) e ∙
+          (ap (option_map (end_of b)) here ∙
+          (ap Some (same_ends b is_end p apart) ∙ (sym (ap (option_map (end_of b)) there) ∙ ap (λ t. point_at live t b) (sym e)))))
     ]
       where
         one_not_none : (t : Bool) → 0 + cond t 1 0 ≡ 0 → t ≡ true → ⊥
@@ -230,13 +268,25 @@ other-slot : (slot s : ℕ) → s ≢ slot → eqb slot s ≡ false
 other-slot slot s off = elim (cases_Bool (eqb slot s)) [ inl e ↦ absurd (off (sym (eqb-true slot s e))) | inr e ↦ e ]
 
 -- the list after a range was dropped
-pub IsListed-dropped : (live after : Slab Points) (es mid now : List RangeEnd) (slot n m : ℕ) → IsListed live es → is_some (get live slot) ≡ true → Updates live after slot None
+pub IsListed-dropped : (live after : Slab Points) (es mid now : List RangeEnd) (slot n m : ℕ) → IsListed live es →
+    is_some (get live slot) ≡ true → Updates live after slot None
     → IsPermutation es (end_in slot false n ∷ mid) → IsPermutation mid (end_in slot true m ∷ now) → IsListed after now
 IsListed-dropped live after es mid now slot n m listed there u one two =
     IsListed-changed live after es now (end_in slot false n ∷ end_in slot true m ∷ []) [] listed
-    (record { rest = now; before = IsPermutation-trans _ _ _ one (IsPermutation-cons (end_in slot false n) mid (end_in slot true m ∷ now) two); after = IsPermutation-refl now })
+    (record {
+      rest = now;
+      before = IsPermutation-trans _ _ _ one (IsPermutation-cons (end_in slot false n) mid (end_in slot true m ∷ now) two);
+      after = IsPermutation-refl now;
+    })
     (λ s b. elim (cases_eq s slot) [
-      | inl e ↦ omega (arith, pair-times slot n m s b, ap bit (eq-eqb slot s (sym e)), ap bit (ap (λ t. is_some (get live t)) e ∙ there), ap bit (ap (λ t. is_some (get after t)) e ∙ ap is_some u.changed))
+      | inl e ↦ omega (
+        arith,
+        pair-times slot n m s b,
+        ap bit (eq-eqb slot s (sym e)),
+        ap bit (ap (λ t. is_some (get live t)) e ∙ there),
+        ap bit
+            (ap (λ t. is_some (get after t)) e ∙ ap is_some u.changed),
+      )
       | inr off ↦ omega (arith, pair-times slot n m s b, ap bit (other-slot slot s off), ap bit (ap is_some (u.others s off)))
     ])
     (λ s b none. elim (cases_eq s slot) [
@@ -246,9 +296,18 @@ IsListed-dropped live after es mid now slot n m listed there u one two =
     (λ k d l. absurd (omega (arith, l)))
 
 -- the other end of the range is still listed
-pub listed-once-rest : (live : Slab Points) (es mid : List RangeEnd) (slot n m : ℕ) → IsListed live es → is_some (get live slot) ≡ true → IsPermutation es (end_in slot false n ∷ mid) → IsListedOnce es (end_in slot true m) → IsListedOnce mid (end_in slot true m)
+pub listed-once-rest : (live : Slab Points) (es mid : List RangeEnd) (slot n m : ℕ) → IsListed live es → is_some (get live slot) ≡ true →
+    IsPermutation es (end_in slot false n ∷ mid) → IsListedOnce es (end_in slot true m) → IsListedOnce mid (end_in slot true m)
 listed-once-rest live es mid slot n m listed there one once =
-    let w = counts-listed slot true mid (omega (arith, sum_by-IsPermutation (one_if slot true) es (end_in slot false n ∷ mid) one, sum_by-cons (one_if slot true) (end_in slot false n) mid, listed.counted slot true, ap bit there, ap bit (first (eqb slot slot)))) in
+    let w = counts-listed slot true mid (omega (
+      arith,
+      sum_by-IsPermutation (one_if slot true) es (end_in slot false n ∷ mid) one,
+      sum_by-cons (one_if slot true)
+          (end_in slot false n) mid,
+      listed.counted slot true,
+      ap bit there,
+      ap bit (first (eqb slot slot)),
+    )) in
     record {
       place = w.0;
       within = w.1;
@@ -261,16 +320,29 @@ listed-once-rest live es mid slot n m listed there one once =
     first false = refl
 
     apart : (k : ℕ) (d : RangeEnd) → k < length mid → (get_or mid k d).slot ≡ slot → (get_or mid k d).is_end ≡ true → get_or mid k d ≡ end_in slot true m
-    apart k d l = All-permutation (λ (x : RangeEnd). x.slot ≡ slot → x.is_end ≡ true → x ≡ end_in slot true m) es (end_in slot false n ∷ mid) one once.alone (suc k) d (omega (arith, l))
+    apart k d l = All-permutation (λ (x : RangeEnd). x.slot ≡ slot → x.is_end ≡ true → x ≡ end_in slot true m) es (end_in slot false n ∷ mid) one
+        once.alone (suc k) d (omega (arith, l))
 
 -- the list after a range came
-pub IsListed-added : (live after : Slab Points) (es now : List RangeEnd) (slot node : ℕ) (p : Points) → IsListed live es → get live slot ≡ None → Updates live after slot (Some p) → p.start.0 ≡ node → p.end.0 ≡ node
+pub IsListed-added : (live after : Slab Points) (es now : List RangeEnd) (slot node : ℕ) (p : Points) → IsListed live es → get live slot ≡ None →
+    Updates live after slot (Some p) → p.start.0 ≡ node → p.end.0 ≡ node
     → IsPermutation (es ++ end_in slot false node ∷ end_in slot true node ∷ []) now → IsListed after now
 IsListed-added live after es now slot node p listed free u start end moved =
     IsListed-changed live after es now [] (end_in slot false node ∷ end_in slot true node ∷ []) listed
-    (record { rest = es; before = IsPermutation-refl es; after = IsPermutation-trans _ _ _ (IsPermutation-append_comm (end_in slot false node ∷ end_in slot true node ∷ []) es) moved })
+    (record {
+      rest = es;
+      before = IsPermutation-refl es;
+      after = IsPermutation-trans _ _ _ (IsPermutation-append_comm (end_in slot false node ∷ end_in slot true node ∷ []) es) moved;
+    })
     (λ s b. elim (cases_eq s slot) [
-      | inl e ↦ omega (arith, pair-times slot node node s b, ap bit (eq-eqb slot s (sym e)), ap bit (ap (λ t. is_some (get live t)) e ∙ ap is_some free), ap bit (ap (λ t. is_some (get after t)) e ∙ ap is_some u.changed))
+      | inl e ↦ omega (
+        arith,
+        pair-times slot node node s b,
+        ap bit (eq-eqb slot s (sym e)),
+        ap bit
+            (ap (λ t. is_some (get live t)) e ∙ ap is_some free),
+        ap bit (ap (λ t. is_some (get after t)) e ∙ ap is_some u.changed),
+      )
       | inr off ↦ omega (arith, pair-times slot node node s b, ap bit (other-slot slot s off), ap bit (ap is_some (u.others s off)))
     ])
     (λ s b none. elim (cases_eq s slot) [
@@ -289,5 +361,6 @@ pub IsListed-same : (live after : Slab Points) (es : List RangeEnd) → ((s : �
 IsListed-same live after es same listed =
     record {
       counted = λ s b. listed.counted s b ∙ ap bit (ap is_some (sym (same s)));
-      standing = λ k d l. ap (λ (m : Option Points). option_map (λ (b : Boundary ℕ). b.node) (option_map (end_of (get_or es k d).is_end) m)) (same (get_or es k d).slot) ∙ listed.standing k d l;
+      standing = λ k d l. ap (λ (m : Option Points). option_map (λ (b : Boundary ℕ). b.node) (option_map (end_of (get_or es k d).is_end) m))
+          (same (get_or es k d).slot) ∙ listed.standing k d l;
     }

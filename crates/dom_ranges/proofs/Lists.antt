@@ -18,7 +18,8 @@ map_twice f h g [] e = refl
 map_twice f h g (x ∷ xs) e = cons_same (g x) (h (f x)) (map g xs) (map h (map f xs)) (e x) (map_twice f h g xs e)
 
 -- rewritten by functions that agree at each item but one
-pub map_set : {X Y : Type 0} (f g : X → Y) (y : Y) (xs : List X) (k : ℕ) → ((x : X) → slice_get xs k ≡ Some x → g x ≡ y) → ((j : ℕ) (x : X) → (j ≡ k → ⊥) → slice_get xs j ≡ Some x → g x ≡ f x)
+pub map_set : {X Y : Type 0} (f g : X → Y) (y : Y) (xs : List X) (k : ℕ) → ((x : X) → slice_get xs k ≡ Some x → g x ≡ y) →
+    ((j : ℕ) (x : X) → (j ≡ k → ⊥) → slice_get xs j ≡ Some x → g x ≡ f x)
     → map g xs ≡ slice_set (map f xs) k y
 map_set f g y [] k here others = refl
 map_set f g y (x ∷ xs) zero here others =
@@ -28,12 +29,14 @@ map_set f g y (x ∷ xs) (suc k) here others =
     (map_set f g y xs k (λ z e. here z e) (λ j z off e. others (suc j) z (λ s. off (omega (arith, s))) e))
 
 -- the same, where that one item is set in both
-pub set_over : {X Y : Type 0} (f g : X → Y) (y : Y) (xs : List X) (k : ℕ) → ((j : ℕ) (x : X) → (j ≡ k → ⊥) → slice_get xs j ≡ Some x → g x ≡ f x) → slice_set (map g xs) k y ≡ slice_set (map f xs) k y
+pub set_over : {X Y : Type 0} (f g : X → Y) (y : Y) (xs : List X) (k : ℕ) →
+    ((j : ℕ) (x : X) → (j ≡ k → ⊥) → slice_get xs j ≡ Some x → g x ≡ f x) → slice_set (map g xs) k y ≡ slice_set (map f xs) k y
 set_over f g y [] k others = refl
 set_over f g y (x ∷ xs) zero others =
     cons_same y y (map g xs) (map f xs) refl (map_kept f g xs (λ j z e. others (suc j) z (λ s. omega (arith, s)) e))
 set_over f g y (x ∷ xs) (suc k) others =
-    cons_same (g x) (f x) (slice_set (map g xs) k y) (slice_set (map f xs) k y) (others 0 x (λ s. omega (arith, s)) refl) (set_over f g y xs k (λ j z off e. others (suc j) z (λ s. off (omega (arith, s))) e))
+    cons_same (g x) (f x) (slice_set (map g xs) k y) (slice_set (map f xs) k y) (others 0 x (λ s. omega (arith, s)) refl)
+    (set_over f g y xs k (λ j z off e. others (suc j) z (λ s. off (omega (arith, s))) e))
 
 -- the item that was set
 pub set-at : {X : Type 0} (xs : List X) (k : ℕ) (x y : X) → slice_get (slice_set xs k x) k ≡ Some y → y ≡ x

@@ -1,5 +1,6 @@
 -- The ends of all ranges after two parts of their list were moved.
-use Rattle.std.proofs.Common.{◌≡◌, ◌⊎◌, inl, inr, ℕ, ◌<◌, ◌≤◌, Bool, true, false, cond, List, length, get_or, min, max, Option, Some, None, is_some, refl, sym, ap, ◌∙◌, subst, arith, true≢false}
+use Rattle.std.proofs.Common.{◌≡◌, ◌⊎◌, inl, inr, ℕ, ◌<◌, ◌≤◌, Bool, true, false, cond, List, length, get_or, min, max, Option, Some, None, is_some}
+use Rattle.std.proofs.Common.{refl, sym, ap, ◌∙◌, subst, arith, true≢false}
 use Rattle.std.specs.Option.{option_map}
 use Rattle.std.proofs.lemmas.Bool.{cases_Bool, cases_lt}
 use Rattle.std.proofs.lemmas.Option.{same_Some}
@@ -11,7 +12,8 @@ use Rattle.dom_ranges.specs.Tables.{range_from}
 use Rattle.dom_ranges.specs.declared.table.Points.{Points}
 use Rattle.dom_ranges.specs.declared.ends.RangeEnd.{RangeEnd}
 use Rattle.dom_ranges.specs.declared.ends.Part.{Part}
-use Rattle.dom_ranges.specs.Listed.{is_end_of, point_at, end_of, end_in, IsListed, IsMovedPart, IsSortedBeside, IsSortedByNode, IsFirm, AreAllIn, is_in, is_chosen}
+use Rattle.dom_ranges.specs.Listed.{is_end_of, point_at, end_of, end_in, IsListed, IsMovedPart, IsSortedBeside, IsSortedByNode, IsFirm, AreAllIn}
+use Rattle.dom_ranges.specs.Listed.{is_in, is_chosen}
 use Rattle.dom_ranges.proofs.Listing.{is_end_of-same, is_end_of-true, is_end_of-alike, counts-listed, places-once, times-same}
 use Rattle.dom_ranges.proofs.Parts.{chosen-true, outside-part, the_point}
 use Rattle.dom_ranges.proofs.Gathering.{is_in-between}
@@ -25,7 +27,8 @@ abbrev pub nowhere : Part
 nowhere = record { first = 0; behind = 0 }
 
 -- the list after a part was moved
-pub IsListed-moved : (rule : Boundary ℕ → Boundary ℕ) (target : ℕ) (start live : Slab Points) (es now : List RangeEnd) (P : ℕ → Bool) → IsListed start es → IsMovedPart rule target start live es now P → IsListed live now
+pub IsListed-moved : (rule : Boundary ℕ → Boundary ℕ) (target : ℕ) (start live : Slab Points) (es now : List RangeEnd) (P : ℕ → Bool) →
+    IsListed start es → IsMovedPart rule target start live es now P → IsListed live now
 IsListed-moved rule target start live es now P listed m =
     record {
       counted = λ s b. times-same s b es now m.same_length m.same_slot m.same_end ∙ (listed.counted s b ∙ ap {B = ℕ} (λ t. cond t 1 0) (sym (m.held s)));
@@ -33,33 +36,42 @@ IsListed-moved rule target start live es now P listed m =
     }
 
 -- ranges of which each end was moved
-ranges_by_ends : (rule : Boundary ℕ → Boundary ℕ) (a b : Option Points) → is_some b ≡ is_some a → (is_some a ≡ true → (e : Bool) → option_map (end_of e) b ≡ option_map rule (option_map (end_of e) a))
+ranges_by_ends : (rule : Boundary ℕ → Boundary ℕ) (a b : Option Points) → is_some b ≡ is_some a →
+    (is_some a ≡ true → (e : Bool) → option_map (end_of e) b ≡ option_map rule (option_map (end_of e) a))
     → option_map range_from b ≡ option_map (λ p. map_ends rule (range_from p)) a
 ranges_by_ends rule None None e h = refl
 ranges_by_ends rule None (Some q) e h = cc
 ranges_by_ends rule (Some p) None e h = cc
-ranges_by_ends rule (Some p) (Some q) e h = ap Some (both_same (end_of false q) (end_of true q) (rule (end_of false p)) (rule (end_of true p)) (let f = h refl false in cc) (let f = h refl true in cc))
+ranges_by_ends rule (Some p) (Some q) e h =
+    ap Some (both_same (end_of false q) (end_of true q) (rule (end_of false p)) (rule (end_of true p)) (let f = h refl false in cc)
+    (let f = h refl true in cc))
 
 -- what holds of both ends of a range holds of each
-pub holds-point : (Q : Boundary ℕ → Type 0) (m : Option Points) (b : Bool) (x : Boundary ℕ) → ((p : Points) → m ≡ Some p → Q (end_of false p) × Q (end_of true p)) → option_map (end_of b) m ≡ Some x → Q x
+pub holds-point : (Q : Boundary ℕ → Type 0) (m : Option Points) (b : Bool) (x : Boundary ℕ) →
+    ((p : Points) → m ≡ Some p → Q (end_of false p) × Q (end_of true p)) → option_map (end_of b) m ≡ Some x → Q x
 holds-point Q None b x h e = cc
 holds-point Q (Some p) true x h e = subst Q (same_Some _ _ e) (h p refl).1
 holds-point Q (Some p) false x h e = subst Q (same_Some _ _ e) (h p refl).0
 
 -- an end outside the first part stands where it stood
-pub stays-outside : (rule : Boundary ℕ → Boundary ℕ) (target : ℕ) (start mid : Slab Points) (es now : List RangeEnd) (one : Part) → IsListed start es → IsMovedPart rule target start mid es now (is_chosen one nowhere)
-    → (k : ℕ) (d : RangeEnd) → k < length now → is_in one k ≡ false → point_at mid (get_or now k d).slot (get_or now k d).is_end ≡ point_at start (get_or es k d).slot (get_or es k d).is_end
+pub stays-outside : (rule : Boundary ℕ → Boundary ℕ) (target : ℕ) (start mid : Slab Points) (es now : List RangeEnd) (one : Part) →
+    IsListed start es → IsMovedPart rule target start mid es now (is_chosen one nowhere)
+    → (k : ℕ) (d : RangeEnd) → k < length now → is_in one k ≡ false →
+    point_at mid (get_or now k d).slot (get_or now k d).is_end ≡ point_at start (get_or es k d).slot (get_or es k d).is_end
 stays-outside rule target start mid es now one listed first k d l out =
     let e = get_or es k d in
     let within : k < length es = omega (arith, l, first.same_length) in
     ap (λ n. point_at mid n (get_or now k d).is_end) (first.same_slot k d) ∙ (ap (λ t. point_at mid e.slot t) (first.same_end k d)
     ∙ first.kept e.slot e.is_end (λ j f m g h.
     let w = chosen-true one nowhere j g in
-    let same : j ≡ k = places-once start es listed e.slot e.is_end j k f m within h (subst (λ (x : RangeEnd). is_end_of e.slot e.is_end x ≡ true) (get_or_default es k d f within) (is_end_of-same e)) in
+    let same : j ≡ k = places-once start es listed e.slot e.is_end j k f m within h
+    (subst (λ (x : RangeEnd). is_end_of e.slot e.is_end x ≡ true) (get_or_default es k d f within) (is_end_of-same e)) in
     true≢false (sym (is_in-between one j w.0 w.1) ∙ (ap (is_in one) same ∙ out))))
 
-module _ (rule : Boundary ℕ → Boundary ℕ) (target : ℕ) (start mid after : Slab Points) (es now last : List RangeEnd) (one two : Part) (listed : IsListed start es)
-    (first : IsMovedPart rule target start mid es now (is_chosen one nowhere)) (second : IsMovedPart rule target mid after now last (is_chosen two one)) (all : AreAllIn rule es one two) where
+module _ (rule : Boundary ℕ → Boundary ℕ) (target : ℕ) (start mid after : Slab Points) (es now last : List RangeEnd) (one two : Part)
+    (listed : IsListed start es)
+    (first : IsMovedPart rule target start mid es now (is_chosen one nowhere))
+    (second : IsMovedPart rule target mid after now last (is_chosen two one)) (all : AreAllIn rule es one two) where
   -- the first part whole is chosen
   in_one : (k : ℕ) → is_in one k ≡ true → is_chosen one nowhere k ≡ true
   in_one k e = rw (e, outside-part nowhere k (inr (omega arith))) refl
@@ -79,7 +91,8 @@ module _ (rule : Boundary ℕ → Boundary ℕ) (target : ℕ) (start mid after 
     only_here j d m e = places-once start es listed s b j k d m l e (here d)
 
     only_now : (j : ℕ) (d : RangeEnd) → j < length now → is_end_of s b (get_or now j d) ≡ true → j ≡ k
-    only_now j d m e = only_here j d (omega (arith, m, first.same_length)) (sym (is_end_of-alike s b (get_or now j d) (get_or es j d) (first.same_slot j d) (first.same_end j d)) ∙ e)
+    only_now j d m e = only_here j d (omega (arith, m, first.same_length))
+        (sym (is_end_of-alike s b (get_or now j d) (get_or es j d) (first.same_slot j d) (first.same_end j d)) ∙ e)
 
     -- the end by a filler
     abbrev it : RangeEnd
@@ -93,7 +106,8 @@ module _ (rule : Boundary ℕ → Boundary ℕ) (target : ℕ) (start mid after 
 
     now_it : (t : Slab Points) → point_at t (get_or now k (end_in 0 false 0)).slot (get_or now k (end_in 0 false 0)).is_end ≡ point_at t s b
     now_it t =
-        ap (λ n. point_at t n (get_or now k (end_in 0 false 0)).is_end) (first.same_slot k (end_in 0 false 0)) ∙ (ap (λ e. point_at t it.slot e) (first.same_end k (end_in 0 false 0)) ∙ at_it t)
+        ap (λ n. point_at t n (get_or now k (end_in 0 false 0)).is_end) (first.same_slot k (end_in 0 false 0)) ∙
+        (ap (λ e. point_at t it.slot e) (first.same_end k (end_in 0 false 0)) ∙ at_it t)
 
     -- it was moved by the rule
     moved_once : point_at after s b ≡ option_map rule (point_at start s b)
@@ -105,11 +119,13 @@ module _ (rule : Boundary ℕ → Boundary ℕ) (target : ℕ) (start mid after 
           let stays : point_at mid s b ≡ point_at start s b =
           first.kept s b (λ j d m f g. true≢false (sym (chosen_in one nowhere j f) ∙ (ap (is_in one) (only_here j d m g) ∙ e))) in
           elim (cases_Bool (is_in two k)) [
-            | inl f ↦ sym (now_it after) ∙ (second.moved k (end_in 0 false 0) (omega (arith, l, first.same_length)) (rw (f, e) refl) ∙ ap (option_map rule) (now_it mid ∙ stays))
+            | inl f ↦ sym (now_it after) ∙
+                (second.moved k (end_in 0 false 0) (omega (arith, l, first.same_length)) (rw (f, e) refl) ∙ ap (option_map rule) (now_it mid ∙ stays))
             | inr f ↦
                 second.kept s b (λ j d m g h. true≢false (sym (chosen_in two one j g) ∙ (ap (is_in two) (only_now j d m h) ∙ f)))
                 ∙ (stays
-                ∙ (let p = the_point (point_at start s b) it.node (ap (option_map (λ (t : Boundary ℕ). t.node)) (sym (at_it start)) ∙ listed.standing k (end_in 0 false 0) l) in
+                ∙ (let p = the_point (point_at start s b) it.node
+                (ap (option_map (λ (t : Boundary ℕ). t.node)) (sym (at_it start)) ∙ listed.standing k (end_in 0 false 0) l) in
                 p.1 ∙ (ap Some (sym (unmoved p.0 p.2 (all k (end_in 0 false 0) p.0.offset l e f))) ∙ ap (option_map rule) (sym p.1))))
           ]
     ]

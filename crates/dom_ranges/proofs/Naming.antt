@@ -1,5 +1,6 @@
 -- The laws of the table read in names.
-use Rattle.std.proofs.Common.{◌≡◌, inl, inr, ℕ, zero, suc, ◌+◌, ◌-◌, ◌<◌, Bool, true, false, not, cond, List, [], ◌∷◌, ◌++◌, length, eqb, nat_lt, nat_le, Option, Some, None, refl, sym, ap, subst, ◌∙◌, arith, true≢false}
+use Rattle.std.proofs.Common.{◌≡◌, inl, inr, ℕ, zero, suc, ◌+◌, ◌-◌, ◌<◌, Bool, true, false, not, cond, List, [], ◌∷◌, ◌++◌, length, eqb, nat_lt}
+use Rattle.std.proofs.Common.{nat_le, Option, Some, None, refl, sym, ap, subst, ◌∙◌, arith, true≢false}
 use Rattle.std.specs.Prelude.{slice_get, slice_set, ◌&&◌, ◌||◌, ◌==◌}
 use Rattle.std.specs.Option.{option_map, option_flatten}
 use Rattle.std.proofs.lemmas.Bool.{cases_Bool, eqb-true, eq-eqb}
@@ -14,7 +15,8 @@ use Rattle.dom_model.specs.Ranges.{Range, at, from_to, map_ends, boundary_eq, af
 use Rattle.dom_model.specs.Tree.{is_inclusive_ancestor}
 use Rattle.dom_tree.specs.Forest.{name_at}
 use Rattle.dom_tree.proofs.Names.{name_eq-other}
-use Rattle.dom_ranges.specs.Naming.{AreApart, StandAtNodes, IsNamedRule, InsertNamed, RemovalNamed, ReplaceDataNamed, SplitNamed, JoinNamed, StartNamed, EndNamed, GrownNamed, MadeNamed, RemovedNamed, RewrittenNamed, CollapsedNamed, named_ends_by}
+use Rattle.dom_ranges.specs.Naming.{AreApart, StandAtNodes, IsNamedRule, InsertNamed, RemovalNamed, ReplaceDataNamed, SplitNamed, JoinNamed}
+use Rattle.dom_ranges.specs.Naming.{StartNamed, EndNamed, GrownNamed, MadeNamed, RemovedNamed, RewrittenNamed, CollapsedNamed, named_ends_by}
 use Rattle.dom_ranges.specs.Rules.{IsAtNode, is_inside}
 use Rattle.dom_ranges.specs.Settings.{named_boundary, named_range, named_ranges, with_named, have_one_root, is_key_before}
 use Rattle.dom_ranges.specs.Tables.{RangeList, RangeLists, EachRange, BothEnds, ends_by, ranges_of, range_in, with_ranges}
@@ -23,27 +25,31 @@ use Rattle.dom_ranges.proofs.Lists.{cons_same}
 -- ---- lists of ranges, each rewritten
 
 -- the item under a number was rewritten
-item-of_map : {X Y : Type 0} (f : X → Y) (o : Option (Option X)) (y : Y) → option_map (option_map f) o ≡ Some (Some y) → (x : X) × (o ≡ Some (Some x)) × (y ≡ f x)
+item-of_map : {X Y : Type 0} (f : X → Y) (o : Option (Option X)) (y : Y) → option_map (option_map f) o ≡ Some (Some y) → (x : X) ×
+    (o ≡ Some (Some x)) × (y ≡ f x)
 item-of_map f None y e = absurd (none-some _ e)
 item-of_map f (Some None) y e = absurd (none-some _ (same_Some _ _ e))
 item-of_map f (Some (Some x)) y e = (x, refl, sym (same_Some _ _ (same_Some _ _ e)))
 
 -- a fact of each range carries over to the rewritten ones
-pub EachRange-ends : (P Q : Boundary ℕ → Type 0) (f : Boundary ℕ → Boundary ℕ) → ((b : Boundary ℕ) → P b → Q (f b)) → (rs : RangeList) → EachRange (BothEnds P) rs → EachRange (BothEnds Q) (ends_by f rs)
+pub EachRange-ends : (P Q : Boundary ℕ → Type 0) (f : Boundary ℕ → Boundary ℕ) → ((b : Boundary ℕ) → P b → Q (f b)) → (rs : RangeList) →
+    EachRange (BothEnds P) rs → EachRange (BothEnds Q) (ends_by f rs)
 EachRange-ends P Q f step rs each k r e =
     let w = item-of_map (map_ends f) (slice_get rs k) r (sym (slice_get-map (option_map (map_ends f)) rs k) ∙ e) in
     let was = each k w.0 w.1 in
     subst (BothEnds Q) (sym w.2) (step w.0.start was.0, step w.0.end was.1)
 
 -- a rule that agrees at each end with one over names
-named-ends : (names : List NodeName) (f : Boundary ℕ → Boundary ℕ) (g : Boundary NodeName → Boundary NodeName) → ((b : Boundary ℕ) → IsAtNode names b → named_boundary names (f b) ≡ g (named_boundary names b)) → IsNamedRule names f g
+named-ends : (names : List NodeName) (f : Boundary ℕ → Boundary ℕ) (g : Boundary NodeName → Boundary NodeName) →
+    ((b : Boundary ℕ) → IsAtNode names b → named_boundary names (f b) ≡ g (named_boundary names b)) → IsNamedRule names f g
 named-ends names f g law [] each = refl
 named-ends names f g law (None ∷ rs) each = ap (λ zs. None ∷ zs) (named-ends names f g law rs (λ k r e. each (suc k) r e))
 named-ends names f g law (Some r ∷ rs) each =
     let here = each 0 r refl in
     let both : named_range names (map_ends f r) ≡ map_ends g (named_range names r) =
     ap (λ b. from_to b (named_boundary names (f r.end))) (law r.start here.0) ∙ ap (from_to (g (named_boundary names r.start))) (law r.end here.1) in
-    cons_same (Some (named_range names (map_ends f r))) (Some (map_ends g (named_range names r))) (named_ranges names (ends_by f rs)) (named_ends_by g (named_ranges names rs))
+    cons_same (Some (named_range names (map_ends f r))) (Some (map_ends g (named_range names r))) (named_ranges names (ends_by f rs))
+    (named_ends_by g (named_ranges names rs))
     (ap Some both) (named-ends names f g law rs (λ k s e. each (suc k) s e))
 
 -- ---- one boundary point
@@ -74,20 +80,25 @@ module _ (names : List NodeName) where
 pub insert-named : InsertNamed
 insert-named names apart parent index count node = (
   named-ends names (after_insert eqb parent index count) (after_insert name_eq (name_at names parent) index count)
-      (λ b p. named-if names (eqb b.node parent && nat_lt index b.offset) _ (ap (λ t. t && nat_lt index b.offset) (same-test names apart b.node parent p node)) (at parent (b.offset + count)) b),
-  EachRange-ends (IsAtNode names) (IsAtNode names) (after_insert eqb parent index count) (λ b p. at-if names (eqb b.node parent && nat_lt index b.offset) (at parent (b.offset + count)) b node p),
+      (λ b p. named-if names (eqb b.node parent && nat_lt index b.offset) _
+      (ap (λ t. t && nat_lt index b.offset) (same-test names apart b.node parent p node)) (at parent (b.offset + count)) b),
+  EachRange-ends (IsAtNode names) (IsAtNode names) (after_insert eqb parent index count)
+      (λ b p. at-if names (eqb b.node parent && nat_lt index b.offset) (at parent (b.offset + count)) b node p),
 )
 
 pub removal-named : RemovalNamed
 removal-named f apart node parent index there = (
-  named-ends f.names (after_removal eqb (is_inside f node) parent index) (after_removal name_eq (is_inclusive_ancestor f.trees (name_at f.names node)) (name_at f.names parent) index)
+  named-ends f.names (after_removal eqb (is_inside f node) parent index)
+      (after_removal name_eq (is_inclusive_ancestor f.trees (name_at f.names node)) (name_at f.names parent) index)
       (λ b p.
       let inner = cond (eqb b.node parent && nat_lt index b.offset) (at parent (b.offset - 1)) b in
       named-if f.names (is_inside f node b.node) (is_inside f node b.node) refl (at parent index) inner
       ∙ ap (cond (is_inside f node b.node) (at (name_at f.names parent) index))
-      (named-if f.names (eqb b.node parent && nat_lt index b.offset) _ (ap (λ t. t && nat_lt index b.offset) (same-test f.names apart b.node parent p there)) (at parent (b.offset - 1)) b)),
+      (named-if f.names (eqb b.node parent && nat_lt index b.offset) _
+      (ap (λ t. t && nat_lt index b.offset) (same-test f.names apart b.node parent p there)) (at parent (b.offset - 1)) b)),
   EachRange-ends (IsAtNode f.names) (IsAtNode f.names) (after_removal eqb (is_inside f node) parent index)
-      (λ b p. at-if f.names (is_inside f node b.node) (at parent index) _ there (at-if f.names (eqb b.node parent && nat_lt index b.offset) (at parent (b.offset - 1)) b there p)),
+      (λ b p. at-if f.names (is_inside f node b.node) (at parent index) _ there
+      (at-if f.names (eqb b.node parent && nat_lt index b.offset) (at parent (b.offset - 1)) b there p)),
 )
 
 pub replace_data-named : ReplaceDataNamed
@@ -101,12 +112,14 @@ replace_data-named names apart node offset count size there = (
       ∙ ap (cond (test (name_eq (name_at names b.node) (name_at names node))) (named_boundary names b))
       (named-if names (nat_le b.offset (offset + count)) (nat_le b.offset (offset + count)) refl (at node offset) (at node (b.offset + size - count)))),
   EachRange-ends (IsAtNode names) (IsAtNode names) (after_replace_data eqb node offset count size)
-      (λ b p. at-if names (not (eqb b.node node) || nat_le b.offset offset) b _ p (at-if names (nat_le b.offset (offset + count)) (at node offset) (at node (b.offset + size - count)) there there)),
+      (λ b p. at-if names (not (eqb b.node node) || nat_le b.offset offset) b _ p
+      (at-if names (nat_le b.offset (offset + count)) (at node offset) (at node (b.offset + size - count)) there there)),
 )
 
 pub split-named : SplitNamed
 split-named names apart node offset new parent index there fresh above = (
-  named-ends names (after_split eqb node offset new parent index) (after_split name_eq (name_at names node) offset (name_at names new) (name_at names parent) index)
+  named-ends names (after_split eqb node offset new parent index)
+      (after_split name_eq (name_at names node) offset (name_at names new) (name_at names parent) index)
       (λ b p.
       let inner = cond (boundary_eq eqb b (at parent (index + 1))) (at parent (index + 2)) b in
       let test = λ (t : Bool). t && nat_lt offset b.offset in
@@ -116,12 +129,14 @@ split-named names apart node offset new parent index there fresh above = (
       (named-if names (boundary_eq eqb b (at parent (index + 1))) (boundary_eq name_eq (named_boundary names b) (at (name_at names parent) (index + 1)))
       (ap (λ t. t && (b.offset == (index + 1))) (same-test names apart b.node parent p above)) (at parent (index + 2)) b)),
   EachRange-ends (IsAtNode names) (IsAtNode names) (after_split eqb node offset new parent index)
-      (λ b p. at-if names (eqb b.node node && nat_lt offset b.offset) (at new (b.offset - offset)) _ fresh (at-if names (boundary_eq eqb b (at parent (index + 1))) (at parent (index + 2)) b above p)),
+      (λ b p. at-if names (eqb b.node node && nat_lt offset b.offset) (at new (b.offset - offset)) _ fresh
+      (at-if names (boundary_eq eqb b (at parent (index + 1))) (at parent (index + 2)) b above p)),
 )
 
 pub join-named : JoinNamed
 join-named names apart first size next parent index there after above = (
-  named-ends names (after_join eqb first size next parent index) (after_join name_eq (name_at names first) size (name_at names next) (name_at names parent) index)
+  named-ends names (after_join eqb first size next parent index)
+      (after_join name_eq (name_at names first) size (name_at names next) (name_at names parent) index)
       (λ b p.
       let inner = cond (boundary_eq eqb b (at parent index)) (at first size) b in
       let same = same-test names apart b.node next p after in
@@ -165,7 +180,8 @@ grown-named names more rs each = (by rs each, λ k r e. let p = each k r e in (l
     by (Some r ∷ ss) h =
         let p = h 0 r refl in
         cons_same (Some (named_range (names ++ more) r)) (Some (named_range names r)) (named_ranges (names ++ more) ss) (named_ranges names ss)
-        (ap (λ b. Some (from_to b (named_boundary (names ++ more) r.end))) (point r.start p.0) ∙ ap (λ b. Some (from_to (named_boundary names r.start) b)) (point r.end p.1))
+        (ap (λ b. Some (from_to b (named_boundary (names ++ more) r.end))) (point r.start p.0) ∙
+        ap (λ b. Some (from_to (named_boundary names r.start) b)) (point r.end p.1))
         (by ss (λ k s e. h (suc k) s e))
 
 -- ---- one range of a list
@@ -179,9 +195,12 @@ removed-named names rs k = map-set (option_map (named_range names)) rs k None
 pub rewritten-named : RewrittenNamed
 rewritten-named names f g law rs k =
     map-set (option_map (named_range names)) rs k (option_map f (range_in rs k))
-    ∙ ap (slice_set (named_ranges names rs) k) (one (slice_get rs k) ∙ ap (λ r. option_map g (option_flatten r)) (sym (slice_get-map (option_map (named_range names)) rs k)))
+    ∙ ap (slice_set (named_ranges names rs) k)
+    (one (slice_get rs k) ∙ ap (λ r. option_map g (option_flatten r)) (sym (slice_get-map (option_map (named_range names)) rs k)))
   where
-    one : (r : Option (Option (Range ℕ))) → option_map (named_range names) (option_map f (option_flatten r)) ≡ option_map g (option_flatten (option_map (option_map (named_range names)) r))
+    one : (r : Option (Option (Range ℕ))) →
+        option_map (named_range names) (option_map f (option_flatten r)) ≡ option_map g
+        (option_flatten (option_map (option_map (named_range names)) r))
     one None = refl
     one (Some None) = refl
     one (Some (Some r)) = ap Some (law r)
@@ -191,14 +210,18 @@ collapsed-named names true r = refl
 collapsed-named names false r = refl
 
 -- the table with one range rewritten, named
-pub with-named : (names : List NodeName) (t : RangeLists) (owner : Owner) (k : ℕ) (f : Range ℕ → Range ℕ) (g : Range NodeName → Range NodeName) → ((r : Range ℕ) → named_range names (f r) ≡ g (named_range names r))
-    → (o : Owner) → named_ranges names (with_ranges t owner (slice_set (ranges_of t owner) k (option_map f (range_in (ranges_of t owner) k))) o) ≡ with_named names t owner k g o
+pub with-named : (names : List NodeName) (t : RangeLists) (owner : Owner) (k : ℕ) (f : Range ℕ → Range ℕ) (g : Range NodeName → Range NodeName) →
+    ((r : Range ℕ) → named_range names (f r) ≡ g (named_range names r))
+    → (o : Owner) → named_ranges names (with_ranges t owner (slice_set (ranges_of t owner) k (option_map f (range_in (ranges_of t owner) k))) o) ≡
+    with_named names t owner k g o
 with-named names t owner k f g law o = by (owner_eq owner o) refl
   where
     by : (b : Bool) → owner_eq owner o ≡ b
         → named_ranges names (cond b (slice_set (ranges_of t owner) k (option_map f (range_in (ranges_of t owner) k))) (ranges_of t o))
-        ≡ cond b (slice_set (named_ranges names (ranges_of t o)) k (option_map g (option_flatten (slice_get (named_ranges names (ranges_of t o)) k)))) (named_ranges names (ranges_of t o))
+        ≡ cond b (slice_set (named_ranges names (ranges_of t o)) k
+        (option_map g (option_flatten (slice_get (named_ranges names (ranges_of t o)) k)))) (named_ranges names (ranges_of t o))
     by true e =
         rewritten-named names f g law (ranges_of t owner) k
-        ∙ ap (λ (p : Owner). slice_set (named_ranges names (ranges_of t p)) k (option_map g (option_flatten (slice_get (named_ranges names (ranges_of t p)) k)))) (owner_eq-true owner o e)
+        ∙ ap (λ (p : Owner). slice_set (named_ranges names (ranges_of t p)) k
+        (option_map g (option_flatten (slice_get (named_ranges names (ranges_of t p)) k)))) (owner_eq-true owner o e)
     by false e = refl

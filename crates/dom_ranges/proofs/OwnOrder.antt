@@ -1,5 +1,6 @@
 -- The order of an owner's boundary points of one tree is the same among all trees and among the owner's own.
-use Rattle.std.proofs.Common.{◌≡◌, ◌⊎◌, ℕ, ◌+◌, ◌*◌, Bool, true, false, not, cond, ltb, ◌&&◌, List, [], ◌∷◌, ◌++◌, drop, map, Option, Some, None, refl, sym, ap, ◌∙◌, inl, inr, arith}
+use Rattle.std.proofs.Common.{◌≡◌, ◌⊎◌, ℕ, ◌+◌, ◌*◌, Bool, true, false, not, cond, ltb, ◌&&◌, List, [], ◌∷◌, ◌++◌, drop, map, Option, Some, None}
+use Rattle.std.proofs.Common.{refl, sym, ap, ◌∙◌, inl, inr, arith}
 use Rattle.std.specs.Prelude.{option_map, unwrap_or}
 use Rattle.std.specs.Option.{option_or}
 use Rattle.std.proofs.lemmas.Bool.{cases_Bool, eq-eqb, ltb-true, false_from_ne_true}
@@ -26,7 +27,8 @@ place-none k o p apart x own (tree n c r) of =
     rw (name_apart o p apart x n.name own of.0, place-none 0 o p apart x own c of.1) (place-none (k + 1) o p apart x own r of.2)
 
 -- the way down from the root is the same
-way-own : (j k : ℕ) (o : Owner) (x : NodeName) → x.owner ≡ o → (ts : Trees) → HaveOwners ts → option_map (drop 1) (place_from k ts x) ≡ option_map (drop 1) (place_from j (trees_of_owner o ts) x)
+way-own : (j k : ℕ) (o : Owner) (x : NodeName) → x.owner ≡ o → (ts : Trees) → HaveOwners ts →
+    option_map (drop 1) (place_from k ts x) ≡ option_map (drop 1) (place_from j (trees_of_owner o ts) x)
 way-own j k o x own none have = refl
 way-own j k o x own (tree n c r) have = elim (cases_Bool (owner_eq n.name.owner o)) [
   | inl e ↦ rw e (both (name_eq n.name x) (place_from 0 c x) (way-own (j + 1) (k + 1) o x own r have.1))
@@ -76,7 +78,8 @@ pub has_all : (o : Owner) (ts : Trees) (x : NodeName) → Has (trees_of_owner o 
 has_all o none x h = h
 has_all o (tree n c r) x h = by (has_all o r x) (owner_eq n.name.owner o) h
   where
-    by : (Has (trees_of_owner o r) x → Has r x) → (t : Bool) → Has (cond t (tree n c (trees_of_owner o r)) (trees_of_owner o r)) x → (n.name ≡ x) ⊎ (Has c x ⊎ Has r x)
+    by : (Has (trees_of_owner o r) x → Has r x) → (t : Bool) → Has (cond t (tree n c (trees_of_owner o r)) (trees_of_owner o r)) x →
+        (n.name ≡ x) ⊎ (Has c x ⊎ Has r x)
     by rest true (inl e) = inl e
     by rest true (inr (inl h)) = inr (inl h)
     by rest true (inr (inr h)) = inr (inr (rest h))
@@ -119,10 +122,12 @@ module _ (ts : Trees) (owned : AreOwned ts) (once : Once ts) (o : Owner) where
   -- whether two have one root
   pub same_root-own : (x y : NodeName) → IsOwnIn x → IsOwnIn y → same_root ts x y ≡ same_root (trees_of_owner o ts) x y
   same_root-own x y h g =
-      ap (λ r. name_eq r (root_of ts y)) (read_own ts owned o x h.owner).root ∙ ap (name_eq (root_of (trees_of_owner o ts) x)) (read_own ts owned o y g.owner).root
+      ap (λ r. name_eq r (root_of ts y)) (read_own ts owned o x h.owner).root ∙ ap (name_eq (root_of (trees_of_owner o ts) x))
+      (read_own ts owned o y g.owner).root
 
   -- which of two points of one tree is first
-  pub is_before-own : (b c : Boundary NodeName) → IsOwnIn b.node → IsOwnIn c.node → same_root ts b.node c.node ≡ true → is_before ts b c ≡ is_before (trees_of_owner o ts) b c
+  pub is_before-own : (b c : Boundary NodeName) → IsOwnIn b.node → IsOwnIn c.node → same_root ts b.node c.node ≡ true →
+      is_before ts b c ≡ is_before (trees_of_owner o ts) b c
   is_before-own b c h g root =
       let us = trees_of_owner o ts in
       let single = once_trees o ts once in
@@ -131,7 +136,9 @@ module _ (ts : Trees) (owned : AreOwned ts) (once : Once ts) (o : Owner) where
       let v_own = placed us single b.node (there b.node h) in let w_own = placed us single c.node (there c.node g) in
       let first : v.0 ≡ w.0 = same_Some v.0 w.0 (ap first_of (sym v.2) ∙ (path-tree ts once b.node c.node h.there g.there root ∙ ap first_of w.2)) in
       let first_own : v_own.0 ≡ w_own.0 =
-      same_Some v_own.0 w_own.0 (ap first_of (sym v_own.2) ∙ (path-tree us single b.node c.node (there b.node h) (there c.node g) (sym (same_root-own b.node c.node h g) ∙ root) ∙ ap first_of w_own.2)) in
+      same_Some v_own.0 w_own.0 (ap first_of (sym v_own.2) ∙
+      (path-tree us single b.node c.node (there b.node h) (there c.node g) (sym (same_root-own b.node c.node h g) ∙ root) ∙
+      ap first_of w_own.2)) in
       let way_b : v.1 ≡ v_own.1 = ap (drop 1) (sym v.2) ∙ (way b.node h ∙ ap (drop 1) v_own.2) in
       let way_c : w.1 ≡ w_own.1 = ap (drop 1) (sym w.2) ∙ (way c.node g ∙ ap (drop 1) w_own.2) in
       before_shown ts b c v.0 v.1 w.1 v.2 (w.2 ∙ ap (λ m. m ∷ w.1) (sym first))
@@ -143,14 +150,17 @@ module _ (ts : Trees) (owned : AreOwned ts) (once : Once ts) (o : Owner) where
       placed us single x h = let v = place-at_root us 0 x single h in (v.0, v.1, known us single x (v.0 ∷ v.1) v.2)
 
   -- a start that is set, and an end
-  pub with_start-own : (b : Boundary NodeName) (r : Range NodeName) → IsOwnIn b.node → IsOwnIn r.end.node → with_start ts b r ≡ with_start (trees_of_owner o ts) b r
+  pub with_start-own : (b : Boundary NodeName) (r : Range NodeName) → IsOwnIn b.node → IsOwnIn r.end.node →
+      with_start ts b r ≡ with_start (trees_of_owner o ts) b r
   with_start-own b r h g = elim (cases_Bool (same_root ts b.node r.end.node)) [
     | inl e ↦
         ap (λ t. cond (t && not (is_before ts r.end b)) (from_to b r.end) (from_to b b)) (same_root-own b.node r.end.node h g)
-        ∙ ap (λ t. cond (same_root (trees_of_owner o ts) b.node r.end.node && not t) (from_to b r.end) (from_to b b)) (is_before-own r.end b g h (name_eq-turned (root_of ts r.end.node) (root_of ts b.node) ∙ e))
+        ∙ ap (λ t. cond (same_root (trees_of_owner o ts) b.node r.end.node && not t) (from_to b r.end) (from_to b b))
+        (is_before-own r.end b g h (name_eq-turned (root_of ts r.end.node) (root_of ts b.node) ∙ e))
     | inr e ↦
         ap (λ t. cond (t && not (is_before ts r.end b)) (from_to b r.end) (from_to b b)) e
-        ∙ sym (ap (λ t. cond (t && not (is_before (trees_of_owner o ts) r.end b)) (from_to b r.end) (from_to b b)) (sym (same_root-own b.node r.end.node h g) ∙ e))
+        ∙ sym (ap (λ t. cond (t && not (is_before (trees_of_owner o ts) r.end b)) (from_to b r.end) (from_to b b))
+        (sym (same_root-own b.node r.end.node h g) ∙ e))
   ]
 
   pub with_end-own : (b : Boundary NodeName) (r : Range NodeName) → IsOwnIn b.node → IsOwnIn r.start.node → with_end ts b r ≡ with_end (trees_of_owner o ts) b r
@@ -160,5 +170,6 @@ module _ (ts : Trees) (owned : AreOwned ts) (once : Once ts) (o : Owner) where
         ∙ ap (λ t. cond (same_root (trees_of_owner o ts) b.node r.start.node && not t) (from_to r.start b) (from_to b b)) (is_before-own b r.start h g e)
     | inr e ↦
         ap (λ t. cond (t && not (is_before ts b r.start)) (from_to r.start b) (from_to b b)) e
-        ∙ sym (ap (λ t. cond (t && not (is_before (trees_of_owner o ts) b r.start)) (from_to r.start b) (from_to b b)) (sym (same_root-own b.node r.start.node h g) ∙ e))
+        ∙ sym (ap (λ t. cond (t && not (is_before (trees_of_owner o ts) b r.start)) (from_to r.start b) (from_to b b))
+        (sym (same_root-own b.node r.start.node h g) ∙ e))
   ]

@@ -1,5 +1,6 @@
 -- The ends that are listed in a part are moved, one after another.
-use Rattle.std.proofs.Common.{◌≡◌, ◌≢◌, ◌⊎◌, inl, inr, ℕ, ◌+◌, ◌<◌, ◌≤◌, Bool, true, false, List, length, get_or, set, min, Option, Some, None, is_some, IsSome, ltb, leb, refl, sym, ap, ◌∙◌, subst, arith, true≢false}
+use Rattle.std.proofs.Common.{◌≡◌, ◌≢◌, ◌⊎◌, inl, inr, ℕ, ◌+◌, ◌<◌, ◌≤◌, Bool, true, false, List, length, get_or, set, min, Option, Some, None}
+use Rattle.std.proofs.Common.{is_some, IsSome, ltb, leb, refl, sym, ap, ◌∙◌, subst, arith, true≢false}
 use Rattle.std.specs.Prelude.{◌&&◌, not}
 use Rattle.std.specs.Option.{option_map, ForSome}
 use Rattle.std.proofs.lemmas.Bool.{cases_Bool, cases_eq, leb-true, ltb-true, le-leb, lt-ltb}
@@ -20,7 +21,8 @@ up_to first i = record { first = first; behind = i }
 pub chosen-true : (part skipped : Part) (k : ℕ) → is_chosen part skipped k ≡ true → (part.first ≤ k) × (k < part.behind) × (is_in skipped k ≡ false)
 chosen-true part skipped k e = by (leb part.first k) (ltb k part.behind) (is_in skipped k) refl refl refl e
   where
-    by : (a b c : Bool) → leb part.first k ≡ a → ltb k part.behind ≡ b → is_in skipped k ≡ c → (a && b) && not c ≡ true → (part.first ≤ k) × (k < part.behind) × (is_in skipped k ≡ false)
+    by : (a b c : Bool) → leb part.first k ≡ a → ltb k part.behind ≡ b → is_in skipped k ≡ c → (a && b) && not c ≡ true → (part.first ≤ k) ×
+        (k < part.behind) × (is_in skipped k ≡ false)
     by true true false f g h i = (leb-true part.first k f, ltb-true k part.behind g, h)
     by true true true f g h i = cc
     by true false c f g h i = cc
@@ -43,7 +45,8 @@ outside-part part k p = by (is_in part k) refl
         inside false c f g h = cc
 
 -- nothing is moved at first
-pub IsMovedPart-none : (rule : Boundary ℕ → Boundary ℕ) (target : ℕ) (live : Slab Points) (es : List RangeEnd) (first : ℕ) (skipped : Part) → IsListed live es → IsMovedPart rule target live live es es (is_chosen (up_to first first) skipped)
+pub IsMovedPart-none : (rule : Boundary ℕ → Boundary ℕ) (target : ℕ) (live : Slab Points) (es : List RangeEnd) (first : ℕ) (skipped : Part) →
+    IsListed live es → IsMovedPart rule target live live es es (is_chosen (up_to first first) skipped)
 IsMovedPart-none rule target live es first skipped listed =
     record {
       same_length = refl;
@@ -58,7 +61,8 @@ IsMovedPart-none rule target live es first skipped listed =
     }
 
 -- the same places
-pub IsMovedPart-same : (rule : Boundary ℕ → Boundary ℕ) (target : ℕ) (start live : Slab Points) (es now : List RangeEnd) (P Q : ℕ → Bool) → ((k : ℕ) → P k ≡ true → Q k ≡ true) → ((k : ℕ) → Q k ≡ true → P k ≡ true)
+pub IsMovedPart-same : (rule : Boundary ℕ → Boundary ℕ) (target : ℕ) (start live : Slab Points) (es now : List RangeEnd) (P Q : ℕ → Bool) →
+    ((k : ℕ) → P k ≡ true → Q k ≡ true) → ((k : ℕ) → Q k ≡ true → P k ≡ true)
     → IsMovedPart rule target start live es now P → IsMovedPart rule target start live es now Q
 IsMovedPart-same rule target start live es now P Q to back m =
     record {
@@ -74,11 +78,13 @@ IsMovedPart-same rule target start live es now P Q to back m =
     }
 
 -- a part up to its end is the part
-pub IsMovedPart-whole : (rule : Boundary ℕ → Boundary ℕ) (target : ℕ) (start live : Slab Points) (es now : List RangeEnd) (part skipped : Part) (i : ℕ) → (i ≡ part.first) ⊎ (i ≤ part.behind) → part.behind ≤ i
+pub IsMovedPart-whole : (rule : Boundary ℕ → Boundary ℕ) (target : ℕ) (start live : Slab Points) (es now : List RangeEnd) (part skipped : Part)
+    (i : ℕ) → (i ≡ part.first) ⊎ (i ≤ part.behind) → part.behind ≤ i
     → IsMovedPart rule target start live es now (is_chosen (up_to part.first i) skipped) → IsMovedPart rule target start live es now (is_chosen part skipped)
 IsMovedPart-whole rule target start live es now part skipped i p l =
     IsMovedPart-same rule target start live es now (is_chosen (up_to part.first i) skipped) (is_chosen part skipped)
-    (λ k e. let w = chosen-true (up_to part.first i) skipped k e in chosen-made part skipped k w.0 (elim p [ inl f ↦ absurd (omega (arith, f, w.0, w.1)) | inr f ↦ omega (arith, f, w.1) ]) w.2)
+    (λ k e. let w = chosen-true (up_to part.first i) skipped k e in chosen-made part skipped k w.0
+    (elim p [ inl f ↦ absurd (omega (arith, f, w.0, w.1)) | inr f ↦ omega (arith, f, w.1) ]) w.2)
     (λ k e. let w = chosen-true part skipped k e in chosen-made (up_to part.first i) skipped k w.0 (omega (arith, w.1, l)) w.2)
 
 -- a boundary point of which the node is known
@@ -91,7 +97,8 @@ pub there_is : (m : Option Points) (is_end : Bool) (b : Boundary ℕ) → option
 there_is None is_end b e = cc
 there_is (Some p) is_end b e = refl
 
-module _ (rule : Boundary ℕ → Boundary ℕ) (target : ℕ) (start live : Slab Points) (es now : List RangeEnd) (first i : ℕ) (skipped : Part) (listed : IsListed start es) (within : i < length es) (from : first ≤ i)
+module _ (rule : Boundary ℕ → Boundary ℕ) (target : ℕ) (start live : Slab Points) (es now : List RangeEnd) (first i : ℕ) (skipped : Part)
+    (listed : IsListed start es) (within : i < length es) (from : first ≤ i)
     (so_far : IsMovedPart rule target start live es now (is_chosen (up_to first i) skipped)) where
   -- a place that is chosen then was, or is this one
   earlier : (k : ℕ) → is_chosen (up_to first (i + 1)) skipped k ≡ true → k ≢ i → is_chosen (up_to first i) skipped k ≡ true
@@ -105,7 +112,8 @@ module _ (rule : Boundary ℕ → Boundary ℕ) (target : ℕ) (start live : Sla
 
   -- this end is listed as it was
   pub here-still : (d : RangeEnd) → get_or now i d ≡ get_or es i d
-  here-still d = so_far.same_others i d (elim (cases_Bool (is_chosen (up_to first i) skipped i)) [ inl f ↦ absurd (let w = chosen-true (up_to first i) skipped i f in omega (arith, w.1)) | inr f ↦ f ])
+  here-still d = so_far.same_others i d (elim (cases_Bool (is_chosen (up_to first i) skipped i))
+      [ inl f ↦ absurd (let w = chosen-true (up_to first i) skipped i f in omega (arith, w.1)) | inr f ↦ f ])
 
   -- a place that is skipped
   pub IsMovedPart-skipped : is_in skipped i ≡ true → IsMovedPart rule target start live es now (is_chosen (up_to first (i + 1)) skipped)
@@ -116,7 +124,8 @@ module _ (rule : Boundary ℕ → Boundary ℕ) (target : ℕ) (start live : Sla
         same_end = so_far.same_end;
         same_others = λ k d e. so_far.same_others k d (not_yet k e);
         goes = so_far.goes;
-        moved = λ k d l e. so_far.moved k d l (earlier k e (λ f. true≢false (sym here ∙ (ap (is_in skipped) (sym f) ∙ (chosen-true (up_to first (i + 1)) skipped k e).2))));
+        moved = λ k d l e. so_far.moved k d l
+            (earlier k e (λ f. true≢false (sym here ∙ (ap (is_in skipped) (sym f) ∙ (chosen-true (up_to first (i + 1)) skipped k e).2))));
         kept = λ s b h. so_far.kept s b (λ k d l e f. h k d l (later k e) f);
         held = so_far.held;
         standing = so_far.standing;
@@ -128,7 +137,8 @@ module _ (rule : Boundary ℕ → Boundary ℕ) (target : ℕ) (start live : Sla
       let e = get_or es i d in
       so_far.kept e.slot e.is_end (λ k f l g h.
       let w = chosen-true (up_to first i) skipped k g in
-      let same : k ≡ i = places-once start es listed e.slot e.is_end k i f l within h (subst (λ (x : RangeEnd). is_end_of e.slot e.is_end x ≡ true) (at_any f) (is_end_of-same e)) in
+      let same : k ≡ i = places-once start es listed e.slot e.is_end k i f l within h
+      (subst (λ (x : RangeEnd). is_end_of e.slot e.is_end x ≡ true) (at_any f) (is_end_of-same e)) in
       omega (arith, w.1, same))
     where
       at_any : (f : RangeEnd) → get_or es i d ≡ get_or es i f
@@ -141,7 +151,8 @@ module _ (rule : Boundary ℕ → Boundary ℕ) (target : ℕ) (start live : Sla
       (held : IsSome (get live one.slot) → IsSome (get after one.slot))
       (stands : ForSome (point_at live one.slot one.is_end) (λ b. node ≡ (rule b).node))
       (goes : ForSome (point_at live one.slot one.is_end) (λ b. (node ≡ b.node) ⊎ (node ≡ target)))
-      (same_length : length next ≡ length now) (here : (d : RangeEnd) → get_or next i d ≡ at_node (get_or now i d) node) (elsewhere : (k : ℕ) (d : RangeEnd) → k ≢ i → get_or next k d ≡ get_or now k d) where
+      (same_length : length next ≡ length now) (here : (d : RangeEnd) → get_or next i d ≡ at_node (get_or now i d) node)
+      (elsewhere : (k : ℕ) (d : RangeEnd) → k ≢ i → get_or next k d ≡ get_or now k d) where
     -- this end by any filler
     this : (d : RangeEnd) → one ≡ get_or es i d
     this d = is_one ∙ get_or_default es i one d within
@@ -157,36 +168,45 @@ module _ (rule : Boundary ℕ → Boundary ℕ) (target : ℕ) (start live : Sla
     -- other ends stand where they stood
     other_points : (s : ℕ) (b : Bool) → is_end_of s b one ≡ false → point_at after s b ≡ point_at live s b
     other_points s b e = elim (cases_eq s one.slot) [
-      | inl f ↦ subst (λ t. point_at after t b ≡ point_at live t b) (sym f) (other_end b (λ g. true≢false (sym (is_end_of-same one) ∙ (ap (λ (t : Bool). is_end_of one.slot t one) (sym g) ∙ (ap (λ (t : ℕ). is_end_of t b one) (sym f) ∙ e)))))
+      | inl f ↦ subst (λ t. point_at after t b ≡ point_at live t b) (sym f)
+          (other_end b (λ g. true≢false (sym (is_end_of-same one) ∙
+          (ap (λ (t : Bool). is_end_of one.slot t one) (sym g) ∙ (ap (λ (t : ℕ). is_end_of t b one) (sym f) ∙ e)))))
       | inr off ↦ ap (option_map (end_of b)) (others s off)
     ]
 
     -- so do those at other places
-    unmoved : (k : ℕ) (d : RangeEnd) → k < length es → k ≢ i → point_at after (get_or es k d).slot (get_or es k d).is_end ≡ point_at live (get_or es k d).slot (get_or es k d).is_end
+    unmoved : (k : ℕ) (d : RangeEnd) → k < length es → k ≢ i →
+        point_at after (get_or es k d).slot (get_or es k d).is_end ≡ point_at live (get_or es k d).slot (get_or es k d).is_end
     unmoved k d l off = let e = get_or es k d in elim (cases_Bool (is_end_of e.slot e.is_end one)) [
-      | inl f ↦ absurd (off (places-once start es listed e.slot e.is_end k i d l within (is_end_of-same e) (subst (λ (x : RangeEnd). is_end_of e.slot e.is_end x ≡ true) (this d) f)))
+      | inl f ↦ absurd (off (places-once start es listed e.slot e.is_end k i d l within (is_end_of-same e)
+          (subst (λ (x : RangeEnd). is_end_of e.slot e.is_end x ≡ true) (this d) f)))
       | inr f ↦ other_points e.slot e.is_end f
     ]
 
     -- a listed end stands where another one with the same slot does
     stands_by : (x y : RangeEnd) → x.slot ≡ y.slot → x.is_end ≡ y.is_end → x.node ≡ y.node → Stands after y → Stands after x
     stands_by x y e f g h =
-        ap (λ s. option_map (λ (b : Boundary ℕ). b.node) (point_at after s x.is_end)) e ∙ (ap (λ t. option_map (λ (b : Boundary ℕ). b.node) (point_at after y.slot t)) f ∙ (h ∙ ap Some (sym g)))
+        ap (λ s. option_map (λ (b : Boundary ℕ). b.node) (point_at after s x.is_end)) e ∙
+        (ap (λ t. option_map (λ (b : Boundary ℕ). b.node) (point_at after y.slot t)) f ∙ (h ∙ ap Some (sym g)))
 
     pub IsMovedPart-more : IsMovedPart rule target start after es next (is_chosen (up_to first (i + 1)) skipped)
     IsMovedPart-more =
         record {
           same_length = same_length ∙ so_far.same_length;
           same_slot = λ k d. elim (cases_eq k i) [
-            | inl e ↦ ap (λ t. (get_or next t d).slot) e ∙ (ap (λ (x : RangeEnd). x.slot) (here d) ∙ (so_far.same_slot i d ∙ ap (λ t. (get_or es t d).slot) (sym e)))
+            | inl e ↦ ap (λ t. (get_or next t d).slot) e ∙
+                (ap (λ (x : RangeEnd). x.slot) (here d) ∙ (so_far.same_slot i d ∙ ap (λ t. (get_or es t d).slot) (sym e)))
             | inr off ↦ ap (λ (x : RangeEnd). x.slot) (elsewhere k d off) ∙ so_far.same_slot k d
           ];
           same_end = λ k d. elim (cases_eq k i) [
-            | inl e ↦ ap (λ t. (get_or next t d).is_end) e ∙ (ap (λ (x : RangeEnd). x.is_end) (here d) ∙ (so_far.same_end i d ∙ ap (λ t. (get_or es t d).is_end) (sym e)))
+            | inl e ↦ ap (λ t. (get_or next t d).is_end) e ∙
+                (ap (λ (x : RangeEnd). x.is_end) (here d) ∙ (so_far.same_end i d ∙ ap (λ t. (get_or es t d).is_end) (sym e)))
             | inr off ↦ ap (λ (x : RangeEnd). x.is_end) (elsewhere k d off) ∙ so_far.same_end k d
           ];
           same_others = λ k d e. elim (cases_eq k i) [
-            | inl f ↦ absurd (true≢false (sym (chosen-made (up_to first (i + 1)) skipped i from (omega arith) chosen) ∙ (ap (is_chosen (up_to first (i + 1)) skipped) (sym f) ∙ e)))
+            | inl f ↦ absurd (true≢false
+                (sym (chosen-made (up_to first (i + 1)) skipped i from (omega arith) chosen) ∙
+                (ap (is_chosen (up_to first (i + 1)) skipped) (sym f) ∙ e)))
             | inr off ↦ elsewhere k d off ∙ so_far.same_others k d (not_yet k e)
           ];
           goes = λ k d. elim (cases_eq k i) [
@@ -202,12 +222,14 @@ module _ (rule : Boundary ℕ → Boundary ℕ) (target : ℕ) (start live : Sla
           ];
           moved = λ k d l e. elim (cases_eq k i) [
             | inl f ↦
-                subst (λ (x : RangeEnd). point_at after x.slot x.is_end ≡ option_map rule (point_at start x.slot x.is_end)) (this d ∙ ap (λ t. get_or es t d) (sym f)) (moved ∙ ap (option_map rule) still_one)
+                subst (λ (x : RangeEnd). point_at after x.slot x.is_end ≡ option_map rule (point_at start x.slot x.is_end))
+                (this d ∙ ap (λ t. get_or es t d) (sym f)) (moved ∙ ap (option_map rule) still_one)
             | inr off ↦ unmoved k d l off ∙ so_far.moved k d l (earlier k e off)
           ];
           kept = λ s b h.
               other_points s b (elim (cases_Bool (is_end_of s b one)) [
-                | inl f ↦ absurd (h i one within (chosen-made (up_to first (i + 1)) skipped i from (omega arith) chosen) (subst (λ (x : RangeEnd). is_end_of s b x ≡ true) (this one) f))
+                | inl f ↦ absurd (h i one within (chosen-made (up_to first (i + 1)) skipped i from (omega arith) chosen)
+                    (subst (λ (x : RangeEnd). is_end_of s b x ≡ true) (this one) f))
                 | inr f ↦ f
               ])
               ∙ so_far.kept s b (λ k d l e f. h k d l (later k e) f);
@@ -220,30 +242,38 @@ module _ (rule : Boundary ℕ → Boundary ℕ) (target : ℕ) (start live : Sla
           standing = λ k d l. elim (cases_eq k i) [
             | inl e ↦
                 subst (λ t. Stands after (get_or next t d)) (sym e)
-                (stands_by (get_or next i d) (at_node one node) (ap (λ (x : RangeEnd). x.slot) (here d) ∙ (so_far.same_slot i d ∙ ap (λ (x : RangeEnd). x.slot) (sym (this d))))
-                (ap (λ (x : RangeEnd). x.is_end) (here d) ∙ (so_far.same_end i d ∙ ap (λ (x : RangeEnd). x.is_end) (sym (this d)))) (ap (λ (x : RangeEnd). x.node) (here d))
+                (stands_by (get_or next i d) (at_node one node)
+                (ap (λ (x : RangeEnd). x.slot) (here d) ∙ (so_far.same_slot i d ∙ ap (λ (x : RangeEnd). x.slot) (sym (this d))))
+                (ap (λ (x : RangeEnd). x.is_end) (here d) ∙ (so_far.same_end i d ∙ ap (λ (x : RangeEnd). x.is_end) (sym (this d))))
+                (ap (λ (x : RangeEnd). x.node) (here d))
                 (ap (option_map (λ (b : Boundary ℕ). b.node)) (moved ∙ ap (option_map rule) point.1) ∙ ap Some (sym (stands point.0 point.1))))
             | inr off ↦
-                let same = λ (t : Slab Points). ap (λ s. point_at t s (get_or now k d).is_end) (so_far.same_slot k d) ∙ ap (λ b. point_at t (get_or es k d).slot b) (so_far.same_end k d) in
+                let same = λ (t : Slab Points). ap (λ s. point_at t s (get_or now k d).is_end) (so_far.same_slot k d) ∙
+                ap (λ b. point_at t (get_or es k d).slot b) (so_far.same_end k d) in
                 subst (Stands after) (sym (elsewhere k d off))
                 (ap (option_map (λ (b : Boundary ℕ). b.node)) (same after ∙ (unmoved k d l off ∙ sym (same live))) ∙ so_far.standing k d l)
           ];
         }
 
 -- an end that was set
-pub set-here : (now : List RangeEnd) (i node : ℕ) (r : RangeEnd) → i < length now → (d : RangeEnd) → get_or (set now i (at_node (get_or now i r) node)) i d ≡ at_node (get_or now i d) node
+pub set-here : (now : List RangeEnd) (i node : ℕ) (r : RangeEnd) → i < length now → (d : RangeEnd) →
+    get_or (set now i (at_node (get_or now i r) node)) i d ≡ at_node (get_or now i d) node
 set-here now i node r l d = get_or-set_same now i (at_node (get_or now i r) node) d l ∙ ap (λ (x : RangeEnd). at_node x node) (get_or_default now i r d l)
 
 -- the part outside which no node changed, after one end more
-pub nodes-more : (es now next : List RangeEnd) (i first behind least : ℕ) → ((k : ℕ) (d : RangeEnd) → k ≢ i → get_or next k d ≡ get_or now k d) → least ≡ min first i → behind ≤ i
-    → ((k : ℕ) (d : RangeEnd) → (k < first) ⊎ (behind ≤ k) → (get_or now k d).node ≡ (get_or es k d).node) → (k : ℕ) (d : RangeEnd) → (k < least) ⊎ (i + 1 ≤ k) → (get_or next k d).node ≡ (get_or es k d).node
+pub nodes-more : (es now next : List RangeEnd) (i first behind least : ℕ) → ((k : ℕ) (d : RangeEnd) → k ≢ i → get_or next k d ≡ get_or now k d) →
+    least ≡ min first i → behind ≤ i
+    → ((k : ℕ) (d : RangeEnd) → (k < first) ⊎ (behind ≤ k) → (get_or now k d).node ≡ (get_or es k d).node) → (k : ℕ) (d : RangeEnd) →
+    (k < least) ⊎ (i + 1 ≤ k) → (get_or next k d).node ≡ (get_or es k d).node
 nodes-more es now next i first behind least elsewhere e up nodes k d p = elim p [
   | inl l ↦ ap (λ (x : RangeEnd). x.node) (elsewhere k d (λ f. omega (arith, f, l, e))) ∙ nodes k d (inl (omega (arith, l, e)))
   | inr l ↦ ap (λ (x : RangeEnd). x.node) (elsewhere k d (λ f. omega (arith, f, l))) ∙ nodes k d (inr (omega (arith, l, up)))
 ]
 
-pub nodes-same : (es now next : List RangeEnd) (i first behind : ℕ) → ((k : ℕ) (d : RangeEnd) → k ≢ i → get_or next k d ≡ get_or now k d) → ((d : RangeEnd) → (get_or next i d).node ≡ (get_or now i d).node)
-    → ((k : ℕ) (d : RangeEnd) → (k < first) ⊎ (behind ≤ k) → (get_or now k d).node ≡ (get_or es k d).node) → (k : ℕ) (d : RangeEnd) → (k < first) ⊎ (behind ≤ k) → (get_or next k d).node ≡ (get_or es k d).node
+pub nodes-same : (es now next : List RangeEnd) (i first behind : ℕ) → ((k : ℕ) (d : RangeEnd) → k ≢ i → get_or next k d ≡ get_or now k d) →
+    ((d : RangeEnd) → (get_or next i d).node ≡ (get_or now i d).node)
+    → ((k : ℕ) (d : RangeEnd) → (k < first) ⊎ (behind ≤ k) → (get_or now k d).node ≡ (get_or es k d).node) → (k : ℕ) (d : RangeEnd) →
+    (k < first) ⊎ (behind ≤ k) → (get_or next k d).node ≡ (get_or es k d).node
 nodes-same es now next i first behind elsewhere here nodes k d p = elim (cases_eq k i) [
   | inl e ↦ ap (λ t. (get_or next t d).node) e ∙ (here d ∙ (ap (λ t. (get_or now t d).node) (sym e) ∙ nodes k d p))
   | inr off ↦ ap (λ (x : RangeEnd). x.node) (elsewhere k d off) ∙ nodes k d p

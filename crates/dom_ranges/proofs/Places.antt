@@ -1,5 +1,6 @@
 -- Where nodes stand, as lists of numbers, in trees in which each name stands once.
-use Rattle.std.proofs.Common.{◌≡◌, inl, inr, ℕ, ◌+◌, ◌≤◌, ◌<◌, List, [], ◌∷◌, ◌++◌, length, Option, Some, None, true, false, refl, sym, ap, subst, ◌∙◌, arith, zero-add}
+use Rattle.std.proofs.Common.{◌≡◌, inl, inr, ℕ, ◌+◌, ◌≤◌, ◌<◌, List, [], ◌∷◌, ◌++◌, length, Option, Some, None, true, false, refl, sym, ap, subst}
+use Rattle.std.proofs.Common.{◌∙◌, arith, zero-add}
 use Rattle.std.specs.Prelude.{drop, unwrap_or}
 use Rattle.std.specs.Option.{option_map_or}
 use Rattle.std.proofs.lemmas.Option.{same_Some, none-some}
@@ -8,7 +9,8 @@ use Rattle.dom_model.specs.Names.{name_eq, first_of, last_of, items_before}
 use Rattle.dom_model.specs.Place.{place_from, place_of, same_root}
 use Rattle.dom_model.specs.Tree.{Trees, none, tree, Node, names_of, roots, trees_below, inclusive_ancestors, parent_of, root_of, index_of, children_of}
 use Rattle.dom_traversal.proofs.Lists.{name_eq-from, name_eq-other, name_eq-true, last_of-end}
-use Rattle.dom_traversal.proofs.Shapes.{Has, Once, subtree-here, subtree-below, subtree-beside, above-here, above-below, above-beside, above-present, above-parent, above-root}
+use Rattle.dom_traversal.proofs.Shapes.{Has, Once, subtree-here, subtree-below, subtree-beside, above-here, above-below, above-beside, above-present}
+use Rattle.dom_traversal.proofs.Shapes.{above-parent, above-root}
 
 -- a name that stands nowhere has no place
 place-absent : (ts : Trees) (k : ℕ) (x : NodeName) → (Has ts x → ⊥) → place_from k ts x ≡ None
@@ -30,7 +32,8 @@ place-beside n c r k x once h =
     rw (name_eq-other n.name x (λ e. once.1 (subst (Has r) (sym e) h)), place-absent c 0 x (λ i. once.2 x i h)) refl
 
 -- a node below it, whose place is known
-place-below : (n : Node) (c r : Trees) (k : ℕ) (x : NodeName) (path : List ℕ) → Once (tree n c r) → Has c x → place_from 0 c x ≡ Some path → place_from k (tree n c r) x ≡ Some (k ∷ path)
+place-below : (n : Node) (c r : Trees) (k : ℕ) (x : NodeName) (path : List ℕ) → Once (tree n c r) → Has c x → place_from 0 c x ≡ Some path →
+    place_from k (tree n c r) x ≡ Some (k ∷ path)
 place-below n c r k x path once h e =
     rw (name_eq-other n.name x (λ f. once.0 (subst (Has c) (sym f) h)), e) refl
 
@@ -73,7 +76,8 @@ place-same (tree n c r) k x y once (inr (inl h)) (inl i) e =
 place-same (tree n c r) k x y once (inr (inl h)) (inr (inl i)) e =
     let v = place-present c 0 x once.3 h in
     let w = place-present c 0 y once.3 i in
-    let f : Some (k ∷ v.0 ∷ v.1) ≡ Some (k ∷ w.0 ∷ w.1) = sym (place-below n c r k x (v.0 ∷ v.1) once h v.2) ∙ (e ∙ place-below n c r k y (w.0 ∷ w.1) once i w.2) in
+    let f : Some (k ∷ v.0 ∷ v.1) ≡ Some (k ∷ w.0 ∷ w.1) =
+    sym (place-below n c r k x (v.0 ∷ v.1) once h v.2) ∙ (e ∙ place-below n c r k y (w.0 ∷ w.1) once i w.2) in
     let g : v.0 ∷ v.1 ≡ w.0 ∷ w.1 = cc in
     place-same c 0 x y once.3 h i (v.2 ∙ (ap Some g ∙ sym w.2))
 place-same (tree n c r) k x y once (inr (inl h)) (inr (inr i)) e =
@@ -109,35 +113,41 @@ place-root (tree n c r) k x once (inr (inr h)) e =
     ∙ (place-root r (k + 1) x once.4 h (sym (above-beside n c r x once h) ∙ e)
     ∙ ap (λ m. Some (m ∷ [])) (later_index (name_eq-other x n.name (λ same. once.1 (subst (Has r) same h)))))
   where
-    later_index : name_eq x n.name ≡ false → (k + 1) + length (items_before name_eq x (names_of (roots r))) ≡ k + length (items_before name_eq x (names_of (roots (tree n c r))))
+    later_index : name_eq x n.name ≡ false →
+        (k + 1) + length (items_before name_eq x (names_of (roots r))) ≡ k + length (items_before name_eq x (names_of (roots (tree n c r))))
     later_index other = rw other (omega arith)
 
 -- the place of a child is that of its parent, and then its index
 abbrev pub StandsUnder : ℕ → Trees → NodeName → NodeName → Type 0
-StandsUnder k ts p x = (path : List ℕ) × (place_from k ts p ≡ Some path) × (place_from k ts x ≡ Some (path ++ length (items_before name_eq x (children_of ts p)) ∷ []))
+StandsUnder k ts p x = (path : List ℕ) × (place_from k ts p ≡ Some path) ×
+    (place_from k ts x ≡ Some (path ++ length (items_before name_eq x (children_of ts p)) ∷ []))
 
 pub place-child : (ts : Trees) (k : ℕ) (x p : NodeName) → Once ts → Has ts x → parent_of ts x ≡ Some p → StandsUnder k ts p x
 place-child none k x p once h e = absurd h
 place-child (tree n c r) k x p once (inl i) e = absurd (none-some p (rw (above-here n c r x i) at e))
 place-child (tree n c r) k x p once (inr (inl h)) e =
     let w = above-present c x h in
-    by (place-child c 0 x p once.3 h) (parent_below) w.0 w.1 (ap (λ path. first_of (drop 1 path)) (sym (above-below n c r x once h ∙ ap (λ path. path ++ n.name ∷ []) w.1)) ∙ e)
+    by (place-child c 0 x p once.3 h) (parent_below) w.0 w.1
+    (ap (λ path. first_of (drop 1 path)) (sym (above-below n c r x once h ∙ ap (λ path. path ++ n.name ∷ []) w.1)) ∙ e)
   where
     parent_below : parent_of c x ≡ Some p → Has c p
     parent_below f = (above-parent c x p once.3 h f).1
 
-    by : (parent_of c x ≡ Some p → StandsUnder 0 c p x) → (parent_of c x ≡ Some p → Has c p) → (path : List NodeName) → inclusive_ancestors c x ≡ x ∷ path → first_of (path ++ n.name ∷ []) ≡ Some p → StandsUnder k (tree n c r) p x
+    by : (parent_of c x ≡ Some p → StandsUnder 0 c p x) → (parent_of c x ≡ Some p → Has c p) → (path : List NodeName) →
+        inclusive_ancestors c x ≡ x ∷ path → first_of (path ++ n.name ∷ []) ≡ Some p → StandsUnder k (tree n c r) p x
     by deeper there [] is f =
         let same : n.name ≡ p = same_Some _ _ f in
         let kids : children_of (tree n c r) p ≡ names_of (roots c) = ap (λ (us : Trees). names_of (roots (trees_below us))) (subtree-here n c r p same) in (
           k ∷ [],
           place-here n c r k p same,
-          place-below n c r k x _ once h (place-root c 0 x once.3 h is) ∙ ap (λ m. Some (k ∷ m ∷ [])) (zero-add _ ∙ ap (λ xs. length (items_before name_eq x xs)) (sym kids)),
+          place-below n c r k x _ once h (place-root c 0 x once.3 h is) ∙
+              ap (λ m. Some (k ∷ m ∷ [])) (zero-add _ ∙ ap (λ xs. length (items_before name_eq x xs)) (sym kids)),
         )
     by deeper there (q ∷ path) is f =
         let up : parent_of c x ≡ Some p = ap (λ l. first_of (drop 1 l)) is ∙ f in
         let w = deeper up in
-        let kids : children_of (tree n c r) p ≡ children_of c p = ap (λ (us : Trees). names_of (roots (trees_below us))) (subtree-below n c r p once (there up)) in (
+        let kids : children_of (tree n c r) p ≡ children_of c p =
+        ap (λ (us : Trees). names_of (roots (trees_below us))) (subtree-below n c r p once (there up)) in (
           k ∷ w.0,
           place-below n c r k p w.0 once (there up) w.1,
           place-below n c r k x _ once h w.2 ∙ ap (λ xs. Some (k ∷ (w.0 ++ length (items_before name_eq x xs) ∷ []))) (sym kids),
@@ -156,7 +166,8 @@ place-child (tree n c r) k x p once (inr (inr h)) e =
 
 -- a node's place begins with the number of its root
 abbrev pub BeginsAtRoot : ℕ → Trees → NodeName → Type 0
-BeginsAtRoot k ts x = (m : ℕ) × (path : List ℕ) × (place_from k ts x ≡ Some (m ∷ path)) × (place_from k ts (root_of ts x) ≡ Some (m ∷ [])) × Has ts (root_of ts x)
+BeginsAtRoot k ts x = (m : ℕ) × (path : List ℕ) × (place_from k ts x ≡ Some (m ∷ path)) × (place_from k ts (root_of ts x) ≡ Some (m ∷ [])) ×
+    Has ts (root_of ts x)
 
 pub place-at_root : (ts : Trees) (k : ℕ) (x : NodeName) → Once ts → Has ts x → BeginsAtRoot k ts x
 place-at_root none k x once h = absurd h
@@ -166,7 +177,8 @@ place-at_root (tree n c r) k x once (inl e) =
 place-at_root (tree n c r) k x once (inr (inl h)) =
     let w = place-present c 0 x once.3 h in
     let same : root_of (tree n c r) x ≡ n.name =
-    ap (λ path. unwrap_or (last_of path) x) (above-below n c r x once h) ∙ ap (λ (o : Option NodeName). unwrap_or o x) (last_of-end (inclusive_ancestors c x) n.name) in
+    ap (λ path. unwrap_or (last_of path) x) (above-below n c r x once h) ∙ ap (λ (o : Option NodeName). unwrap_or o x)
+    (last_of-end (inclusive_ancestors c x) n.name) in
     (k, w.0 ∷ w.1, place-below n c r k x (w.0 ∷ w.1) once h w.2, place-here n c r k _ (sym same), inl (sym same))
 place-at_root (tree n c r) k x once (inr (inr h)) =
     let w = place-at_root r (k + 1) x once.4 h in
@@ -190,8 +202,10 @@ module _ (ts : Trees) (once : Once ts) where
   pub path-child : (x p : NodeName) → Has ts x → parent_of ts x ≡ Some p → place_of ts x ≡ place_of ts p ++ index_of ts x ∷ []
   path-child x p h e =
       let w = place-child ts 0 x p once h e in
-      let index : index_of ts x ≡ length (items_before name_eq x (children_of ts p)) = ap (λ (o : Option NodeName). length (items_before name_eq x (option_map_or (children_of ts) o (x ∷ [])))) e in
-      known x _ w.2 ∙ (ap (λ path. path ++ length (items_before name_eq x (children_of ts p)) ∷ []) (sym (known p w.0 w.1)) ∙ ap (λ i. place_of ts p ++ i ∷ []) (sym index))
+      let index : index_of ts x ≡ length (items_before name_eq x (children_of ts p)) =
+      ap (λ (o : Option NodeName). length (items_before name_eq x (option_map_or (children_of ts) o (x ∷ [])))) e in
+      known x _ w.2 ∙ (ap (λ path. path ++ length (items_before name_eq x (children_of ts p)) ∷ []) (sym (known p w.0 w.1)) ∙
+      ap (λ i. place_of ts p ++ i ∷ []) (sym index))
 
   -- a root's place
   pub path-root : (x : NodeName) → Has ts x → parent_of ts x ≡ None → (m : ℕ) × (place_of ts x ≡ m ∷ [])

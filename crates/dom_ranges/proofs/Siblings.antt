@@ -1,5 +1,6 @@
 -- The index of a node by the sibling before it.
-use Rattle.std.proofs.Common.{◌≡◌, inl, inr, ℕ, ◌+◌, ◌<◌, true, [], ◌∷◌, ◌++◌, length, Option, Some, None, refl, sym, ap, subst, ◌∙◌, arith, append_assoc, length-append}
+use Rattle.std.proofs.Common.{◌≡◌, inl, inr, ℕ, ◌+◌, ◌<◌, true, [], ◌∷◌, ◌++◌, length, Option, Some, None, refl, sym, ap, subst, ◌∙◌, arith}
+use Rattle.std.proofs.Common.{append_assoc, length-append}
 use Rattle.std.specs.Option.{option_map, option_map_or}
 use Rattle.std.proofs.lemmas.Option.{none-some}
 use Rattle.dom_base.specs.declared.NodeName.{NodeName}
@@ -60,15 +61,19 @@ module _ (ts : Trees) (once : Once ts) where
           let single : Single (front.0 ++ s ∷ (x ∷ items_after name_eq x kids)) = subst Single split (children_single ts p once at.0) in
           let its : index_of ts s ≡ length front.0 =
           ap (λ ys. length (items_before name_eq s ys)) (siblings_are s p (parent-of_child ts p s once at.0 among).0 ∙ split)
-          ∙ ap (length {A = NodeName}) (before-split s front.0 (x ∷ items_after name_eq x kids) (λ i. Single-apart s front.0 (s ∷ (x ∷ items_after name_eq x kids)) single i (inl refl))) in
-          let own : index_of ts x ≡ length (front.0 ++ s ∷ []) = ap (λ ys. length (items_before name_eq x ys)) (siblings_are x p up) ∙ ap (length {A = NodeName}) front.1 in
+          ∙ ap (length {A = NodeName}) (before-split s front.0 (x ∷ items_after name_eq x kids)
+          (λ i. Single-apart s front.0 (s ∷ (x ∷ items_after name_eq x kids)) single i (inl refl))) in
+          let own : index_of ts x ≡ length (front.0 ++ s ∷ []) =
+          ap (λ ys. length (items_before name_eq x ys)) (siblings_are x p up) ∙ ap (length {A = NodeName}) front.1 in
           omega (arith, its, own, length-append front.0 (s ∷ []))
 
 -- a walk from sibling to sibling, by keys
-module _ (f : NamedTrees) (once : StandOnce f) (only : StandAlone f) (k : ℕ) (node : k < length f.names) (before : Option ℕ) (is : option_map (name_at f.names) before ≡ previous_sibling f.trees (name_at f.names k)) where
+module _ (f : NamedTrees) (once : StandOnce f) (only : StandAlone f) (k : ℕ) (node : k < length f.names) (before : Option ℕ)
+    (is : option_map (name_at f.names) before ≡ previous_sibling f.trees (name_at f.names k)) where
   pub index-none : before ≡ None → index_of f.trees (name_at f.names k) ≡ 0
   index-none e = index-first f.trees (Once-forest f once only) (name_at f.names k) (sym is ∙ ap (option_map (name_at f.names)) e)
 
   pub index-some : (j : ℕ) → before ≡ Some j → index_of f.trees (name_at f.names k) ≡ index_of f.trees (name_at f.names j) + 1
   index-some j e =
-      index-behind f.trees (Once-forest f once only) (name_at f.names k) (name_at f.names j) (Has-forest f once k node) (sym is ∙ ap (option_map (name_at f.names)) e)
+      index-behind f.trees (Once-forest f once only) (name_at f.names k) (name_at f.names j) (Has-forest f once k node)
+      (sym is ∙ ap (option_map (name_at f.names)) e)

@@ -1,5 +1,6 @@
 -- What holds of each end of a table's ranges, after each call; and offsets that fit the code's numbers.
-use Rattle.std.proofs.Common.{◌≡◌, inl, inr, ℕ, ◌+◌, ◌-◌, ◌<◌, ◌^◌, Bool, true, false, cond, not, [], ◌∷◌, ◌++◌, eqb, nat_lt, nat_le, Option, Some, None, refl, sym, ap, subst, ◌∙◌, arith}
+use Rattle.std.proofs.Common.{◌≡◌, inl, inr, ℕ, ◌+◌, ◌-◌, ◌<◌, ◌^◌, Bool, true, false, cond, not, [], ◌∷◌, ◌++◌, eqb, nat_lt, nat_le, Option, Some}
+use Rattle.std.proofs.Common.{None, refl, sym, ap, subst, ◌∙◌, arith}
 use Rattle.std.specs.Prelude.{slice_get, slice_set, ◌&&◌, ◌||◌}
 use Rattle.std.specs.Option.{option_map, option_flatten}
 use Rattle.std.proofs.lemmas.Bool.{cases_eq}
@@ -25,7 +26,8 @@ module _ (P : Boundary ℕ → Type 0) where
   -- a range with other ends
   pub stand-set : (rs : RangeList) (k : ℕ) (r : Range ℕ) → BothEnds P r → EachRange (BothEnds P) rs → EachRange (BothEnds P) (slice_set rs k (Some r))
   stand-set rs k r here each j s e = elim (cases_eq j k) [
-    | inl f ↦ subst (BothEnds P) (sym (same_Some _ _ (set-at rs k (Some r) (Some s) (subst (λ i. slice_get (slice_set rs k (Some r)) i ≡ Some (Some s)) f e)))) here
+    | inl f ↦ subst (BothEnds P) (sym (same_Some _ _
+        (set-at rs k (Some r) (Some s) (subst (λ i. slice_get (slice_set rs k (Some r)) i ≡ Some (Some s)) f e)))) here
     | inr off ↦ each j s (sym (set-other rs k (Some r) j off) ∙ e)
   ]
 
@@ -72,7 +74,8 @@ module _ (P : Boundary ℕ → Type 0) where
   stand-collapsed false r both = (both.1, both.1)
 
   -- a table with another list for one owner
-  pub stand-with : (t : RangeLists) (owner : Owner) (rs : RangeList) → EachRange (BothEnds P) rs → ((o : Owner) → EachRange (BothEnds P) (ranges_of t o)) → (o : Owner) → EachRange (BothEnds P) (with_ranges t owner rs o)
+  pub stand-with : (t : RangeLists) (owner : Owner) (rs : RangeList) → EachRange (BothEnds P) rs →
+      ((o : Owner) → EachRange (BothEnds P) (ranges_of t o)) → (o : Owner) → EachRange (BothEnds P) (with_ranges t owner rs o)
   stand-with t owner rs each all o = by (owner_eq owner o)
     where
       by : (b : Bool) → EachRange (BothEnds P) (cond b rs (ranges_of t o))
@@ -80,16 +83,23 @@ module _ (P : Boundary ℕ → Type 0) where
       by false = all o
 
   -- a table after a range was made
-  pub table-made : (t new : RangeLists) (owner : Owner) (node : ℕ) → ((o : Owner) → ranges_of new o ≡ with_ranges t owner (ranges_of t owner ++ Some (from_to (at node 0) (at node 0)) ∷ []) o) → P (at node 0)
+  pub table-made : (t new : RangeLists) (owner : Owner) (node : ℕ) →
+      ((o : Owner) → ranges_of new o ≡ with_ranges t owner (ranges_of t owner ++ Some (from_to (at node 0) (at node 0)) ∷ []) o) → P (at node 0)
       → ((o : Owner) → EachRange (BothEnds P) (ranges_of t o)) → (o : Owner) → EachRange (BothEnds P) (ranges_of new o)
   table-made t new owner node e here all o =
-      subst (EachRange (BothEnds P)) (sym (e o)) (stand-with t owner (ranges_of t owner ++ Some (from_to (at node 0) (at node 0)) ∷ []) (stand-made (ranges_of t owner) (from_to (at node 0) (at node 0)) (here, here) (all owner)) all o)
+      subst (EachRange (BothEnds P)) (sym (e o))
+      (stand-with t owner (ranges_of t owner ++ Some (from_to (at node 0) (at node 0)) ∷ [])
+      (stand-made (ranges_of t owner) (from_to (at node 0) (at node 0)) (here, here) (all owner)) all o)
 
   -- a table after a range was rewritten
-  pub table-rewritten : (t new : RangeLists) (owner : Owner) (k : ℕ) (f : Range ℕ → Range ℕ) → ((o : Owner) → ranges_of new o ≡ with_ranges t owner (slice_set (ranges_of t owner) k (option_map f (range_in (ranges_of t owner) k))) o)
-      → ((r : Range ℕ) → BothEnds P r → BothEnds P (f r)) → ((o : Owner) → EachRange (BothEnds P) (ranges_of t o)) → (o : Owner) → EachRange (BothEnds P) (ranges_of new o)
+  pub table-rewritten : (t new : RangeLists) (owner : Owner) (k : ℕ) (f : Range ℕ → Range ℕ) →
+      ((o : Owner) → ranges_of new o ≡ with_ranges t owner (slice_set (ranges_of t owner) k (option_map f (range_in (ranges_of t owner) k))) o)
+      → ((r : Range ℕ) → BothEnds P r → BothEnds P (f r)) → ((o : Owner) → EachRange (BothEnds P) (ranges_of t o)) → (o : Owner) →
+      EachRange (BothEnds P) (ranges_of new o)
   table-rewritten t new owner k f e keeps all o =
-      subst (EachRange (BothEnds P)) (sym (e o)) (stand-with t owner (slice_set (ranges_of t owner) k (option_map f (range_in (ranges_of t owner) k))) (stand-rewritten f keeps (ranges_of t owner) k (all owner)) all o)
+      subst (EachRange (BothEnds P)) (sym (e o))
+      (stand-with t owner (slice_set (ranges_of t owner) k (option_map f (range_in (ranges_of t owner) k)))
+      (stand-rewritten f keeps (ranges_of t owner) k (all owner)) all o)
 
 -- what is weaker holds too
 pub EachRange-weaker : (P Q : Boundary ℕ → Type 0) → ((b : Boundary ℕ) → P b → Q b) → (rs : RangeList) → EachRange (BothEnds P) rs → EachRange (BothEnds Q) rs
@@ -107,15 +117,18 @@ pub fits-insert : (parent index count : ℕ) (b : Boundary ℕ) → b.offset + c
 fits-insert parent index count b p = fits-if (eqb b.node parent && nat_lt index b.offset) (at parent (b.offset + count)) b p (omega (arith, p))
 
 -- where the new length can be added
-pub fits-replace_data : (node offset count size : ℕ) (b : Boundary ℕ) → offset < 2 ^ 64 → b.offset + size < 2 ^ 64 → Fits (after_replace_data eqb node offset count size b)
+pub fits-replace_data : (node offset count size : ℕ) (b : Boundary ℕ) → offset < 2 ^ 64 → b.offset + size < 2 ^ 64 →
+    Fits (after_replace_data eqb node offset count size b)
 fits-replace_data node offset count size b l p =
-    fits-if (not (eqb b.node node) || nat_le b.offset offset) b (cond (nat_le b.offset (offset + count)) (at node offset) (at node (b.offset + size - count))) (omega (arith, p))
+    fits-if (not (eqb b.node node) || nat_le b.offset offset) b
+    (cond (nat_le b.offset (offset + count)) (at node offset) (at node (b.offset + size - count))) (omega (arith, p))
     (fits-if (nat_le b.offset (offset + count)) (at node offset) (at node (b.offset + size - count)) l (omega (arith, p)))
 
 -- where one can be added
 pub fits-split : (node offset new parent index : ℕ) (b : Boundary ℕ) → index + 2 < 2 ^ 64 → Fits b → Fits (after_split eqb node offset new parent index b)
 fits-split node offset new parent index b l p =
-    fits-if (eqb b.node node && nat_lt offset b.offset) (at new (b.offset - offset)) (cond (boundary_eq eqb b (at parent (index + 1))) (at parent (index + 2)) b) (omega (arith, p))
+    fits-if (eqb b.node node && nat_lt offset b.offset) (at new (b.offset - offset))
+    (cond (boundary_eq eqb b (at parent (index + 1))) (at parent (index + 2)) b) (omega (arith, p))
     (fits-if (boundary_eq eqb b (at parent (index + 1))) (at parent (index + 2)) b l p)
 
 -- where the first one's length can be added

@@ -1,5 +1,6 @@
 -- What a table shows and keeps when a slot is written, filled or emptied.
-use Rattle.std.proofs.Common.{◌≡◌, ◌≢◌, ℕ, Bool, true, false, cond, List, [], ◌∷◌, ◌++◌, length, map, Option, Some, None, IsSome, is_some, refl, sym, ap, subst, ◌∙◌, ◌⊎◌, inl, inr, true≢false}
+use Rattle.std.proofs.Common.{◌≡◌, ◌≢◌, ℕ, Bool, true, false, cond, List, [], ◌∷◌, ◌++◌, length, map, Option, Some, None, IsSome, is_some, refl, sym}
+use Rattle.std.proofs.Common.{ap, subst, ◌∙◌, ◌⊎◌, inl, inr, true≢false}
 use Rattle.std.specs.Prelude.{slice_get, slice_set, if◌then◌else◌}
 use Rattle.std.specs.Option.{option_map, option_flatten}
 use Rattle.std.proofs.lemmas.Bool.{cases_Bool, cases_eq}
@@ -43,7 +44,8 @@ HoldSame-written live after slot q u here s = elim (cases_eq s slot) [
 ]
 
 -- a slot that is not the one written shows what it did
-shown_other : (live after : Slab Points) (slot : ℕ) → ((s : ℕ) → s ≢ slot → get after s ≡ get live s) → (t : Option ℕ) → (t ≡ Some slot → ⊥) → range_kept after t ≡ range_kept live t
+shown_other : (live after : Slab Points) (slot : ℕ) → ((s : ℕ) → s ≢ slot → get after s ≡ get live s) → (t : Option ℕ) → (t ≡ Some slot → ⊥) →
+    range_kept after t ≡ range_kept live t
 shown_other live after slot others None off = refl
 shown_other live after slot others (Some s) off = ap (option_map range_from) (others s (λ e. off (ap Some e)))
 
@@ -56,7 +58,8 @@ pub Shows-view : (live : Slab Points) (n : Numbers) (v : RangeLists) → shown l
 Shows-view live n v e o = ap (λ (t : RangeLists). ranges_of t o) (sym e) ∙ ranges_of-shown live n o
 
 -- where slots hold the same and lists are the same, the same is shown
-pub Shows-same : (live after : Slab Points) (n m : Numbers) (v : RangeLists) → Shows live n v → ((s : ℕ) → get after s ≡ get live s) → SameLists n m → Shows after m v
+pub Shows-same : (live after : Slab Points) (n m : Numbers) (v : RangeLists) → Shows live n v → ((s : ℕ) → get after s ≡ get live s) →
+    SameLists n m → Shows after m v
 Shows-same live after n m v e same lists o =
     e o ∙ (map_kept (range_kept after) (range_kept live) (slots_of n o) (λ j t _. by t) ∙ ap (map (range_kept after)) (sym (lists o)))
   where
@@ -73,7 +76,8 @@ pub length-ranges : (live : Slab Points) (n : Numbers) (v : RangeLists) → Show
 length-ranges live n v e o = sym (ap (length {A = Option (Range ℕ)}) (e o) ∙ length-map (slots_of n o) (range_kept live))
 
 -- the range of a number is the one in its slot
-pub range_in-held : (live : Slab Points) (n : Numbers) (v : RangeLists) → Shows live n v → (o : Owner) (k : ℕ) → range_in (ranges_of v o) k ≡ range_kept live (option_flatten (slice_get (slots_of n o) k))
+pub range_in-held : (live : Slab Points) (n : Numbers) (v : RangeLists) → Shows live n v → (o : Owner) (k : ℕ) →
+    range_in (ranges_of v o) k ≡ range_kept live (option_flatten (slice_get (slots_of n o) k))
 range_in-held live n v e o k =
     ap (λ rs. range_in rs k) (e o) ∙ (ap option_flatten (slice_get-map (range_kept live) (slots_of n o) k) ∙ by (slice_get (slots_of n o) k))
   where
@@ -103,15 +107,18 @@ with_ranges-same v owner o = by (owner_eq owner o) refl
     by false e = refl
 
 -- where there is no range, none is put
-pub not_there : (v : RangeLists) (owner : Owner) (k : ℕ) → range_in (ranges_of v owner) k ≡ None → (o : Owner) → ranges_of v o ≡ with_ranges v owner (slice_set (ranges_of v owner) k None) o
+pub not_there : (v : RangeLists) (owner : Owner) (k : ℕ) → range_in (ranges_of v owner) k ≡ None → (o : Owner) →
+    ranges_of v o ≡ with_ranges v owner (slice_set (ranges_of v owner) k None) o
 not_there v owner k e o = sym (ap (λ rs. with_ranges v owner rs o) (set-absent (ranges_of v owner) k e) ∙ with_ranges-same v owner o)
 
 -- the table after a range was written
-pub ranges-written : (live after : Slab Points) (n : Numbers) (v : RangeLists) (slot k : ℕ) (owner : Owner) (q : Points) → Shows live n v → IsHeld live n → StandsUnder n slot owner k → Updates live after slot (Some q)
+pub ranges-written : (live after : Slab Points) (n : Numbers) (v : RangeLists) (slot k : ℕ) (owner : Owner) (q : Points) → Shows live n v →
+    IsHeld live n → StandsUnder n slot owner k → Updates live after slot (Some q)
     → (o : Owner) → ranges_of (shown after n) o ≡ with_ranges v owner (slice_set (ranges_of v owner) k (Some (range_from q))) o
 ranges-written live after n v slot k owner q shows h at u o = ranges_of-shown after n o ∙ by (owner_eq owner o) refl
   where
-    by : (b : Bool) → owner_eq owner o ≡ b → map (range_kept after) (slots_of n o) ≡ cond b (slice_set (ranges_of v owner) k (Some (range_from q))) (ranges_of v o)
+    by : (b : Bool) → owner_eq owner o ≡ b →
+        map (range_kept after) (slots_of n o) ≡ cond b (slice_set (ranges_of v owner) k (Some (range_from q))) (ranges_of v o)
     by true e =
         let same = owner_eq-true owner o e in
         map_set (range_kept live) (range_kept after) (Some (range_from q)) (slots_of n o) k
@@ -124,7 +131,8 @@ ranges-written live after n v slot k owner q shows h at u o = ranges_of-shown af
         ∙ sym (shows o)
 
 -- a range that is held is the one of its number
-pub range-standing : (live : Slab Points) (n : Numbers) (v : RangeLists) → Shows live n v → (slot k : ℕ) (o : Owner) (p : Points) → StandsUnder n slot o k → get live slot ≡ Some p → slice_get (ranges_of v o) k ≡ Some (Some (range_from p))
+pub range-standing : (live : Slab Points) (n : Numbers) (v : RangeLists) → Shows live n v → (slot k : ℕ) (o : Owner) (p : Points) →
+    StandsUnder n slot o k → get live slot ≡ Some p → slice_get (ranges_of v o) k ≡ Some (Some (range_from p))
 range-standing live n v e slot k o p at here =
     ap (λ (rs : List (Option (Range ℕ))). slice_get rs k) (e o)
     ∙ (slice_get-map (range_kept live) (slots_of n o) k
@@ -132,7 +140,8 @@ range-standing live n v e slot k o p at here =
 
 -- the table after all ranges were rewritten
 pub ranges-moved : (f : Range ℕ → Range ℕ) (live after : Slab Points) (n : Numbers) (v : RangeLists) → Shows live n v
-    → ((s : ℕ) → option_map range_from (get after s) ≡ option_map (λ p. f (range_from p)) (get live s)) → (o : Owner) → ranges_of (shown after n) o ≡ map (option_map f) (ranges_of v o)
+    → ((s : ℕ) → option_map range_from (get after s) ≡ option_map (λ p. f (range_from p)) (get live s)) → (o : Owner) →
+    ranges_of (shown after n) o ≡ map (option_map f) (ranges_of v o)
 ranges-moved f live after n v e moved o =
     ranges_of-shown after n o ∙ (map_twice (range_kept live) (option_map f) (range_kept after) (slots_of n o) by ∙ ap (map (option_map f)) (sym (e o)))
   where
@@ -145,7 +154,8 @@ ranges-moved f live after n v e moved o =
     by (Some s) = moved s ∙ through (get live s)
 
 -- slots that were rewritten hold ranges as before
-pub HoldSame-moved : (f : Range ℕ → Range ℕ) (live after : Slab Points) → ((s : ℕ) → option_map range_from (get after s) ≡ option_map (λ p. f (range_from p)) (get live s)) → HoldSame live after
+pub HoldSame-moved : (f : Range ℕ → Range ℕ) (live after : Slab Points) →
+    ((s : ℕ) → option_map range_from (get after s) ≡ option_map (λ p. f (range_from p)) (get live s)) → HoldSame live after
 HoldSame-moved f live after moved s = by (get after s) (get live s) (moved s)
   where
     by : (a b : Option Points) → option_map range_from a ≡ option_map (λ p. f (range_from p)) b → (IsSome a → IsSome b) × (IsSome b → IsSome a)
@@ -156,7 +166,8 @@ HoldSame-moved f live after moved s = by (get after s) (get live s) (moved s)
 
 -- ---- a slot more
 
-module _ (live after : Slab Points) (n m : Numbers) (slot : ℕ) (owner : Owner) (q : Points) (h : IsHeld live n) (free : get live slot ≡ None) (u : Updates live after slot (Some q))
+module _ (live after : Slab Points) (n m : Numbers) (slot : ℕ) (owner : Owner) (q : Points) (h : IsHeld live n) (free : get live slot ≡ None)
+    (u : Updates live after slot (Some q))
     (lists : (o : Owner) → slots_of m o ≡ (if owner_eq owner o then slots_of n o ++ Some slot ∷ [] else slots_of n o)) where
   -- the new slot stood nowhere
   stood_nowhere : (o : Owner) (k : ℕ) → StandsUnder n slot o k → ⊥
@@ -176,7 +187,8 @@ module _ (live after : Slab Points) (n m : Numbers) (slot : ℕ) (owner : Owner)
     | inl f ↦
         let same = owner_eq-true owner o f in
         subst (λ (p : Owner). StandsUnder m s p k) same
-        (ap (λ (ss : List (Option ℕ)). slice_get ss k) list-own ∙ append-kept (slots_of n owner) (Some slot ∷ []) (Some s) k (subst (λ (p : Owner). StandsUnder n s p k) (sym same) e))
+        (ap (λ (ss : List (Option ℕ)). slice_get ss k) list-own ∙ append-kept (slots_of n owner) (Some slot ∷ []) (Some s) k
+        (subst (λ (p : Owner). StandsUnder n s p k) (sym same) e))
     | inr f ↦ ap (λ (ss : List (Option ℕ)). slice_get ss k) (list-other o f) ∙ e
   ]
 
@@ -210,18 +222,25 @@ module _ (live after : Slab Points) (n m : Numbers) (slot : ℕ) (owner : Owner)
           | inr a ↦ elim (under-cases p k s f) [ inl b ↦ absurd (other_slot p k s b a.0) | inr b ↦ (a.1 ∙ sym b.1, a.2 ∙ sym b.2) ]
         ];
         used = λ s i. elim (cases_eq s slot) [
-          | inl e ↦ (owner, length (slots_of n owner), subst (λ t. StandsUnder m t owner (length (slots_of n owner))) (sym e) (ap (λ (ss : List (Option ℕ)). slice_get ss (length (slots_of n owner))) list-own ∙ append-last (slots_of n owner) (Some slot)))
+          | inl e ↦ (
+            owner,
+            length (slots_of n owner),
+            subst (λ t. StandsUnder m t owner (length (slots_of n owner))) (sym e)
+                (ap (λ (ss : List (Option ℕ)). slice_get ss (length (slots_of n owner))) list-own ∙ append-last (slots_of n owner) (Some slot)),
+          )
           | inr off ↦ let w = h.used s (subst IsSome (u.others s off) i) in (w.0, w.1, under-kept w.0 w.1 s w.2)
         ];
       }
 
   -- the table after a range was added
-  pub ranges-pushed : (v : RangeLists) → Shows live n v → (o : Owner) → ranges_of (shown after m) o ≡ with_ranges v owner (ranges_of v owner ++ Some (range_from q) ∷ []) o
+  pub ranges-pushed : (v : RangeLists) → Shows live n v → (o : Owner) →
+      ranges_of (shown after m) o ≡ with_ranges v owner (ranges_of v owner ++ Some (range_from q) ∷ []) o
   ranges-pushed v e o = ranges_of-shown after m o ∙ by (owner_eq owner o) refl
     where
       old : (p : Owner) → map (range_kept after) (slots_of n p) ≡ ranges_of v p
       old p =
-          map_kept (range_kept live) (range_kept after) (slots_of n p) (λ j t f. shown_other live after slot u.others t (λ g. stood_nowhere p j (f ∙ ap Some g)))
+          map_kept (range_kept live) (range_kept after) (slots_of n p)
+          (λ j t f. shown_other live after slot u.others t (λ g. stood_nowhere p j (f ∙ ap Some g)))
           ∙ sym (e p)
 
       by : (b : Bool) → owner_eq owner o ≡ b → map (range_kept after) (slots_of m o) ≡ cond b (ranges_of v owner ++ Some (range_from q) ∷ []) (ranges_of v o)
@@ -229,12 +248,14 @@ module _ (live after : Slab Points) (n m : Numbers) (slot : ℕ) (owner : Owner)
           ap (λ (p : Owner). map (range_kept after) (slots_of m p)) (sym (owner_eq-true owner o f))
           ∙ (ap (map (range_kept after)) list-own
           ∙ (map-append (range_kept after) (slots_of n owner) (Some slot ∷ [])
-          ∙ (ap (λ rs. rs ++ range_kept after (Some slot) ∷ []) (old owner) ∙ ap (λ (r : Option (Range ℕ)). ranges_of v owner ++ r ∷ []) (ap (option_map range_from) u.changed))))
+          ∙ (ap (λ rs. rs ++ range_kept after (Some slot) ∷ []) (old owner) ∙ ap (λ (r : Option (Range ℕ)). ranges_of v owner ++ r ∷ [])
+          (ap (option_map range_from) u.changed))))
       by false f = ap (map (range_kept after)) (list-other o f) ∙ old o
 
 -- ---- a slot emptied
 
-module _ (live after : Slab Points) (n m : Numbers) (slot k : ℕ) (owner : Owner) (h : IsHeld live n) (at : StandsUnder n slot owner k) (u : Updates live after slot None)
+module _ (live after : Slab Points) (n m : Numbers) (slot k : ℕ) (owner : Owner) (h : IsHeld live n) (at : StandsUnder n slot owner k)
+    (u : Updates live after slot None)
     (lists : (o : Owner) → slots_of m o ≡ (if owner_eq owner o then slice_set (slots_of n o) k None else slots_of n o)) where
   -- the owner's list without it
   left-own : slots_of m owner ≡ slice_set (slots_of n owner) k None
@@ -251,7 +272,9 @@ module _ (live after : Slab Points) (n m : Numbers) (slot k : ℕ) (owner : Owne
         let same = owner_eq-true owner o f in
         let here : slice_get (slice_set (slots_of n owner) k None) j ≡ Some (Some s) =
         ap (λ (ss : List (Option ℕ)). slice_get ss j) (sym left-own) ∙ subst (λ (p : Owner). StandsUnder m s p j) (sym same) e in
-        let off : (j ≡ k → ⊥) = λ g. none-some s (sym (set-at (slots_of n owner) k None (Some s) (subst (λ i. slice_get (slice_set (slots_of n owner) k None) i ≡ Some (Some s)) g here))) in
+        let off : (j ≡ k → ⊥) = λ g. none-some s
+        (sym (set-at (slots_of n owner) k None (Some s)
+        (subst (λ i. slice_get (slice_set (slots_of n owner) k None) i ≡ Some (Some s)) g here))) in
         let stood : StandsUnder n s owner j = sym (set-other (slots_of n owner) k None j off) ∙ here in
         (subst (λ (p : Owner). StandsUnder n s p j) same stood, λ g. off (h.apart owner owner j k slot (subst (λ t. StandsUnder n t owner j) g stood) at).1)
     | inr f ↦
@@ -266,7 +289,8 @@ module _ (live after : Slab Points) (n m : Numbers) (slot k : ℕ) (owner : Owne
         let same = owner_eq-true owner o f in
         let stood : StandsUnder n s owner j = subst (λ (p : Owner). StandsUnder n s p j) (sym same) e in
         let off : (j ≡ k → ⊥) = λ g. other (same_Some _ _ (same_Some _ _ (sym (subst (λ i. StandsUnder n s owner i) g stood) ∙ at))) in
-        subst (λ (p : Owner). StandsUnder m s p j) same (ap (λ (ss : List (Option ℕ)). slice_get ss j) left-own ∙ (set-other (slots_of n owner) k None j off ∙ stood))
+        subst (λ (p : Owner). StandsUnder m s p j) same
+        (ap (λ (ss : List (Option ℕ)). slice_get ss j) left-own ∙ (set-other (slots_of n owner) k None j off ∙ stood))
     | inr f ↦ ap (λ (ss : List (Option ℕ)). slice_get ss j) (left-other o f) ∙ e
   ]
 
@@ -281,7 +305,8 @@ module _ (live after : Slab Points) (n m : Numbers) (slot k : ℕ) (owner : Owne
       }
 
   -- the table after a range was removed
-  pub ranges-cleared : (v : RangeLists) → Shows live n v → (o : Owner) → ranges_of (shown after m) o ≡ with_ranges v owner (slice_set (ranges_of v owner) k None) o
+  pub ranges-cleared : (v : RangeLists) → Shows live n v → (o : Owner) →
+      ranges_of (shown after m) o ≡ with_ranges v owner (slice_set (ranges_of v owner) k None) o
   ranges-cleared v e o = ranges_of-shown after m o ∙ by (owner_eq owner o) refl
     where
       by : (b : Bool) → owner_eq owner o ≡ b → map (range_kept after) (slots_of m o) ≡ cond b (slice_set (ranges_of v owner) k None) (ranges_of v o)
@@ -294,5 +319,6 @@ module _ (live after : Slab Points) (n m : Numbers) (slot k : ℕ) (owner : Owne
           ∙ ap (λ rs. slice_set rs k None) (sym (e owner)))))
       by false f =
           ap (map (range_kept after)) (left-other o f)
-          ∙ (map_kept (range_kept live) (range_kept after) (slots_of n o) (λ j t g. shown_other live after slot u.others t (λ i. owner_eq-false owner o f (sym (h.apart o owner j k slot (g ∙ ap Some i) at).0)))
+          ∙ (map_kept (range_kept live) (range_kept after) (slots_of n o)
+          (λ j t g. shown_other live after slot u.others t (λ i. owner_eq-false owner o f (sym (h.apart o owner j k slot (g ∙ ap Some i) at).0)))
           ∙ sym (e o))

@@ -16,7 +16,8 @@ depth_at f k = length (path_at f k)
 abbrev pub Reaches : NamedTrees → ℕ → ℕ → Option ℕ → Type 0
 Reaches f key top None = key ≡ top
 Reaches f key top (Some child) =
-    (child < length f.names) × (parent_of f.trees (name_at f.names child) ≡ Some (name_at f.names top)) × ((rest : List ℕ) × (path_at f key ≡ path_at f child ++ rest))
+    (child < length f.names) × (parent_of f.trees (name_at f.names child) ≡ Some (name_at f.names top)) ×
+    ((rest : List ℕ) × (path_at f key ≡ path_at f child ++ rest))
 
 -- two keys' nodes stand in or below two children of one node
 pub record AreBeside (f : NamedTrees) (first second low other : ℕ) : Type 0 where

@@ -1,5 +1,6 @@
 -- How the ends of live ranges are listed: each end once, at the node where it stands, sorted by node.
-use Rattle.std.specs.Prelude.{◌≡◌, ◌⊎◌, ℕ, ◌+◌, ◌-◌, ◌<◌, ◌≤◌, ◌≢◌, Bool, true, false, not, ◌&&◌, List, ◌++◌, length, slice_index_or, nat_eq, nat_lt, nat_le, Option, Some, option_map, is_some, count_by, cond}
+use Rattle.std.specs.Prelude.{◌≡◌, ◌⊎◌, ℕ, ◌+◌, ◌-◌, ◌<◌, ◌≤◌, ◌≢◌, Bool, true, false, not, ◌&&◌, List, ◌++◌, length, slice_index_or, nat_eq, nat_lt}
+use Rattle.std.specs.Prelude.{nat_le, Option, Some, option_map, is_some, count_by, cond}
 use Rattle.std.specs.List.Sorted.{IsNonDecreasingBy, IsPermutation}
 use Rattle.slab.specs.Slab.{Slab, get}
 use Rattle.dom_model.specs.Place.{Boundary}
@@ -64,7 +65,8 @@ IsFirm low high node k e = (k < low) ⊎ ((high ≤ k) ⊎ (e.node ≢ node))
 -- the ends are sorted but for those from low to high that are at a node
 abbrev pub IsSortedBeside : List RangeEnd → ℕ → ℕ → ℕ → Type 0
 IsSortedBeside es low high node =
-    (i j : ℕ) (d : RangeEnd) → i ≤ j → j < length es → IsFirm low high node i (slice_index_or es i d) → IsFirm low high node j (slice_index_or es j d) → (slice_index_or es i d).node ≤ (slice_index_or es j d).node
+    (i j : ℕ) (d : RangeEnd) → i ≤ j → j < length es → IsFirm low high node i (slice_index_or es i d) →
+    IsFirm low high node j (slice_index_or es j d) → (slice_index_or es i d).node ≤ (slice_index_or es j d).node
 
 -- what stood from middle to behind stands before what stood from first to middle
 pub record IsTurned (es now : List RangeEnd) (first middle behind : ℕ) : Type 0 where
@@ -88,15 +90,19 @@ pub record IsMovedPart (rule : Boundary ℕ → Boundary ℕ) (target : ℕ) (li
   pub same_others : (k : ℕ) (d : RangeEnd) → within k ≡ false → slice_index_or now k d ≡ slice_index_or es k d
   pub goes : (k : ℕ) (d : RangeEnd) → ((slice_index_or now k d).node ≡ (slice_index_or es k d).node) ⊎ ((slice_index_or now k d).node ≡ target)
   pub moved : (k : ℕ) (d : RangeEnd) → k < length es → within k ≡ true
-      → point_at after (slice_index_or es k d).slot (slice_index_or es k d).is_end ≡ option_map rule (point_at live (slice_index_or es k d).slot (slice_index_or es k d).is_end)
-  pub kept : (slot : ℕ) (is_end : Bool) → ((k : ℕ) (d : RangeEnd) → k < length es → within k ≡ true → is_end_of slot is_end (slice_index_or es k d) ≡ true → ⊥) → point_at after slot is_end ≡ point_at live slot is_end
+      → point_at after (slice_index_or es k d).slot (slice_index_or es k d).is_end ≡ option_map rule
+      (point_at live (slice_index_or es k d).slot (slice_index_or es k d).is_end)
+  pub kept : (slot : ℕ) (is_end : Bool) →
+      ((k : ℕ) (d : RangeEnd) → k < length es → within k ≡ true → is_end_of slot is_end (slice_index_or es k d) ≡ true → ⊥) →
+      point_at after slot is_end ≡ point_at live slot is_end
   pub held : (slot : ℕ) → is_some (get after slot) ≡ is_some (get live slot)
   pub standing : (k : ℕ) (d : RangeEnd) → k < length es → Stands after (slice_index_or now k d)
 
 -- no end outside two parts is moved by a rule
 abbrev pub AreAllIn : (Boundary ℕ → Boundary ℕ) → List RangeEnd → Part → Part → Type 0
 AreAllIn rule es one two =
-    (k : ℕ) (d : RangeEnd) (i : ℕ) → k < length es → is_in one k ≡ false → is_in two k ≡ false → rule (at (slice_index_or es k d).node i) ≡ at (slice_index_or es k d).node i
+    (k : ℕ) (d : RangeEnd) (i : ℕ) → k < length es → is_in one k ≡ false → is_in two k ≡ false →
+    rule (at (slice_index_or es k d).node i) ≡ at (slice_index_or es k d).node i
 
 -- boundary points at other nodes than these two are not moved by a rule
 abbrev pub IsAtTwo : (Boundary ℕ → Boundary ℕ) → ℕ → ℕ → Type 0
@@ -115,7 +121,8 @@ pub record IsListedOnce (es : List RangeEnd) (e : RangeEnd) : Type 0 where
   pub place : ℕ
   pub within : place < length es
   pub there : (d : RangeEnd) → slice_index_or es place d ≡ e
-  pub alone : (k : ℕ) (d : RangeEnd) → k < length es → (slice_index_or es k d).slot ≡ e.slot → (slice_index_or es k d).is_end ≡ e.is_end → slice_index_or es k d ≡ e
+  pub alone : (k : ℕ) (d : RangeEnd) → k < length es → (slice_index_or es k d).slot ≡ e.slot → (slice_index_or es k d).is_end ≡ e.is_end →
+      slice_index_or es k d ≡ e
 
 -- some ends of a list were exchanged for others
 pub record HasChanged (es now xs ys : List RangeEnd) : Type 0 where

@@ -34,12 +34,14 @@ KeepsNodes names f = (rs : RangeList) → StandAtNodes names rs → StandAtNodes
 -- insertions
 abbrev pub InsertNamed : Type 0
 InsertNamed = (names : List NodeName) → AreApart names → (parent index count : ℕ) → parent < length names
-    → IsNamedRule names (after_insert nat_eq parent index count) (after_insert name_eq (name_at names parent) index count) × KeepsNodes names (after_insert nat_eq parent index count)
+    → IsNamedRule names (after_insert nat_eq parent index count) (after_insert name_eq (name_at names parent) index count) ×
+    KeepsNodes names (after_insert nat_eq parent index count)
 
 -- removals
 abbrev pub RemovalNamed : Type 0
 RemovalNamed = (f : NamedTrees) → AreApart f.names → (node parent index : ℕ) → parent < length f.names
-    → IsNamedRule f.names (after_removal nat_eq (is_inside f node) parent index) (after_removal name_eq (is_inclusive_ancestor f.trees (name_at f.names node)) (name_at f.names parent) index)
+    → IsNamedRule f.names (after_removal nat_eq (is_inside f node) parent index)
+    (after_removal name_eq (is_inclusive_ancestor f.trees (name_at f.names node)) (name_at f.names parent) index)
     × KeepsNodes f.names (after_removal nat_eq (is_inside f node) parent index)
 
 -- replaced data
@@ -51,31 +53,37 @@ ReplaceDataNamed = (names : List NodeName) → AreApart names → (node offset c
 -- split Texts
 abbrev pub SplitNamed : Type 0
 SplitNamed = (names : List NodeName) → AreApart names → (node offset new parent index : ℕ) → node < length names → new < length names → parent < length names
-    → IsNamedRule names (after_split nat_eq node offset new parent index) (after_split name_eq (name_at names node) offset (name_at names new) (name_at names parent) index)
+    → IsNamedRule names (after_split nat_eq node offset new parent index)
+    (after_split name_eq (name_at names node) offset (name_at names new) (name_at names parent) index)
     × KeepsNodes names (after_split nat_eq node offset new parent index)
 
 -- joined Texts
 abbrev pub JoinNamed : Type 0
 JoinNamed = (names : List NodeName) → AreApart names → (first size next parent index : ℕ) → first < length names → next < length names → parent < length names
-    → IsNamedRule names (after_join nat_eq first size next parent index) (after_join name_eq (name_at names first) size (name_at names next) (name_at names parent) index)
+    → IsNamedRule names (after_join nat_eq first size next parent index)
+    (after_join name_eq (name_at names first) size (name_at names next) (name_at names parent) index)
     × KeepsNodes names (after_join nat_eq first size next parent index)
 
 -- a start that is set
 abbrev pub StartNamed : Type 0
-StartNamed = (f : NamedTrees) (b : Boundary ℕ) (r : Range ℕ) → named_range f.names (start_set f b r) ≡ with_start f.trees (named_boundary f.names b) (named_range f.names r)
+StartNamed = (f : NamedTrees) (b : Boundary ℕ) (r : Range ℕ) →
+    named_range f.names (start_set f b r) ≡ with_start f.trees (named_boundary f.names b) (named_range f.names r)
 
 -- an end that is set
 abbrev pub EndNamed : Type 0
-EndNamed = (f : NamedTrees) (b : Boundary ℕ) (r : Range ℕ) → named_range f.names (end_set f b r) ≡ with_end f.trees (named_boundary f.names b) (named_range f.names r)
+EndNamed = (f : NamedTrees) (b : Boundary ℕ) (r : Range ℕ) →
+    named_range f.names (end_set f b r) ≡ with_end f.trees (named_boundary f.names b) (named_range f.names r)
 
 -- more names leave the named table as it is
 abbrev pub GrownNamed : Type 0
-GrownNamed = (names more : List NodeName) (rs : RangeList) → StandAtNodes names rs → (named_ranges (names ++ more) rs ≡ named_ranges names rs) × StandAtNodes (names ++ more) rs
+GrownNamed = (names more : List NodeName) (rs : RangeList) → StandAtNodes names rs → (named_ranges (names ++ more) rs ≡ named_ranges names rs) ×
+    StandAtNodes (names ++ more) rs
 
 -- a range that was made
 abbrev pub MadeNamed : Type 0
 MadeNamed = (names : List NodeName) (rs : RangeList) (node : ℕ)
-    → named_ranges names (rs ++ Some (from_to (at node 0) (at node 0)) ∷ []) ≡ named_ranges names rs ++ Some (from_to (at (name_at names node) 0) (at (name_at names node) 0)) ∷ []
+    → named_ranges names (rs ++ Some (from_to (at node 0) (at node 0)) ∷ []) ≡ named_ranges names rs ++
+    Some (from_to (at (name_at names node) 0) (at (name_at names node) 0)) ∷ []
 
 -- a range that was removed
 abbrev pub RemovedNamed : Type 0
@@ -83,9 +91,12 @@ RemovedNamed = (names : List NodeName) (rs : RangeList) (k : ℕ) → named_rang
 
 -- a range that was rewritten, as by `collapsed_range`
 abbrev pub RewrittenNamed : Type 0
-RewrittenNamed = (names : List NodeName) (f : Range ℕ → Range ℕ) (g : Range NodeName → Range NodeName) → ((r : Range ℕ) → named_range names (f r) ≡ g (named_range names r))
-    → (rs : RangeList) (k : ℕ) → named_ranges names (slice_set rs k (option_map f (range_in rs k))) ≡ slice_set (named_ranges names rs) k (option_map g (option_flatten (slice_get (named_ranges names rs) k)))
+RewrittenNamed = (names : List NodeName) (f : Range ℕ → Range ℕ) (g : Range NodeName → Range NodeName) →
+    ((r : Range ℕ) → named_range names (f r) ≡ g (named_range names r))
+    → (rs : RangeList) (k : ℕ) → named_ranges names (slice_set rs k (option_map f (range_in rs k))) ≡ slice_set (named_ranges names rs) k
+    (option_map g (option_flatten (slice_get (named_ranges names rs) k)))
 
 -- a range that was collapsed
 abbrev pub CollapsedNamed : Type 0
-CollapsedNamed = (names : List NodeName) (to_start : Bool) (r : Range ℕ) → named_range names (collapsed_range to_start r) ≡ collapsed_range to_start (named_range names r)
+CollapsedNamed = (names : List NodeName) (to_start : Bool) (r : Range ℕ) →
+    named_range names (collapsed_range to_start r) ≡ collapsed_range to_start (named_range names r)

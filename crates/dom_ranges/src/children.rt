@@ -16,8 +16,11 @@ impl RangeTable {
     /// index. That is looked for only as far as boundary points stand in the parent: without one there, not at all.
     pub fn on_insert_before(&mut self, forest: &Forest, parent: Key, child: Key, count: usize)
         requires child_is_node { child < length forest.now.names }
-        requires fits { (o : Owners) → EachRange (BothEnds (λ b. Fits (after_insert nat_eq parent (index_of forest.now.trees (name_at forest.now.names child)) count b))) (ranges_of self.old o) }
-        ensures { (o : Owners) → ranges_of self.new o ≡ ends_by (after_insert nat_eq parent (index_of forest.now.trees (name_at forest.now.names child)) count) (ranges_of self.old o) }
+        requires fits { (o : Owners) → EachRange
+            (BothEnds (λ b. Fits (after_insert nat_eq parent (index_of forest.now.trees (name_at forest.now.names child)) count b)))
+            (ranges_of self.old o) }
+        ensures { (o : Owners) → ranges_of self.new o ≡ ends_by
+            (after_insert nat_eq parent (index_of forest.now.trees (name_at forest.now.names child)) count) (ranges_of self.old o) }
     {
         if let Some(index) = self.index_before(forest, parent, child) {
             self.on_insert(parent, index, count);
@@ -36,8 +39,11 @@ impl RangeTable {
         parent: Key,
     )
         requires next_is_node { next < length forest.now.names }
-        requires fits { (o : Owners) → EachRange (BothEnds (λ b. Fits (after_join nat_eq first size next parent (index_of forest.now.trees (name_at forest.now.names next)) b))) (ranges_of self.old o) }
-        ensures { (o : Owners) → ranges_of self.new o ≡ ends_by (after_join nat_eq first size next parent (index_of forest.now.trees (name_at forest.now.names next))) (ranges_of self.old o) }
+        requires fits { (o : Owners) → EachRange
+            (BothEnds (λ b. Fits (after_join nat_eq first size next parent (index_of forest.now.trees (name_at forest.now.names next)) b)))
+            (ranges_of self.old o) }
+        ensures { (o : Owners) → ranges_of self.new o ≡ ends_by
+            (after_join nat_eq first size next parent (index_of forest.now.trees (name_at forest.now.names next))) (ranges_of self.old o) }
     {
         let index = self.index_among(forest, parent, next);
         self.on_join(first, size, next, parent, index);

@@ -71,7 +71,8 @@ pub(crate) fn index_before_ends(
     requires listed { IsListed live.now ends.now }
     requires sorted { IsSortedByNode ends.now }
     ensures index { ForSome result (λ i. i ≡ index_of forest.now.trees (name_at forest.now.names child)) }
-    ensures none { result ≡ None → (slot : ℕ) → ForSome (get live.now slot) (λ p. BothEnds (IsUpTo parent (index_of forest.now.trees (name_at forest.now.names child))) (range_from p)) }
+    ensures none { result ≡ None → (slot : ℕ) →
+        ForSome (get live.now slot) (λ p. BothEnds (IsUpTo parent (index_of forest.now.trees (name_at forest.now.names child))) (range_from p)) }
 {
     index_below(forest, child, reach(live, ends, parent))
 }
@@ -88,7 +89,8 @@ pub(crate) fn index_among_ends(
     requires child_is_node { child < length forest.now.names }
     requires listed { IsListed live.now ends.now }
     requires sorted { IsSortedByNode ends.now }
-    ensures { (slot : ℕ) → ForSome (get live.now slot) (λ p. BothEnds (IsNear parent (index_of forest.now.trees (name_at forest.now.names child)) result) (range_from p)) }
+    ensures { (slot : ℕ) → ForSome (get live.now slot)
+        (λ p. BothEnds (IsNear parent (index_of forest.now.trees (name_at forest.now.names child)) result) (range_from p)) }
 {
     match reach(live, ends, parent).checked_add(1) {
         Some(limit) => index_below(forest, child, limit).unwrap_or(limit),

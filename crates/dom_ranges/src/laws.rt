@@ -1,5 +1,6 @@
 //! Laws of live ranges, for a caller whose own tables are over names. They make no calls.
-ghost use Rattle.dom_ranges.specs.Naming.{InsertNamed, RemovalNamed, ReplaceDataNamed, SplitNamed, JoinNamed, StartNamed, EndNamed, GrownNamed, MadeNamed, RemovedNamed, RewrittenNamed, CollapsedNamed};
+ghost use Rattle.dom_ranges.specs.Naming.{InsertNamed, RemovalNamed, ReplaceDataNamed, SplitNamed, JoinNamed, StartNamed, EndNamed, GrownNamed};
+ghost use Rattle.dom_ranges.specs.Naming.{MadeNamed, RemovedNamed, RewrittenNamed, CollapsedNamed};
 
 /// With every key replaced by its name, where the keys are of nodes and the names tell them apart, each rule over keys is
 /// the same rule over names, and ends at nodes stay at nodes: what each call of the table does to its ranges (DOM Standard,

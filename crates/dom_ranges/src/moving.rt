@@ -46,10 +46,12 @@ fn move_part<C: Change>(
 ) -> Part
     requires within { part.behind ≤ length ends.old }
     requires listed { IsListed live.old ends.old }
-    requires can_move { (k : ℕ) (d : RangeEnd) → k < length ends.old → is_chosen part skipped k ≡ true → ForSome (point_at live.old (slice_index_or ends.old k d).slot (slice_index_or ends.old k d).is_end) (C.can_move change.now) }
+    requires can_move { (k : ℕ) (d : RangeEnd) → k < length ends.old → is_chosen part skipped k ≡ true →
+        ForSome (point_at live.old (slice_index_or ends.old k d).slot (slice_index_or ends.old k d).is_end) (C.can_move change.now) }
     ensures moved { IsMovedPart (C.rule change.now) (C.target change.now) live.old live.new ends.old ends.new (is_chosen part skipped) }
     ensures within { result.behind ≤ length ends.old }
-    ensures nodes { (k : ℕ) (d : RangeEnd) → (k < result.first) ⊎ (result.behind ≤ k) → (slice_index_or ends.new k d).node ≡ (slice_index_or ends.old k d).node }
+    ensures nodes { (k : ℕ) (d : RangeEnd) → (k < result.first) ⊎ (result.behind ≤ k) →
+        (slice_index_or ends.new k d).node ≡ (slice_index_or ends.old k d).node }
 {
     let mut changed = Part {
         first: usize::MAX,

@@ -32,7 +32,9 @@ pub(crate) fn move_out(
     requires sorted { IsSortedByNode ends.old }
     requires node_is_node { node < length forest.now.names }
     requires ends { (slot : ℕ) → ForSome (get live.old slot) (λ p. BothEnds (IsAtNode forest.now.names) (range_from p)) }
-    ensures moved { (slot : ℕ) → option_map range_from (get live.new slot) ≡ option_map (λ p. map_ends (after_removal nat_eq (is_inside forest.now node) parent (index_of forest.now.trees (name_at forest.now.names node))) (range_from p)) (get live.old slot) }
+    ensures moved { (slot : ℕ) → option_map range_from (get live.new slot) ≡ option_map
+        (λ p. map_ends (after_removal nat_eq (is_inside forest.now node) parent (index_of forest.now.trees (name_at forest.now.names node)))
+        (range_from p)) (get live.old slot) }
     ensures listed { IsListed live.new ends.new }
     ensures sorted { IsSortedByNode ends.new }
 {
@@ -62,7 +64,8 @@ pub(crate) fn move_out(
 fn close(live: &mut Slab<Points>, ends: &mut [RangeEnd], parent: Key, index: usize)
     requires listed { IsListed live.old ends.old }
     requires sorted { IsSortedByNode ends.old }
-    ensures moved { (slot : ℕ) → option_map range_from (get live.new slot) ≡ option_map (λ p. map_ends (after_closing parent index) (range_from p)) (get live.old slot) }
+    ensures moved { (slot : ℕ) → option_map range_from (get live.new slot) ≡ option_map
+        (λ p. map_ends (after_closing parent index) (range_from p)) (get live.old slot) }
     ensures listed { IsListed live.new ends.new }
     ensures sorted { IsSortedByNode ends.new }
 {
@@ -79,7 +82,8 @@ fn close(live: &mut Slab<Points>, ends: &mut [RangeEnd], parent: Key, index: usi
 /// to test each end is less then.
 fn part_inside(forest: &Forest, top: Key, ends: &[RangeEnd]) -> Part
     requires sorted { IsSortedByNode ends.now }
-    requires nodes { (k : ℕ) (d : RangeEnd) → k < length ends.now → (top < length forest.now.names) × ((slice_index_or ends.now k d).node < length forest.now.names) }
+    requires nodes { (k : ℕ) (d : RangeEnd) → k < length ends.now → (top < length forest.now.names) ×
+        ((slice_index_or ends.now k d).node < length forest.now.names) }
     ensures within { result.behind ≤ length ends.now }
     ensures all { (k : ℕ) (d : RangeEnd) → k < length ends.now → is_in result k ≡ false → is_inside forest.now top (slice_index_or ends.now k d).node ≡ false }
 {
@@ -103,7 +107,8 @@ fn part_inside(forest: &Forest, top: Key, ends: &[RangeEnd]) -> Part
 
 /// The same places, where each end is tested by going up from its node.
 fn part_tested(forest: &Forest, top: Key, ends: &[RangeEnd]) -> Part
-    requires nodes { (k : ℕ) (d : RangeEnd) → k < length ends.now → (top < length forest.now.names) × ((slice_index_or ends.now k d).node < length forest.now.names) }
+    requires nodes { (k : ℕ) (d : RangeEnd) → k < length ends.now → (top < length forest.now.names) ×
+        ((slice_index_or ends.now k d).node < length forest.now.names) }
     ensures within { result.behind ≤ length ends.now }
     ensures all { (k : ℕ) (d : RangeEnd) → k < length ends.now → is_in result k ≡ false → is_inside forest.now top (slice_index_or ends.now k d).node ≡ false }
 {

@@ -1,5 +1,6 @@
 //! The live ranges of all owners.
-ghost use Rattle.std.specs.Prelude.{◌≡◌, ℕ, ◌≤◌, ◌<◌, ◌+◌, ◌++◌, ◌∷◌, [], ◌↔◌, ◌⊎◌, true, length, slice_set, nat_eq, is_some, IsSome, Some, None, IfOk, IfErr, OnOk, OnErr};
+ghost use Rattle.std.specs.Prelude.{◌≡◌, ℕ, ◌≤◌, ◌<◌, ◌+◌, ◌++◌, ◌∷◌, [], ◌↔◌, ◌⊎◌, true, length, slice_set, nat_eq, is_some, IsSome, Some, None};
+ghost use Rattle.std.specs.Prelude.{IfOk, IfErr, OnOk, OnErr};
 ghost use Rattle.std.specs.Option.{option_map, ForSome};
 ghost use Rattle.dom_base.specs.declared.Owner.{Owner as Owners};
 ghost use Rattle.dom_model.specs.CommandRefusals.{past_limit};
@@ -73,7 +74,8 @@ impl RangeTable {
     /// `Memory` where memory is refused (own rules); then the table is as it was.
     pub fn make(&mut self, owner: Owner, node: Key) -> Result<u32, Fault>
         ensures number { IfOk result (λ number. number ≡ length (ranges_of self.old owner)) }
-        ensures made { OnOk result ((o : Owners) → ranges_of self.new o ≡ with_ranges self.old owner (ranges_of self.old owner ++ Some (from_to (at node 0) (at node 0)) ∷ []) o) }
+        ensures made { OnOk result ((o : Owners) →
+            ranges_of self.new o ≡ with_ranges self.old owner (ranges_of self.old owner ++ Some (from_to (at node 0) (at node 0)) ∷ []) o) }
         ensures limit { (result ≡ Err (Fault.Refused Refusal.Limit)) ↔ (past_limit (length (ranges_of self.old owner)) 1 ≡ true) }
         ensures other { IfErr result (λ fault. (fault ≡ Fault.Refused Refusal.Limit) ⊎ (fault ≡ Fault.Memory)) }
         ensures err { OnErr result ((o : Owners) → ranges_of self.new o ≡ ranges_of self.old o) }
@@ -95,7 +97,8 @@ impl RangeTable {
     fn add(&mut self, owner: Owner, node: Key) -> Result<u32, AllocError>
         requires { length (ranges_of self.old owner) < MAX_NODES }
         ensures number { IfOk result (λ number. number ≡ length (ranges_of self.old owner)) }
-        ensures made { OnOk result ((o : Owners) → ranges_of self.new o ≡ with_ranges self.old owner (ranges_of self.old owner ++ Some (from_to (at node 0) (at node 0)) ∷ []) o) }
+        ensures made { OnOk result ((o : Owners) →
+            ranges_of self.new o ≡ with_ranges self.old owner (ranges_of self.old owner ++ Some (from_to (at node 0) (at node 0)) ∷ []) o) }
         ensures err { OnErr result ((o : Owners) → ranges_of self.new o ≡ ranges_of self.old o) }
     {
         let number = self.numbers.of(owner).len();
@@ -145,10 +148,16 @@ impl RangeTable {
         requires node_is_node { node < length forest.now.names }
         requires ends { EachRange (BothEnds (IsAtNode forest.now.names)) (ranges_of self.old owner) }
         ensures unknown { (result ≡ Err Refusal.Unknown) ↔ (range_in (ranges_of self.old owner) number ≡ None) }
-        ensures index_size { (result ≡ Err Refusal.IndexSize) ↔ (IsSome (range_in (ranges_of self.old owner) number) × (length_of forest.now.trees (name_at forest.now.names node) < offset)) }
+        ensures index_size { (result ≡ Err Refusal.IndexSize) ↔
+            (IsSome (range_in (ranges_of self.old owner) number) × (length_of forest.now.trees (name_at forest.now.names node) < offset)) }
         ensures other { IfErr result (λ refusal. (refusal ≡ Refusal.Unknown) ⊎ (refusal ≡ Refusal.IndexSize)) }
-        ensures set { OnOk result ((o : Owners) → ranges_of self.new o ≡ with_ranges self.old owner (slice_set (ranges_of self.old owner) number (option_map (start_set forest.now (at node offset)) (range_in (ranges_of self.old owner) number))) o) }
-        ensures named { OnOk result ((o : Owners) → named_ranges forest.now.names (ranges_of self.new o) ≡ with_named forest.now.names self.old owner number (with_start forest.now.trees (at (name_at forest.now.names node) offset)) o) }
+        ensures set { OnOk result ((o : Owners) →
+            ranges_of self.new o ≡ with_ranges self.old owner
+            (slice_set (ranges_of self.old owner) number
+            (option_map (start_set forest.now (at node offset)) (range_in (ranges_of self.old owner) number))) o) }
+        ensures named { OnOk result ((o : Owners) →
+            named_ranges forest.now.names (ranges_of self.new o) ≡ with_named forest.now.names self.old owner number
+            (with_start forest.now.trees (at (name_at forest.now.names node) offset)) o) }
         ensures err { OnErr result ((o : Owners) → ranges_of self.new o ≡ ranges_of self.old o) }
     {
         let points = self.check(owner, number, forest, node, offset)?;
@@ -169,10 +178,16 @@ impl RangeTable {
         requires node_is_node { node < length forest.now.names }
         requires ends { EachRange (BothEnds (IsAtNode forest.now.names)) (ranges_of self.old owner) }
         ensures unknown { (result ≡ Err Refusal.Unknown) ↔ (range_in (ranges_of self.old owner) number ≡ None) }
-        ensures index_size { (result ≡ Err Refusal.IndexSize) ↔ (IsSome (range_in (ranges_of self.old owner) number) × (length_of forest.now.trees (name_at forest.now.names node) < offset)) }
+        ensures index_size { (result ≡ Err Refusal.IndexSize) ↔
+            (IsSome (range_in (ranges_of self.old owner) number) × (length_of forest.now.trees (name_at forest.now.names node) < offset)) }
         ensures other { IfErr result (λ refusal. (refusal ≡ Refusal.Unknown) ⊎ (refusal ≡ Refusal.IndexSize)) }
-        ensures set { OnOk result ((o : Owners) → ranges_of self.new o ≡ with_ranges self.old owner (slice_set (ranges_of self.old owner) number (option_map (end_set forest.now (at node offset)) (range_in (ranges_of self.old owner) number))) o) }
-        ensures named { OnOk result ((o : Owners) → named_ranges forest.now.names (ranges_of self.new o) ≡ with_named forest.now.names self.old owner number (with_end forest.now.trees (at (name_at forest.now.names node) offset)) o) }
+        ensures set { OnOk result ((o : Owners) →
+            ranges_of self.new o ≡ with_ranges self.old owner
+            (slice_set (ranges_of self.old owner) number
+            (option_map (end_set forest.now (at node offset)) (range_in (ranges_of self.old owner) number))) o) }
+        ensures named { OnOk result ((o : Owners) →
+            named_ranges forest.now.names (ranges_of self.new o) ≡ with_named forest.now.names self.old owner number
+            (with_end forest.now.trees (at (name_at forest.now.names node) offset)) o) }
         ensures err { OnErr result ((o : Owners) → ranges_of self.new o ≡ ranges_of self.old o) }
     {
         let points = self.check(owner, number, forest, node, offset)?;
@@ -191,7 +206,8 @@ impl RangeTable {
     ) -> Result<Points, Refusal>
         requires { node < length forest.now.names }
         ensures unknown { (result ≡ Err Refusal.Unknown) ↔ (range_in (ranges_of self.now owner) number ≡ None) }
-        ensures index_size { (result ≡ Err Refusal.IndexSize) ↔ (IsSome (range_in (ranges_of self.now owner) number) × (length_of forest.now.trees (name_at forest.now.names node) < offset)) }
+        ensures index_size { (result ≡ Err Refusal.IndexSize) ↔
+            (IsSome (range_in (ranges_of self.now owner) number) × (length_of forest.now.trees (name_at forest.now.names node) < offset)) }
         ensures other { IfErr result (λ refusal. (refusal ≡ Refusal.Unknown) ⊎ (refusal ≡ Refusal.IndexSize)) }
         ensures points { IfOk result (λ points. range_in (ranges_of self.now owner) number ≡ Some (range_from points)) }
     {
@@ -205,7 +221,8 @@ impl RangeTable {
     /// Sets both ends of a range to its start, or to its end (DOM Standard, collapse). Answers whether it is there.
     pub fn collapse(&mut self, owner: Owner, number: u32, to_start: bool) -> bool
         ensures there { result ≡ is_some (range_in (ranges_of self.old owner) number) }
-        ensures table { (o : Owners) → ranges_of self.new o ≡ with_ranges self.old owner (slice_set (ranges_of self.old owner) number (option_map (collapsed_range to_start) (range_in (ranges_of self.old owner) number))) o }
+        ensures table { (o : Owners) → ranges_of self.new o ≡ with_ranges self.old owner
+            (slice_set (ranges_of self.old owner) number (option_map (collapsed_range to_start) (range_in (ranges_of self.old owner) number))) o }
     {
         let Some(points) = self.points(owner, number) else {
             return false;
@@ -260,7 +277,8 @@ impl RangeTable {
     pub(crate) fn index_before(&self, forest: &Forest, parent: Key, child: Key) -> Option<usize>
         requires { child < length forest.now.names }
         ensures index { ForSome result (λ i. i ≡ index_of forest.now.trees (name_at forest.now.names child)) }
-        ensures none { result ≡ None → (o : Owners) → EachRange (BothEnds (IsUpTo parent (index_of forest.now.trees (name_at forest.now.names child)))) (ranges_of self.now o) }
+        ensures none { result ≡ None → (o : Owners) →
+            EachRange (BothEnds (IsUpTo parent (index_of forest.now.trees (name_at forest.now.names child)))) (ranges_of self.now o) }
     {
         index_before_ends(&self.live, self.ends.as_slice(), forest, parent, child)
     }
@@ -272,8 +290,13 @@ impl RangeTable {
         requires node_is_node { node < length forest.now.names }
         requires ends { (o : Owners) → EachRange (BothEnds (IsAtNode forest.now.names)) (ranges_of self.old o) }
         ensures root { parent_of forest.now.trees (name_at forest.now.names node) ≡ None → (o : Owners) → ranges_of self.new o ≡ ranges_of self.old o }
-        ensures child { (parent : ℕ) → parent < length forest.now.names → parent_of forest.now.trees (name_at forest.now.names node) ≡ Some (name_at forest.now.names parent) → (o : Owners) → ranges_of self.new o ≡ ends_by (after_removal nat_eq (is_inside forest.now node) parent (index_of forest.now.trees (name_at forest.now.names node))) (ranges_of self.old o) }
-        ensures named { (o : Owners) → named_ranges forest.now.names (ranges_of self.new o) ≡ without_named forest.now (name_at forest.now.names node) (named_ranges forest.now.names (ranges_of self.old o)) }
+        ensures child { (parent : ℕ) → parent < length forest.now.names →
+            parent_of forest.now.trees (name_at forest.now.names node) ≡ Some (name_at forest.now.names parent) → (o : Owners) →
+            ranges_of self.new o ≡ ends_by
+            (after_removal nat_eq (is_inside forest.now node) parent (index_of forest.now.trees (name_at forest.now.names node)))
+            (ranges_of self.old o) }
+        ensures named { (o : Owners) → named_ranges forest.now.names (ranges_of self.new o) ≡ without_named forest.now
+            (name_at forest.now.names node) (named_ranges forest.now.names (ranges_of self.old o)) }
     {
         forest.nodes_stand_once();
         if let Some(parent) = forest.parent(node) {
@@ -285,7 +308,9 @@ impl RangeTable {
     fn remove_child(&mut self, forest: &Forest, node: Key, parent: Key)
         requires node_is_node { node < length forest.now.names }
         requires ends { (o : Owners) → EachRange (BothEnds (IsAtNode forest.now.names)) (ranges_of self.old o) }
-        ensures { (o : Owners) → ranges_of self.new o ≡ ends_by (after_removal nat_eq (is_inside forest.now node) parent (index_of forest.now.trees (name_at forest.now.names node))) (ranges_of self.old o) }
+        ensures { (o : Owners) → ranges_of self.new o ≡ ends_by
+            (after_removal nat_eq (is_inside forest.now node) parent (index_of forest.now.trees (name_at forest.now.names node)))
+            (ranges_of self.old o) }
     {
         let ends = self.ends.as_mut_slice();
         move_out(&mut self.live, ends, forest, node, parent);
@@ -347,7 +372,8 @@ impl RangeTable {
     /// The index of a child, as far as boundary points stand in its parent.
     pub(crate) fn index_among(&self, forest: &Forest, parent: Key, child: Key) -> usize
         requires { child < length forest.now.names }
-        ensures { (o : Owners) → EachRange (BothEnds (IsNear parent (index_of forest.now.trees (name_at forest.now.names child)) result)) (ranges_of self.now o) }
+        ensures { (o : Owners) → EachRange (BothEnds (IsNear parent (index_of forest.now.trees (name_at forest.now.names child)) result))
+            (ranges_of self.now o) }
     {
         index_among_ends(&self.live, self.ends.as_slice(), forest, parent, child)
     }

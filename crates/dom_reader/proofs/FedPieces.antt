@@ -10,7 +10,8 @@ use Rattle.dom_reader.specs.Streams.{IsOneLine, IsKept, kept_cut, fed, after_lin
 use Rattle.dom_reader.proofs.StreamLaws.{kept_line-none, cut_of-front, cut_of-one_line, one_line-append, fed-none, fed-pieces, fed-is_kept}
 
 -- what is left when bytes were kept, or nothing was done
-pub grown : {X E : Type 0} (r : Result X E) (new old part : List ℕ) (want : List ℕ) → new ≡ (if is_ok r then old ++ part else old) → old ++ part ≡ want → OnOk r (new ≡ want)
+pub grown : {X E : Type 0} (r : Result X E) (new old part : List ℕ) (want : List ℕ) → new ≡ (if is_ok r then old ++ part else old) →
+    old ++ part ≡ want → OnOk r (new ≡ want)
 grown (Ok x) new old part want e f = e ∙ f
 grown (Err x) new old part want e f = tt
 
@@ -35,11 +36,13 @@ fed_front {old = old} {piece = piece} {rest = rest} h =
     (length h.front, sym (ap (λ (c : Cut). c.rest) h.so_far) ∙ ap (λ (x : List ℕ). (fed old x).rest) (sym part))
 
 -- what more bytes make of a front that was fed
-further : (old front more : List ℕ) (lines : List (List ℕ)) (kept : List ℕ) → fed old front ≡ record { finished = lines; rest = kept } → fed old (front ++ more) ≡ after_lines lines (fed kept more)
+further : (old front more : List ℕ) (lines : List (List ℕ)) (kept : List ℕ) → fed old front ≡ record { finished = lines; rest = kept } →
+    fed old (front ++ more) ≡ after_lines lines (fed kept more)
 further old front more lines kept so_far = fed-pieces old front more ∙ ap (λ (c : Cut). after_lines c.finished (fed c.rest more)) so_far
 
 -- one line and its end
-line_fed : (kept line : List ℕ) → IsOneLine kept → IsOneLine line → fed kept (line ++ line_feed ∷ []) ≡ record { finished = kept_line (kept ++ line) ∷ []; rest = [] }
+line_fed : (kept line : List ℕ) → IsOneLine kept → IsOneLine line →
+    fed kept (line ++ line_feed ∷ []) ≡ record { finished = kept_line (kept ++ line) ∷ []; rest = [] }
 line_fed kept line h k =
     ap (λ (x : List ℕ). kept_cut (cut_of x)) (sym (append_assoc kept line (line_feed ∷ [])))
     ∙ ap kept_cut (cut_of-front (kept ++ line) (line_feed ∷ []) (one_line-append kept line h k))
@@ -51,7 +54,8 @@ fed_line : {old piece rest : List ℕ} {lines : List (List ℕ)} {kept : List �
     → (line more : List ℕ) → IsOneLine line → rest ≡ line ++ line_feed ∷ more → IsFedUpTo old piece more (lines ++ kept_line (kept ++ line) ∷ []) []
 fed_line {old = old} {lines = lines} {kept = kept} h line more one cut = record {
   front = h.front ++ (line ++ line_feed ∷ []);
-  whole = h.whole ∙ ap (λ (x : List ℕ). h.front ++ x) (cut ∙ sym (append_assoc line (line_feed ∷ []) more)) ∙ sym (append_assoc h.front (line ++ line_feed ∷ []) more);
+  whole = h.whole ∙ ap (λ (x : List ℕ). h.front ++ x) (cut ∙ sym (append_assoc line (line_feed ∷ []) more)) ∙
+      sym (append_assoc h.front (line ++ line_feed ∷ []) more);
   so_far = further old h.front (line ++ line_feed ∷ []) lines kept h.so_far ∙ ap (after_lines lines) (line_fed kept line (fed_kept h).one_line one);
 }
 
@@ -72,7 +76,8 @@ pub fed_end : {old piece rest : List ℕ} {lines : List (List ℕ)} {kept : List
 fed_end {old = old} {rest = rest} {lines = lines} {kept = kept} h none =
     ap (fed old) h.whole
     ∙ further old h.front rest lines kept h.so_far
-    ∙ ap (λ (c : Cut). after_lines lines (kept_cut c)) (cut_of-one_line (kept ++ rest) (one_line-append kept rest (fed_kept h).one_line (none_found 10 rest none)))
+    ∙ ap (λ (c : Cut). after_lines lines (kept_cut c))
+    (cut_of-one_line (kept ++ rest) (one_line-append kept rest (fed_kept h).one_line (none_found 10 rest none)))
     ∙ ap (λ (x : List (List ℕ)). record { finished = x; rest = kept_line (kept ++ rest) }) (append-nil lines)
 
 -- a line that was put behind the others

@@ -22,7 +22,8 @@ pub find-map : {X Y : Type 0} (f : X → Y) (p : Y → Bool) (xs : List X) → o
 find-map f p [] = refl
 find-map {X = X} {Y = Y} f p (x ∷ xs) = go (p (f x)) refl (find-map f p xs)
   where
-    go : (t : Bool) → p (f x) ≡ t → option_map f (find (λ (z : X). p (f z)) xs) ≡ find p (map f xs) → option_map f (find (λ (z : X). p (f z)) (x ∷ xs)) ≡ find p (map f (x ∷ xs))
+    go : (t : Bool) → p (f x) ≡ t → option_map f (find (λ (z : X). p (f z)) xs) ≡ find p (map f xs) →
+        option_map f (find (λ (z : X). p (f z)) (x ∷ xs)) ≡ find p (map f (x ∷ xs))
     go true e more = rw e refl
     go false e more = rw e more
 

@@ -1,5 +1,6 @@
 -- Laws of lines that come in pieces: whatever the pieces, the lines are those of the whole stream.
-use Rattle.std.proofs.Common.{◌≡◌, ℕ, zero, suc, ◌+◌, ◌-◌, ◌≤◌, Bool, true, false, eqb, List, [], ◌∷◌, ◌++◌, length, take, map, min, refl, sym, ap, ◌∙◌, append_assoc, arith, inl, inr}
+use Rattle.std.proofs.Common.{◌≡◌, ℕ, zero, suc, ◌+◌, ◌-◌, ◌≤◌, Bool, true, false, eqb, List, [], ◌∷◌, ◌++◌, length, take, map, min, refl, sym, ap}
+use Rattle.std.proofs.Common.{◌∙◌, append_assoc, arith, inl, inr}
 use Rattle.std.proofs.lemmas.Bool.{cases_lt}
 use Rattle.std.proofs.lemmas.List.{map-append, length-append, length-take, take_all}
 use Rattle.std.proofs.Math.Seq.{take-append-add}
@@ -44,7 +45,8 @@ length-kept_line r = short (max_line + 1) r
     short n bytes = omega (arith, length-take n bytes)
 
 -- bytes that are kept and as many more as there is room for
-pub kept_line-room : (kept bytes : List ℕ) (n : ℕ) → length kept ≤ max_line + 1 → n ≡ min (length bytes) (max_line + 1 - length kept) → kept ++ take n bytes ≡ kept_line (kept ++ bytes)
+pub kept_line-room : (kept bytes : List ℕ) (n : ℕ) → length kept ≤ max_line + 1 → n ≡ min (length bytes) (max_line + 1 - length kept) →
+    kept ++ take n bytes ≡ kept_line (kept ++ bytes)
 unfolding kept_line
 kept_line-room kept bytes n h e = room (max_line + 1) h e
   where
@@ -120,7 +122,8 @@ one_line-kept bytes h = one_line-take (max_line + 1) bytes h
 -- ---- pieces
 
 -- what is kept of the bytes before a cut serves in their place
-kept_onto : (front : List ℕ) (lines : List (List ℕ)) (rest : List ℕ) → kept_cut (bytes_onto (kept_line front) lines rest) ≡ kept_cut (bytes_onto front lines rest)
+kept_onto : (front : List ℕ) (lines : List (List ℕ)) (rest : List ℕ) →
+    kept_cut (bytes_onto (kept_line front) lines rest) ≡ kept_cut (bytes_onto front lines rest)
 kept_onto front [] rest = ap (λ (x : List ℕ). record { finished = []; rest = x }) (kept_line-append front rest)
 kept_onto front (line ∷ lines) rest = ap (λ (x : List ℕ). record { finished = x ∷ map kept_line lines; rest = kept_line rest }) (kept_line-append front line)
 
@@ -146,7 +149,8 @@ fed-pieces kept first second =
 -- no bytes leave what is kept as it is
 pub fed-none : (kept : List ℕ) → IsKept kept → fed kept [] ≡ record { finished = []; rest = kept }
 fed-none kept h =
-    ap (λ (x : List ℕ). kept_cut (cut_of x)) (append_none kept) ∙ ap kept_cut (cut_of-one_line kept h.one_line) ∙ ap (λ (x : List ℕ). record { finished = []; rest = x }) (kept_line-short kept h.short)
+    ap (λ (x : List ℕ). kept_cut (cut_of x)) (append_none kept) ∙ ap kept_cut (cut_of-one_line kept h.one_line) ∙
+    ap (λ (x : List ℕ). record { finished = []; rest = x }) (kept_line-short kept h.short)
   where
     append_none : (xs : List ℕ) → xs ++ [] ≡ xs
     append_none [] = refl
@@ -163,7 +167,8 @@ fed-is_kept kept piece = record {
 pub fed_all-fed : (kept : List ℕ) (pieces : List (List ℕ)) → IsKept kept → fed_all kept pieces ≡ fed kept (stream_of pieces)
 fed_all-fed kept [] h = sym (fed-none kept h)
 fed_all-fed kept (piece ∷ pieces) h =
-    ap (after_lines (fed kept piece).finished) (fed_all-fed (fed kept piece).rest pieces (fed-is_kept kept piece)) ∙ sym (fed-pieces kept piece (stream_of pieces))
+    ap (after_lines (fed kept piece).finished) (fed_all-fed (fed kept piece).rest pieces (fed-is_kept kept piece)) ∙
+    sym (fed-pieces kept piece (stream_of pieces))
 
 -- From a stream's begin, whatever the pieces: the lines are those of the whole stream's cut, as they are kept, and so is the rest.
 pub fed_all-stream : (pieces : List (List ℕ)) → fed_all [] pieces ≡ kept_cut (cut_of (stream_of pieces))
@@ -176,7 +181,8 @@ last_kept [] = refl
 last_kept (b ∷ rest) = refl
 
 -- With the rest, where there is any, these are the lines of the stream, as they are kept.
-pub lines_of-fed_all : (pieces : List (List ℕ)) → map kept_line (lines_of (stream_of pieces)) ≡ (fed_all [] pieces).finished ++ last_line (fed_all [] pieces).rest
+pub lines_of-fed_all : (pieces : List (List ℕ)) →
+    map kept_line (lines_of (stream_of pieces)) ≡ (fed_all [] pieces).finished ++ last_line (fed_all [] pieces).rest
 lines_of-fed_all pieces =
     let bytes = stream_of pieces in
     ap (map kept_line) (lines_of-cut bytes)

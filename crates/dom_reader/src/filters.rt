@@ -4,7 +4,8 @@ ghost use Rattle.std.specs.Prelude.{◌≡◌, ◌∷◌, ◌<◌, length, optio
 ghost use Rattle.std.specs.List.{list_all};
 ghost use Rattle.std.specs.Char.{is_ascii_graphic};
 ghost use Rattle.dom_model.specs.Names.{is_name as spec_is_name};
-ghost use Rattle.dom_text.specs.Readers.{only_if, between_commas, take_name as spec_take_name, show_of_names, show_of as spec_show_of, name_filter_of as spec_name_filter_of, attribute_filter_of as spec_attribute_filter_of, last_as};
+ghost use Rattle.dom_text.specs.Readers.{only_if, between_commas, take_name as spec_take_name, show_of_names, show_of as spec_show_of};
+ghost use Rattle.dom_text.specs.Readers.{name_filter_of as spec_name_filter_of, attribute_filter_of as spec_attribute_filter_of, last_as};
 ghost use Rattle.dom_words.specs.Gives.{Gives};
 ghost use Rattle.dom_reader.specs.Views.{show_view, name_filter_view};
 ghost use Rattle.dom_reader.specs.Filters.{parts_view, name_behind as spec_name_behind};

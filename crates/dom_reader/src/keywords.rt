@@ -2,7 +2,8 @@
 
 ghost use Rattle.std.specs.Prelude.{◌≡◌};
 ghost use Rattle.dom_text.specs.Words.{keyword_word};
-ghost use Rattle.dom_reader.specs.Keywords.{keyword_view, making_keyword, tree_keyword, content_keyword, question_keyword, range_keyword, cursor_keyword, event_keyword, observer_keyword};
+ghost use Rattle.dom_reader.specs.Keywords.{keyword_view, making_keyword, tree_keyword, content_keyword, question_keyword, range_keyword};
+ghost use Rattle.dom_reader.specs.Keywords.{cursor_keyword, event_keyword, observer_keyword};
 
 /// What makes nodes, and shadow roots.
 #[derive(Clone, Copy)]

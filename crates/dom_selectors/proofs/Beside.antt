@@ -1,5 +1,6 @@
 -- The siblings before a node and behind it, by the links.
-use Rattle.std.proofs.Common.{◌≡◌, ℕ, suc, ◌<◌, List, [], ◌∷◌, ◌++◌, length, Option, Some, None, refl, ap, sym, subst, ◌∙◌, append_assoc, arith, length-append, inl, inr}
+use Rattle.std.proofs.Common.{◌≡◌, ℕ, suc, ◌<◌, List, [], ◌∷◌, ◌++◌, length, Option, Some, None, refl, ap, sym, subst, ◌∙◌, append_assoc, arith}
+use Rattle.std.proofs.Common.{length-append, inl, inr}
 use Rattle.std.specs.Option.{option_map, option_map_or}
 use Rattle.std.proofs.lemmas.Option.{none-some}
 use Rattle.dom_base.specs.declared.NodeName.{NodeName}
@@ -92,7 +93,8 @@ before-at ts s x front back once h split = by (parent_of ts x) refl
     by None up = absurd (subst (In s) (sym split ∙ (root_before ts x up).0) (In-right s front (s ∷ back) (inl refl)))
     by (Some p) up =
         let at = splits ts x p once h up in
-        let whole : children_of ts p ≡ front ++ s ∷ (back ++ x ∷ after_list ts x) = at.parts ∙ (ap (λ xs. xs ++ x ∷ after_list ts x) split ∙ append_assoc front (s ∷ back) (x ∷ after_list ts x)) in
+        let whole : children_of ts p ≡ front ++ s ∷ (back ++ x ∷ after_list ts x) =
+        at.parts ∙ (ap (λ xs. xs ++ x ∷ after_list ts x) split ∙ append_assoc front (s ∷ back) (x ∷ after_list ts x)) in
         let among : In s (children_of ts p) = subst (In s) (sym whole) (In-right s front (s ∷ (back ++ x ∷ after_list ts x)) (inl refl)) in
         let apart : In s front → ⊥ = λ i. Single-apart s front (s ∷ (back ++ x ∷ after_list ts x)) (subst Single whole at.single) i (inl refl) in
         let its = parent-of_child ts p s once (child-of_parent ts x p once h up).0 among in
@@ -121,7 +123,8 @@ after-next ts x once h = by (first_of (after_list ts x)) refl
         let at = splits ts x p once h up in
         let back = first_split (after_list ts x) s e in
         let front = before_list ts x ++ x ∷ [] in
-        let whole : children_of ts p ≡ front ++ s ∷ back.0 = at.parts ∙ (ap (λ xs. before_list ts x ++ x ∷ xs) back.1 ∙ sym (append_assoc (before_list ts x) (x ∷ []) (s ∷ back.0))) in
+        let whole : children_of ts p ≡ front ++ s ∷ back.0 =
+        at.parts ∙ (ap (λ xs. before_list ts x ++ x ∷ xs) back.1 ∙ sym (append_assoc (before_list ts x) (x ∷ []) (s ∷ back.0))) in
         let among : In s (children_of ts p) = subst (In s) (sym whole) (In-right s front (s ∷ back.0) (inl refl)) in
         let apart : In s front → ⊥ = λ i. Single-apart s front (s ∷ back.0) (subst Single whole at.single) i (inl refl) in
         let mine : after_list ts s ≡ back.0 = ap (items_after name_eq s) (at.its s among ∙ whole) ∙ after-split s front back.0 apart in
@@ -136,26 +139,33 @@ after-next ts x once h = by (first_of (after_list ts x)) refl
     by (Some s) e = has_parent s e (parent_of ts x) refl ∙ ap (from ts) (sym e)
 
 -- the same by keys
-pub previous_step : (f : NamedTrees) → StandOnce f → StandAlone f → (k : ℕ) (o : Option ℕ) → k < length f.names → option_map (name_at f.names) o ≡ previous_sibling f.trees (name_at f.names k)
+pub previous_step : (f : NamedTrees) → StandOnce f → StandAlone f → (k : ℕ) (o : Option ℕ) → k < length f.names →
+    option_map (name_at f.names) o ≡ previous_sibling f.trees (name_at f.names k)
     → before_list f.trees (name_at f.names k) ≡ up_to f.trees (option_map (name_at f.names) o)
-previous_step f once only k o node is = before-previous f.trees (name_at f.names k) (Once-forest f once only) (Has-forest f once k node) ∙ ap (up_to f.trees) (sym is)
+previous_step f once only k o node is = before-previous f.trees (name_at f.names k) (Once-forest f once only) (Has-forest f once k node) ∙
+    ap (up_to f.trees) (sym is)
 
 -- the same the other way
-pub next_step : (f : NamedTrees) → StandOnce f → StandAlone f → (k : ℕ) (o : Option ℕ) → k < length f.names → option_map (name_at f.names) o ≡ next_sibling f.trees (name_at f.names k)
+pub next_step : (f : NamedTrees) → StandOnce f → StandAlone f → (k : ℕ) (o : Option ℕ) → k < length f.names →
+    option_map (name_at f.names) o ≡ next_sibling f.trees (name_at f.names k)
     → after_list f.trees (name_at f.names k) ≡ from f.trees (option_map (name_at f.names) o)
 next_step f once only k o node is = after-next f.trees (name_at f.names k) (Once-forest f once only) (Has-forest f once k node) ∙ ap (from f.trees) (sym is)
 
 -- there are fewer before a node than up to it
-pub previous_less : (f : NamedTrees) (k : ℕ) (at o : Option ℕ) → at ≡ Some k → before_list f.trees (name_at f.names k) ≡ up_to f.trees (option_map (name_at f.names) o)
+pub previous_less : (f : NamedTrees) (k : ℕ) (at o : Option ℕ) → at ≡ Some k →
+    before_list f.trees (name_at f.names k) ≡ up_to f.trees (option_map (name_at f.names) o)
     → length (up_to f.trees (option_map (name_at f.names) o)) < length (up_to f.trees (option_map (name_at f.names) at))
 previous_less f k at o is e =
     let front = before_list f.trees (name_at f.names k) in
-    let longer : length (up_to f.trees (option_map (name_at f.names) at)) ≡ length (front ++ name_at f.names k ∷ []) = ap (λ o'. length (up_to f.trees (option_map (name_at f.names) o'))) is in
+    let longer : length (up_to f.trees (option_map (name_at f.names) at)) ≡ length (front ++ name_at f.names k ∷ []) =
+    ap (λ o'. length (up_to f.trees (option_map (name_at f.names) o'))) is in
     omega (arith, longer, length-append front (name_at f.names k ∷ []), ap (length {A = NodeName}) e)
 
 -- there are fewer behind a node than from it on
-pub next_less : (f : NamedTrees) (k : ℕ) (at o : Option ℕ) → at ≡ Some k → after_list f.trees (name_at f.names k) ≡ from f.trees (option_map (name_at f.names) o)
+pub next_less : (f : NamedTrees) (k : ℕ) (at o : Option ℕ) → at ≡ Some k →
+    after_list f.trees (name_at f.names k) ≡ from f.trees (option_map (name_at f.names) o)
     → length (from f.trees (option_map (name_at f.names) o)) < length (from f.trees (option_map (name_at f.names) at))
 next_less f k at o is e =
-    let longer : length (from f.trees (option_map (name_at f.names) at)) ≡ suc (length (after_list f.trees (name_at f.names k))) = ap (λ o'. length (from f.trees (option_map (name_at f.names) o'))) is in
+    let longer : length (from f.trees (option_map (name_at f.names) at)) ≡ suc (length (after_list f.trees (name_at f.names k))) =
+    ap (λ o'. length (from f.trees (option_map (name_at f.names) o'))) is in
     omega (arith, longer, ap (length {A = NodeName}) e)

@@ -31,11 +31,13 @@ leads-on ts c d e x y z f g = record { same = f.same ∙ g.same; beside = λ h. 
 -- ---- where the last compound matches, the nodes that the combinator leaves answer
 
 -- at one node
-pub combined : (ts : Trees) (l : Complex) (how : Combinator) (k : List CompoundPart) (x : NodeName) → compound_matches ts k x ≡ true → complex_matches ts (joined l how k) x ≡ list_any (complex_matches ts l) (combined_with ts how x)
+pub combined : (ts : Trees) (l : Complex) (how : Combinator) (k : List CompoundPart) (x : NodeName) → compound_matches ts k x ≡ true →
+    complex_matches ts (joined l how k) x ≡ list_any (complex_matches ts l) (combined_with ts how x)
 combined ts l how k x hit = ap (λ b. b && list_any (complex_matches ts l) (combined_with ts how x)) hit
 
 -- and where it does not, nothing does
-pub not_combined : (ts : Trees) (l : Complex) (how : Combinator) (k : List CompoundPart) (x : NodeName) → compound_matches ts k x ≡ false → complex_matches ts (joined l how k) x ≡ false
+pub not_combined : (ts : Trees) (l : Complex) (how : Combinator) (k : List CompoundPart) (x : NodeName) → compound_matches ts k x ≡ false →
+    complex_matches ts (joined l how k) x ≡ false
 not_combined ts l how k x misses = and_left (compound_matches ts k x) _ misses
 
 -- what a match says
@@ -89,7 +91,8 @@ module _ (ts : Trees) (l : Complex) (k : List CompoundPart) (x : NodeName) (once
           let parts = matches-parts ts l child k w.node w.matches in
           let q = left (complex_matches ts l) (parent_of ts w.node) parts.1 in
           let stands = stands-matching ts k w.node parts.0 in
-          shorter q.node w.front (sym (proper-parent ts x p once has up).0 ∙ (w.above ∙ ap (λ xs. w.front ++ xs) (proper-parent ts w.node q.node once stands q.is).0)) q.passes
+          shorter q.node w.front (sym (proper-parent ts x p once has up).0 ∙
+          (w.above ∙ ap (λ xs. w.front ++ xs) (proper-parent ts w.node q.node once stands q.is).0)) q.passes
 
   -- a root has none
   pub no_child : parent_of ts x ≡ None → complex_matches ts (joined l child k) x ≡ false
@@ -97,18 +100,24 @@ module _ (ts : Trees) (l : Complex) (k : List CompoundPart) (x : NodeName) (once
 
   -- a step to the nearest element before
   pub next_leads : (z : NodeName) → last_of (elements_before ts x) ≡ Some z → Leads ts (joined l next k) x l z
-  next_leads z e = record { same = combined ts l next k x hit ∙ one-left (complex_matches ts l) (last_of (elements_before ts x)) z e; beside = beside; above = above }
+  next_leads z e = record {
+    same = combined ts l next k x hit ∙ one-left (complex_matches ts l) (last_of (elements_before ts x)) z e;
+    beside = beside;
+    above = above;
+  }
     where
       at : (elements_before ts x ≡ elements_to ts z) × IsEarlier ts z x (elements_before ts z)
       at = nearest ts z x once has e
 
-      earlier : (u : NodeName) → In u (elements_before ts x) → complex_matches ts (joined l next k) u ≡ true → list_any (complex_matches ts l) (elements_to ts z) ≡ true
+      earlier : (u : NodeName) → In u (elements_before ts x) → complex_matches ts (joined l next k) u ≡ true →
+          list_any (complex_matches ts l) (elements_to ts z) ≡ true
       earlier u i m =
           let w = earlier-in ts u x once has i in
           let v = left (complex_matches ts l) (last_of (elements_before ts u)) (matches-parts ts l next k u m).1 in
           let its = nearest ts v.node u once w.its.stands v.is in
           let among : In v.node (elements_before ts u) = subst (In v.node) (sym its.0) (In-right v.node (elements_before ts v.node) (v.node ∷ []) (inl refl)) in
-          passes-any (complex_matches ts l) (elements_to ts z) v.node (subst (In v.node) (sym w.split ∙ at.0) (In-left v.node (elements_before ts u) (u ∷ w.behind) among)) v.passes
+          passes-any (complex_matches ts l) (elements_to ts z) v.node
+          (subst (In v.node) (sym w.split ∙ at.0) (In-left v.node (elements_before ts u) (u ∷ w.behind) among)) v.passes
 
       beside : list_any (complex_matches ts (joined l next k)) (elements_to ts x) ≡ true → list_any (complex_matches ts l) (elements_to ts z) ≡ true
       beside h =
@@ -118,7 +127,8 @@ module _ (ts : Trees) (l : Complex) (k : List CompoundPart) (x : NodeName) (once
             | inr i ↦ elim i [
               | inl same ↦
                   let here : complex_matches ts (joined l next k) x ≡ true = ap (complex_matches ts (joined l next k)) (sym same) ∙ w.passes in
-                  passes-any (complex_matches ts l) (elements_to ts z) z (In-right z (elements_before ts z) (z ∷ []) (inl refl)) (sym (one-left (complex_matches ts l) (last_of (elements_before ts x)) z e) ∙ (matches-parts ts l next k x here).1)
+                  passes-any (complex_matches ts l) (elements_to ts z) z (In-right z (elements_before ts z) (z ∷ []) (inl refl))
+                  (sym (one-left (complex_matches ts l) (last_of (elements_before ts x)) z e) ∙ (matches-parts ts l next k x here).1)
               | inr no_more ↦ absurd no_more
             ]
           ]

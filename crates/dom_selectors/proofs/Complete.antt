@@ -7,8 +7,10 @@ use Rattle.std.proofs.lemmas.Bool.{cond-true, cond-false, and_parts, eq-eqb}
 use Rattle.std.proofs.lemmas.Bool.Decides.{nat_tests}
 use Rattle.std.proofs.lemmas.List.Sums.{take_while-cons}
 use Rattle.dom_model.specs.Names.{Word, DomString, begins_name, continues_name, is_name}
-use Rattle.dom_model.specs.Selectors.{Simple, AttributeTest, is_space, of_type, of_any_type, of_id, of_class, with_attribute, with_value, first_child, last_child, equals, has_word, begins_with_dash, begins, ends, holds}
-use Rattle.dom_model.specs.SelectorText.{drop_while, skip_space, read_map, expect, closed_by, read_name, may_stand_quoted, read_quoted, read_value, read_one_of, signs, read_test_of, read_test, read_attribute, read_simple}
+use Rattle.dom_model.specs.Selectors.{Simple, AttributeTest, is_space, of_type, of_any_type, of_id, of_class, with_attribute, with_value, first_child}
+use Rattle.dom_model.specs.Selectors.{last_child, equals, has_word, begins_with_dash, begins, ends, holds}
+use Rattle.dom_model.specs.SelectorText.{drop_while, skip_space, read_map, expect, closed_by, read_name, may_stand_quoted, read_quoted, read_value}
+use Rattle.dom_model.specs.SelectorText.{read_one_of, signs, read_test_of, read_test, read_attribute, read_simple}
 use Rattle.dom_selectors.specs.Grammar.{IsSpaces, IsValue, plain, double, single, sign, IsSimple}
 use Rattle.dom_selectors.proofs.TokenLaws.{expect_at}
 
@@ -74,10 +76,12 @@ name-head [] rest h = cc
 name-head (c ∷ cs) rest h = begins_not_space c (and_parts (begins_name c) (list_all continues_name cs) h).0
 
 -- a quoted value is read up to its quote
-quoted-read : (quote : ℕ) (value rest : DomString) → list_all (may_stand_quoted quote) value ≡ true → may_stand_quoted quote quote ≡ false → read_quoted quote ((value ++ quote ∷ []) ++ rest) ≡ Some (value, rest)
+quoted-read : (quote : ℕ) (value rest : DomString) → list_all (may_stand_quoted quote) value ≡ true → may_stand_quoted quote quote ≡ false →
+    read_quoted quote ((value ++ quote ∷ []) ++ rest) ≡ Some (value, rest)
 quoted-read quote value rest h off =
     ap (read_quoted quote) (append_assoc value (quote ∷ []) rest)
-    ∙ ap (λ t. option_map (λ b. (t, b)) (expect (quote ∷ []) (drop_while (may_stand_quoted quote) (value ++ quote ∷ rest)))) (run-front (may_stand_quoted quote) value (quote ∷ rest) h off)
+    ∙ ap (λ t. option_map (λ b. (t, b)) (expect (quote ∷ []) (drop_while (may_stand_quoted quote) (value ++ quote ∷ rest))))
+    (run-front (may_stand_quoted quote) value (quote ∷ rest) h off)
     ∙ ap (λ d. option_map (λ b. (value, b)) (expect (quote ∷ []) d)) (run-back (may_stand_quoted quote) value (quote ∷ rest) h off)
     ∙ ap (option_map (λ b. (value, b))) (expect-read (quote ∷ []) rest)
 
@@ -85,7 +89,8 @@ quoted-read quote value rest h off =
 plain-read : (value rest : DomString) → is_name value ≡ true → head_passes continues_name rest ≡ false → read_value (value ++ rest) ≡ Some (value, rest)
 plain-read [] rest h off = cc
 plain-read (c ∷ cs) rest h off =
-    cond-false ((c == 34) || (c == 39)) (read_quoted c (cs ++ rest)) (read_name (c ∷ (cs ++ rest))) (begins_not_quote c (and_parts (begins_name c) (list_all continues_name cs) h).0) ∙ name-read (c ∷ cs) rest h off
+    cond-false ((c == 34) || (c == 39)) (read_quoted c (cs ++ rest)) (read_name (c ∷ (cs ++ rest)))
+    (begins_not_quote c (and_parts (begins_name c) (list_all continues_name cs) h).0) ∙ name-read (c ∷ cs) rest h off
 
 -- a value
 value-read : (said value rest : DomString) → IsValue said value → head_passes continues_name rest ≡ false → read_value (said ++ rest) ≡ Some (value, rest)
@@ -125,13 +130,15 @@ to_name before name rest spaces named off =
     ∙ ap (λ r. closed_by (codes "]") (option_and_then behind_name r)) (name-read name rest named off)
 
 -- `[NAME]`
-bracketed-read : (before name after rest : DomString) → IsSpaces before → IsSpaces after → is_name name ≡ true → read_attribute (before ++ (name ++ (after ++ 93 ∷ rest))) ≡ Some (with_attribute name, rest)
+bracketed-read : (before name after rest : DomString) → IsSpaces before → IsSpaces after → is_name name ≡ true →
+    read_attribute (before ++ (name ++ (after ++ 93 ∷ rest))) ≡ Some (with_attribute name, rest)
 bracketed-read before name after rest spaces behind named =
     to_name before name (after ++ 93 ∷ rest) spaces named (spaces-off after (93 ∷ rest) behind refl)
     ∙ ap (λ k. closed_by (codes "]") (read_test name k)) (skip-read after (93 ∷ rest) behind refl)
 
 -- `[NAME op VALUE]`
-tested-read : (before name between : DomString) (t : AttributeTest) (behind said value after rest : DomString) → IsSpaces before → IsSpaces between → IsSpaces behind → IsSpaces after → is_name name ≡ true → IsValue said value
+tested-read : (before name between : DomString) (t : AttributeTest) (behind said value after rest : DomString) → IsSpaces before →
+    IsSpaces between → IsSpaces behind → IsSpaces after → is_name name ≡ true → IsValue said value
     → read_attribute (before ++ (name ++ (between ++ (sign t ++ (behind ++ (said ++ (after ++ 93 ∷ rest))))))) ≡ Some (with_value name t value, rest)
 tested-read before name between t behind said value after rest h1 h2 h3 h4 named valued =
     let end = after ++ 93 ∷ rest in
@@ -149,35 +156,43 @@ or_found : {A : Type 0} (a b : Option A) (x : A) → a ≡ Some x → option_or 
 or_found a b x h = ap (λ o. option_or o b) h
 
 -- a simple selector
-pub simple-read : (text : DomString) (s : Simple) (rest : DomString) → IsSimple text s → head_passes continues_name rest ≡ false → read_simple (text ++ rest) ≡ Some (s, rest)
+pub simple-read : (text : DomString) (s : Simple) (rest : DomString) → IsSimple text s → head_passes continues_name rest ≡ false →
+    read_simple (text ++ rest) ≡ Some (s, rest)
 simple-read text (of_type name) rest h off = absurd h
 simple-read text of_any_type rest h off = absurd h
 simple-read text (of_id name) rest h off =
-    ap (λ t. read_simple (t ++ rest)) h.0 ∙ or_found (read_map of_id (read_name (name ++ rest))) _ (of_id name, rest) (ap (read_map of_id) (name-read name rest h.1 off))
+    ap (λ t. read_simple (t ++ rest)) h.0 ∙ or_found (read_map of_id (read_name (name ++ rest))) _ (of_id name, rest)
+    (ap (read_map of_id) (name-read name rest h.1 off))
 simple-read text (of_class name) rest h off =
-    ap (λ t. read_simple (t ++ rest)) h.0 ∙ or_found (read_map of_class (read_name (name ++ rest))) _ (of_class name, rest) (ap (read_map of_class) (name-read name rest h.1 off))
+    ap (λ t. read_simple (t ++ rest)) h.0 ∙ or_found (read_map of_class (read_name (name ++ rest))) _ (of_class name, rest)
+    (ap (read_map of_class) (name-read name rest h.1 off))
 simple-read text (with_attribute name) rest h off =
     let w = h.before ++ (name ++ (h.after ++ codes "]")) in
     let whole : w ++ rest ≡ h.before ++ (name ++ (h.after ++ 93 ∷ rest)) =
     append_assoc h.before (name ++ (h.after ++ codes "]")) rest
     ∙ ap (λ t. h.before ++ t) (append_assoc name (h.after ++ codes "]") rest ∙ ap (λ t. name ++ t) (append_assoc h.after (codes "]") rest)) in
     ap (λ t. read_simple (t ++ rest)) h.whole
-    ∙ or_found (read_attribute (w ++ rest)) _ (with_attribute name, rest) (ap read_attribute whole ∙ bracketed-read h.before name h.after rest h.spaces_before h.spaces_after h.named)
+    ∙ or_found (read_attribute (w ++ rest)) _ (with_attribute name, rest)
+    (ap read_attribute whole ∙ bracketed-read h.before name h.after rest h.spaces_before h.spaces_after h.named)
 simple-read text (with_value name t value) rest h off =
     let end = h.after ++ codes "]" in
     let last : end ++ rest ≡ h.after ++ 93 ∷ rest = append_assoc h.after (codes "]") rest in
     let three : (h.said ++ end) ++ rest ≡ h.said ++ (h.after ++ 93 ∷ rest) = append_assoc h.said end rest ∙ ap (λ x. h.said ++ x) last in
-    let four : (h.behind ++ (h.said ++ end)) ++ rest ≡ h.behind ++ (h.said ++ (h.after ++ 93 ∷ rest)) = append_assoc h.behind (h.said ++ end) rest ∙ ap (λ x. h.behind ++ x) three in
-    let five : (sign t ++ (h.behind ++ (h.said ++ end))) ++ rest ≡ sign t ++ (h.behind ++ (h.said ++ (h.after ++ 93 ∷ rest))) = append_assoc (sign t) (h.behind ++ (h.said ++ end)) rest ∙ ap (λ x. sign t ++ x) four in
+    let four : (h.behind ++ (h.said ++ end)) ++ rest ≡ h.behind ++ (h.said ++ (h.after ++ 93 ∷ rest)) =
+    append_assoc h.behind (h.said ++ end) rest ∙ ap (λ x. h.behind ++ x) three in
+    let five : (sign t ++ (h.behind ++ (h.said ++ end))) ++ rest ≡ sign t ++ (h.behind ++ (h.said ++ (h.after ++ 93 ∷ rest))) =
+    append_assoc (sign t) (h.behind ++ (h.said ++ end)) rest ∙ ap (λ x. sign t ++ x) four in
     let six : (h.between ++ (sign t ++ (h.behind ++ (h.said ++ end)))) ++ rest ≡ h.between ++ (sign t ++ (h.behind ++ (h.said ++ (h.after ++ 93 ∷ rest)))) =
     append_assoc h.between (sign t ++ (h.behind ++ (h.said ++ end))) rest ∙ ap (λ x. h.between ++ x) five in
-    let seven : (name ++ (h.between ++ (sign t ++ (h.behind ++ (h.said ++ end))))) ++ rest ≡ name ++ (h.between ++ (sign t ++ (h.behind ++ (h.said ++ (h.after ++ 93 ∷ rest))))) =
+    let seven : (name ++ (h.between ++ (sign t ++ (h.behind ++ (h.said ++ end))))) ++ rest ≡ name ++
+    (h.between ++ (sign t ++ (h.behind ++ (h.said ++ (h.after ++ 93 ∷ rest))))) =
     append_assoc name (h.between ++ (sign t ++ (h.behind ++ (h.said ++ end)))) rest ∙ ap (λ x. name ++ x) six in
     let w = h.before ++ (name ++ (h.between ++ (sign t ++ (h.behind ++ (h.said ++ end))))) in
     let whole : w ++ rest ≡ h.before ++ (name ++ (h.between ++ (sign t ++ (h.behind ++ (h.said ++ (h.after ++ 93 ∷ rest)))))) =
     append_assoc h.before (name ++ (h.between ++ (sign t ++ (h.behind ++ (h.said ++ end))))) rest ∙ ap (λ x. h.before ++ x) seven in
     ap (λ x. read_simple (x ++ rest)) h.whole
     ∙ or_found (read_attribute (w ++ rest)) _ (with_value name t value, rest)
-    (ap read_attribute whole ∙ tested-read h.before name h.between t h.behind h.said value h.after rest h.spaces_before h.spaces_between h.spaces_behind h.spaces_after h.named h.valued)
+    (ap read_attribute whole ∙ tested-read h.before name h.between t h.behind h.said value h.after rest h.spaces_before h.spaces_between
+    h.spaces_behind h.spaces_after h.named h.valued)
 simple-read text first_child rest h off = ap (λ t. read_simple (t ++ rest)) h
 simple-read text last_child rest h off = ap (λ t. read_simple (t ++ rest)) h

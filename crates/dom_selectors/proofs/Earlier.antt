@@ -1,5 +1,6 @@
 -- The elements before a node among its siblings: how they split, and what stands above them.
-use Rattle.std.proofs.Common.{◌≡◌, inl, inr, ℕ, ◌<◌, Bool, true, false, List, [], ◌∷◌, ◌++◌, length, Option, Some, None, refl, ap, sym, subst, ◌∙◌, arith, append_assoc, length-append, true≢false}
+use Rattle.std.proofs.Common.{◌≡◌, inl, inr, ℕ, ◌<◌, Bool, true, false, List, [], ◌∷◌, ◌++◌, length, Option, Some, None, refl, ap, sym, subst, ◌∙◌}
+use Rattle.std.proofs.Common.{arith, append_assoc, length-append, true≢false}
 use Rattle.std.specs.Prelude.{◌||◌, filter}
 use Rattle.std.specs.List.{list_any, find}
 use Rattle.std.specs.Option.{option_map, ForSome}
@@ -57,7 +58,8 @@ not_nothing : (front : List NodeName) (x : NodeName) (back : List NodeName) → 
 not_nothing [] x back e = cc
 not_nothing (y ∷ ys) x back e = cc
 
-filter-parts : (p : NodeName → Bool) (xs : List NodeName) (x : NodeName) (front back : List NodeName) → filter p xs ≡ front ++ x ∷ back → Parts p xs x front back
+filter-parts : (p : NodeName → Bool) (xs : List NodeName) (x : NodeName) (front back : List NodeName) → filter p xs ≡ front ++ x ∷ back →
+    Parts p xs x front back
 filter-parts p [] x front back e = absurd (not_nothing front x back e)
 filter-parts p (y ∷ ys) x front back e = elim (cases_Bool (p y)) [
   | inl hit ↦ here hit (λ before f. filter-parts p ys x before back f) front (sym (filter-yes p y ys hit) ∙ e)
@@ -66,11 +68,17 @@ filter-parts p (y ∷ ys) x front back e = elim (cases_Bool (p y)) [
       record { ahead = y ∷ w.ahead; behind = w.behind; split = ap (λ zs. y ∷ zs) w.split; kept = filter-no p y w.ahead miss ∙ w.kept }
 ]
   where
-    here : p y ≡ true → ((before : List NodeName) → filter p ys ≡ before ++ x ∷ back → Parts p ys x before back) → (before : List NodeName) → y ∷ filter p ys ≡ before ++ x ∷ back → Parts p (y ∷ ys) x before back
+    here : p y ≡ true → ((before : List NodeName) → filter p ys ≡ before ++ x ∷ back → Parts p ys x before back) → (before : List NodeName) →
+        y ∷ filter p ys ≡ before ++ x ∷ back → Parts p (y ∷ ys) x before back
     here hit deeper [] f = record { ahead = []; behind = ys; split = ap (λ z. z ∷ ys) cc; kept = refl }
     here hit deeper (z ∷ zs) f =
         let w = deeper zs cc in
-        record { ahead = y ∷ w.ahead; behind = w.behind; split = ap (λ vs. y ∷ vs) w.split; kept = filter-yes p y w.ahead hit ∙ (ap (λ vs. y ∷ vs) w.kept ∙ ap (λ v. v ∷ zs) cc) }
+        record {
+          ahead = y ∷ w.ahead;
+          behind = w.behind;
+          split = ap (λ vs. y ∷ vs) w.split;
+          kept = filter-yes p y w.ahead hit ∙ (ap (λ vs. y ∷ vs) w.kept ∙ ap (λ v. v ∷ zs) cc);
+        }
 
 -- ---- nodes that stand
 
@@ -84,7 +92,8 @@ pub stands-matching : (ts : Trees) (c : List CompoundPart) (x : NodeName) → co
 stands-matching ts c x e = elim (has_or_not ts x) [
   | inl h ↦ h
   | inr off ↦
-      let nowhere : kind_of ts x ≡ (no_node x).kind = ap (λ (o : Option Node). (unwrap_or o (no_node x)).kind) (not_found x (nodes ts) (λ i. off (Has-names ts x i))) in
+      let nowhere : kind_of ts x ≡ (no_node x).kind =
+      ap (λ (o : Option Node). (unwrap_or o (no_node x)).kind) (not_found x (nodes ts) (λ i. off (Has-names ts x i))) in
       absurd (true≢false (sym (and_parts (is_element (kind_of ts x)) _ e).0 ∙ ap is_element nowhere))
 ]
 
@@ -98,7 +107,8 @@ pub record IsEarlier (ts : Trees) (s x : NodeName) (front : List NodeName) : Typ
   pub stands : Has ts s
 
 -- where the elements before a node split
-pub earlier-at : (ts : Trees) (s x : NodeName) (front back : List NodeName) → Once ts → Has ts x → elements_before ts x ≡ front ++ s ∷ back → IsEarlier ts s x front
+pub earlier-at : (ts : Trees) (s x : NodeName) (front back : List NodeName) → Once ts → Has ts x → elements_before ts x ≡ front ++ s ∷ back →
+    IsEarlier ts s x front
 earlier-at ts s x front back once h split =
     let p : NodeName → Bool = λ y. is_element (kind_of ts y) in
     let w = filter-parts p (before_list ts x) s front back split in
@@ -129,7 +139,8 @@ earlier-in ts s x once h i =
     }
 
 -- the nearest of them
-pub nearest : (ts : Trees) (s x : NodeName) → Once ts → Has ts x → last_of (elements_before ts x) ≡ Some s → (elements_before ts x ≡ elements_to ts s) × IsEarlier ts s x (elements_before ts s)
+pub nearest : (ts : Trees) (s x : NodeName) → Once ts → Has ts x → last_of (elements_before ts x) ≡ Some s →
+    (elements_before ts x ≡ elements_to ts s) × IsEarlier ts s x (elements_before ts s)
 nearest ts s x once h e =
     let front = last_split (elements_before ts x) s e in
     let its = earlier-at ts s x front.0 [] once h front.1 in (
@@ -155,7 +166,8 @@ ancestor-in ts a x once h i = by (parent_of ts x) refl
         let below = items_before name_eq a (inclusive_ancestors ts p) in
         record {
           front = below ++ a ∷ [];
-          above = path ∙ (above-split ts a p once up.1 at ∙ (ap (λ xs. below ++ xs) (above-proper ts a (Has-above ts a p once up.1 at)) ∙ sym (append_assoc below (a ∷ []) (ancestors ts a))));
+          above = path ∙ (above-split ts a p once up.1 at ∙
+              (ap (λ xs. below ++ xs) (above-proper ts a (Has-above ts a p once up.1 at)) ∙ sym (append_assoc below (a ∷ []) (ancestors ts a))));
         }
 
 -- ---- steps to the nearest element before, by keys
@@ -166,31 +178,39 @@ elements_upto ts None = []
 elements_upto ts (Some x) = elements_to ts x
 
 -- the elements before a node are those up to the nearest one, which has the same ancestors
-pub earlier_step : (f : NamedTrees) → StandOnce f → StandAlone f → (k : ℕ) (o : Option ℕ) → k < length f.names → option_map (name_at f.names) o ≡ last_of (elements_before f.trees (name_at f.names k))
-    → (elements_before f.trees (name_at f.names k) ≡ elements_upto f.trees (option_map (name_at f.names) o)) × ForSome o (λ j. ancestors f.trees (name_at f.names j) ≡ ancestors f.trees (name_at f.names k))
+pub earlier_step : (f : NamedTrees) → StandOnce f → StandAlone f → (k : ℕ) (o : Option ℕ) → k < length f.names →
+    option_map (name_at f.names) o ≡ last_of (elements_before f.trees (name_at f.names k))
+    → (elements_before f.trees (name_at f.names k) ≡ elements_upto f.trees (option_map (name_at f.names) o)) ×
+    ForSome o (λ j. ancestors f.trees (name_at f.names j) ≡ ancestors f.trees (name_at f.names k))
 earlier_step f once only k o node is = by o is
   where
     x : NodeName
     x = name_at f.names k
 
-    at : (j : ℕ) → Some (name_at f.names j) ≡ last_of (elements_before f.trees x) → (elements_before f.trees x ≡ elements_to f.trees (name_at f.names j)) × IsEarlier f.trees (name_at f.names j) x (elements_before f.trees (name_at f.names j))
+    at : (j : ℕ) → Some (name_at f.names j) ≡ last_of (elements_before f.trees x) →
+        (elements_before f.trees x ≡ elements_to f.trees (name_at f.names j)) ×
+        IsEarlier f.trees (name_at f.names j) x (elements_before f.trees (name_at f.names j))
     at j e = nearest f.trees (name_at f.names j) x (Once-forest f once only) (Has-forest f once k node) (sym e)
 
     by : (p : Option ℕ) → option_map (name_at f.names) p ≡ last_of (elements_before f.trees x)
-        → (elements_before f.trees x ≡ elements_upto f.trees (option_map (name_at f.names) p)) × ForSome p (λ j. ancestors f.trees (name_at f.names j) ≡ ancestors f.trees x)
+        → (elements_before f.trees x ≡ elements_upto f.trees (option_map (name_at f.names) p)) ×
+        ForSome p (λ j. ancestors f.trees (name_at f.names j) ≡ ancestors f.trees x)
     by None e = (no_last (elements_before f.trees x) (sym e), λ j h. absurd (none-some j h))
     by (Some j) e = ((at j e).0, λ i h. ap (λ m. ancestors f.trees (name_at f.names m)) (sym (same_Some j i h)) ∙ (at j e).1.above)
 
 -- there are fewer before a node than up to it
-pub earlier_less : (f : NamedTrees) (k : ℕ) (at o : Option ℕ) → at ≡ Some k → elements_before f.trees (name_at f.names k) ≡ elements_upto f.trees (option_map (name_at f.names) o)
+pub earlier_less : (f : NamedTrees) (k : ℕ) (at o : Option ℕ) → at ≡ Some k →
+    elements_before f.trees (name_at f.names k) ≡ elements_upto f.trees (option_map (name_at f.names) o)
     → length (elements_upto f.trees (option_map (name_at f.names) o)) < length (elements_upto f.trees (option_map (name_at f.names) at))
 earlier_less f k at o is e =
     let front = elements_before f.trees (name_at f.names k) in
-    let longer : length (elements_upto f.trees (option_map (name_at f.names) at)) ≡ length (front ++ name_at f.names k ∷ []) = ap (λ o'. length (elements_upto f.trees (option_map (name_at f.names) o'))) is in
+    let longer : length (elements_upto f.trees (option_map (name_at f.names) at)) ≡ length (front ++ name_at f.names k ∷ []) =
+    ap (λ o'. length (elements_upto f.trees (option_map (name_at f.names) o'))) is in
     omega (arith, longer, length-append front (name_at f.names k ∷ []), ap (length {A = NodeName}) e)
 
 -- an element that fails a test is passed by
-pub earlier_passed : (f : NamedTrees) (p : NodeName → Bool) (k : ℕ) (at o : Option ℕ) → at ≡ Some k → p (name_at f.names k) ≡ false → elements_before f.trees (name_at f.names k) ≡ elements_upto f.trees (option_map (name_at f.names) o)
+pub earlier_passed : (f : NamedTrees) (p : NodeName → Bool) (k : ℕ) (at o : Option ℕ) → at ≡ Some k → p (name_at f.names k) ≡ false →
+    elements_before f.trees (name_at f.names k) ≡ elements_upto f.trees (option_map (name_at f.names) o)
     → list_any p (elements_upto f.trees (option_map (name_at f.names) o)) ≡ list_any p (elements_upto f.trees (option_map (name_at f.names) at))
 earlier_passed f p k at o is miss e =
     let front = elements_before f.trees (name_at f.names k) in

@@ -19,12 +19,15 @@ use Rattle.dom_traversal.proofs.Opening.{proper-parent}
 use Rattle.std.specs.Prelude.{drop}
 
 -- a last link is the outermost
-pub joined_last : (first : List Part) (left : List Link) (last : Link) → complex_from first (left ++ last ∷ []) ≡ link (complex_from first left) (link_view last)
+pub joined_last : (first : List Part) (left : List Link) (last : Link) →
+    complex_from first (left ++ last ∷ []) ≡ link (complex_from first left) (link_view last)
 joined_last first left last =
-    ap (fold link (alone (compound_view first))) (map-append link_view left (last ∷ [])) ∙ fold-append link (alone (compound_view first)) (map link_view left) (link_view last ∷ [])
+    ap (fold link (alone (compound_view first))) (map-append link_view left (last ∷ [])) ∙ fold-append link (alone (compound_view first))
+    (map link_view left) (link_view last ∷ [])
 
 -- the same of links of which it is the last
-pub last-joined : (first : List Part) (links left : List Link) (last : Link) → links ≡ left ++ last ∷ [] → complex_from first links ≡ joined (complex_from first left) (combinator_view last.combinator) (compound_view last.compound.items)
+pub last-joined : (first : List Part) (links left : List Link) (last : Link) → links ≡ left ++ last ∷ [] →
+    complex_from first links ≡ joined (complex_from first left) (combinator_view last.combinator) (compound_view last.compound.items)
 last-joined first links left last e = ap (complex_from first) e ∙ joined_last first left last
 
 -- without links there is the first compound alone
@@ -43,23 +46,29 @@ above-parent ts x once h None up = ap (drop 1) (above-root ts x h up)
 above-parent ts x once h (Some p) up = (proper-parent ts x p once h up).0
 
 -- the same by keys
-pub above_step : (f : NamedTrees) → StandOnce f → StandAlone f → (k : ℕ) (o : Option ℕ) → k < length f.names → option_map (name_at f.names) o ≡ parent_of f.trees (name_at f.names k)
+pub above_step : (f : NamedTrees) → StandOnce f → StandAlone f → (k : ℕ) (o : Option ℕ) → k < length f.names →
+    option_map (name_at f.names) o ≡ parent_of f.trees (name_at f.names k)
     → ancestors f.trees (name_at f.names k) ≡ from_above f.trees (option_map (name_at f.names) o)
-above_step f once only k o node is = above-parent f.trees (name_at f.names k) (Once-forest f once only) (Has-forest f once k node) (option_map (name_at f.names) o) (sym is)
+above_step f once only k o node is = above-parent f.trees (name_at f.names k) (Once-forest f once only) (Has-forest f once k node)
+    (option_map (name_at f.names) o) (sym is)
 
 -- there are fewer above a node than from it on
-pub above_less : (f : NamedTrees) (k : ℕ) (at o : Option ℕ) → at ≡ Some k → ancestors f.trees (name_at f.names k) ≡ from_above f.trees (option_map (name_at f.names) o)
+pub above_less : (f : NamedTrees) (k : ℕ) (at o : Option ℕ) → at ≡ Some k →
+    ancestors f.trees (name_at f.names k) ≡ from_above f.trees (option_map (name_at f.names) o)
     → length (from_above f.trees (option_map (name_at f.names) o)) < length (from_above f.trees (option_map (name_at f.names) at))
 above_less f k at o is e =
-    let longer : length (from_above f.trees (option_map (name_at f.names) at)) ≡ suc (length (ancestors f.trees (name_at f.names k))) = ap (λ o'. length (from_above f.trees (option_map (name_at f.names) o'))) is in
+    let longer : length (from_above f.trees (option_map (name_at f.names) at)) ≡ suc (length (ancestors f.trees (name_at f.names k))) =
+    ap (λ o'. length (from_above f.trees (option_map (name_at f.names) o'))) is in
     omega (arith, longer, ap (length {A = NodeName}) e)
 
 -- an ancestor that fails a test is passed by
-pub above_miss : (f : NamedTrees) (p : NodeName → Bool) (k : ℕ) (at o : Option ℕ) → at ≡ Some k → p (name_at f.names k) ≡ false → ancestors f.trees (name_at f.names k) ≡ from_above f.trees (option_map (name_at f.names) o)
+pub above_miss : (f : NamedTrees) (p : NodeName → Bool) (k : ℕ) (at o : Option ℕ) → at ≡ Some k → p (name_at f.names k) ≡ false →
+    ancestors f.trees (name_at f.names k) ≡ from_above f.trees (option_map (name_at f.names) o)
     → list_any p (from_above f.trees (option_map (name_at f.names) o)) ≡ list_any p (from_above f.trees (option_map (name_at f.names) at))
 above_miss f p k at o is h e =
     ap (list_any p) (sym e)
-    ∙ sym (ap (λ o'. list_any p (from_above f.trees (option_map (name_at f.names) o'))) is ∙ ap (λ b. b || list_any p (ancestors f.trees (name_at f.names k))) h)
+    ∙ sym (ap (λ o'. list_any p (from_above f.trees (option_map (name_at f.names) o'))) is ∙
+    ap (λ b. b || list_any p (ancestors f.trees (name_at f.names k))) h)
 
 -- or not at all
 pub or_none : (b : Bool) → (b || false) ≡ b

@@ -16,3 +16,4 @@ pub mod Sound
 pub mod SoundLists
 pub mod Complete
 pub mod CompleteLists
+pub mod CompleteCombinators

@@ -25,7 +25,9 @@ none_is_some h = cc
 run_ascii : (cs : List ℕ) → IsAscii (take_while continues_name cs)
 run_ascii [] = λ i. omega arith
 run_ascii (c ∷ cs) =
-    let both : IsAscii (cond (continues_name c) (c ∷ take_while continues_name cs) []) = cond_both (continues_name c) (c ∷ take_while continues_name cs) [] IsAscii (λ h. before c (take_while continues_name cs) (name_unit c h) (run_ascii cs)) (λ _ i. omega arith) in
+    let both : IsAscii (cond (continues_name c) (c ∷ take_while continues_name cs) []) =
+    cond_both (continues_name c) (c ∷ take_while continues_name cs) [] IsAscii
+    (λ h. before c (take_while continues_name cs) (name_unit c h) (run_ascii cs)) (λ _ i. omega arith) in
     subst IsAscii (sym (take_while-cons continues_name c cs)) both
 
 -- the name that was read
@@ -41,7 +43,8 @@ name_ascii (c ∷ cs) name rest h =
   where
     read : (b : Bool) → begins_name c ≡ b → IsAscii name
     read true e =
-        let found : Some (c ∷ take_while continues_name cs, drop_while continues_name cs) ≡ Some (name, rest) = sym (cond-true (begins_name c) (Some (c ∷ take_while continues_name cs, drop_while continues_name cs)) None e) ∙ h in
+        let found : Some (c ∷ take_while continues_name cs, drop_while continues_name cs) ≡ Some (name, rest) =
+        sym (cond-true (begins_name c) (Some (c ∷ take_while continues_name cs, drop_while continues_name cs)) None e) ∙ h in
         let more : continues_name c ≡ true = or_left (begins_name c || is_digit c) (c == 45) (or_left (begins_name c) (is_digit c) e) in
         subst IsAscii (ap name_of found) (before c (take_while continues_name cs) (name_unit c more) (run_ascii cs))
     read false e = absurd (none_is_some (sym (cond-false (begins_name c) (Some (c ∷ take_while continues_name cs, drop_while continues_name cs)) None e) ∙ h))

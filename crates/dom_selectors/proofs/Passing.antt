@@ -10,11 +10,15 @@ use Rattle.dom_selectors.proofs.Beside.{before_list, after_list, up_to, from}
 
 module _ (f : NamedTrees) (p : NodeName → Bool) (k : ℕ) (at o : Option ℕ) (is : at ≡ Some k) (miss : p (name_at f.names k) ≡ false) where
   -- backward
-  pub passed_before : before_list f.trees (name_at f.names k) ≡ up_to f.trees (option_map (name_at f.names) o) → filter p (up_to f.trees (option_map (name_at f.names) o)) ≡ filter p (up_to f.trees (option_map (name_at f.names) at))
+  pub passed_before : before_list f.trees (name_at f.names k) ≡ up_to f.trees (option_map (name_at f.names) o) →
+      filter p (up_to f.trees (option_map (name_at f.names) o)) ≡ filter p (up_to f.trees (option_map (name_at f.names) at))
   passed_before step =
-      ap (filter p) (sym step) ∙ sym (ap (λ o'. filter p (up_to f.trees (option_map (name_at f.names) o'))) is ∙ last-miss p (before_list f.trees (name_at f.names k)) (name_at f.names k) miss)
+      ap (filter p) (sym step) ∙ sym (ap (λ o'. filter p (up_to f.trees (option_map (name_at f.names) o'))) is ∙
+      last-miss p (before_list f.trees (name_at f.names k)) (name_at f.names k) miss)
 
   -- forward
-  pub passed_behind : after_list f.trees (name_at f.names k) ≡ from f.trees (option_map (name_at f.names) o) → filter p (from f.trees (option_map (name_at f.names) o)) ≡ filter p (from f.trees (option_map (name_at f.names) at))
+  pub passed_behind : after_list f.trees (name_at f.names k) ≡ from f.trees (option_map (name_at f.names) o) →
+      filter p (from f.trees (option_map (name_at f.names) o)) ≡ filter p (from f.trees (option_map (name_at f.names) at))
   passed_behind step =
-      ap (filter p) (sym step) ∙ sym (ap (λ o'. filter p (from f.trees (option_map (name_at f.names) o'))) is ∙ filter-no p (name_at f.names k) (after_list f.trees (name_at f.names k)) miss)
+      ap (filter p) (sym step) ∙ sym (ap (λ o'. filter p (from f.trees (option_map (name_at f.names) o'))) is ∙
+      filter-no p (name_at f.names k) (after_list f.trees (name_at f.names k)) miss)

@@ -26,15 +26,18 @@ more-enough {A} read j k cs (Some r) e same =
     ap put (same r.1 e)
 
 -- no more rounds are needed than there are units
-each-enough : {A : Type 0} (read : Reader A) → Shrinks read → (j k : ℕ) (cs : DomString) → length cs ≤ j → length cs ≤ k → read_each j read cs ≡ read_each k read cs
+each-enough : {A : Type 0} (read : Reader A) → Shrinks read → (j k : ℕ) (cs : DomString) → length cs ≤ j → length cs ≤ k →
+    read_each j read cs ≡ read_each k read cs
 each-enough read s j k [] h g = each-nil read s j ∙ sym (each-nil read s k)
 each-enough read s zero k (c ∷ cs) h g = absurd (omega (arith, h))
 each-enough read s (suc j) zero (c ∷ cs) h g = absurd (omega (arith, g))
 each-enough read s (suc j) (suc k) (c ∷ cs) h g =
-    more-enough read j k (c ∷ cs) (read (c ∷ cs)) (s.shorter (c ∷ cs)) (λ rest short. each-enough read s j k rest (omega (arith, short, h)) (omega (arith, short, g)))
+    more-enough read j k (c ∷ cs) (read (c ∷ cs)) (s.shorter (c ∷ cs))
+    (λ rest short. each-enough read s j k rest (omega (arith, short, h)) (omega (arith, short, g)))
 
 -- where one is read, the others stand behind it
-pub all-one : {A : Type 0} (read : Reader A) → Shrinks read → (cs : DomString) (r : A × DomString) → read cs ≡ Some r → read_all read cs ≡ behind_list (r.0 ∷ []) (read_all read r.1)
+pub all-one : {A : Type 0} (read : Reader A) → Shrinks read → (cs : DomString) (r : A × DomString) → read cs ≡ Some r →
+    read_all read cs ≡ behind_list (r.0 ∷ []) (read_all read r.1)
 all-one read s [] r h = absurd (omega (arith, Shrinks-rest read s [] r h))
 all-one {A} read s (c ∷ cs) r h =
     let short = Shrinks-rest read s (c ∷ cs) r h in
@@ -48,7 +51,8 @@ all-none read [] h = refl
 all-none read (c ∷ cs) h = ap (read_more (λ rest. read_each (length cs) read rest) (c ∷ cs)) h
 
 -- one more is read, and put behind those so far
-pub one_more : {X A : Type 0} (read : Reader A) → Shrinks read → (view : X → A) (before : List X) (x : X) (cs behind : DomString) → read cs ≡ Some (view x, behind)
+pub one_more : {X A : Type 0} (read : Reader A) → Shrinks read → (view : X → A) (before : List X) (x : X) (cs behind : DomString) →
+    read cs ≡ Some (view x, behind)
     → behind_list (map view (before ++ x ∷ [])) (read_all read behind) ≡ behind_list (map view before) (read_all read cs)
 one_more {X} {A} read s view before x cs behind h =
     let more = read_all read behind in

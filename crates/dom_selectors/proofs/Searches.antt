@@ -36,7 +36,8 @@ beside-in ts u x once h i = elim (In-parts u (elements_before ts x) (x ∷ []) i
 ]
 
 -- it answers for the elements before
-stop-beside : (ts : Trees) (d : Complex) (z : NodeName) → Once ts → Has ts z → StopsAt IsSearched ts d z → list_any (complex_matches ts d) (elements_to ts z) ≡ true → complex_matches ts d z ≡ true
+stop-beside : (ts : Trees) (d : Complex) (z : NodeName) → Once ts → Has ts z → StopsAt IsSearched ts d z →
+    list_any (complex_matches ts d) (elements_to ts z) ≡ true → complex_matches ts d z ≡ true
 stop-beside ts (alone c) z once h stops e = stops
 stop-beside ts (joined l descendant k) z once h stops e =
     let w = any-passes (complex_matches ts (joined l descendant k)) (elements_to ts z) e in
@@ -69,10 +70,12 @@ pub chain-ends : (ts : Trees) (c d : Complex) (x z : NodeName) → Once ts → H
 chain-ends ts c d x z once h l stops = record { same = l.same; beside = λ e. stop-beside ts d z once h stops (l.beside e); above = l.above; stops = stops }
 
 -- the nearest element before at which it holds answers for those that are farther
-pub chain-before : (ts : Trees) (c d : Complex) (x y z : NodeName) → ancestors ts y ≡ ancestors ts x → list_any (complex_matches ts c) (elements_to ts y) ≡ list_any (complex_matches ts c) (elements_before ts x)
+pub chain-before : (ts : Trees) (c d : Complex) (x y z : NodeName) → ancestors ts y ≡ ancestors ts x →
+    list_any (complex_matches ts c) (elements_to ts y) ≡ list_any (complex_matches ts c) (elements_before ts x)
     → ChainEnds ts c y d z → ChainIsBefore ts c x d z
 chain-before ts c d x y z up all w = record {
-  same = sym all ∙ same_answer _ _ w.beside (λ e. passes-any (complex_matches ts c) (elements_to ts y) y (In-right y (elements_before ts y) (y ∷ []) (inl refl)) (w.same ∙ e));
+  same = sym all ∙ same_answer _ _ w.beside
+      (λ e. passes-any (complex_matches ts c) (elements_to ts y) y (In-right y (elements_before ts y) (y ∷ []) (inl refl)) (w.same ∙ e));
   above = λ m. w.above (record { node = m.node; front = m.front; above = up ∙ m.above; matches = m.matches });
   stops = w.stops;
 }
@@ -98,7 +101,8 @@ pub comes-first : (ts : Trees) (c d : Complex) (x z : NodeName) → ChainEnds ts
 comes-first ts c d x z w = record { same = w.same; above = w.above; stops = w.stops }
 
 -- at the end of a chain before it, left of `~`
-pub comes-before : (ts : Trees) (c d l e : Complex) (k : List CompoundPart) (x y z : NodeName) → Once ts → d ≡ joined l later k → Comes ts c x d y → ChainIsBefore ts l y e z → Comes ts c x e z
+pub comes-before : (ts : Trees) (c d l e : Complex) (k : List CompoundPart) (x y z : NodeName) → Once ts → d ≡ joined l later k →
+    Comes ts c x d y → ChainIsBefore ts l y e z → Comes ts c x e z
 comes-before ts c d l e k x y z once is w v =
     let stops = subst (λ b. StopsAt IsSearched ts b y) is w.stops in
     record {
@@ -108,7 +112,8 @@ comes-before ts c d l e k x y z once is w v =
     }
 
 -- where there is none, nothing matches
-pub none-before : (ts : Trees) (c d l : Complex) (k : List CompoundPart) (x y : NodeName) → d ≡ joined l later k → Comes ts c x d y → list_any (complex_matches ts l) (elements_before ts y) ≡ false → complex_matches ts c x ≡ false
+pub none-before : (ts : Trees) (c d l : Complex) (k : List CompoundPart) (x y : NodeName) → d ≡ joined l later k → Comes ts c x d y →
+    list_any (complex_matches ts l) (elements_before ts y) ≡ false → complex_matches ts c x ≡ false
 none-before ts c d l k x y is w e =
     let stops = subst (λ b. StopsAt IsSearched ts b y) is w.stops in
     w.same ∙ (ap (λ b. complex_matches ts b y) is ∙ (combined ts l later k y stops.1 ∙ e))
@@ -120,7 +125,8 @@ not_later child s other = s
 not_later next s other = s
 not_later later s other = other refl
 
-pub stops-white : (ts : Trees) (d l : Complex) (how : Combinator) (k : List CompoundPart) (z : NodeName) → d ≡ joined l how k → (how ≡ later → ⊥) → StopsAt IsSearched ts d z → StopsAt IsDescendant ts d z
+pub stops-white : (ts : Trees) (d l : Complex) (how : Combinator) (k : List CompoundPart) (z : NodeName) → d ≡ joined l how k →
+    (how ≡ later → ⊥) → StopsAt IsSearched ts d z → StopsAt IsDescendant ts d z
 stops-white ts d l how k z is other stops =
     let s = subst (λ b. StopsAt IsSearched ts b z) is stops in
     subst (λ b. StopsAt IsDescendant ts b z) (sym is) (not_later how s.0 other, s.1)
@@ -130,9 +136,11 @@ pub segment-ends : (ts : Trees) (c d : Complex) (x z : NodeName) → Comes ts c 
 segment-ends ts c d x z w stops = record { same = w.same; above = λ m. stop-above ts d z stops (w.above m); stops = stops }
 
 -- the nearest ancestor at which it holds answers for those that are farther
-pub segment-above : (ts : Trees) (c d : Complex) (x y z : NodeName) → Once ts → Has ts y → list_any (complex_matches ts c) (y ∷ ancestors ts y) ≡ list_any (complex_matches ts c) (ancestors ts x)
+pub segment-above : (ts : Trees) (c d : Complex) (x y z : NodeName) → Once ts → Has ts y →
+    list_any (complex_matches ts c) (y ∷ ancestors ts y) ≡ list_any (complex_matches ts c) (ancestors ts x)
     → SegmentEnds ts c y d z → SegmentIsAbove ts c x d z
-segment-above ts c d x y z once h all w = record { same = sym all ∙ same_answer _ _ found (λ e. or_left (complex_matches ts c y) _ (w.same ∙ e)); stops = w.stops }
+segment-above ts c d x y z once h all w =
+    record { same = sym all ∙ same_answer _ _ found (λ e. or_left (complex_matches ts c y) _ (w.same ∙ e)); stops = w.stops }
   where
     found : list_any (complex_matches ts c) (y ∷ ancestors ts y) ≡ true → complex_matches ts d z ≡ true
     found e = elim (or_cases (complex_matches ts c y) _ e) [
@@ -146,15 +154,19 @@ segment-above ts c d x y z once h all w = record { same = sym all ∙ same_answe
 -- ---- the whole
 
 -- a segment above, left of white space
-pub goes-above : (ts : Trees) (d l e : Complex) (how : Combinator) (k : List CompoundPart) (y z : NodeName) → d ≡ joined l how k → StopsAt IsDescendant ts d y → SegmentIsAbove ts l y e z → complex_matches ts d y ≡ complex_matches ts e z
-goes-above ts d l e descendant k y z is stops v = ap (λ b. complex_matches ts b y) is ∙ (combined ts l descendant k y (subst (λ b. StopsAt IsDescendant ts b y) is stops).1 ∙ v.same)
+pub goes-above : (ts : Trees) (d l e : Complex) (how : Combinator) (k : List CompoundPart) (y z : NodeName) → d ≡ joined l how k →
+    StopsAt IsDescendant ts d y → SegmentIsAbove ts l y e z → complex_matches ts d y ≡ complex_matches ts e z
+goes-above ts d l e descendant k y z is stops v =
+    ap (λ b. complex_matches ts b y) is ∙ (combined ts l descendant k y (subst (λ b. StopsAt IsDescendant ts b y) is stops).1 ∙ v.same)
 goes-above ts d l e child k y z is stops v = absurd (subst (λ b. StopsAt IsDescendant ts b y) is stops).0
 goes-above ts d l e next k y z is stops v = absurd (subst (λ b. StopsAt IsDescendant ts b y) is stops).0
 goes-above ts d l e later k y z is stops v = absurd (subst (λ b. StopsAt IsDescendant ts b y) is stops).0
 
 -- where there is none, nothing matches
-pub none-above : (ts : Trees) (d l : Complex) (how : Combinator) (k : List CompoundPart) (y : NodeName) → d ≡ joined l how k → StopsAt IsDescendant ts d y → list_any (complex_matches ts l) (ancestors ts y) ≡ false → complex_matches ts d y ≡ false
-none-above ts d l descendant k y is stops e = ap (λ b. complex_matches ts b y) is ∙ (combined ts l descendant k y (subst (λ b. StopsAt IsDescendant ts b y) is stops).1 ∙ e)
+pub none-above : (ts : Trees) (d l : Complex) (how : Combinator) (k : List CompoundPart) (y : NodeName) → d ≡ joined l how k →
+    StopsAt IsDescendant ts d y → list_any (complex_matches ts l) (ancestors ts y) ≡ false → complex_matches ts d y ≡ false
+none-above ts d l descendant k y is stops e =
+    ap (λ b. complex_matches ts b y) is ∙ (combined ts l descendant k y (subst (λ b. StopsAt IsDescendant ts b y) is stops).1 ∙ e)
 none-above ts d l child k y is stops e = absurd (subst (λ b. StopsAt IsDescendant ts b y) is stops).0
 none-above ts d l next k y is stops e = absurd (subst (λ b. StopsAt IsDescendant ts b y) is stops).0
 none-above ts d l later k y is stops e = absurd (subst (λ b. StopsAt IsDescendant ts b y) is stops).0

@@ -7,8 +7,10 @@ use Rattle.std.proofs.lemmas.Bool.{cond_both, cond-true, cond-false, and_from, e
 use Rattle.std.proofs.lemmas.List.Sums.{take_while-cons}
 use Rattle.std.proofs.lemmas.List.Folds.{list_all-append}
 use Rattle.dom_model.specs.Names.{Word, DomString, begins_name, continues_name, is_name}
-use Rattle.dom_model.specs.Selectors.{Simple, AttributeTest, is_space, of_id, of_class, with_attribute, with_value, first_child, last_child, equals, has_word, begins_with_dash, begins, ends, holds}
-use Rattle.dom_model.specs.SelectorText.{Reader, drop_while, skip_space, read_map, expect, closed_by, read_name, may_stand_quoted, read_quoted, read_value, read_one_of, signs, read_test_of, read_test, read_attribute, read_simple}
+use Rattle.dom_model.specs.Selectors.{Simple, AttributeTest, is_space, of_id, of_class, with_attribute, with_value, first_child, last_child, equals}
+use Rattle.dom_model.specs.Selectors.{has_word, begins_with_dash, begins, ends, holds}
+use Rattle.dom_model.specs.SelectorText.{Reader, drop_while, skip_space, read_map, expect, closed_by, read_name, may_stand_quoted, read_quoted}
+use Rattle.dom_model.specs.SelectorText.{read_value, read_one_of, signs, read_test_of, read_test, read_attribute, read_simple}
 use Rattle.dom_selectors.specs.Grammar.{Form, IsSpaces, IsName, IsQuoted, IsValue, plain, double, single, sign, IsSimple}
 use Rattle.dom_selectors.proofs.TokenLaws.{expect_at}
 
@@ -75,7 +77,8 @@ says-or form cs None b h g = g
 says-or form cs (Some r) b h g = h
 
 -- f of what is read
-pub says-map : {A B : Type 0} (form : Form A) (other : Form B) (f : A → B) (cs : DomString) (r : Option (A × DomString)) → ((text : DomString) (x : A) → form text x → other text (f x)) → Says form cs r → Says other cs (read_map f r)
+pub says-map : {A B : Type 0} (form : Form A) (other : Form B) (f : A → B) (cs : DomString) (r : Option (A × DomString)) →
+    ((text : DomString) (x : A) → form text x → other text (f x)) → Says form cs r → Says other cs (read_map f r)
 says-map form other f cs None by h = tt
 says-map form other f cs (Some r) by h = (h.0, by h.0 r.0 h.1, h.2)
 
@@ -88,7 +91,8 @@ says-means form a t cs h = at (expect t cs) (expect-stands t cs)
     at (Some rest) s = (t, h, s)
 
 -- what is read behind a text that stands here
-pub says-then : {A : Type 0} (form : Form A) (t cs : DomString) (read : Reader A) → ((rest : DomString) → Says (λ text x. form (t ++ text) x) rest (read rest)) → Says form cs (option_and_then read (expect t cs))
+pub says-then : {A : Type 0} (form : Form A) (t cs : DomString) (read : Reader A) →
+    ((rest : DomString) → Says (λ text x. form (t ++ text) x) rest (read rest)) → Says form cs (option_and_then read (expect t cs))
 says-then {A} form t cs read h = at (expect t cs) (expect-stands t cs)
   where
     on : (rest : DomString) → cs ≡ t ++ rest → (r : Option (A × DomString)) → Says (λ text x. form (t ++ text) x) rest r → Says form cs r
@@ -105,13 +109,18 @@ name-says [] = tt
 name-says (c ∷ cs) =
     let split = while_split continues_name cs in
     cond_both (begins_name c) (Some (c ∷ take_while continues_name cs, drop_while continues_name cs)) None (Says IsName (c ∷ cs))
-    (λ h. (c ∷ take_while continues_name cs, (refl, and_from (begins_name c) (list_all continues_name (take_while continues_name cs)) h split.0), ap (λ t. c ∷ t) split.1)) (λ _. tt)
+    (λ h. (
+      c ∷ take_while continues_name cs,
+      (refl, and_from (begins_name c) (list_all continues_name (take_while continues_name cs)) h split.0),
+      ap (λ t. c ∷ t) split.1,
+    )) (λ _. tt)
 
 -- a quoted value, behind its quote
 quoted-says : (quote : ℕ) (cs : DomString) → Says (λ text value. IsQuoted quote (quote ∷ text) value) cs (read_quoted quote cs)
 quoted-says quote cs = at (expect (quote ∷ []) (drop_while (may_stand_quoted quote) cs)) (expect-stands (quote ∷ []) (drop_while (may_stand_quoted quote) cs))
   where
-    at : (o : Option DomString) → Stands (quote ∷ []) (drop_while (may_stand_quoted quote) cs) o → Says (λ text v. IsQuoted quote (quote ∷ text) v) cs (option_map (λ rest'. (take_while (may_stand_quoted quote) cs, rest')) o)
+    at : (o : Option DomString) → Stands (quote ∷ []) (drop_while (may_stand_quoted quote) cs) o →
+        Says (λ text v. IsQuoted quote (quote ∷ text) v) cs (option_map (λ rest'. (take_while (may_stand_quoted quote) cs, rest')) o)
     at None s = tt
     at (Some behind) s =
         let split = while_split (may_stand_quoted quote) cs in
@@ -133,7 +142,8 @@ value-says (c ∷ cs) =
     by_quote text value q true e h = double (subst (λ x. IsQuoted x text value) (eqb-true c 34 e) q)
     by_quote text value q false e h = single (subst (λ x. IsQuoted x text value) (eqb-true c 39 h) q)
 
-    quoted : (r : Option (DomString × DomString)) → Says (λ text value. IsQuoted c (c ∷ text) value) cs r → ((c == 34) || (c == 39)) ≡ true → Says IsValue (c ∷ cs) r
+    quoted : (r : Option (DomString × DomString)) → Says (λ text value. IsQuoted c (c ∷ text) value) cs r → ((c == 34) || (c == 39)) ≡ true →
+        Says IsValue (c ∷ cs) r
     quoted None h e = tt
     quoted (Some r) h e = (c ∷ h.0, by_quote (c ∷ h.0) r.0 h.1 (c == 34) refl e, ap (λ t. c ∷ t) h.2)
 
@@ -152,7 +162,8 @@ sign-says cs =
 attribute-says : (cs : DomString) → Says (λ text s. IsSimple (codes "[" ++ text) s) cs (read_attribute cs)
 attribute-says cs = named (read_name (skip_space cs)) (name-says (skip_space cs))
   where
-    bare : (a : Word) (rest : DomString) → is_name a ≡ true → skip_space cs ≡ a ++ rest → (o : Option DomString) → Stands (codes "]") (skip_space (skip_space rest)) o
+    bare : (a : Word) (rest : DomString) → is_name a ≡ true → skip_space cs ≡ a ++ rest → (o : Option DomString) →
+        Stands (codes "]") (skip_space (skip_space rest)) o
         → Says (λ text s. IsSimple (codes "[" ++ text) s) cs (option_map (λ behind. (with_attribute a, behind)) o)
     bare a rest n e None s = tt
     bare a rest n e (Some behind) s =
@@ -161,14 +172,24 @@ attribute-says cs = named (read_name (skip_space cs)) (name-says (skip_space cs)
         let last = skips (skip_space rest) in
         let after = middle.0 ++ last.0 in (
           first.0 ++ (a ++ (after ++ codes "]")),
-          record { before = first.0; after = after; spaces_before = first.1; spaces_after = more_spaces middle.0 last.0 middle.1 last.1; named = n; whole = refl },
+          record {
+            before = first.0;
+            after = after;
+            spaces_before = first.1;
+            spaces_after = more_spaces middle.0 last.0 middle.1 last.1;
+            named = n;
+            whole = refl;
+          },
           put cs first.0 (skip_space cs) (a ++ (after ++ codes "]")) behind first.2
               (put (skip_space cs) a rest (after ++ codes "]") behind e
-              (put rest after (skip_space (skip_space rest)) (codes "]") behind (put rest middle.0 (skip_space rest) last.0 (skip_space (skip_space rest)) middle.2 last.2) s)),
+              (put rest after (skip_space (skip_space rest)) (codes "]") behind
+              (put rest middle.0 (skip_space rest) last.0 (skip_space (skip_space rest)) middle.2 last.2) s)),
         )
 
-    closed : (a : Word) (t : AttributeTest) (rest behind left : DomString) (v said : DomString) → is_name a ≡ true → skip_space cs ≡ a ++ rest → skip_space rest ≡ sign t ++ behind → IsValue said v → skip_space behind ≡ said ++ left
-        → (o : Option DomString) → Stands (codes "]") (skip_space left) o → Says (λ text s. IsSimple (codes "[" ++ text) s) cs (option_map (λ b. (with_value a t v, b)) o)
+    closed : (a : Word) (t : AttributeTest) (rest behind left : DomString) (v said : DomString) → is_name a ≡ true → skip_space cs ≡ a ++ rest →
+        skip_space rest ≡ sign t ++ behind → IsValue said v → skip_space behind ≡ said ++ left
+        → (o : Option DomString) → Stands (codes "]") (skip_space left) o →
+        Says (λ text s. IsSimple (codes "[" ++ text) s) cs (option_map (λ b. (with_value a t v, b)) o)
     closed a t rest behind left v said n e g value h None s = tt
     closed a t rest behind left v said n e g value h (Some b) s =
         let one = skips cs in
@@ -183,30 +204,49 @@ attribute-says cs = named (read_name (skip_space cs)) (name-says (skip_space cs)
         let rest_is = put rest two.0 (skip_space rest) (sign t ++ (three.0 ++ (said ++ end))) b two.2 sign_is in
         let name_is = put (skip_space cs) a rest (two.0 ++ (sign t ++ (three.0 ++ (said ++ end)))) b e rest_is in (
           one.0 ++ (a ++ (two.0 ++ (sign t ++ (three.0 ++ (said ++ end))))),
-          record { before = one.0; between = two.0; behind = three.0; after = four.0; said = said; spaces_before = one.1; spaces_between = two.1; spaces_behind = three.1; spaces_after = four.1; named = n; valued = value; whole = refl },
+          record {
+            before = one.0;
+            between = two.0;
+            behind = three.0;
+            after = four.0;
+            said = said;
+            spaces_before = one.1;
+            spaces_between = two.1;
+            spaces_behind = three.1;
+            spaces_after = four.1;
+            named = n;
+            valued = value;
+            whole = refl;
+          },
           put cs one.0 (skip_space cs) (a ++ (two.0 ++ (sign t ++ (three.0 ++ (said ++ end))))) b one.2 name_is,
         )
 
-    valued : (a : Word) (t : AttributeTest) (rest behind : DomString) → is_name a ≡ true → skip_space cs ≡ a ++ rest → skip_space rest ≡ sign t ++ behind → (r : Option (DomString × DomString)) → Says IsValue (skip_space behind) r
+    valued : (a : Word) (t : AttributeTest) (rest behind : DomString) → is_name a ≡ true → skip_space cs ≡ a ++ rest →
+        skip_space rest ≡ sign t ++ behind → (r : Option (DomString × DomString)) → Says IsValue (skip_space behind) r
         → Says (λ text s. IsSimple (codes "[" ++ text) s) cs (closed_by (codes "]") (read_map (with_value a t) r))
     valued a t rest behind n e g None h = tt
-    valued a t rest behind n e g (Some r) h = closed a t rest behind r.1 r.0 h.0 n e g h.1 h.2 (expect (codes "]") (skip_space r.1)) (expect-stands (codes "]") (skip_space r.1))
+    valued a t rest behind n e g (Some r) h =
+        closed a t rest behind r.1 r.0 h.0 n e g h.1 h.2 (expect (codes "]") (skip_space r.1)) (expect-stands (codes "]") (skip_space r.1))
 
-    tested : (a : Word) (rest : DomString) → is_name a ≡ true → skip_space cs ≡ a ++ rest → (o : Option (AttributeTest × DomString)) → Says (λ text t. text ≡ sign t) (skip_space rest) o
+    tested : (a : Word) (rest : DomString) → is_name a ≡ true → skip_space cs ≡ a ++ rest → (o : Option (AttributeTest × DomString)) →
+        Says (λ text t. text ≡ sign t) (skip_space rest) o
         → Says (λ text s. IsSimple (codes "[" ++ text) s) cs (closed_by (codes "]") (read_test_of a (skip_space rest) o))
     tested a rest n e None h = bare a rest n e (expect (codes "]") (skip_space (skip_space rest))) (expect-stands (codes "]") (skip_space (skip_space rest)))
     tested a rest n e (Some t) h =
         valued a t.0 rest t.1 n e (h.2 ∙ ap (λ x. x ++ t.1) h.1) (read_value (skip_space t.1)) (value-says (skip_space t.1))
 
-    named : (r : Option (Word × DomString)) → Says IsName (skip_space cs) r → Says (λ text s. IsSimple (codes "[" ++ text) s) cs (closed_by (codes "]") (option_and_then (λ (a, rest). read_test a (skip_space rest)) r))
+    named : (r : Option (Word × DomString)) → Says IsName (skip_space cs) r →
+        Says (λ text s. IsSimple (codes "[" ++ text) s) cs (closed_by (codes "]") (option_and_then (λ (a, rest). read_test a (skip_space rest)) r))
     named None h = tt
     named (Some r) h = tested r.0 r.1 h.1.1 (h.2 ∙ ap (λ x. x ++ r.1) h.1.0) (read_one_of signs (skip_space r.1)) (sign-says (skip_space r.1))
 
 -- a name behind a sign
-named-says : (t : DomString) (f : Word → Simple) → ((name : Word) → is_name name ≡ true → IsSimple (t ++ name) (f name)) → (cs : DomString) → Says IsSimple cs (option_and_then (λ rest. read_map f (read_name rest)) (expect t cs))
+named-says : (t : DomString) (f : Word → Simple) → ((name : Word) → is_name name ≡ true → IsSimple (t ++ name) (f name)) → (cs : DomString) →
+    Says IsSimple cs (option_and_then (λ rest. read_map f (read_name rest)) (expect t cs))
 named-says t f by cs =
     says-then IsSimple t cs (λ rest. read_map f (read_name rest))
-    (λ rest. says-map IsName (λ text x. IsSimple (t ++ text) x) f rest (read_name rest) (λ text name h. subst (λ x. IsSimple (t ++ x) (f name)) (sym h.0) (by name h.1)) (name-says rest))
+    (λ rest. says-map IsName (λ text x. IsSimple (t ++ text) x) f rest (read_name rest)
+    (λ text name h. subst (λ x. IsSimple (t ++ x) (f name)) (sym h.0) (by name h.1)) (name-says rest))
 
 -- a simple selector
 pub simple-says : (cs : DomString) → Says IsSimple cs (read_simple cs)

@@ -1,5 +1,6 @@
 -- What is read as compounds, complex selectors and lists of them is in the grammar.
-use Rattle.std.proofs.Common.{◌≡◌, ℕ, zero, suc, Bool, true, false, List, [], ◌∷◌, ◌++◌, length, Option, Some, None, refl, ap, sym, subst, ◌∙◌, ◌<◌, arith, append_assoc}
+use Rattle.std.proofs.Common.{◌≡◌, ℕ, zero, suc, Bool, true, false, List, [], ◌∷◌, ◌++◌, length, Option, Some, None, refl, ap, sym, subst, ◌∙◌, ◌<◌}
+use Rattle.std.proofs.Common.{arith, append_assoc}
 use Rattle.std.specs.Prelude.{map, fold, option_map, codes, nat_lt, if◌then◌else◌}
 use Rattle.std.specs.Option.{option_and_then, option_or, option_map_or}
 use Rattle.std.proofs.lemmas.Bool.{cond_both, ltb-true}
@@ -7,8 +8,11 @@ use Rattle.std.proofs.lemmas.List.{append-nil}
 use Rattle.std.proofs.lemmas.Option.{none-some, same_Some}
 use Rattle.dom_model.specs.Names.{DomString, is_empty}
 use Rattle.dom_model.specs.Selectors.{Simple, CompoundPart, Combinator, Complex, of_type, of_any_type, simple, is_not, descendant, child, next, later, alone}
-use Rattle.dom_model.specs.SelectorText.{Reader, skip_space, read_map, expect, closed_by, read_more, read_each, read_all, read_name, read_one_of, read_simple, read_type_name, read_type, read_compound_of, read_not, read_part, read_compound, read_combinator, read_link, read_complex, read_next, link, whole, parse_selectors}
-use Rattle.dom_selectors.specs.Grammar.{Form, IsSpaces, IsName, IsSimple, IsType, AreEach, IsCompoundOf, IsPart, IsCompound, IsSpaced, IsCombinator, IsLink, IsComplex, IsSelector}
+use Rattle.dom_model.specs.SelectorText.{Reader, skip_space, read_map, expect, closed_by, read_more, read_each, read_all, read_name, read_one_of}
+use Rattle.dom_model.specs.SelectorText.{read_simple, read_type_name, read_type, read_compound_of, read_not, read_part, read_compound}
+use Rattle.dom_model.specs.SelectorText.{read_combinator, read_link, read_complex, read_next, link, whole, parse_selectors}
+use Rattle.dom_selectors.specs.Grammar.{Form, IsSpaces, IsName, IsSimple, IsType, AreEach, IsCompoundOf, IsPart, IsCompound, IsSpaced, IsCombinator}
+use Rattle.dom_selectors.specs.Grammar.{IsLink, IsComplex, IsSelector}
 use Rattle.dom_selectors.specs.Texts.{combinator_signs}
 use Rattle.dom_selectors.proofs.Sound.{Says, Stands, put, skips, expect-stands, says-or, says-map, says-means, says-then, name-says, simple-says}
 
@@ -17,7 +21,8 @@ abbrev Reads : {A : Type 0} → Form A → DomString → A × DomString → Type
 Reads form cs r = (text : DomString) × form text r.0 × (cs ≡ text ++ r.1)
 
 -- one, and those behind it
-more-says : {A : Type 0} (form : Form A) (read : Reader A) (k : ℕ) (cs : DomString) (r : Option (A × DomString)) → Says form cs r → ((rest : DomString) → Reads (AreEach form) rest (read_each k read rest))
+more-says : {A : Type 0} (form : Form A) (read : Reader A) (k : ℕ) (cs : DomString) (r : Option (A × DomString)) → Says form cs r →
+    ((rest : DomString) → Reads (AreEach form) rest (read_each k read rest))
     → Reads (AreEach form) cs (read_more (λ rest. read_each k read rest) cs r)
 more-says form read k cs None h others = ([], refl, refl)
 more-says form read k cs (Some r) h others =
@@ -25,7 +30,8 @@ more-says form read k cs (Some r) h others =
     (h.0 ++ more.0, (h.0, more.0, h.1, more.1, refl), put cs h.0 r.1 more.0 (read_each k read r.1).1 h.2 more.2)
 
 -- those that are read one after another
-each-says : {A : Type 0} (form : Form A) (read : Reader A) → ((cs : DomString) → Says form cs (read cs)) → (k : ℕ) (cs : DomString) → Reads (AreEach form) cs (read_each k read cs)
+each-says : {A : Type 0} (form : Form A) (read : Reader A) → ((cs : DomString) → Says form cs (read cs)) → (k : ℕ) (cs : DomString) →
+    Reads (AreEach form) cs (read_each k read cs)
 each-says form read s zero cs = ([], refl, refl)
 each-says form read s (suc k) cs = more-says form read k cs (read cs) (s cs) (λ rest. each-says form read s k rest)
 
@@ -33,7 +39,8 @@ each-says form read s (suc k) cs = more-says form read k cs (read cs) (s cs) (λ
 type_name-says : (cs : DomString) → Says (λ text s. IsType text (s ∷ [])) cs (read_type_name cs)
 type_name-says cs =
     let form : Form Simple = λ text s. IsType text (s ∷ []) in
-    says-or form cs _ _ (says-map IsName form of_type cs (read_name cs) (λ text name h. h) (name-says cs)) (says-or form cs _ _ (says-means form of_any_type (codes "*") cs refl) tt)
+    says-or form cs _ _ (says-map IsName form of_type cs (read_name cs) (λ text name h. h) (name-says cs))
+    (says-or form cs _ _ (says-means form of_any_type (codes "*") cs refl) tt)
 
 -- the same, if it is there
 type-says : (cs : DomString) → Reads IsType cs (read_type cs)
@@ -44,7 +51,8 @@ type-says cs = at (read_type_name cs) (type_name-says cs)
     at (Some r) h = h
 
 -- a compound
-compound-says : {A : Type 0} (part : Simple → A) (form : Form A) (read : Reader A) → ((cs : DomString) → Says form cs (read cs)) → (cs : DomString) → Says (IsCompoundOf part form) cs (read_compound_of part read cs)
+compound-says : {A : Type 0} (part : Simple → A) (form : Form A) (read : Reader A) → ((cs : DomString) → Says form cs (read cs)) →
+    (cs : DomString) → Says (IsCompoundOf part form) cs (read_compound_of part read cs)
 compound-says {A} part form read s cs =
     let front = type-says cs in
     let mid = (read_type cs).1 in
@@ -54,15 +62,29 @@ compound-says {A} part form read s cs =
     cond_both (is_empty all) None (Some (all, parts.1)) (Says (IsCompoundOf part form) cs) (λ _. tt)
     (λ e. (
       front.0 ++ back.0,
-      record { front = front.0; back = back.0; types = (read_type cs).0; parts = parts.0; typed = front.1; each = back.1; joined = refl; some = e; whole = refl },
+      record {
+        front = front.0;
+        back = back.0;
+        types = (read_type cs).0;
+        parts = parts.0;
+        typed = front.1;
+        each = back.1;
+        joined = refl;
+        some = e;
+        whole = refl;
+      },
       put cs front.0 mid back.0 parts.1 front.2 back.2,
     ))
 
 -- `:not(..)`
 not-says : (cs : DomString) → Says IsPart cs (read_not cs)
-not-says cs = says-then IsPart (codes ":not(") cs (λ rest. closed_by (codes ")") (read_map is_not (read_compound_of (λ s. s) read_simple (skip_space rest)))) (λ rest. at rest (read_compound_of (λ s. s) read_simple (skip_space rest)) (compound-says (λ s. s) IsSimple read_simple simple-says (skip_space rest)))
+not-says cs = says-then IsPart (codes ":not(") cs
+    (λ rest. closed_by (codes ")") (read_map is_not (read_compound_of (λ s. s) read_simple (skip_space rest))))
+    (λ rest. at rest (read_compound_of (λ s. s) read_simple (skip_space rest))
+    (compound-says (λ s. s) IsSimple read_simple simple-says (skip_space rest)))
   where
-    closed : (rest inner : DomString) (r : List Simple × DomString) → IsCompoundOf (λ s. s) IsSimple inner r.0 → skip_space rest ≡ inner ++ r.1 → (o : Option DomString) → Stands (codes ")") (skip_space r.1) o
+    closed : (rest inner : DomString) (r : List Simple × DomString) → IsCompoundOf (λ s. s) IsSimple inner r.0 → skip_space rest ≡ inner ++ r.1 →
+        (o : Option DomString) → Stands (codes ")") (skip_space r.1) o
         → Says (λ text p. IsPart (codes ":not(" ++ text) p) rest (option_map (λ behind. (is_not r.0, behind)) o)
     closed rest inner r h e None s = tt
     closed rest inner r h e (Some behind) s =
@@ -71,10 +93,12 @@ not-says cs = says-then IsPart (codes ":not(") cs (λ rest. closed_by (codes ")"
         let end_is = put r.1 last.0 (skip_space r.1) (codes ")") behind last.2 s in (
           first.0 ++ (inner ++ (last.0 ++ codes ")")),
           record { before = first.0; inner = inner; after = last.0; spaces_before = first.1; spaces_after = last.1; negated = h; whole = refl },
-          put rest first.0 (skip_space rest) (inner ++ (last.0 ++ codes ")")) behind first.2 (put (skip_space rest) inner r.1 (last.0 ++ codes ")") behind e end_is),
+          put rest first.0 (skip_space rest) (inner ++ (last.0 ++ codes ")")) behind first.2
+              (put (skip_space rest) inner r.1 (last.0 ++ codes ")") behind e end_is),
         )
 
-    at : (rest : DomString) (r : Option (List Simple × DomString)) → Says (IsCompoundOf (λ s. s) IsSimple) (skip_space rest) r → Says (λ text p. IsPart (codes ":not(" ++ text) p) rest (closed_by (codes ")") (read_map is_not r))
+    at : (rest : DomString) (r : Option (List Simple × DomString)) → Says (IsCompoundOf (λ s. s) IsSimple) (skip_space rest) r →
+        Says (λ text p. IsPart (codes ":not(" ++ text) p) rest (closed_by (codes ")") (read_map is_not r))
     at rest None h = tt
     at rest (Some r) h = closed rest h.0 r h.1 h.2 (expect (codes ")") (skip_space r.1)) (expect-stands (codes ")") (skip_space r.1))
 
@@ -110,12 +134,18 @@ combinator-says cs =
     (says-or bare (skip_space cs) _ _ (says-means bare next (codes "+") (skip_space cs) refl)
     (says-or bare (skip_space cs) _ _ (says-means bare later (codes "~") (skip_space cs) refl) tt)))
   where
-    spaced : (text : DomString) (how : Combinator) (rest : DomString) → Bare text how → skip_space cs ≡ text ++ rest → Says IsCombinator cs (Some (how, skip_space rest))
+    spaced : (text : DomString) (how : Combinator) (rest : DomString) → Bare text how → skip_space cs ≡ text ++ rest →
+        Says IsCombinator cs (Some (how, skip_space rest))
     spaced text how rest h e =
         let first = skips cs in
         let last = skips rest in
-        let said : IsSpaced (first.0 ++ (text ++ last.0)) text = record { before = first.0; after = last.0; spaces_before = first.1; spaces_after = last.1; whole = refl } in
-        (first.0 ++ (text ++ last.0), of_bare (first.0 ++ (text ++ last.0)) text how h said, put cs first.0 (skip_space cs) (text ++ last.0) (skip_space rest) first.2 (put (skip_space cs) text rest last.0 (skip_space rest) e last.2))
+        let said : IsSpaced (first.0 ++ (text ++ last.0)) text =
+        record { before = first.0; after = last.0; spaces_before = first.1; spaces_after = last.1; whole = refl } in (
+          first.0 ++ (text ++ last.0),
+          of_bare (first.0 ++ (text ++ last.0)) text how h said,
+          put cs first.0 (skip_space cs) (text ++ last.0)
+              (skip_space rest) first.2 (put (skip_space cs) text rest last.0 (skip_space rest) e last.2),
+        )
 
     some_space : nat_lt (length (skip_space cs)) (length cs) ≡ true → Says IsCombinator cs (Some (descendant, skip_space cs))
     some_space e =
@@ -123,20 +153,29 @@ combinator-says cs =
         (first.0, (first.1, not_empty first.0 (skip_space cs) cs first.2 (ltb-true (length (skip_space cs)) (length cs) e)), first.2)
 
     at : (sign : Option (Combinator × DomString)) → Says (λ text how. Bare text how) (skip_space cs) sign
-        → Says IsCombinator cs (option_map (λ (how, rest). (how, skip_space rest)) (option_or sign (if nat_lt (length (skip_space cs)) (length cs) then Some (descendant, cs) else None)))
+        → Says IsCombinator cs (option_map (λ (how, rest). (how, skip_space rest))
+        (option_or sign (if nat_lt (length (skip_space cs)) (length cs) then Some (descendant, cs) else None)))
     at None h =
-        cond_both (nat_lt (length (skip_space cs)) (length cs)) (Some (descendant, cs)) None (λ o. Says IsCombinator cs (option_map (λ (how, rest). (how, skip_space rest)) o)) some_space (λ _. tt)
+        cond_both (nat_lt (length (skip_space cs)) (length cs)) (Some (descendant, cs)) None
+        (λ o. Says IsCombinator cs (option_map (λ (how, rest). (how, skip_space rest)) o)) some_space (λ _. tt)
     at (Some r) h = spaced h.0 r.0 r.1 h.1 h.2
 
 -- a combinator with a compound
 link-says : (cs : DomString) → Says IsLink cs (read_link cs)
 link-says cs = at (read_combinator cs) (combinator-says cs)
   where
-    on : (how : Combinator) (front rest : DomString) → IsCombinator front how → cs ≡ front ++ rest → (c : Option (List CompoundPart × DomString)) → Says IsCompound rest c → Says IsLink cs (read_map (λ c'. (how, c')) c)
+    on : (how : Combinator) (front rest : DomString) → IsCombinator front how → cs ≡ front ++ rest →
+        (c : Option (List CompoundPart × DomString)) → Says IsCompound rest c → Says IsLink cs (read_map (λ c'. (how, c')) c)
     on how front rest h e None g = tt
-    on how front rest h e (Some c) g = (front ++ g.0, record { front = front; back = g.0; combines = h; compound = g.1; whole = refl }, put cs front rest g.0 c.1 e g.2)
+    on how front rest h e (Some c) g = (
+      front ++ g.0,
+      record { front = front; back = g.0; combines = h; compound = g.1; whole = refl },
+      put cs
+          front rest g.0 c.1 e g.2,
+    )
 
-    at : (r : Option (Combinator × DomString)) → Says IsCombinator cs r → Says IsLink cs (option_and_then (λ (how, rest). read_map (λ c. (how, c)) (read_compound rest)) r)
+    at : (r : Option (Combinator × DomString)) → Says IsCombinator cs r →
+        Says IsLink cs (option_and_then (λ (how, rest). read_map (λ c. (how, c)) (read_compound rest)) r)
     at None h = tt
     at (Some r) h = on r.0 h.0 r.1 h.1 h.2 (read_compound r.1) (compound-says simple IsPart read_part part-says r.1)
 
@@ -148,14 +187,22 @@ complex-says : (cs : DomString) → Says IsSpacedComplex cs (read_complex cs)
 complex-says cs = at (read_compound (skip_space cs)) (compound-says simple IsPart read_part part-says (skip_space cs))
   where
     at : (r : Option (List CompoundPart × DomString)) → Says IsCompound (skip_space cs) r
-        → Says IsSpacedComplex cs (option_map (λ (c, rest). let links : List (Combinator × List CompoundPart) × DomString = read_all read_link rest in (fold link (alone c) links.0, links.1)) r)
+        → Says IsSpacedComplex cs (option_map
+        (λ (c, rest). let links : List (Combinator × List CompoundPart) ×
+        DomString = read_all read_link rest in (fold link (alone c) links.0, links.1)) r)
     at None h = tt
     at (Some r) h =
         let first = skips cs in
         let back = each-says IsLink read_link link-says (length r.1) r.1 in
         let links : List (Combinator × List CompoundPart) × DomString = read_all read_link r.1 in (
           first.0 ++ (h.0 ++ back.0),
-          (first.0, h.0 ++ back.0, first.1, record { front = h.0; back = back.0; first = r.0; links = links.0; compound = h.1; linked = back.1; joined = refl; whole = refl }, refl),
+          (
+            first.0,
+            h.0 ++ back.0,
+            first.1,
+            record { front = h.0; back = back.0; first = r.0; links = links.0; compound = h.1; linked = back.1; joined = refl; whole = refl },
+            refl,
+          ),
           put cs first.0 (skip_space cs) (h.0 ++ back.0) links.1 first.2 (put (skip_space cs) h.0 r.1 back.0 links.1 h.2 back.2),
         )
 
@@ -177,7 +224,8 @@ next-says cs = at (expect (codes ",") (skip_space cs)) (expect-stands (codes ","
     at (Some rest) s = on rest s (read_complex rest) (complex-says rest)
 
 -- a first one and those behind it, with white space at the end
-listed : (x : Complex) (xs : List Complex) (cs one others end : DomString) → IsSpacedComplex one x → AreEach IsNext others xs → IsSpaces end → cs ≡ one ++ (others ++ end) → IsSelector cs (x ∷ xs)
+listed : (x : Complex) (xs : List Complex) (cs one others end : DomString) → IsSpacedComplex one x → AreEach IsNext others xs → IsSpaces end →
+    cs ≡ one ++ (others ++ end) → IsSelector cs (x ∷ xs)
 listed x [] cs one others end h each spaces e =
     record {
       before = h.0;
@@ -192,7 +240,15 @@ listed x (y ∷ ys) cs one others end h each spaces e =
     let first = each.2 in (
       one ++ first.0,
       first.1 ++ (each.1 ++ end),
-      record { before = h.0; inner = h.1; after = first.0; spaces_before = h.2; spaces_after = first.2; complex = h.3; whole = ap (λ t. t ++ first.0) h.4 ∙ append_assoc h.0 h.1 first.0 },
+      record {
+        before = h.0;
+        inner = h.1;
+        after = first.0;
+        spaces_before = h.2;
+        spaces_after = first.2;
+        complex = h.3;
+        whole = ap (λ t. t ++ first.0) h.4 ∙ append_assoc h.0 h.1 first.0;
+      },
       listed y ys (first.1 ++ (each.1 ++ end)) first.1 each.1 end first.3 each.3 spaces refl,
       e ∙ ap (λ t. one ++ (t ++ end)) (each.4 ∙ ap (λ t. t ++ each.1) first.4)
           ∙ ap (λ t. one ++ t) (append_assoc (first.0 ++ 44 ∷ first.1) each.1 end ∙ append_assoc first.0 (44 ∷ first.1) (each.1 ++ end))
@@ -213,13 +269,16 @@ only_spaces cs e =
 pub parsed_says : (cs : DomString) (s : List Complex) → parse_selectors cs ≡ Some s → IsSelector cs s
 parsed_says cs s = at (read_complex cs) (complex-says cs)
   where
-    ended : (x : Complex) (one rest : DomString) (xs : List Complex) (others left : DomString) → IsSpacedComplex one x → cs ≡ one ++ rest → AreEach IsNext others xs → rest ≡ others ++ left
+    ended : (x : Complex) (one rest : DomString) (xs : List Complex) (others left : DomString) → IsSpacedComplex one x → cs ≡ one ++ rest →
+        AreEach IsNext others xs → rest ≡ others ++ left
         → (b : Bool) → is_empty (skip_space left) ≡ b → (if b then Some (x ∷ xs) else None) ≡ Some s → IsSelector cs s
-    ended x one rest xs others left h e each g true f is = subst (IsSelector cs) (same_Some _ _ is) (listed x xs cs one others left h each (only_spaces left f) (e ∙ ap (λ t. one ++ t) g))
+    ended x one rest xs others left h e each g true f is =
+        subst (IsSelector cs) (same_Some _ _ is) (listed x xs cs one others left h each (only_spaces left f) (e ∙ ap (λ t. one ++ t) g))
     ended x one rest xs others left h e each g false f is = absurd (none-some s is)
 
     at : (r : Option (Complex × DomString)) → Says IsSpacedComplex cs r
-        → option_and_then (λ (c, rest). let more : List Complex × DomString = read_all read_next rest in whole (c ∷ more.0, more.1)) r ≡ Some s → IsSelector cs s
+        → option_and_then (λ (c, rest). let more : List Complex × DomString = read_all read_next rest in whole (c ∷ more.0, more.1)) r ≡ Some s →
+        IsSelector cs s
     at None h is = absurd (none-some s is)
     at (Some r) h is =
         let more = each-says IsNext read_next next-says (length r.1) r.1 in

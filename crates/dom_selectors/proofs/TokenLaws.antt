@@ -10,7 +10,8 @@ use Rattle.dom_model.specs.SelectorText.{drop_while, expect, read_name}
 pub behind_those : (test : ℕ → Bool) (cs : List ℕ) → drop (prefix_len test cs) cs ≡ drop_while test cs
 behind_those test [] = refl
 behind_those test (c ∷ cs) =
-    elim (test c) as (λ b. drop (cond b (1 + prefix_len test cs) 0) (c ∷ cs) ≡ (if b then drop_while test cs else c ∷ cs)) [ true ↦ behind (prefix_len test cs) (behind_those test cs) | false ↦ refl ]
+    elim (test c) as (λ b. drop (cond b (1 + prefix_len test cs) 0) (c ∷ cs) ≡ (if b then drop_while test cs else c ∷ cs))
+    [ true ↦ behind (prefix_len test cs) (behind_those test cs) | false ↦ refl ]
   where
     behind : (n : ℕ) → drop n cs ≡ drop_while test cs → drop (1 + n) (c ∷ cs) ≡ drop_while test cs
     behind n h = rw one-add h
@@ -34,7 +35,8 @@ name_at (c ∷ cs) h = name_from c cs h
 
 -- a text goes on at a unit that is its next one
 pub expect_at : (t : ℕ) (ts : List ℕ) (c : ℕ) (cs : List ℕ) → expect (t ∷ ts) (c ∷ cs) ≡ (if t == c then expect ts cs else None)
-expect_at t ts c cs = elim (t == c) as (λ b. (if b && starts_with nat_eq cs ts then Some (drop (length ts) cs) else None) ≡ (if b then expect ts cs else None)) [ true ↦ refl | false ↦ refl ]
+expect_at t ts c cs = elim (t == c) as (λ b.
+    (if b && starts_with nat_eq cs ts then Some (drop (length ts) cs) else None) ≡ (if b then expect ts cs else None)) [ true ↦ refl | false ↦ refl ]
 
 -- at another one it is not there
 expect_other : (t : ℕ) (ts : List ℕ) (c : ℕ) (cs : List ℕ) → (t ≡ c → ⊥) → expect (t ∷ ts) (c ∷ cs) ≡ None

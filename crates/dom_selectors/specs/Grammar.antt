@@ -4,7 +4,8 @@ use Rattle.std.specs.Prelude.{◌≡◌, ℕ, true, false, List, [], ◌∷◌, 
 use Rattle.std.specs.List.{list_all}
 use Rattle.dom_model.specs.Names.{Word, DomString, is_name, is_empty}
 use Rattle.dom_model.specs.Selectors.{is_space, AttributeTest, Simple, CompoundPart, Combinator, Complex}
-use Rattle.dom_model.specs.Selectors.{equals, has_word, begins_with_dash, begins, ends, holds, of_type, of_any_type, of_id, of_class, with_attribute, with_value, first_child, last_child, simple, is_not, descendant, child, next, later, alone}
+use Rattle.dom_model.specs.Selectors.{equals, has_word, begins_with_dash, begins, ends, holds, of_type, of_any_type, of_id, of_class, with_attribute}
+use Rattle.dom_model.specs.Selectors.{with_value, first_child, last_child, simple, is_not, descendant, child, next, later, alone}
 use Rattle.dom_model.specs.SelectorText.{may_stand_quoted, link}
 
 -- a form: the texts of each value

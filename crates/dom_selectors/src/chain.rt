@@ -28,7 +28,10 @@ pub(crate) fn chain_end<'a>(
     key: Key,
 ) -> Option<Place<'a>>
     requires { key < length forest.now.names }
-    ensures ends { MatchOption result (spec_complex_matches forest.now.trees (complex_from first.now links.entry.now) (name_at forest.now.names key) ≡ false) (λ end. ChainEnds forest.now.trees (complex_from first.now links.entry.now) (name_at forest.now.names key) (complex_from first.now end.links.now) (name_at forest.now.names end.key)) }
+    ensures ends { MatchOption result (spec_complex_matches forest.now.trees (complex_from first.now links.entry.now)
+        (name_at forest.now.names key) ≡ false)
+        (λ end. ChainEnds forest.now.trees (complex_from first.now links.entry.now) (name_at forest.now.names key)
+        (complex_from first.now end.links.now) (name_at forest.now.names end.key)) }
     ensures node { IfSome result (λ end. end.key < length forest.now.names) }
     ensures shorter { IfSome result (λ end. length end.links.now ≤ length links.entry.now) }
 {
@@ -69,7 +72,10 @@ pub(crate) fn chain_before<'a>(
     key: Key,
 ) -> Option<Place<'a>>
     requires { key < length forest.now.names }
-    ensures ends { MatchOption result (list_any (spec_complex_matches forest.now.trees (complex_from first.now links.entry.now)) (elements_before forest.now.trees (name_at forest.now.names key)) ≡ false) (λ end. ChainIsBefore forest.now.trees (complex_from first.now links.entry.now) (name_at forest.now.names key) (complex_from first.now end.links.now) (name_at forest.now.names end.key)) }
+    ensures ends { MatchOption result (list_any (spec_complex_matches forest.now.trees (complex_from first.now links.entry.now))
+        (elements_before forest.now.trees (name_at forest.now.names key)) ≡ false)
+        (λ end. ChainIsBefore forest.now.trees (complex_from first.now links.entry.now) (name_at forest.now.names key)
+        (complex_from first.now end.links.now) (name_at forest.now.names end.key)) }
     ensures node { IfSome result (λ end. end.key < length forest.now.names) }
     ensures shorter { IfSome result (λ end. length end.links.now ≤ length links.entry.now) }
 {

@@ -3,7 +3,11 @@
 ghost use Rattle.std.specs.Prelude.{◌≡◌, ◌∷◌, [], codes, map, length, option_map, IfOk, IfErr, List, Some, None};
 ghost use Rattle.std.specs.Option.{option_and_then};
 ghost use Rattle.dom_model.specs.Selectors.{simple, Complex as ComplexSelector};
-ghost use Rattle.dom_model.specs.SelectorText.{expect as spec_expect, read_map, read_all, read_one_of, read_type as spec_read_type, read_compound_of, read_not as spec_read_not, read_simple as spec_read_simple, read_part as spec_read_part, read_compound as spec_read_compound, read_combinator as spec_read_combinator, read_link as spec_read_link, read_complex as spec_read_complex, read_next as spec_read_next, parse_selectors};
+ghost use Rattle.dom_model.specs.SelectorText.{expect as spec_expect, read_map, read_all, read_one_of, read_type as spec_read_type, read_compound_of};
+ghost use Rattle.dom_model.specs.SelectorText.{read_not as spec_read_not, read_simple as spec_read_simple, read_part as spec_read_part};
+ghost use Rattle.dom_model.specs.SelectorText.{read_compound as spec_read_compound, read_combinator as spec_read_combinator};
+ghost use Rattle.dom_model.specs.SelectorText.{read_link as spec_read_link, read_complex as spec_read_complex, read_next as spec_read_next};
+ghost use Rattle.dom_model.specs.SelectorText.{parse_selectors};
 ghost use Rattle.dom_selectors.specs.Reads.{Reads, IsRefusalWhere, behind_list, as_parts};
 ghost use Rattle.dom_selectors.specs.Grammar.{IsSelector};
 ghost use Rattle.dom_selectors.specs.Texts.{combinator_signs};

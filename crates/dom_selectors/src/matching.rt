@@ -3,7 +3,8 @@ ghost use Rattle.std.specs.Prelude.{◌≡◌, ◌<◌, ◌&&◌, length, map, s
 ghost use Rattle.std.specs.List.{list_all};
 ghost use Rattle.dom_model.specs.Names.{text_eq};
 ghost use Rattle.dom_model.specs.Tree.{node_in};
-ghost use Rattle.dom_model.specs.Selectors.{attribute_passes as spec_attribute_passes, simple_matches as spec_simple_matches, part_matches as spec_part_matches, compound_matches as spec_compound_matches};
+ghost use Rattle.dom_model.specs.Selectors.{attribute_passes as spec_attribute_passes, simple_matches as spec_simple_matches};
+ghost use Rattle.dom_model.specs.Selectors.{part_matches as spec_part_matches, compound_matches as spec_compound_matches};
 ghost use Rattle.dom_tree.specs.Forest.{name_at};
 ghost use Rattle.dom_selectors.specs.Views.{test_view, simple_view, part_view, compound_view};
 

@@ -39,7 +39,8 @@ impl Selector {
         top: Key,
     ) -> Result<Vec<Key>, AllocError>
         requires { top < length forest.now.names }
-        ensures found { IfOk result (λ keys. map (name_at forest.now.names) keys.items ≡ spec_query_all forest.now.trees (selector_view self.now) (name_at forest.now.names top)) }
+        ensures found { IfOk result (λ keys. map (name_at forest.now.names) keys.items ≡ spec_query_all forest.now.trees (selector_view self.now)
+            (name_at forest.now.names top)) }
         ensures nodes { IfOk result (λ keys. All (λ k. k < length forest.now.names) keys.items) }
     {
         forest.nodes_stand_once();

@@ -2,7 +2,9 @@
 ghost use Rattle.std.specs.Prelude.{◌≡◌, codes, map, ◌++◌, option_map, IfOk, string_bytes};
 ghost use Rattle.std.specs.Option.{option_and_then};
 ghost use Rattle.dom_model.specs.Selectors.{of_id, of_class};
-ghost use Rattle.dom_model.specs.SelectorText.{signs, expect as spec_expect, read_map, read_all, read_one_of, read_name as spec_read_name, read_attribute as spec_read_attribute, read_test as spec_read_test, read_simple as spec_read_simple, read_type_name as spec_read_type_name};
+ghost use Rattle.dom_model.specs.SelectorText.{signs, expect as spec_expect, read_map, read_all, read_one_of, read_name as spec_read_name};
+ghost use Rattle.dom_model.specs.SelectorText.{read_attribute as spec_read_attribute, read_test as spec_read_test, read_simple as spec_read_simple};
+ghost use Rattle.dom_model.specs.SelectorText.{read_type_name as spec_read_type_name};
 ghost use Rattle.dom_selectors.specs.Reads.{Reads};
 ghost use Rattle.dom_selectors.specs.Views.{simple_view, test_view};
 ghost use Rattle.dom_selectors.specs.Texts.{places};
@@ -73,7 +75,8 @@ fn read_attribute(alloc: Global, units: &[u16]) -> Result<Option<(Simple, &[u16]
 
 /// `#NAME`.
 fn read_id(alloc: Global, units: &[u16]) -> Result<Option<(Simple, &[u16])>, AllocError>
-    ensures { Reads (λ x. (simple_view x.0, x.1.now)) result (option_and_then (λ rest. read_map of_id (spec_read_name rest)) (spec_expect (codes "#") units.now)) }
+    ensures { Reads (λ x. (simple_view x.0, x.1.now)) result
+        (option_and_then (λ rest. read_map of_id (spec_read_name rest)) (spec_expect (codes "#") units.now)) }
 {
     let Some(rest) = expect(b"#", units) else {
         return Ok(None);
@@ -86,7 +89,8 @@ fn read_id(alloc: Global, units: &[u16]) -> Result<Option<(Simple, &[u16])>, All
 
 /// `.NAME`.
 fn read_class(alloc: Global, units: &[u16]) -> Result<Option<(Simple, &[u16])>, AllocError>
-    ensures { Reads (λ x. (simple_view x.0, x.1.now)) result (option_and_then (λ rest. read_map of_class (spec_read_name rest)) (spec_expect (codes ".") units.now)) }
+    ensures { Reads (λ x. (simple_view x.0, x.1.now)) result
+        (option_and_then (λ rest. read_map of_class (spec_read_name rest)) (spec_expect (codes ".") units.now)) }
 {
     let Some(rest) = expect(b".", units) else {
         return Ok(None);

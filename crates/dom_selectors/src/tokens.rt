@@ -5,7 +5,8 @@ ghost use Rattle.std.specs.List.{prefix_len};
 ghost use Rattle.std.specs.Str.{IsAscii};
 ghost use Rattle.dom_model.specs.Names.{begins_name as spec_begins_name, continues_name as spec_continues_name};
 ghost use Rattle.dom_model.specs.Selectors.{is_space as spec_is_space};
-ghost use Rattle.dom_model.specs.SelectorText.{skip_space as spec_skip_space, expect as spec_expect, may_stand_quoted as spec_may_stand_quoted, read_name as spec_read_name, read_quoted as spec_read_quoted, read_value as spec_read_value};
+ghost use Rattle.dom_model.specs.SelectorText.{skip_space as spec_skip_space, expect as spec_expect, may_stand_quoted as spec_may_stand_quoted};
+ghost use Rattle.dom_model.specs.SelectorText.{read_name as spec_read_name, read_quoted as spec_read_quoted, read_value as spec_read_value};
 
 use std::alloc::{AllocError, Global};
 

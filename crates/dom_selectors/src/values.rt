@@ -2,7 +2,8 @@
 ghost use Rattle.std.specs.Prelude.{◌≡◌, ◌≤◌, length, not, []};
 ghost use Rattle.std.specs.List.{prefix_len, list_any};
 ghost use Rattle.dom_model.specs.Names.{text_eq};
-ghost use Rattle.dom_model.specs.Selectors.{is_space as spec_is_space, words_from, has_space as spec_has_space, holds_text as spec_holds_text, value_passes as spec_value_passes};
+ghost use Rattle.dom_model.specs.Selectors.{is_space as spec_is_space, words_from, has_space as spec_has_space, holds_text as spec_holds_text};
+ghost use Rattle.dom_model.specs.Selectors.{value_passes as spec_value_passes};
 ghost use Rattle.dom_selectors.specs.Views.{test_view};
 
 use crate::selector::AttributeTest;

@@ -1,5 +1,6 @@
 -- A new node, alone in its tree, changes nothing of what is assigned.
-use Rattle.std.proofs.Common.{◌≡◌, ◌⊎◌, inl, inr, ℕ, ◌+◌, ◌<◌, ◌≤◌, Bool, true, false, List, [], ◌∷◌, ◌++◌, All, map, filter, drop, length, Option, Some, None, refl, sym, ap, subst, ◌∙◌, arith}
+use Rattle.std.proofs.Common.{◌≡◌, ◌⊎◌, inl, inr, ℕ, ◌+◌, ◌<◌, ◌≤◌, Bool, true, false, List, [], ◌∷◌, ◌++◌, All, map, filter, drop, length, Option}
+use Rattle.std.proofs.Common.{Some, None, refl, sym, ap, subst, ◌∙◌, arith}
 use Rattle.std.specs.Prelude.{nat_eq, find, if◌then◌else◌, option_to_list, unwrap_or}
 use Rattle.std.specs.Option.{option_map, option_map_or, option_and_then, option_or}
 use Rattle.std.proofs.lemmas.Bool.{cases_Bool, cond-false, eqb-true}
@@ -13,7 +14,8 @@ use Rattle.std.proofs.Math.Seq.{get_or-append_seam}
 use Rattle.dom_base.specs.declared.NodeName.{NodeName}
 use Rattle.dom_base.specs.declared.Owner.TheVariants.{Page}
 use Rattle.dom_model.specs.Names.{name_eq, name_before, node_of, is_in, first_of, last_of}
-use Rattle.dom_model.specs.Tree.{Trees, none, tree, Node, nodes, roots, names_of, no_node, node_in, or_else, subtree, inclusive_ancestors, parent_of, root_of, trees_below, children_of}
+use Rattle.dom_model.specs.Tree.{Trees, none, tree, Node, nodes, roots, names_of, no_node, node_in, or_else, subtree, inclusive_ancestors, parent_of}
+use Rattle.dom_model.specs.Tree.{root_of, trees_below, children_of}
 use Rattle.dom_model.specs.TreeChanges.{with_node, put_root}
 use Rattle.dom_model.specs.Slots.{is_slot_element, slots_among, slot_in}
 use Rattle.dom_tree.specs.Forest.{NamedTrees, name_at}
@@ -58,14 +60,17 @@ module _ (n : Node) (y : NodeName) where
   ]
 
   -- and so do other nodes
-  found_other : (x : NodeName) → name_eq n.name x ≡ false → (ts : Trees) → find (λ m. name_eq m.name x) (nodes (put ts)) ≡ find (λ m. name_eq m.name x) (nodes ts)
+  found_other : (x : NodeName) → name_eq n.name x ≡ false → (ts : Trees) →
+      find (λ m. name_eq m.name x) (nodes (put ts)) ≡ find (λ m. name_eq m.name x) (nodes ts)
   found_other x h none = ap (λ (b : Bool). if b then Some n else None) h
   found_other x h (tree m d r) = elim (cases_Bool (name_before y m.name)) [
     | inl g ↦ rw g (ap (λ (b : Bool). if b then Some n else find (λ k. name_eq k.name x) (nodes (tree m d r))) h)
     | inr g ↦
         rw g
         (ap (λ (o : Option Node). if name_eq m.name x then Some m else o)
-        (find-append (λ k. name_eq k.name x) (nodes d) (nodes (put r)) ∙ (ap (option_or (find (λ k. name_eq k.name x) (nodes d))) (found_other x h r) ∙ sym (find-append (λ k. name_eq k.name x) (nodes d) (nodes r)))))
+        (find-append (λ k. name_eq k.name x) (nodes d) (nodes (put r)) ∙
+        (ap (option_or (find (λ k. name_eq k.name x) (nodes d))) (found_other x h r) ∙
+        sym (find-append (λ k. name_eq k.name x) (nodes d) (nodes r)))))
   ]
 
   -- it stands alone
@@ -73,7 +78,8 @@ module _ (n : Node) (y : NodeName) where
   subtree_alone none off = rw (name_eq-from n.name n.name refl) refl
   subtree_alone (tree m d r) off = elim (cases_Bool (name_before y m.name)) [
     | inl g ↦ rw (g, name_eq-from n.name n.name refl) refl
-    | inr g ↦ rw (g, name_eq-other m.name n.name (λ e. off (inl e)), subtree-absent d n.name (λ i. off (inr (inl i)))) (subtree_alone r (λ i. off (inr (inr i))))
+    | inr g ↦ rw (g, name_eq-other m.name n.name (λ e. off (inl e)), subtree-absent d n.name (λ i. off (inr (inl i))))
+        (subtree_alone r (λ i. off (inr (inr i))))
   ]
 
   path_alone : (ts : Trees) → (Has ts n.name → ⊥) → inclusive_ancestors (put ts) n.name ≡ n.name ∷ []
@@ -110,7 +116,8 @@ module _ (names : List NodeName) (x : NodeName) where
   hosts_longer (h ∷ hosts) nodes = (longer h.host nodes.0, longer h.root nodes.1, hosts_longer hosts nodes.2)
 
   -- what is found among the hosts
-  picked : (f : ShadowHost → NodeName) (b : Bool) (h : ShadowHost) (o : Option ShadowHost) → option_map f (if b then Some h else o) ≡ (if b then Some (f h) else option_map f o)
+  picked : (f : ShadowHost → NodeName) (b : Bool) (h : ShadowHost) (o : Option ShadowHost) →
+      option_map f (if b then Some h else o) ≡ (if b then Some (f h) else option_map f o)
   picked f true h o = refl
   picked f false h o = refl
 
@@ -120,7 +127,8 @@ module _ (names : List NodeName) (x : NodeName) where
       let root = name_kept h.root nodes.1 in
       let host = name_kept h.host nodes.0 in
       picked (λ g. name_at more g.host) (name_eq r (name_at more h.root)) h (find (λ g. name_eq r (name_at more g.root)) hosts)
-      ∙ ((λ j. if name_eq r (root j) then Some (host j) else host_kept hosts nodes.2 r j) ∙ sym (picked (λ g. name_at names g.host) (name_eq r (name_at names h.root)) h (find (λ g. name_eq r (name_at names g.root)) hosts)))
+      ∙ ((λ j. if name_eq r (root j) then Some (host j) else host_kept hosts nodes.2 r j) ∙
+      sym (picked (λ g. name_at names g.host) (name_eq r (name_at names h.root)) h (find (λ g. name_eq r (name_at names g.root)) hosts)))
 
   root_kept : (hosts : List ShadowHost) → HostsAreNodes names hosts → (r : NodeName) → root_named more hosts r ≡ root_named names hosts r
   root_kept [] nodes r = refl
@@ -128,7 +136,8 @@ module _ (names : List NodeName) (x : NodeName) where
       let root = name_kept h.root nodes.1 in
       let host = name_kept h.host nodes.0 in
       picked (λ g. name_at more g.root) (name_eq r (name_at more h.host)) h (find (λ g. name_eq r (name_at more g.host)) hosts)
-      ∙ ((λ j. if name_eq r (host j) then Some (root j) else root_kept hosts nodes.2 r j) ∙ sym (picked (λ g. name_at names g.root) (name_eq r (name_at names h.host)) h (find (λ g. name_eq r (name_at names g.host)) hosts)))
+      ∙ ((λ j. if name_eq r (host j) then Some (root j) else root_kept hosts nodes.2 r j) ∙
+      sym (picked (λ g. name_at names g.root) (name_eq r (name_at names h.host)) h (find (λ g. name_eq r (name_at names g.host)) hosts)))
 
   module _ (new : (k : ℕ) → k < length names → name_at names k ≡ x → ⊥) where
     -- the new node has no host
@@ -136,7 +145,8 @@ module _ (names : List NodeName) (x : NodeName) where
     not_hosted [] nodes = refl
     not_hosted (h ∷ hosts) nodes =
         let miss = name_eq-other x (name_at names h.root) (λ e. new h.root nodes.1 (sym e)) in
-        ap (λ (b : Bool). option_map (λ (g : ShadowHost). name_at names g.host) (if b then Some h else find (λ g. name_eq x (name_at names g.root)) hosts)) miss ∙ not_hosted hosts nodes.2
+        ap (λ (b : Bool). option_map (λ (g : ShadowHost). name_at names g.host)
+        (if b then Some h else find (λ g. name_eq x (name_at names g.root)) hosts)) miss ∙ not_hosted hosts nodes.2
 
     -- and is no host and no shadow root
     root_other : (hosts : List ShadowHost) → HostsAreNodes names hosts → (p r : NodeName) → root_named names hosts p ≡ Some r → x ≡ r → ⊥
@@ -147,9 +157,12 @@ module _ (names : List NodeName) (x : NodeName) where
         by true i deeper =
             new h.root nodes.1
             (same_Some (name_at names h.root) r
-            (sym (ap (λ (b : Bool). option_map (λ (g : ShadowHost). name_at names g.root) (if b then Some h else find (λ g. name_eq p (name_at names g.host)) hosts)) i) ∙ e)
+            (sym (ap (λ (b : Bool). option_map (λ (g : ShadowHost). name_at names g.root)
+            (if b then Some h else find (λ g. name_eq p (name_at names g.host)) hosts)) i) ∙ e)
             ∙ sym same)
-        by false i deeper = deeper (sym (ap (λ (b : Bool). option_map (λ (g : ShadowHost). name_at names g.root) (if b then Some h else find (λ g. name_eq p (name_at names g.host)) hosts)) i) ∙ e) same
+        by false i deeper = deeper (sym (ap
+            (λ (b : Bool). option_map (λ (g : ShadowHost). name_at names g.root)
+            (if b then Some h else find (λ g. name_eq p (name_at names g.host)) hosts)) i) ∙ e) same
 
     host_other : (hosts : List ShadowHost) → HostsAreNodes names hosts → (r h : NodeName) → host_named names hosts r ≡ Some h → x ≡ h → ⊥
     host_other [] nodes r h e same = absurd (none-some h e)
@@ -159,13 +172,17 @@ module _ (names : List NodeName) (x : NodeName) where
         by true i deeper =
             new g.host nodes.0
             (same_Some (name_at names g.host) h
-            (sym (ap (λ (b : Bool). option_map (λ (k : ShadowHost). name_at names k.host) (if b then Some g else find (λ k. name_eq r (name_at names k.root)) hosts)) i) ∙ e)
+            (sym (ap (λ (b : Bool). option_map (λ (k : ShadowHost). name_at names k.host)
+            (if b then Some g else find (λ k. name_eq r (name_at names k.root)) hosts)) i) ∙ e)
             ∙ sym same)
-        by false i deeper = deeper (sym (ap (λ (b : Bool). option_map (λ (k : ShadowHost). name_at names k.host) (if b then Some g else find (λ k. name_eq r (name_at names k.root)) hosts)) i) ∙ e) same
+        by false i deeper = deeper (sym (ap
+            (λ (b : Bool). option_map (λ (k : ShadowHost). name_at names k.host)
+            (if b then Some g else find (λ k. name_eq r (name_at names k.root)) hosts)) i) ∙ e) same
 
 -- ---- what is assigned
 
-module _ (names : List NodeName) (ts : Trees) (hosts : List ShadowHost) (n : Node) (nodes : HostsAreNodes names hosts) (new : (k : ℕ) → k < length names → name_at names k ≡ n.name → ⊥) (off : Has ts n.name → ⊥) where
+module _ (names : List NodeName) (ts : Trees) (hosts : List ShadowHost) (n : Node) (nodes : HostsAreNodes names hosts)
+    (new : (k : ℕ) → k < length names → name_at names k ≡ n.name → ⊥) (off : Has ts n.name → ⊥) where
   abbrev was : ShadowTrees
   was = shadow_trees names ts hosts
 
@@ -187,47 +204,59 @@ module _ (names : List NodeName) (ts : Trees) (hosts : List ShadowHost) (n : Nod
   tree_other x other = subtree_other n n.name x (name_eq-other n.name x other) ts
 
   -- slots are looked for in the same shadow trees
-  from_root : (m : Node) (p : NodeName) (o : Option NodeName) → root_named names hosts p ≡ o → option_and_then (λ r. slot_in (subtree (with_node n ts) r) m) o ≡ option_and_then (λ r. slot_in (subtree ts r) m) o
+  from_root : (m : Node) (p : NodeName) (o : Option NodeName) → root_named names hosts p ≡ o →
+      option_and_then (λ r. slot_in (subtree (with_node n ts) r) m) o ≡ option_and_then (λ r. slot_in (subtree ts r) m) o
   from_root m p None e = refl
   from_root m p (Some r) e = ap (λ t. slot_in t m) (tree_other r (root_other names n.name new hosts nodes p r e))
 
   from_parent : (m : Node) (o : Option NodeName)
-      → option_and_then (λ r. slot_in (subtree (with_node n ts) r) m) (option_and_then (root_named (names ++ n.name ∷ []) hosts) o) ≡ option_and_then (λ r. slot_in (subtree ts r) m) (option_and_then (root_named names hosts) o)
+      → option_and_then (λ r. slot_in (subtree (with_node n ts) r) m)
+      (option_and_then (root_named (names ++ n.name ∷ []) hosts) o) ≡ option_and_then (λ r. slot_in (subtree ts r) m)
+      (option_and_then (root_named names hosts) o)
   from_parent m None = refl
-  from_parent m (Some p) = ap (option_and_then (λ r. slot_in (subtree (with_node n ts) r) m)) (root_kept names n.name hosts nodes p) ∙ from_root m p (root_named names hosts p) refl
+  from_parent m (Some p) = ap (option_and_then (λ r. slot_in (subtree (with_node n ts) r) m)) (root_kept names n.name hosts nodes p) ∙
+      from_root m p (root_named names hosts p) refl
 
   slot_more : (x : NodeName) → slot_at now x ≡ slot_at was x
   slot_more x = elim (same_or_not n.name x) [
     | inl e ↦ subst (λ y. slot_at now y ≡ slot_at was y) e (alone ∙ sym absent)
     | inr other ↦
-        (λ j. option_and_then (λ r. slot_in (subtree (with_node n ts) r) (node_other x other j)) (option_and_then (root_named (names ++ n.name ∷ []) hosts) (first_of (drop 1 (path_other x other j)))))
+        (λ j. option_and_then (λ r. slot_in (subtree (with_node n ts) r) (node_other x other j))
+        (option_and_then (root_named (names ++ n.name ∷ []) hosts) (first_of (drop 1 (path_other x other j)))))
         ∙ from_parent (node_in ts x) (parent_of ts x)
   ]
     where
       alone : slot_at now n.name ≡ None
-      alone = λ j. option_and_then (λ r. slot_in (subtree (with_node n ts) r) (node_in (with_node n ts) n.name)) (option_and_then (root_named (names ++ n.name ∷ []) hosts) (first_of (drop 1 (path_alone n n.name ts off j))))
+      alone = λ j. option_and_then (λ r. slot_in (subtree (with_node n ts) r) (node_in (with_node n ts) n.name))
+          (option_and_then (root_named (names ++ n.name ∷ []) hosts) (first_of (drop 1 (path_alone n n.name ts off j))))
 
       absent : slot_at was n.name ≡ None
-      absent = λ j. option_and_then (λ r. slot_in (subtree ts r) (node_in ts n.name)) (option_and_then (root_named names hosts) (first_of (drop 1 (above-absent ts n.name off j))))
+      absent = λ j. option_and_then (λ r. slot_in (subtree ts r) (node_in ts n.name))
+          (option_and_then (root_named names hosts) (first_of (drop 1 (above-absent ts n.name off j))))
 
   -- what is assigned to another node stays
   assigned_more : (y : NodeName) → (n.name ≡ y → ⊥) → assigned_at now y ≡ assigned_at was y
   assigned_more y other =
-      (λ j. option_map_or (λ host. filter (λ x. is_in name_eq y (option_to_list (slot_more x j))) (children_of (with_node n ts) host)) (root_is j) []) ∙ below (host_named names hosts (root_of ts y)) refl
+      (λ j. option_map_or (λ host. filter (λ x. is_in name_eq y (option_to_list (slot_more x j))) (children_of (with_node n ts) host)) (root_is j)
+      []) ∙ below (host_named names hosts (root_of ts y)) refl
     where
       root_is : host_named (names ++ n.name ∷ []) hosts (root_of (with_node n ts) y) ≡ host_named names hosts (root_of ts y)
-      root_is = ap (λ path. host_named (names ++ n.name ∷ []) hosts (unwrap_or (last_of path) y)) (path_other y other) ∙ host_kept names n.name hosts nodes (root_of ts y)
+      root_is = ap (λ path. host_named (names ++ n.name ∷ []) hosts (unwrap_or (last_of path) y)) (path_other y other) ∙
+          host_kept names n.name hosts nodes (root_of ts y)
 
       below : (o : Option NodeName) → host_named names hosts (root_of ts y) ≡ o
-          → option_map_or (λ host. filter (λ x. is_in name_eq y (option_to_list (slot_at was x))) (children_of (with_node n ts) host)) o [] ≡ option_map_or (assigned_under was y) o []
+          → option_map_or (λ host. filter (λ x. is_in name_eq y (option_to_list (slot_at was x))) (children_of (with_node n ts) host)) o
+          [] ≡ option_map_or (assigned_under was y) o []
       below None e = refl
       below (Some h) e =
-          ap (λ t. filter (λ x. is_in name_eq y (option_to_list (slot_at was x))) (names_of (roots (trees_below t)))) (tree_other h (host_other names n.name new hosts nodes (root_of ts y) h e))
+          ap (λ t. filter (λ x. is_in name_eq y (option_to_list (slot_at was x))) (names_of (roots (trees_below t))))
+          (tree_other h (host_other names n.name new hosts nodes (root_of ts y) h e))
 
   -- nothing is assigned to the new one
   assigned_new : assigned_at now n.name ≡ []
   assigned_new =
-      ap (λ path. option_map_or (assigned_under now n.name) (host_named (names ++ n.name ∷ []) hosts (unwrap_or (last_of path) n.name)) []) (path_alone n n.name ts off)
+      ap (λ path. option_map_or (assigned_under now n.name) (host_named (names ++ n.name ∷ []) hosts (unwrap_or (last_of path) n.name)) [])
+      (path_alone n n.name ts off)
       ∙ ap (λ o. option_map_or (assigned_under now n.name) o []) (host_kept names n.name hosts nodes n.name ∙ not_hosted names n.name new hosts nodes)
 
 -- ---- the slots of a forest with one node more
@@ -239,7 +268,8 @@ module _ (f g : NamedTrees) (n : Node) (one : HasOneMore f g n) where
   pub new_name : (k : ℕ) → k < length f.names → name_at f.names k ≡ n.name → ⊥
   new_name k within e =
       let long : length g.names ≡ length f.names + 1 = ap length names ∙ length_push f.names n.name in
-      let here : name_at g.names (length f.names) ≡ n.name = ap (λ ns. name_at ns (length f.names)) names ∙ get_or-append_seam f.names n.name [] (node_of Page 0) in
+      let here : name_at g.names (length f.names) ≡ n.name =
+      ap (λ ns. name_at ns (length f.names)) names ∙ get_or-append_seam f.names n.name [] (node_of Page 0) in
       let there : name_at g.names k ≡ n.name = ap (λ ns. name_at ns k) names ∙ (name_kept f.names n.name k within ∙ e) in
       let same : k ≡ length f.names = distinct k (length f.names) (omega arith) (omega arith) (there ∙ sym here) in
       omega arith
@@ -262,11 +292,14 @@ module _ (f g : NamedTrees) (n : Node) (one : HasOneMore f g n) where
       }
     where
       by : (k : ℕ) → (k ≡ length f.names) ⊎ (k < length f.names)
-          → map (name_at (f.names ++ n.name ∷ [])) (list_of s.table k) ≡ assigned_at (shadow_trees (f.names ++ n.name ∷ []) (with_node n f.trees) s.hosts) (name_at (f.names ++ n.name ∷ []) k)
+          → map (name_at (f.names ++ n.name ∷ [])) (list_of s.table k) ≡ assigned_at
+          (shadow_trees (f.names ++ n.name ∷ []) (with_node n f.trees) s.hosts) (name_at (f.names ++ n.name ∷ []) k)
       by k (inl e) =
-          let name : name_at (f.names ++ n.name ∷ []) k ≡ n.name = ap (λ i. name_at (f.names ++ n.name ∷ []) i) e ∙ get_or-append_seam f.names n.name [] (node_of Page 0) in
+          let name : name_at (f.names ++ n.name ∷ []) k ≡ n.name =
+          ap (λ i. name_at (f.names ++ n.name ∷ []) i) e ∙ get_or-append_seam f.names n.name [] (node_of Page 0) in
           ap (map (name_at (f.names ++ n.name ∷ []))) (slots.table.beyond k (omega arith))
-          ∙ sym (ap (assigned_at (shadow_trees (f.names ++ n.name ∷ []) (with_node n f.trees) s.hosts)) name ∙ assigned_new f.names f.trees s.hosts n slots.hosts new_name new_node)
+          ∙ sym (ap (assigned_at (shadow_trees (f.names ++ n.name ∷ []) (with_node n f.trees) s.hosts)) name ∙
+          assigned_new f.names f.trees s.hosts n slots.hosts new_name new_node)
       by k (inr within) =
           let name = name_kept f.names n.name k within in
           names_kept f.names n.name (list_of s.table k) (slots.table.nodes k)
@@ -277,7 +310,8 @@ module _ (f g : NamedTrees) (n : Node) (one : HasOneMore f g n) where
   -- no slot stands in the tree of the new node, if it is none
   pub bare-more : is_slot_element n ≡ false → slots_among (subtree g.trees (name_at g.names (length f.names))) ≡ []
   bare-more no_slot =
-      let name : name_at g.names (length f.names) ≡ n.name = ap (λ ns. name_at ns (length f.names)) names ∙ get_or-append_seam f.names n.name [] (node_of Page 0) in
+      let name : name_at g.names (length f.names) ≡ n.name =
+      ap (λ ns. name_at ns (length f.names)) names ∙ get_or-append_seam f.names n.name [] (node_of Page 0) in
       ap (λ x. slots_among (subtree g.trees x)) name
       ∙ (ap (λ ts. slots_among (subtree ts n.name)) trees
       ∙ (ap slots_among (subtree_alone n n.name f.trees new_node) ∙ ap (λ (b : Bool). names_of (if b then n ∷ [] else [])) no_slot))

@@ -1,6 +1,7 @@
 -- A step that is made outside of shadow trees changes at most what is assigned to the old and to the new slot of its node,
 -- and signals no others.
-use Rattle.std.proofs.Common.{◌≡◌, inl, inr, ℕ, ◌<◌, Bool, true, false, ◌&&◌, List, [], ◌∷◌, ◌++◌, map, filter, length, Option, None, Some, refl, sym, ap, subst, ◌∙◌, true≢false}
+use Rattle.std.proofs.Common.{◌≡◌, inl, inr, ℕ, ◌<◌, Bool, true, false, ◌&&◌, List, [], ◌∷◌, ◌++◌, map, filter, length, Option, None, Some, refl, sym}
+use Rattle.std.proofs.Common.{ap, subst, ◌∙◌, true≢false}
 use Rattle.std.specs.Prelude.{if◌then◌else◌, is_none, is_some, option_to_list}
 use Rattle.std.specs.Option.{option_map, option_map_or, ForSome}
 use Rattle.std.proofs.lemmas.Bool.{and_parts}
@@ -40,7 +41,8 @@ none_told : {X : Type 0} (o : Option X) → is_none o ≡ true → o ≡ None
 none_told None e = refl
 none_told (Some x) e = absurd (true≢false (sym e))
 
-outside_told : (names : List NodeName) (ts : Trees) (hosts : List ShadowHost) (o : Option NodeName) → is_outside (shadow_trees names ts hosts) o ≡ true → Outside names hosts ts o
+outside_told : (names : List NodeName) (ts : Trees) (hosts : List ShadowHost) (o : Option NodeName) →
+    is_outside (shadow_trees names ts hosts) o ≡ true → Outside names hosts ts o
 outside_told names ts hosts None e p is = absurd (none-some p is)
 outside_told names ts hosts (Some q) e p is = subst (λ z. host_named names hosts (root_of ts z) ≡ None) (same_Some q p is) (none_told _ e)
 
@@ -50,7 +52,8 @@ outside_told names ts hosts (Some q) e p is = subst (λ z. host_named names host
 abbrev AsideKept : List NodeName → List ShadowHost → NodeName → Trees → Trees → Type 0
 AsideKept names hosts x was now = IsAside names hosts x was now → KeepsAssigned names hosts x was now
 
-aside-kept : (names : List NodeName) (hosts : List ShadowHost) (m : Node) (d us : Trees) (p q : Spot) → ((y : NodeName) → Has us y → Has (tree m d none) y → ⊥) → AreBoth names hosts (grafted m d p us) (grafted m d q us)
+aside-kept : (names : List NodeName) (hosts : List ShadowHost) (m : Node) (d us : Trees) (p q : Spot) →
+    ((y : NodeName) → Has us y → Has (tree m d none) y → ⊥) → AreBoth names hosts (grafted m d p us) (grafted m d q us)
     → AsideKept names hosts m.name (grafted m d p us) (grafted m d q us)
 aside-kept names hosts m d us p q apart both aside = moved-keeps names hosts m d us p q apart both aside
 
@@ -65,10 +68,12 @@ module _ (names : List NodeName) (hosts : List ShadowHost) (x : NodeName) (was n
     -- and the parent is in no shadow tree
     parent_unhosted : Has now parent → host_named names hosts (root_of now parent) ≡ None
     parent_unhosted at =
-        ap (host_named names hosts) (sym (place-root x was now aside.both.once_was at_was at_now parent before is aside.both.once_now at)) ∙ root-aside names hosts x was now aside at_now
+        ap (host_named names hosts) (sym (place-root x was now aside.both.once_was at_was at_now parent before is aside.both.once_now at)) ∙
+        root-aside names hosts x was now aside at_now
 
 -- who stands in no shadow tree is no slot there
-not_bare : (f : NamedTrees) (hosts : List ShadowHost) (b : Bool) (y : NodeName) → host_named f.names hosts (root_of f.trees y) ≡ None → (b && is_bare_at (shadows f hosts) y) ≡ false
+not_bare : (f : NamedTrees) (hosts : List ShadowHost) (b : Bool) (y : NodeName) → host_named f.names hosts (root_of f.trees y) ≡ None →
+    (b && is_bare_at (shadows f hosts) y) ≡ false
 not_bare f hosts b y e =
     third-fails b (is_slot_element (node_in f.trees y)) (is_some (host_named f.names hosts (root_of f.trees y)) && is_empty (assigned_at (shadows f hosts) y))
     (ap (λ o. is_some o && is_empty (assigned_at (shadows f hosts) y)) e)
@@ -80,11 +85,16 @@ module _ (was : Trees) (f : NamedTrees) (s : SlotsNow) (b : BegunStep) (ended : 
   abbrev x : NodeName
   x = name_at f.names (step_node b.step)
 
-  tests : (host_named f.names s.hosts x ≡ None) × Outside f.names s.hosts f.trees (option_map (name_at f.names) b.left) × Outside f.names s.hosts f.trees (parent_of f.trees x)
+  tests : (host_named f.names s.hosts x ≡ None) × Outside f.names s.hosts f.trees (option_map (name_at f.names) b.left) ×
+      Outside f.names s.hosts f.trees (parent_of f.trees x)
   tests =
       let parts = and_parts (is_none (host_named f.names s.hosts x)) _ apart in
-      let both = and_parts (is_outside (shadows f s.hosts) (option_map (name_at f.names) b.left)) _ parts.1 in
-      (none_told _ parts.0, outside_told f.names f.trees s.hosts (option_map (name_at f.names) b.left) both.0, outside_told f.names f.trees s.hosts (parent_of f.trees x) both.1)
+      let both = and_parts (is_outside (shadows f s.hosts) (option_map (name_at f.names) b.left)) _ parts.1 in (
+        none_told _ parts.0,
+        outside_told f.names f.trees s.hosts (option_map (name_at f.names) b.left) both.0,
+        outside_told f.names f.trees
+            s.hosts (parent_of f.trees x) both.1,
+      )
 
   aside_from : Outside f.names s.hosts f.trees (parent_of was x) → IsAside f.names s.hosts x was f.trees
   aside_from left = record {
@@ -100,21 +110,25 @@ module _ (was : Trees) (f : NamedTrees) (s : SlotsNow) (b : BegunStep) (ended : 
   -- where the node of a step is not moved and has the slot that it had, all stays
   abbrev Still : Step → Trees → Type 0
   Still step ts =
-      is_move step ≡ false → slot_at (shadow_trees f.names was s.hosts) (At step) ≡ slot_at (shadow_trees f.names ts s.hosts) (At step) → (y : NodeName) → Has was y → Has ts y
+      is_move step ≡ false → slot_at (shadow_trees f.names was s.hosts) (At step) ≡ slot_at (shadow_trees f.names ts s.hosts) (At step) →
+      (y : NodeName) → Has was y → Has ts y
       → assigned_at (shadow_trees f.names was s.hosts) y ≡ assigned_at (shadow_trees f.names ts s.hosts) y
 
   -- all others stay where they are assigned, and the node around, where one was moved, is no slot without nodes; where there is
   -- none, the node of the step had no parent and has none
   abbrev Keeps : Step → Type 0
   Keeps step =
-      KeepsAssigned f.names s.hosts (At step) was f.trees × ForSome (around_of step b.left) (λ k. (is_move step && is_bare_at (shadows f s.hosts) (name_at f.names k)) ≡ false)
+      KeepsAssigned f.names s.hosts (At step) was f.trees ×
+      ForSome (around_of step b.left) (λ k. (is_move step && is_bare_at (shadows f s.hosts) (name_at f.names k)) ≡ false)
       × (around_of step b.left ≡ None → (parent_of was (At step) ≡ None) × (parent_of f.trees (At step) ≡ None)) × Still step f.trees
 
   keeps : Keeps b.step
   keeps = by b.step ended.nodes ended.step ended.left_is tests.2 aside_from
     where
-      by : (step : Step) → StepHasNodes f.names step → IsStepFrom f.names was f.trees step b.left → option_map (name_at f.names) b.left ≡ left_by f.names was step
-          → Outside f.names s.hosts f.trees (parent_of f.trees (At step)) → (Outside f.names s.hosts f.trees (parent_of was (At step)) → IsAside f.names s.hosts (At step) was f.trees) → Keeps step
+      by : (step : Step) → StepHasNodes f.names step → IsStepFrom f.names was f.trees step b.left →
+          option_map (name_at f.names) b.left ≡ left_by f.names was step
+          → Outside f.names s.hosts f.trees (parent_of f.trees (At step)) →
+          (Outside f.names s.hosts f.trees (parent_of was (At step)) → IsAside f.names s.hosts (At step) was f.trees) → Keeps step
       by (Place y parent before) nodes is left up aside =
           let a = aside (subst (Outside f.names s.hosts f.trees) left tests.1) in
           let y_was = there-was was f s b ended stands y nodes.0 in
@@ -122,7 +136,8 @@ module _ (was : Trees) (f : NamedTrees) (s : SlotsNow) (b : BegunStep) (ended : 
             place_keeps f.names s.hosts (name_at f.names y) was f.trees a y_was y_now (name_at f.names parent) (option_map (name_at f.names) before) is,
             λ k e. subst (λ j. is_bare_at (shadows f s.hosts) (name_at f.names j) ≡ false) (same_Some parent k e)
                 (not_bare f s.hosts true (name_at f.names parent)
-                (parent_unhosted f.names s.hosts (name_at f.names y) was f.trees a y_was y_now (name_at f.names parent) (option_map (name_at f.names) before) is (there-now was f s b ended stands parent nodes.1))),
+                (parent_unhosted f.names s.hosts (name_at f.names y) was f.trees a y_was y_now (name_at f.names parent)
+                (option_map (name_at f.names) before) is (there-now was f s b ended stands parent nodes.1))),
             λ e. absurd (none-some parent (sym e)),
             λ no_move. absurd (true≢false no_move),
           )
@@ -130,7 +145,11 @@ module _ (was : Trees) (f : NamedTrees) (s : SlotsNow) (b : BegunStep) (ended : 
           let a = aside (subst (Outside f.names s.hosts f.trees) left tests.1) in (
             removal_keeps f.names s.hosts (name_at f.names y) was f.trees a (there-was was f s b ended stands y nodes) is.1,
             λ k e. not_bare f s.hosts true (name_at f.names k) (a.left (name_at f.names k) (sym left ∙ ap (option_map (name_at f.names)) e)),
-            λ e. (sym left ∙ ap (option_map (name_at f.names)) e, removal-unparented (name_at f.names y) was f.trees a.both.once_was (there-was was f s b ended stands y nodes) is.1),
+            λ e. (
+              sym left ∙ ap (option_map (name_at f.names)) e,
+              removal-unparented (name_at f.names y) was f.trees a.both.once_was
+                  (there-was was f s b ended stands y nodes) is.1,
+            ),
             λ no_move. absurd (true≢false no_move),
           )
       by (Attribute y) nodes is left up aside =
@@ -139,11 +158,13 @@ module _ (was : Trees) (f : NamedTrees) (s : SlotsNow) (b : BegunStep) (ended : 
           let same : parent_of f.trees z ≡ parent_of was z = ap (λ ts. parent_of ts z) is.2 ∙ parent-changed z g (attribute-name is.0 is.1) was z in
           let a = subst (IsAside f.names s.hosts z was) is.2 (aside (subst (Outside f.names s.hosts f.trees) same up)) in (
             subst (KeepsAssigned f.names s.hosts z was) (sym is.2)
-                (changed-keeps z g (attribute-name is.0 is.1) f.names s.hosts was a.both a (there-was was f s b ended stands y nodes) (subst (λ (ts : Trees). Has ts z) is.2 (there-now was f s b ended stands y nodes))),
+                (changed-keeps z g (attribute-name is.0 is.1) f.names s.hosts was a.both a (there-was was f s b ended stands y nodes)
+                (subst (λ (ts : Trees). Has ts z) is.2 (there-now was f s b ended stands y nodes))),
             λ k e. refl,
             λ e. absurd (none-some y (sym e)),
             subst (Still (Attribute y)) (sym is.2) (λ _ same v h i.
-                changed-stays z g (attribute-name is.0 is.1) f.names s.hosts was a.both a (there-was was f s b ended stands y nodes) (subst (λ (ts : Trees). Has ts z) is.2 (there-now was f s b ended stands y nodes)) v h i
+                changed-stays z g (attribute-name is.0 is.1) f.names s.hosts was a.both a (there-was was f s b ended stands y nodes)
+                (subst (λ (ts : Trees). Has ts z) is.2 (there-now was f s b ended stands y nodes)) v h i
                 (ap (λ o. is_in name_eq v (option_to_list o)) same)),
           )
 
@@ -151,11 +172,13 @@ module _ (was : Trees) (f : NamedTrees) (s : SlotsNow) (b : BegunStep) (ended : 
   own = own_slots f s.hosts b.slot b.step
 
   -- what is assigned to a node that is none of the own slots is what was
-  apart-stays : (k : ℕ) → k < length f.names → is_in name_eq (name_at f.names k) own ≡ false → assigned_at (shadow_trees f.names was s.hosts) (name_at f.names k) ≡ assigned_at (shadows f s.hosts) (name_at f.names k)
+  apart-stays : (k : ℕ) → k < length f.names → is_in name_eq (name_at f.names k) own ≡ false →
+      assigned_at (shadow_trees f.names was s.hosts) (name_at f.names k) ≡ assigned_at (shadows f s.hosts) (name_at f.names k)
   apart-stays k within other =
       let none = not-own was f s b ended stands (name_at f.names k) other in
       let both = both-stand was f s b ended stands in
-      assigned-kept f.names s.hosts was f.trees both.once_was both.once_now x (name_at f.names k) none.0 none.1 (keeps.0 (name_at f.names k) (there-was was f s b ended stands k within) (there-now was f s b ended stands k within))
+      assigned-kept f.names s.hosts was f.trees both.once_was both.once_now x (name_at f.names k) none.0 none.1
+      (keeps.0 (name_at f.names k) (there-was was f s b ended stands k within) (there-now was f s b ended stands k within))
 
   -- before the first list is renewed all are those of the trees now but for the node of the step
   pub apart-but-for : AreDistinct f.names → IsButFor f s.hosts s.table b.slot b.step
@@ -169,18 +192,22 @@ module _ (was : Trees) (f : NamedTrees) (s : SlotsNow) (b : BegunStep) (ended : 
   apart-signals = by (around_of b.step b.left) refl ∙ told-signals was f s b ended
     where
       by : (o : Option ℕ) → around_of b.step b.left ≡ o
-          → distinct name_eq (filter is_other own) ≡ option_map_or (λ around. signalled_by is_other (shadows f s.hosts) (option_map (name_at f.names) b.slot) x (name_at f.names around) (is_move b.step)) o []
+          → distinct name_eq (filter is_other own) ≡ option_map_or
+          (λ around. signalled_by is_other (shadows f s.hosts) (option_map (name_at f.names) b.slot) x (name_at f.names around)
+          (is_move b.step)) o []
       by None e = let up = keeps.2 e in ap (λ ys. distinct name_eq (filter is_other ys)) (none-own was f s b ended stands up.0 up.1)
       by (Some k) e =
           let y = name_at f.names k in
           let bare = if is_move b.step && is_bare_at (shadows f s.hosts) y then y ∷ [] else [] in
           let others = slots_among (subtree f.trees (root_of f.trees y)) ++ slots_among (subtree f.trees x) in
-          let more : (z : NodeName) → In z others → is_other z ≡ true → is_in name_eq z own ≡ true = λ z i. elim (In-parts z (slots_among (subtree f.trees (root_of f.trees y))) (slots_among (subtree f.trees x)) i) [
+          let more : (z : NodeName) → In z others → is_other z ≡ true → is_in name_eq z own ≡ true =
+          λ z i. elim (In-parts z (slots_among (subtree f.trees (root_of f.trees y))) (slots_among (subtree f.trees x)) i) [
             | inl j ↦ others-among was f s b ended stands own apart-stays (root_of f.trees y) z j
             | inr j ↦ others-among was f s b ended stands own apart-stays x z j
           ] in
           let none : bare ≡ [] = ap (λ (c : Bool). if c then y ∷ [] else []) (keeps.1 k e) in
-          sym (own-signalled is_other own bare others more ∙ (ap (λ ys. distinct name_eq (filter is_other own ++ ys)) none ∙ ap (distinct name_eq) (append-nil (filter is_other own))))
+          sym (own-signalled is_other own bare others more ∙
+          (ap (λ ys. distinct name_eq (filter is_other own ++ ys)) none ∙ ap (distinct name_eq) (append-nil (filter is_other own))))
 
   -- ---- the lists that are renewed
 

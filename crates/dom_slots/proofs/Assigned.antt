@@ -42,7 +42,8 @@ module _ (s : ShadowTrees) (x y : NodeName) where
       by None i = absurd i
       by (Some h) i = only_slot (slot_at s x) (left-passes (is_assigned_at s y) x (children_of s.trees h) i)
 
-module _ (f : NamedTrees) (hosts : List ShadowHost) (table : SlotTable) (is : IsTableOf f hosts table) (node slot : ℕ) (listed : is_in nat_eq node (list_of table slot) ≡ true) where
+module _ (f : NamedTrees) (hosts : List ShadowHost) (table : SlotTable) (is : IsTableOf f hosts table) (node slot : ℕ)
+    (listed : is_in nat_eq node (list_of table slot) ≡ true) where
   -- a slot with a list is a node
   pub listed-node : slot < length f.names
   listed-node = elim (cases_lt slot (length f.names)) [
@@ -52,4 +53,5 @@ module _ (f : NamedTrees) (hosts : List ShadowHost) (table : SlotTable) (is : Is
 
   -- and the slot of the nodes in that list
   pub listed-slot : Some (name_at f.names slot) ≡ slot_at (shadows f hosts) (name_at f.names node)
-  listed-slot = sym (slot-assigned (shadows f hosts) (name_at f.names node) (name_at f.names slot) (subst (In (name_at f.names node)) (is.lists slot listed-node) (names-in f.names node (list_of table slot) listed)))
+  listed-slot = sym (slot-assigned (shadows f hosts) (name_at f.names node) (name_at f.names slot)
+      (subst (In (name_at f.names node)) (is.lists slot listed-node) (names-in f.names node (list_of table slot) listed)))

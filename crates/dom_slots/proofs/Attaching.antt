@@ -17,15 +17,20 @@ use Rattle.dom_slots.specs.Hosts.{ShadowHost, host_named, root_named}
 use Rattle.dom_slots.specs.Shadows.{ShadowTrees, shadow_trees, slot_at, assigned_at, assigned_under, is_assigned_at}
 
 -- what one more item adds to what is found
-find_there : (p : ShadowHost → Bool) (f : ShadowHost → NodeName) (hosts : List ShadowHost) (h : ShadowHost) (r : NodeName) → option_map f (find p hosts) ≡ Some r → option_map f (find p (hosts ++ h ∷ [])) ≡ Some r
+find_there : (p : ShadowHost → Bool) (f : ShadowHost → NodeName) (hosts : List ShadowHost) (h : ShadowHost) (r : NodeName) →
+    option_map f (find p hosts) ≡ Some r → option_map f (find p (hosts ++ h ∷ [])) ≡ Some r
 find_there p f [] h r e = cc
 find_there p f (g ∷ hosts) h r e = by (p g) refl (find_there p f hosts h r)
   where
-    by : (b : Bool) → p g ≡ b → (option_map f (find p hosts) ≡ Some r → option_map f (find p (hosts ++ h ∷ [])) ≡ Some r) → option_map f (find p ((g ∷ hosts) ++ h ∷ [])) ≡ Some r
-    by true i deeper = ap (λ (b : Bool). option_map f (if b then Some g else find p (hosts ++ h ∷ []))) i ∙ (sym (ap (λ (b : Bool). option_map f (if b then Some g else find p hosts)) i) ∙ e)
-    by false i deeper = ap (λ (b : Bool). option_map f (if b then Some g else find p (hosts ++ h ∷ []))) i ∙ deeper (sym (ap (λ (b : Bool). option_map f (if b then Some g else find p hosts)) i) ∙ e)
+    by : (b : Bool) → p g ≡ b → (option_map f (find p hosts) ≡ Some r → option_map f (find p (hosts ++ h ∷ [])) ≡ Some r) →
+        option_map f (find p ((g ∷ hosts) ++ h ∷ [])) ≡ Some r
+    by true i deeper = ap (λ (b : Bool). option_map f (if b then Some g else find p (hosts ++ h ∷ []))) i ∙
+        (sym (ap (λ (b : Bool). option_map f (if b then Some g else find p hosts)) i) ∙ e)
+    by false i deeper = ap (λ (b : Bool). option_map f (if b then Some g else find p (hosts ++ h ∷ []))) i ∙
+        deeper (sym (ap (λ (b : Bool). option_map f (if b then Some g else find p hosts)) i) ∙ e)
 
-find_else : (p : ShadowHost → Bool) (f : ShadowHost → NodeName) (hosts : List ShadowHost) (h : ShadowHost) → option_map f (find p hosts) ≡ None → option_map f (find p (hosts ++ h ∷ [])) ≡ (if p h then Some (f h) else None)
+find_else : (p : ShadowHost → Bool) (f : ShadowHost → NodeName) (hosts : List ShadowHost) (h : ShadowHost) → option_map f (find p hosts) ≡ None →
+    option_map f (find p (hosts ++ h ∷ [])) ≡ (if p h then Some (f h) else None)
 find_else p f [] h e = by (p h)
   where
     by : (b : Bool) → option_map f (if b then Some h else None) ≡ (if b then Some (f h) else None)
@@ -33,17 +38,24 @@ find_else p f [] h e = by (p h)
     by false = refl
 find_else p f (g ∷ hosts) h e = by (p g) refl (find_else p f hosts h)
   where
-    by : (b : Bool) → p g ≡ b → (option_map f (find p hosts) ≡ None → option_map f (find p (hosts ++ h ∷ [])) ≡ (if p h then Some (f h) else None)) → option_map f (find p ((g ∷ hosts) ++ h ∷ [])) ≡ (if p h then Some (f h) else None)
+    by : (b : Bool) → p g ≡ b → (option_map f (find p hosts) ≡ None →
+        option_map f (find p (hosts ++ h ∷ [])) ≡ (if p h then Some (f h) else None)) →
+        option_map f (find p ((g ∷ hosts) ++ h ∷ [])) ≡ (if p h then Some (f h) else None)
     by true i deeper = let none : Some (f g) ≡ None = sym (ap (λ (b : Bool). option_map f (if b then Some g else find p hosts)) i) ∙ e in cc
-    by false i deeper = ap (λ (b : Bool). option_map f (if b then Some g else find p (hosts ++ h ∷ []))) i ∙ deeper (sym (ap (λ (b : Bool). option_map f (if b then Some g else find p hosts)) i) ∙ e)
+    by false i deeper = ap (λ (b : Bool). option_map f (if b then Some g else find p (hosts ++ h ∷ []))) i ∙
+        deeper (sym (ap (λ (b : Bool). option_map f (if b then Some g else find p hosts)) i) ∙ e)
 
 -- nothing is found where no slot is
-pub no-slot_named : (name : DomString) (ns : List Node) → names_of (filter is_slot_element ns) ≡ [] → option_map (λ (n : Node). n.name) (find (has_slot_name name) ns) ≡ None
+pub no-slot_named : (name : DomString) (ns : List Node) → names_of (filter is_slot_element ns) ≡ [] →
+    option_map (λ (n : Node). n.name) (find (has_slot_name name) ns) ≡ None
 no-slot_named name [] e = refl
 no-slot_named name (n ∷ ns) e = by (is_slot_element n) refl (no-slot_named name ns)
   where
-    by : (b : Bool) → is_slot_element n ≡ b → (names_of (filter is_slot_element ns) ≡ [] → option_map (λ (m : Node). m.name) (find (has_slot_name name) ns) ≡ None) → option_map (λ (m : Node). m.name) (find (has_slot_name name) (n ∷ ns)) ≡ None
-    by true i deeper = let off : n.name ∷ names_of (filter is_slot_element ns) ≡ [] = sym (ap (λ (b : Bool). names_of (if b then n ∷ filter is_slot_element ns else filter is_slot_element ns)) i) ∙ e in cc
+    by : (b : Bool) → is_slot_element n ≡ b →
+        (names_of (filter is_slot_element ns) ≡ [] → option_map (λ (m : Node). m.name) (find (has_slot_name name) ns) ≡ None) →
+        option_map (λ (m : Node). m.name) (find (has_slot_name name) (n ∷ ns)) ≡ None
+    by true i deeper = let off : n.name ∷ names_of (filter is_slot_element ns) ≡ [] =
+        sym (ap (λ (b : Bool). names_of (if b then n ∷ filter is_slot_element ns else filter is_slot_element ns)) i) ∙ e in cc
     by false i deeper =
         let miss : has_slot_name name n ≡ false = false_from_ne_true _ (λ h. true≢false (sym (and_parts (is_slot_element n) _ h).0 ∙ i)) in
         ap (λ (b : Bool). option_map (λ (m : Node). m.name) (if b then Some n else find (has_slot_name name) ns)) miss
@@ -59,25 +71,35 @@ module _ (names : List NodeName) (ts : Trees) (hosts : List ShadowHost) (h : Sha
   nothing_in : (n : Node) → slot_in (subtree ts (name_at names h.root)) n ≡ None
   nothing_in n = by (slottable_name n)
     where
-      by : (o : Option DomString) → option_and_then (λ name. option_map (λ (m : Node). m.name) (find (has_slot_name name) (nodes (subtree ts (name_at names h.root))))) o ≡ None
+      by : (o : Option DomString) → option_and_then
+          (λ name. option_map (λ (m : Node). m.name) (find (has_slot_name name) (nodes (subtree ts (name_at names h.root))))) o ≡ None
       by None = refl
       by (Some name) = no-slot_named name (nodes (subtree ts (name_at names h.root))) bare
 
-  from_root : (n : Node) (p : NodeName) → option_and_then (λ r. slot_in (subtree ts r) n) (root_named names (hosts ++ h ∷ []) p) ≡ option_and_then (λ r. slot_in (subtree ts r) n) (root_named names hosts p)
+  from_root : (n : Node) (p : NodeName) →
+      option_and_then (λ r. slot_in (subtree ts r) n) (root_named names (hosts ++ h ∷ []) p) ≡ option_and_then (λ r. slot_in (subtree ts r) n)
+      (root_named names hosts p)
   from_root n p = by (root_named names hosts p) refl
     where
       chosen : (b : Bool) → option_and_then (λ r. slot_in (subtree ts r) n) (if b then Some (name_at names h.root) else None) ≡ None
       chosen true = nothing_in n
       chosen false = refl
 
-      by : (o : Option NodeName) → root_named names hosts p ≡ o → option_and_then (λ r. slot_in (subtree ts r) n) (root_named names (hosts ++ h ∷ []) p) ≡ option_and_then (λ r. slot_in (subtree ts r) n) (root_named names hosts p)
-      by None e = ap (option_and_then (λ r. slot_in (subtree ts r) n)) (find_else (λ g. name_eq p (name_at names g.host)) (λ g. name_at names g.root) hosts h e) ∙ (chosen (name_eq p (name_at names h.host)) ∙ sym (ap (option_and_then (λ r. slot_in (subtree ts r) n)) e))
-      by (Some r) e = ap (option_and_then (λ r. slot_in (subtree ts r) n)) (find_there (λ g. name_eq p (name_at names g.host)) (λ g. name_at names g.root) hosts h r e ∙ sym e)
+      by : (o : Option NodeName) → root_named names hosts p ≡ o →
+          option_and_then (λ r. slot_in (subtree ts r) n) (root_named names (hosts ++ h ∷ []) p) ≡ option_and_then (λ r. slot_in (subtree ts r) n)
+          (root_named names hosts p)
+      by None e = ap (option_and_then (λ r. slot_in (subtree ts r) n))
+          (find_else (λ g. name_eq p (name_at names g.host)) (λ g. name_at names g.root) hosts h e) ∙
+          (chosen (name_eq p (name_at names h.host)) ∙ sym (ap (option_and_then (λ r. slot_in (subtree ts r) n)) e))
+      by (Some r) e = ap (option_and_then (λ r. slot_in (subtree ts r) n))
+          (find_there (λ g. name_eq p (name_at names g.host)) (λ g. name_at names g.root) hosts h r e ∙ sym e)
 
   same_slot : (x : NodeName) → slot_at after x ≡ slot_at before x
   same_slot x = by (parent_of ts x)
     where
-      by : (o : Option NodeName) → option_and_then (λ r. slot_in (subtree ts r) (node_in ts x)) (option_and_then (root_named names (hosts ++ h ∷ [])) o) ≡ option_and_then (λ r. slot_in (subtree ts r) (node_in ts x)) (option_and_then (root_named names hosts) o)
+      by : (o : Option NodeName) → option_and_then (λ r. slot_in (subtree ts r) (node_in ts x))
+          (option_and_then (root_named names (hosts ++ h ∷ [])) o) ≡ option_and_then (λ r. slot_in (subtree ts r) (node_in ts x))
+          (option_and_then (root_named names hosts) o)
       by None = refl
       by (Some p) = from_root (node_in ts x) p
 
@@ -89,19 +111,24 @@ module _ (names : List NodeName) (ts : Trees) (hosts : List ShadowHost) (h : Sha
         under : assigned_under before y ≡ assigned_under after y
         under = λ j host. filter (λ x. is_in name_eq y (option_to_list (sym (same_slot x) j))) (children_of ts host)
 
-        chosen : (b : Bool) → name_eq (root_of ts y) (name_at names h.root) ≡ b → [] ≡ option_map_or (assigned_under after y) (if b then Some (name_at names h.host) else None) []
+        chosen : (b : Bool) → name_eq (root_of ts y) (name_at names h.root) ≡ b →
+            [] ≡ option_map_or (assigned_under after y) (if b then Some (name_at names h.host) else None) []
         chosen false e = refl
         chosen true e =
-            sym (filter-none (is_assigned_at before y) (children_of ts (name_at names h.host)) (λ x i. unassigned y (name_eq-true (root_of ts y) (name_at names h.root) e) x)) ∙ (λ j. under j (name_at names h.host))
+            sym (filter-none (is_assigned_at before y) (children_of ts (name_at names h.host))
+            (λ x i. unassigned y (name_eq-true (root_of ts y) (name_at names h.root) e) x)) ∙ (λ j. under j (name_at names h.host))
 
         by : (o : Option NodeName) → host_named names hosts (root_of ts y) ≡ o → assigned_at before y ≡ assigned_at after y
         by None e =
             ap (λ o. option_map_or (assigned_under before y) o []) e
             ∙ (chosen (name_eq (root_of ts y) (name_at names h.root)) refl
-            ∙ sym (ap (λ o. option_map_or (assigned_under after y) o []) (find_else (λ g. name_eq (root_of ts y) (name_at names g.root)) (λ g. name_at names g.host) hosts h e)))
+            ∙ sym (ap (λ o. option_map_or (assigned_under after y) o [])
+            (find_else (λ g. name_eq (root_of ts y) (name_at names g.root)) (λ g. name_at names g.host) hosts h e)))
         by (Some host) e =
             ap (λ o. option_map_or (assigned_under before y) o []) e
-            ∙ ((λ j. under j host) ∙ sym (ap (λ o. option_map_or (assigned_under after y) o []) (find_there (λ g. name_eq (root_of ts y) (name_at names g.root)) (λ g. name_at names g.host) hosts h host e)))
+            ∙ ((λ j. under j host) ∙ sym
+            (ap (λ o. option_map_or (assigned_under after y) o [])
+            (find_there (λ g. name_eq (root_of ts y) (name_at names g.root)) (λ g. name_at names g.host) hosts h host e)))
 
 -- ---- nothing is assigned to a node of a tree without slots
 
@@ -130,7 +157,8 @@ root_above ts y at = by (last_of (inclusive_ancestors ts y)) refl
     by None e = let w = above-present ts y at in subst (In y) (sym w.1) (inl refl)
     by (Some z) e = let s = last_split (inclusive_ancestors ts y) z e in subst (In z) (sym s.1) (In-right z s.0 (z ∷ []) (inl refl))
 
-module _ (f : NamedTrees) (once : Once f.trees) (hosts : List ShadowHost) (root : NodeName) (bare : slots_among (subtree f.trees root) ≡ []) (y : NodeName) (is : root_of f.trees y ≡ root) where
+module _ (f : NamedTrees) (once : Once f.trees) (hosts : List ShadowHost) (root : NodeName) (bare : slots_among (subtree f.trees root) ≡ [])
+    (y : NodeName) (is : root_of f.trees y ≡ root) where
   no_slot_of : (top : NodeName) → is_in name_eq y (slots_among (subtree f.trees top)) ≡ false
   no_slot_of top = is_in-not y (slots_among (subtree f.trees top)) (λ i.
       let q : NodeName → Bool = λ z. is_slot_element (node_in f.trees z) in

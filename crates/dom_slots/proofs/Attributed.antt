@@ -35,7 +35,12 @@ module _ (x : NodeName) (g : Node → Node) (keeps : (n : Node) → (g n).name �
   -- trees without it stay
   changed_off : (ts : Trees) → (Has ts x → ⊥) → map_nodes changed ts ≡ ts
   changed_off none off = refl
-  changed_off (tree n c r) off = rw (name_eq-other n.name x (λ e. off (inl e)), changed_off c (λ i. off (inr (inl i))), changed_off r (λ i. off (inr (inr i)))) refl
+  changed_off (tree n c r) off = rw (
+    name_eq-other n.name x (λ e. off (inl e)),
+    changed_off c (λ i. off (inr (inl i))),
+    changed_off r
+        (λ i. off (inr (inr i))),
+  ) refl
 
   -- so do other nodes
   found_off : (y : NodeName) → (y ≡ x → ⊥) → (ns : List Node) → option_map changed (find (λ n. name_eq n.name y) ns) ≡ find (λ n. name_eq n.name y) ns
@@ -49,7 +54,8 @@ module _ (x : NodeName) (g : Node → Node) (keeps : (n : Node) → (g n).name �
   node_off ts y other =
       let named : Node → Bool = λ n. name_eq n.name y in
       ap (λ ns. unwrap_or (find named ns) (no_node y)) (nodes_recast changed changed_name ts)
-      ∙ ap (λ o. unwrap_or o (no_node y)) (found_recast changed changed_name named (λ n. ap (λ z. name_eq z y) (changed_name n)) (nodes ts) ∙ found_off y other (nodes ts))
+      ∙ ap (λ o. unwrap_or o (no_node y))
+      (found_recast changed changed_name named (λ n. ap (λ z. name_eq z y) (changed_name n)) (nodes ts) ∙ found_off y other (nodes ts))
 
   module _ (names : List NodeName) (hosts : List ShadowHost) (was : Trees) (both : AreBoth names hosts was (change_node g x was)) where
     abbrev now : Trees
@@ -60,7 +66,10 @@ module _ (x : NodeName) (g : Node → Node) (keeps : (n : Node) → (g n).name �
 
     -- a node stays in its tree where x does not stand in it
     pub changed-settled : (y : NodeName) → (Has (subtree was (root_of was y)) x → ⊥) → IsSettled was now y
-    changed-settled y away = record { root = root_same y; tree = sym (subtree_recast changed changed_name was (root_of was y) ∙ changed_off (subtree was (root_of was y)) away) }
+    changed-settled y away = record {
+      root = root_same y;
+      tree = sym (subtree_recast changed changed_name was (root_of was y) ∙ changed_off (subtree was (root_of was y)) away);
+    }
 
     -- and hosts have the children that they had
     pub children_same : (r h : NodeName) → host_named names hosts r ≡ Some h → children_of was h ≡ children_of now h
@@ -74,7 +83,8 @@ module _ (x : NodeName) (g : Node → Node) (keeps : (n : Node) → (g n).name �
     }
 
     module _ (aside : IsAside names hosts x was (change_node g x was)) (at_was : Has was x) (at_now : Has (change_node g x was) x) where
-      settled : (y : NodeName) → Has was y → IsSettled was now y ⊎ ((host_named names hosts (root_of was y) ≡ None) × (host_named names hosts (root_of now y) ≡ None))
+      settled : (y : NodeName) → Has was y → IsSettled was now y ⊎
+          ((host_named names hosts (root_of was y) ≡ None) × (host_named names hosts (root_of now y) ≡ None))
       settled y h = elim (has_or_not (subtree was (root_of was y)) x) [
         | inl i ↦
             let none_was : host_named names hosts (root_of was y) ≡ None =
@@ -91,7 +101,8 @@ module _ (x : NodeName) (g : Node → Node) (keeps : (n : Node) → (g n).name �
       ]
 
       -- and all where x has the slot that it had
-      pub changed-stays : (y : NodeName) → Has was y → Has now y → is_assigned_at (shadow_trees names was hosts) y x ≡ is_assigned_at (shadow_trees names now hosts) y x
+      pub changed-stays : (y : NodeName) → Has was y → Has now y →
+          is_assigned_at (shadow_trees names was hosts) y x ≡ is_assigned_at (shadow_trees names now hosts) y x
           → assigned_at (shadow_trees names was hosts) y ≡ assigned_at (shadow_trees names now hosts) y
       changed-stays y h k mine = elim (settled y h) [
         | inl s ↦ unmoved-settled names hosts was now both.once_was both.once_now y h k s x keeps_hosts children_same mine

@@ -40,18 +40,23 @@ node-within names (Attribute x) nodes = nodes
 -- what is signalled around a node, by the tables
 abbrev pub told_by : NamedTrees → List ShadowHost → (NodeName → Bool) → BegunStep → List NodeName
 told_by f hosts p b =
-    option_map_or (λ around. signalled_by p (shadows f hosts) (option_map (name_at f.names) b.slot) (name_at f.names (step_node b.step)) (name_at f.names around) (is_move b.step)) (around_of b.step b.left) []
+    option_map_or (λ around. signalled_by p (shadows f hosts) (option_map (name_at f.names) b.slot) (name_at f.names (step_node b.step))
+    (name_at f.names around) (is_move b.step)) (around_of b.step b.left) []
 
 -- is what the step signals
 pub told-signals : (was : Trees) (f : NamedTrees) (s : SlotsNow) (b : BegunStep) → IsEndOf was f s b
-    → told_by f s.hosts (is_changed_at (shadow_trees f.names was s.hosts) (shadows f s.hosts)) b ≡ step_signals f.names (shadow_trees f.names was s.hosts) (shadows f s.hosts) b.step b.left
+    → told_by f s.hosts (is_changed_at (shadow_trees f.names was s.hosts) (shadows f s.hosts)) b ≡ step_signals f.names
+    (shadow_trees f.names was s.hosts) (shadows f s.hosts) b.step b.left
 told-signals was f s b h =
     let p = is_changed_at (shadow_trees f.names was s.hosts) (shadows f s.hosts) in
-    ap (λ slot. option_map_or (λ around. signalled_by p (shadows f s.hosts) slot (name_at f.names (step_node b.step)) (name_at f.names around) (is_move b.step)) (around_of b.step b.left) []) h.slot
+    ap (λ slot. option_map_or (λ around. signalled_by p (shadows f s.hosts) slot (name_at f.names (step_node b.step)) (name_at f.names around)
+    (is_move b.step)) (around_of b.step b.left) []) h.slot
 
 -- a step that was begun and done is at its end
-pub step-ends : (old new : NamedTrees) (before after : SlotsNow) (step : Step) (b : BegunStep) → new.names ≡ old.names → StepHasNodes old.names step → AreSlotsOf old before
-    → after.hosts ≡ before.hosts → after.table ≡ before.table → after.begun ≡ Some b → IsBegun old before.hosts step b → IsStepFrom old.names old.trees new.trees step b.left → IsEndOf old.trees new after b
+pub step-ends : (old new : NamedTrees) (before after : SlotsNow) (step : Step) (b : BegunStep) → new.names ≡ old.names →
+    StepHasNodes old.names step → AreSlotsOf old before
+    → after.hosts ≡ before.hosts → after.table ≡ before.table → after.begun ≡ Some b → IsBegun old before.hosts step b →
+    IsStepFrom old.names old.trees new.trees step b.left → IsEndOf old.trees new after b
 step-ends old new before after step b names nodes slots hosts table begun is moved =
     let mine : SlotsNow = record { hosts = before.hosts; table = before.table; begun = Some b } in
     let its : after ≡ mine = λ j. record { hosts = hosts j; table = table j; begun = begun j } in
@@ -72,7 +77,8 @@ step-ends old new before after step b names nodes slots hosts table begun is mov
 
 -- ---- hosts are nodes
 
-host-key : (names : List NodeName) (hosts : List ShadowHost) → HostsAreNodes names hosts → (r h : NodeName) → host_named names hosts r ≡ Some h → (k : ℕ) × (k < length names) × (name_at names k ≡ h)
+host-key : (names : List NodeName) (hosts : List ShadowHost) → HostsAreNodes names hosts → (r h : NodeName) → host_named names hosts r ≡ Some h →
+    (k : ℕ) × (k < length names) × (name_at names k ≡ h)
 host-key names [] nodes r h e = absurd (none-some h e)
 host-key names (g ∷ hosts) nodes r h e = by (name_eq r (name_at names g.root)) e (host-key names hosts nodes.2 r h)
   where
@@ -109,13 +115,15 @@ module _ (was : Trees) (f : NamedTrees) (s : SlotsNow) (b : BegunStep) (ended : 
   both-stand = record {
     once_was = Once-forest record { names = f.names; trees = was } ended.stands.once ended.stands.only;
     once_now = Once-forest f stands.once stands.only;
-    stands = λ r h e. let w = host-key f.names s.hosts ended.slots.hosts r h e in (subst (Has was) w.2 (there-was w.0 w.1), subst (Has f.trees) w.2 (there-now w.0 w.1));
+    stands = λ r h e. let w = host-key f.names s.hosts ended.slots.hosts r h e in
+        (subst (Has was) w.2 (there-was w.0 w.1), subst (Has f.trees) w.2 (there-now w.0 w.1));
   }
 
   -- what is none of the own slots had the node not assigned to it, and has not
   pub not-own : (y : NodeName) → is_in name_eq y own ≡ false → (is_assigned_at before y x ≡ false) × (is_assigned_at after y x ≡ false)
   not-own y other =
-      let parts : (is_in name_eq y (option_to_list (option_map (name_at f.names) b.slot)) ≡ false) × (is_in name_eq y (option_to_list (slot_at after x)) ≡ false) =
+      let parts : (is_in name_eq y (option_to_list (option_map (name_at f.names) b.slot)) ≡ false) ×
+      (is_in name_eq y (option_to_list (slot_at after x)) ≡ false) =
       or_parts _ _ (sym (list_any-append (name_eq y) (option_to_list (option_map (name_at f.names) b.slot)) (option_to_list (slot_at after x))) ∙ other) in
       (ap (λ o. is_in name_eq y (option_to_list o)) (sym ended.slot) ∙ parts.0, parts.1)
 
@@ -124,17 +132,21 @@ module _ (was : Trees) (f : NamedTrees) (s : SlotsNow) (b : BegunStep) (ended : 
   none-own up_was up_now =
       let none_was : option_to_list (option_map (name_at f.names) b.slot) ≡ [] =
       ap option_to_list (ended.slot ∙ ap (λ o. option_and_then (λ r. slot_in (subtree was r) (node_in was x)) (option_and_then before.shadow_of o)) up_was) in
-      let none_now : option_to_list (slot_at after x) ≡ [] = ap (λ o. option_to_list (option_and_then (λ r. slot_in (subtree f.trees r) (node_in f.trees x)) (option_and_then after.shadow_of o))) up_now in
+      let none_now : option_to_list (slot_at after x) ≡ [] =
+      ap (λ o. option_to_list (option_and_then (λ r. slot_in (subtree f.trees r) (node_in f.trees x))
+      (option_and_then after.shadow_of o))) up_now in
       ap (λ ys. ys ++ option_to_list (slot_at after x)) none_was ∙ none_now
 
   -- where all others than the node stay where they are assigned, and the node too if it is not moved and has the slot that it
   -- had, the lists are those of the trees now but for the node
   pub but-for : AreDistinct f.names → ((y : NodeName) → Has was y → Has f.trees y → KeepsBut f.names s.hosts x was f.trees y)
-      → (is_move b.step ≡ false → slot_at before x ≡ slot_at after x → (y : NodeName) → Has was y → Has f.trees y → assigned_at before y ≡ assigned_at after y) → IsButFor f s.hosts s.table b.slot b.step
+      → (is_move b.step ≡ false → slot_at before x ≡ slot_at after x → (y : NodeName) → Has was y → Has f.trees y →
+      assigned_at before y ≡ assigned_at after y) → IsButFor f s.hosts s.table b.slot b.step
   but-for distinct kept still = record {
     others = λ k within. ap (names_but x) (ended.slots.table.lists k within) ∙ kept (name_at f.names k) (there-was k within) (there-now k within);
     listed = λ k within i.
-        named-key f.names distinct b.slot ended.slot_node k within (ended.slot ∙ sym (listed-slot record { names = f.names; trees = was } s.hosts s.table ended.slots.table (step_node b.step) k i));
+        named-key f.names distinct b.slot ended.slot_node k within
+        (ended.slot ∙ sym (listed-slot record { names = f.names; trees = was } s.hosts s.table ended.slots.table (step_node b.step) k i));
     stays = λ unmoved same k within.
         ended.slots.table.lists k within ∙ still unmoved (sym ended.slot ∙ same) (name_at f.names k) (there-was k within) (there-now k within);
   }
@@ -153,7 +165,8 @@ module _ (was : Trees) (f : NamedTrees) (s : SlotsNow) (b : BegunStep) (ended : 
   }
 
   -- where what is assigned to all but these slots stays
-  module _ (slots : List NodeName) (stays : (k : ℕ) → k < length f.names → is_in name_eq (name_at f.names k) slots ≡ false → assigned_at before (name_at f.names k) ≡ assigned_at after (name_at f.names k)) where
+  module _ (slots : List NodeName) (stays : (k : ℕ) → k < length f.names → is_in name_eq (name_at f.names k) slots ≡ false →
+      assigned_at before (name_at f.names k) ≡ assigned_at after (name_at f.names k)) where
     -- those whose nodes are others are among them
     other-among : (y : NodeName) → has_node f.trees y ≡ true → is-other y ≡ true → is_in name_eq y slots ≡ true
     other-among y h other =
@@ -161,16 +174,23 @@ module _ (was : Trees) (f : NamedTrees) (s : SlotsNow) (b : BegunStep) (ended : 
         let named : name_at f.names found.0 ≡ y = get_or_from_slice_get f.names found.0 y (node_of Page 0) found.1 in
         true_from_ne_false (is_in name_eq y slots)
         (λ off. true≢false (sym other ∙ (subst (λ z. is-other z ≡ false) named
-        (ap (λ xs. not (list_eq name_eq xs (assigned_at after (name_at f.names found.0)))) (stays found.0 (slice_get_within f.names found.0 y found.1) (ap (λ z. is_in name_eq z slots) named ∙ off))
+        (ap (λ xs. not (list_eq name_eq xs (assigned_at after (name_at f.names found.0))))
+        (stays found.0 (slice_get_within f.names found.0 y found.1) (ap (λ z. is_in name_eq z slots) named ∙ off))
         ∙ ap not (list_eq-self (assigned_at after (name_at f.names found.0)))))))
 
     pub others-among : (top y : NodeName) → In y (slots_among (subtree f.trees top)) → is-other y ≡ true → is_in name_eq y slots ≡ true
     others-among top y i = slots-within (λ u. is-other u ≡ true → is_in name_eq u slots ≡ true) f.trees other-among top y i
 
     -- where the lists of these are renewed the table is that of the trees now
-    pub renewed-table : (told : List NodeName) (table : SlotTable) (keys : List ℕ) → AreRenewed f s.hosts is-other s.table slots told table keys → IsTableOf f s.hosts table
-    renewed-table told table keys r = record { nodes = r.nodes; lists = λ k within. by k within (is_in name_eq (name_at f.names k) slots) refl; beyond = r.beyond }
+    pub renewed-table : (told : List NodeName) (table : SlotTable) (keys : List ℕ) → AreRenewed f s.hosts is-other s.table slots told table keys →
+        IsTableOf f s.hosts table
+    renewed-table told table keys r = record {
+      nodes = r.nodes;
+      lists = λ k within. by k within (is_in name_eq (name_at f.names k) slots) refl;
+      beyond = r.beyond;
+    }
       where
-        by : (k : ℕ) → k < length f.names → (b : Bool) → is_in name_eq (name_at f.names k) slots ≡ b → map (name_at f.names) (list_of table k) ≡ assigned_at after (name_at f.names k)
+        by : (k : ℕ) → k < length f.names → (b : Bool) → is_in name_eq (name_at f.names k) slots ≡ b →
+            map (name_at f.names) (list_of table k) ≡ assigned_at after (name_at f.names k)
         by k within true i = r.renewed k within i
         by k within false i = ap (map (name_at f.names)) (r.kept k within i) ∙ (ended.slots.table.lists k within ∙ stays k within i)

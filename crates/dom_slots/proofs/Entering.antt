@@ -1,5 +1,6 @@
 -- A list is entered in a table, and nothing is assigned to what is no slot of a host's tree.
-use Rattle.std.proofs.Common.{◌≡◌, ℕ, ◌<◌, ◌≤◌, Bool, true, false, ◌||◌, List, [], ◌∷◌, All, length, filter, Option, Some, None, refl, sym, ap, subst, ◌∙◌, true≢false, arith}
+use Rattle.std.proofs.Common.{◌≡◌, ℕ, ◌<◌, ◌≤◌, Bool, true, false, ◌||◌, List, [], ◌∷◌, All, length, filter, Option, Some, None, refl, sym, ap, subst}
+use Rattle.std.proofs.Common.{◌∙◌, true≢false, arith}
 use Rattle.std.specs.Prelude.{nat_eq, if◌then◌else◌, find, option_to_list}
 use Rattle.std.specs.Option.{option_map, option_map_or, option_and_then}
 use Rattle.std.proofs.lemmas.Bool.{ne_eqb, false_from_ne_true, and_parts, or_left, or_right}
@@ -16,7 +17,8 @@ use Rattle.dom_slots.proofs.Hosted.{AreDistinct}
 
 module _ (f : NamedTrees) (hosts : List ShadowHost) (apart : AreDistinct f.names) where
   -- a list of nodes is entered
-  pub entered_nodes : (s : ℕ) (list : List ℕ) → All (λ j. j < length f.names) list → (mid new : SlotTable) → ((k : ℕ) → list_of new k ≡ (if nat_eq s k then list else list_of mid k))
+  pub entered_nodes : (s : ℕ) (list : List ℕ) → All (λ j. j < length f.names) list → (mid new : SlotTable) →
+      ((k : ℕ) → list_of new k ≡ (if nat_eq s k then list else list_of mid k))
       → ((k : ℕ) → All (λ j. j < length f.names) (list_of mid k)) → (k : ℕ) → All (λ j. j < length f.names) (list_of new k)
   entered_nodes s list here mid new written before k = subst (All (λ j. j < length f.names)) (sym (written k)) (by (nat_eq s k))
     where
@@ -25,7 +27,8 @@ module _ (f : NamedTrees) (hosts : List ShadowHost) (apart : AreDistinct f.names
       by false = before k
 
   -- what is no node has the list that it had
-  pub entered_beyond : (s : ℕ) → s < length f.names → (list : List ℕ) (mid new : SlotTable) → ((k : ℕ) → list_of new k ≡ (if nat_eq s k then list else list_of mid k)) → (k : ℕ) → length f.names ≤ k → list_of new k ≡ list_of mid k
+  pub entered_beyond : (s : ℕ) → s < length f.names → (list : List ℕ) (mid new : SlotTable) →
+      ((k : ℕ) → list_of new k ≡ (if nat_eq s k then list else list_of mid k)) → (k : ℕ) → length f.names ≤ k → list_of new k ≡ list_of mid k
   entered_beyond s node list mid new written k far = written k ∙ ap (λ (b : Bool). if b then list else list_of mid k) (ne_eqb s k (λ e. omega arith))
 
 module _ (f : NamedTrees) (hosts : List ShadowHost) where
@@ -37,32 +40,46 @@ module _ (f : NamedTrees) (hosts : List ShadowHost) where
   -- ---- what is assigned to a node is assigned to a slot
 
   -- a slot that is found stands among the slots
-  found_among : (name : DomString) (y : NodeName) (ns : List Node) → option_map (λ (n : Node). n.name) (find (has_slot_name name) ns) ≡ Some y → is_in name_eq y (names_of (filter is_slot_element ns)) ≡ true
+  found_among : (name : DomString) (y : NodeName) (ns : List Node) → option_map (λ (n : Node). n.name) (find (has_slot_name name) ns) ≡ Some y →
+      is_in name_eq y (names_of (filter is_slot_element ns)) ≡ true
   found_among name y [] e = cc
   found_among name y (n ∷ ns) e = by (has_slot_name name n) refl (found_among name y ns)
     where
-      behind : (b : Bool) → is_slot_element n ≡ b → is_in name_eq y (names_of (filter is_slot_element ns)) ≡ true → is_in name_eq y (names_of (filter is_slot_element (n ∷ ns))) ≡ true
-      behind true h i = ap (λ (b : Bool). is_in name_eq y (names_of (if b then n ∷ filter is_slot_element ns else filter is_slot_element ns))) h ∙ or_right (name_eq y n.name) _ i
+      behind : (b : Bool) → is_slot_element n ≡ b → is_in name_eq y (names_of (filter is_slot_element ns)) ≡ true →
+          is_in name_eq y (names_of (filter is_slot_element (n ∷ ns))) ≡ true
+      behind true h i = ap (λ (b : Bool). is_in name_eq y (names_of (if b then n ∷ filter is_slot_element ns else filter is_slot_element ns))) h ∙
+          or_right (name_eq y n.name) _ i
       behind false h i = ap (λ (b : Bool). is_in name_eq y (names_of (if b then n ∷ filter is_slot_element ns else filter is_slot_element ns))) h ∙ i
 
-      by : (b : Bool) → has_slot_name name n ≡ b → (option_map (λ (m : Node). m.name) (find (has_slot_name name) ns) ≡ Some y → is_in name_eq y (names_of (filter is_slot_element ns)) ≡ true)
+      by : (b : Bool) → has_slot_name name n ≡ b →
+          (option_map (λ (m : Node). m.name) (find (has_slot_name name) ns) ≡ Some y → is_in name_eq y (names_of (filter is_slot_element ns)) ≡ true)
           → is_in name_eq y (names_of (filter is_slot_element (n ∷ ns))) ≡ true
       by true h deeper =
-          let found : Some n.name ≡ Some y = sym (ap (λ (b : Bool). option_map (λ (m : Node). m.name) (if b then Some n else find (has_slot_name name) ns)) h) ∙ e in
+          let found : Some n.name ≡ Some y =
+          sym (ap (λ (b : Bool). option_map (λ (m : Node). m.name) (if b then Some n else find (has_slot_name name) ns)) h) ∙ e in
           let same : n.name ≡ y = cc in
-          ap (λ (b : Bool). is_in name_eq y (names_of (if b then n ∷ filter is_slot_element ns else filter is_slot_element ns))) (and_parts (is_slot_element n) _ h).0 ∙ or_left (name_eq y n.name) _ (name_eq-from y n.name (sym same))
-      by false h deeper = behind (is_slot_element n) refl (deeper (sym (ap (λ (b : Bool). option_map (λ (m : Node). m.name) (if b then Some n else find (has_slot_name name) ns)) h) ∙ e))
+          ap (λ (b : Bool). is_in name_eq y (names_of (if b then n ∷ filter is_slot_element ns else filter is_slot_element ns)))
+          (and_parts (is_slot_element n) _ h).0 ∙ or_left (name_eq y n.name) _ (name_eq-from y n.name (sym same))
+      by false h deeper = behind (is_slot_element n) refl
+          (deeper (sym (ap (λ (b : Bool). option_map (λ (m : Node). m.name) (if b then Some n else find (has_slot_name name) ns)) h) ∙ e))
 
-  root_among : (y p r : NodeName) (hs : List ShadowHost) → NoneHas y hs → root_named f.names hs p ≡ Some r → is_in name_eq y (slots_among (subtree f.trees r)) ≡ false
+  root_among : (y p r : NodeName) (hs : List ShadowHost) → NoneHas y hs → root_named f.names hs p ≡ Some r →
+      is_in name_eq y (slots_among (subtree f.trees r)) ≡ false
   root_among y p r [] none e = cc
   root_among y p r (h ∷ hs) none e = by (name_eq p (name_at f.names h.host)) refl (root_among y p r hs none.1)
     where
-      by : (b : Bool) → name_eq p (name_at f.names h.host) ≡ b → (root_named f.names hs p ≡ Some r → is_in name_eq y (slots_among (subtree f.trees r)) ≡ false) → is_in name_eq y (slots_among (subtree f.trees r)) ≡ false
+      by : (b : Bool) → name_eq p (name_at f.names h.host) ≡ b →
+          (root_named f.names hs p ≡ Some r → is_in name_eq y (slots_among (subtree f.trees r)) ≡ false) →
+          is_in name_eq y (slots_among (subtree f.trees r)) ≡ false
       by true i deeper =
-          let found : Some (name_at f.names h.root) ≡ Some r = sym (ap (λ (b : Bool). option_map (λ (g : ShadowHost). name_at f.names g.root) (if b then Some h else find (λ (g : ShadowHost). name_eq p (name_at f.names g.host)) hs)) i) ∙ e in
+          let found : Some (name_at f.names h.root) ≡ Some r =
+          sym (ap (λ (b : Bool). option_map (λ (g : ShadowHost). name_at f.names g.root)
+          (if b then Some h else find (λ (g : ShadowHost). name_eq p (name_at f.names g.host)) hs)) i) ∙ e in
           let same : name_at f.names h.root ≡ r = cc in
           ap (λ z. is_in name_eq y (slots_among (subtree f.trees z))) (sym same) ∙ none.0
-      by false i deeper = deeper (sym (ap (λ (b : Bool). option_map (λ (g : ShadowHost). name_at f.names g.root) (if b then Some h else find (λ (g : ShadowHost). name_eq p (name_at f.names g.host)) hs)) i) ∙ e)
+      by false i deeper = deeper (sym (ap
+          (λ (b : Bool). option_map (λ (g : ShadowHost). name_at f.names g.root)
+          (if b then Some h else find (λ (g : ShadowHost). name_eq p (name_at f.names g.host)) hs)) i) ∙ e)
 
   -- a slot that is found is one of the hosts' trees
   other_slot : (y z p r : NodeName) (n : Node) → NoneHas y hosts → root_named f.names hosts p ≡ Some r → (o : Option DomString)
@@ -70,13 +87,16 @@ module _ (f : NamedTrees) (hosts : List ShadowHost) where
   other_slot y z p r n none up None e = cc
   other_slot y z p r n none up (Some name) e =
       false_from_ne_true (name_eq y z)
-      (λ same. true≢false (sym (found_among name z (nodes (subtree f.trees r)) e) ∙ (ap (λ u. is_in name_eq u (slots_among (subtree f.trees r))) (sym (name_eq-true y z same)) ∙ root_among y p r hosts none up)))
+      (λ same. true≢false (sym (found_among name z (nodes (subtree f.trees r)) e) ∙
+      (ap (λ u. is_in name_eq u (slots_among (subtree f.trees r))) (sym (name_eq-true y z same)) ∙ root_among y p r hosts none up)))
 
-  from_root : (y z p : NodeName) (n : Node) → NoneHas y hosts → (o : Option NodeName) → root_named f.names hosts p ≡ o → option_and_then (λ r. slot_in (subtree f.trees r) n) o ≡ Some z → name_eq y z ≡ false
+  from_root : (y z p : NodeName) (n : Node) → NoneHas y hosts → (o : Option NodeName) → root_named f.names hosts p ≡ o →
+      option_and_then (λ r. slot_in (subtree f.trees r) n) o ≡ Some z → name_eq y z ≡ false
   from_root y z p n none None up e = cc
   from_root y z p n none (Some r) up e = other_slot y z p r n none up (slottable_name n) e
 
-  from_parent : (y z : NodeName) (n : Node) → NoneHas y hosts → (o : Option NodeName) → option_and_then (λ r. slot_in (subtree f.trees r) n) (option_and_then (root_named f.names hosts) o) ≡ Some z → name_eq y z ≡ false
+  from_parent : (y z : NodeName) (n : Node) → NoneHas y hosts → (o : Option NodeName) →
+      option_and_then (λ r. slot_in (subtree f.trees r) n) (option_and_then (root_named f.names hosts) o) ≡ Some z → name_eq y z ≡ false
   from_parent y z n none None e = cc
   from_parent y z n none (Some p) e = from_root y z p n none (root_named f.names hosts p) refl e
 

@@ -32,19 +32,23 @@ module _ (ts : Trees) (once : Once ts) where
   -- a slot of a tree is among its slots
   pub slot-among : (top y : NodeName) → Has (subtree ts top) y → is_slot_element (node_in ts y) ≡ true → In y (slots_among (subtree ts top))
   slot-among top y i e =
-      subst (In y) (sym (named-filter ts once is_slot_element top)) (to_filter (λ z. is_slot_element (node_in ts z)) y (inclusive_descendants ts top) e (In-names (subtree ts top) y i))
+      subst (In y) (sym (named-filter ts once is_slot_element top))
+      (to_filter (λ z. is_slot_element (node_in ts z)) y (inclusive_descendants ts top) e (In-names (subtree ts top) y i))
 
   -- a node that is no slot is not
-  none_among : (names : List NodeName) (hosts hs : List ShadowHost) (y : NodeName) → is_slot_element (node_in ts y) ≡ false → NoneHas record { names = names; trees = ts } hosts y hs
+  none_among : (names : List NodeName) (hosts hs : List ShadowHost) (y : NodeName) → is_slot_element (node_in ts y) ≡ false →
+      NoneHas record { names = names; trees = ts } hosts y hs
   none_among names hosts [] y e = tt
   none_among names hosts (h ∷ hs) y e = (
     is_in-not y (slots_among (subtree ts (name_at names h.root)))
-        (λ i. true≢false (sym (in_filter (λ z. is_slot_element (node_in ts z)) y (inclusive_descendants ts (name_at names h.root)) (subst (In y) (named-filter ts once is_slot_element (name_at names h.root)) i)).0 ∙ e)),
+        (λ i. true≢false (sym (in_filter (λ z. is_slot_element (node_in ts z)) y (inclusive_descendants ts (name_at names h.root))
+        (subst (In y) (named-filter ts once is_slot_element (name_at names h.root)) i)).0 ∙ e)),
     none_among names hosts hs y e,
   )
 
   -- and nothing is assigned to it
-  no_slot-unassigned : (names : List NodeName) (hosts : List ShadowHost) (y : NodeName) → is_slot_element (node_in ts y) ≡ false → [] ≡ assigned_at (shadow_trees names ts hosts) y
+  no_slot-unassigned : (names : List NodeName) (hosts : List ShadowHost) (y : NodeName) → is_slot_element (node_in ts y) ≡ false →
+      [] ≡ assigned_at (shadow_trees names ts hosts) y
   no_slot-unassigned names hosts y e = unslotted record { names = names; trees = ts } hosts y (none_among names hosts hosts y e)
 
 -- a slot that stands neither below x nor in the tree of a parent of x, the one before a step or the one behind it
@@ -63,7 +67,8 @@ KeepsFar names hosts x was now = (y : NodeName) → Has was y → Has now y → 
 
 -- ---- a tree that is moved
 
-module _ (names : List NodeName) (hosts : List ShadowHost) (m : Node) (d us : Trees) (p q : Spot) (apart : (y : NodeName) → Has us y → Has (tree m d none) y → ⊥)
+module _ (names : List NodeName) (hosts : List ShadowHost) (m : Node) (d us : Trees) (p q : Spot)
+    (apart : (y : NodeName) → Has us y → Has (tree m d none) y → ⊥)
     (both : AreBoth names hosts (grafted m d p us) (grafted m d q us)) where
   abbrev was : Trees
   was = grafted m d p us
@@ -79,13 +84,17 @@ module _ (names : List NodeName) (hosts : List ShadowHost) (m : Node) (d us : Tr
     | inl e ↦ by e far
     | inr e ↦
         ap (others x)
-        (sym (no_slot-unassigned was both.once_was names hosts y (ap is_slot_element (Moved.contents_same names hosts m d us p q apart both y h g) ∙ e)) ∙ no_slot-unassigned now both.once_now names hosts y e)
+        (sym (no_slot-unassigned was both.once_was names hosts y
+        (ap is_slot_element (Moved.contents_same names hosts m d us p q apart both y h g) ∙ e)) ∙ no_slot-unassigned now both.once_now names
+        hosts y e)
   ]
     where
       by : is_slot_element (node_in now y) ≡ true → IsFar x was now y → KeepsBut names hosts x was now y
       by e (inr away) =
           let a = away e in
-          assigned-settled names hosts was now both.once_was both.once_now y h g (Moved.moved-settled names hosts m d us p q apart both y h g a.below a.left a.parent) x (Moved.keeps_hosts names hosts m d us p q apart both)
+          assigned-settled names hosts was now both.once_was both.once_now y h g
+          (Moved.moved-settled names hosts m d us p q apart both y h g a.below a.left a.parent) x
+          (Moved.keeps_hosts names hosts m d us p q apart both)
       by e (inl bare) =
           let below : Has (subtree now x) y → ⊥ = λ i. subst (In y) bare (slot-among now both.once_now x y i e) in
           let off : Has (tree m d none) y → ⊥ = λ i. below (subst (λ (ts : Trees). Has ts y) (sym (Moved.own_tree names hosts m d us p q apart both q)) i) in
@@ -100,7 +109,8 @@ module _ (names : List NodeName) (hosts : List ShadowHost) (m : Node) (d us : Tr
       settled : IsSettled was now y
       settled = elim (has_or_not (subtree now x) y) [
         | inl i ↦ Moved.alone-settled names hosts m d us p q apart both y i e f
-        | inr off ↦ Moved.moved-settled names hosts m d us p q apart both y h g off (λ a is. absurd (none-some a (sym e ∙ is))) (λ a is. absurd (none-some a (sym f ∙ is)))
+        | inr off ↦ Moved.moved-settled names hosts m d us p q apart both y h g off (λ a is. absurd (none-some a (sym e ∙ is)))
+            (λ a is. absurd (none-some a (sym f ∙ is)))
       ]
 
 -- ---- a node whose attributes are changed
@@ -109,30 +119,39 @@ module _ (x : NodeName) (g : Node → Node) (keeps : (n : Node) → (g n).name �
     (names : List NodeName) (hosts : List ShadowHost) (ts : Trees) (two : AreBoth names hosts ts (change_node g x ts)) where
   -- it is no slot, or this node is none, or one that does not stand in its tree
   abbrev pub IsApart : NodeName → Type 0
-  IsApart y = (is_slot_element (node_in (change_node g x ts) x) ≡ false) ⊎ (is_slot_element (node_in (change_node g x ts) y) ≡ true → Has (subtree (change_node g x ts) (root_of (change_node g x ts) x)) y → ⊥)
+  IsApart y = (is_slot_element (node_in (change_node g x ts) x) ≡ false) ⊎
+      (is_slot_element (node_in (change_node g x ts) y) ≡ true → Has (subtree (change_node g x ts) (root_of (change_node g x ts) x)) y → ⊥)
 
   -- where it is no slot each node finds the slot that it found
-  found-still : is_slot_element (node_in (change_node g x ts) x) ≡ false → (y r : NodeName) (n : Node) → is_in name_eq y (option_to_list (slot_in (subtree ts r) n)) ≡ is_in name_eq y (option_to_list (slot_in (subtree (change_node g x ts) r) n))
-  found-still off y r n = ap (λ o. is_in name_eq y (option_to_list o)) (changed-found x g keeps element ts two.once_was (sym (changed-slot x g keeps element ts x) ∙ off) r n)
+  found-still : is_slot_element (node_in (change_node g x ts) x) ≡ false → (y r : NodeName) (n : Node) →
+      is_in name_eq y (option_to_list (slot_in (subtree ts r) n)) ≡ is_in name_eq y (option_to_list (slot_in (subtree (change_node g x ts) r) n))
+  found-still off y r n = ap (λ o. is_in name_eq y (option_to_list o))
+      (changed-found x g keeps element ts two.once_was (sym (changed-slot x g keeps element ts x) ∙ off) r n)
 
   -- so all stays where the node has the slot that it had
-  pub changed-still : is_slot_element (node_in (change_node g x ts) x) ≡ false → (y : NodeName) → is_assigned_at (shadow_trees names ts hosts) y x ≡ is_assigned_at (shadow_trees names (change_node g x ts) hosts) y x
+  pub changed-still : is_slot_element (node_in (change_node g x ts) x) ≡ false → (y : NodeName) →
+      is_assigned_at (shadow_trees names ts hosts) y x ≡ is_assigned_at (shadow_trees names (change_node g x ts) hosts) y x
       → assigned_at (shadow_trees names ts hosts) y ≡ assigned_at (shadow_trees names (change_node g x ts) hosts) y
   changed-still off y mine =
-      assigned-unmoved names hosts ts (change_node g x ts) two.once_was two.once_now y (Attributed.root_same x g keeps names hosts ts two y) (found-still off y) x (Attributed.keeps_hosts x g keeps names hosts ts two)
+      assigned-unmoved names hosts ts (change_node g x ts) two.once_was two.once_now y (Attributed.root_same x g keeps names hosts ts two y)
+      (found-still off y) x (Attributed.keeps_hosts x g keeps names hosts ts two)
       (Attributed.children_same x g keeps names hosts ts two) mine
 
   -- what is assigned to such nodes stays but for that one
   pub changed-far : (y : NodeName) → Has ts y → Has (change_node g x ts) y → IsApart y → KeepsBut names hosts x ts (change_node g x ts) y
   changed-far y h i (inl off) =
-      assigned-found names hosts ts (change_node g x ts) two.once_was two.once_now y (Attributed.root_same x g keeps names hosts ts two y) (found-still off y) x (Attributed.keeps_hosts x g keeps names hosts ts two)
+      assigned-found names hosts ts (change_node g x ts) two.once_was two.once_now y (Attributed.root_same x g keeps names hosts ts two y)
+      (found-still off y) x (Attributed.keeps_hosts x g keeps names hosts ts two)
   changed-far y h i (inr apart) = elim (cases_Bool (is_slot_element (node_in (change_node g x ts) y))) [
     | inl e ↦
         assigned-settled names hosts ts (change_node g x ts) two.once_was two.once_now y h i
         (Attributed.changed-settled x g keeps names hosts ts two y (λ j.
         let same : root_of (change_node g x ts) y ≡ root_of (change_node g x ts) x =
-        sym (Attributed.root_same x g keeps names hosts ts two y) ∙ (sym (root-within ts two.once_was y x h j) ∙ Attributed.root_same x g keeps names hosts ts two x) in
-        apart e (subst (λ z. Has (subtree (change_node g x ts) z) y) same (in-tree_of_root (change_node g x ts) two.once_now y i)))) x (Attributed.keeps_hosts x g keeps names hosts ts two)
+        sym (Attributed.root_same x g keeps names hosts ts two y) ∙
+        (sym (root-within ts two.once_was y x h j) ∙ Attributed.root_same x g keeps names hosts ts two x) in
+        apart e (subst (λ z. Has (subtree (change_node g x ts) z) y) same (in-tree_of_root (change_node g x ts) two.once_now y i)))) x
+        (Attributed.keeps_hosts x g keeps names hosts ts two)
     | inr e ↦
-        ap (others x) (sym (no_slot-unassigned ts two.once_was names hosts y (sym (changed-slot x g keeps element ts y) ∙ e)) ∙ no_slot-unassigned (change_node g x ts) two.once_now names hosts y e)
+        ap (others x) (sym (no_slot-unassigned ts two.once_was names hosts y (sym (changed-slot x g keeps element ts y) ∙ e)) ∙
+        no_slot-unassigned (change_node g x ts) two.once_now names hosts y e)
   ]

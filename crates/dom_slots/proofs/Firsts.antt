@@ -27,13 +27,16 @@ text_same [] = refl
 text_same (x ∷ xs) = ap (λ b. b && text_eq xs xs) (eq-eqb x x refl) ∙ text_same xs
 
 -- a slot that is found by a name has it
-found_named : (ts : Trees) (y : NodeName) (a : DomString) (ns : List Node) → ((m : Node) → InNodes m ns → node_in ts m.name ≡ m) → is_in name_eq y (option_to_list (option_map (λ (n : Node). n.name) (find (has_slot_name a) ns))) ≡ true
+found_named : (ts : Trees) (y : NodeName) (a : DomString) (ns : List Node) → ((m : Node) → InNodes m ns → node_in ts m.name ≡ m) →
+    is_in name_eq y (option_to_list (option_map (λ (n : Node). n.name) (find (has_slot_name a) ns))) ≡ true
     → text_eq (slot_name (node_in ts y)) a ≡ true
 found_named ts y a [] own e = absurd (true≢false (sym e))
 found_named ts y a (n ∷ ns) own e = by (has_slot_name a n) refl e (found_named ts y a ns (λ m i. own m (inr i)))
   where
-    by : (b : Bool) → has_slot_name a n ≡ b → is_in name_eq y (option_to_list (option_map (λ (m : Node). m.name) (if b then Some n else find (has_slot_name a) ns))) ≡ true
-        → (is_in name_eq y (option_to_list (option_map (λ (m : Node). m.name) (find (has_slot_name a) ns))) ≡ true → text_eq (slot_name (node_in ts y)) a ≡ true) → text_eq (slot_name (node_in ts y)) a ≡ true
+    by : (b : Bool) → has_slot_name a n ≡ b →
+        is_in name_eq y (option_to_list (option_map (λ (m : Node). m.name) (if b then Some n else find (has_slot_name a) ns))) ≡ true
+        → (is_in name_eq y (option_to_list (option_map (λ (m : Node). m.name) (find (has_slot_name a) ns))) ≡ true →
+        text_eq (slot_name (node_in ts y)) a ≡ true) → text_eq (slot_name (node_in ts y)) a ≡ true
     by true h i deeper =
         let same : y ≡ n.name = name_eq-true y n.name (or_none (name_eq y n.name) i) in
         ap (λ m. text_eq (slot_name m) a) (ap (node_in ts) same ∙ own n (inl refl)) ∙ (and_parts (is_slot_element n) _ h).1
@@ -50,7 +53,8 @@ module _ (s : ShadowTrees) (once : Once s.trees) (h y : NodeName) where
   -- who looks for this name in a tree finds the node just where it is the first of that name
   named_so : (r : NodeName) (o : Option DomString)
       → is_in name_eq y (option_to_list (option_and_then (λ a. option_map (λ (n : Node). n.name) (find (has_slot_name a) (nodes (subtree s.trees r)))) o))
-      ≡ (is_in name_eq y (option_to_list (option_map (λ (n : Node). n.name) (find (has_slot_name own_name) (nodes (subtree s.trees r))))) && option_map_or (λ a. text_eq a own_name) o false)
+      ≡ (is_in name_eq y (option_to_list (option_map (λ (n : Node). n.name) (find (has_slot_name own_name) (nodes (subtree s.trees r))))) &&
+      option_map_or (λ a. text_eq a own_name) o false)
   named_so r None = sym (and_false _)
     where
       and_false : (b : Bool) → (b && false) ≡ false
@@ -74,17 +78,25 @@ module _ (s : ShadowTrees) (once : Once s.trees) (h y : NodeName) where
       by false e =
           false_from_ne_true (found a)
           (λ hit.
-          let same : own_name ≡ a = text_true own_name a (found_named s.trees y a (nodes (subtree s.trees r)) (λ m i. node_in-self s.trees once m (in_tree s.trees r m i)) hit) in
+          let same : own_name ≡ a = text_true own_name a
+          (found_named s.trees y a (nodes (subtree s.trees r)) (λ m i. node_in-self s.trees once m (in_tree s.trees r m i)) hit) in
           true≢false (sym (text_same a) ∙ (ap (text_eq a) (sym same) ∙ e)))
           ∙ and_false (found own_name)
 
   -- so for a child of a host
   pub assigned-first : (c : NodeName) → parent_of s.trees c ≡ Some h → is_assigned_at s y c ≡ (is_first_at s h y && looks_for own_name (node_in s.trees c))
   assigned-first c e =
-      ap (λ o. is_in name_eq y (option_to_list (option_and_then (λ r. option_and_then (λ a. option_map (λ (n : Node). n.name) (find (has_slot_name a) (nodes (subtree s.trees r)))) (slottable_name (node_in s.trees c))) (option_and_then s.shadow_of o)))) e
+      ap (λ o. is_in name_eq y (option_to_list
+      (option_and_then (λ r. option_and_then (λ a. option_map (λ (n : Node). n.name) (find (has_slot_name a) (nodes (subtree s.trees r))))
+      (slottable_name (node_in s.trees c))) (option_and_then s.shadow_of o)))) e
       ∙ by (s.shadow_of h)
     where
-      by : (o : Option NodeName) → is_in name_eq y (option_to_list (option_and_then (λ r. option_and_then (λ a. option_map (λ (n : Node). n.name) (find (has_slot_name a) (nodes (subtree s.trees r)))) (slottable_name (node_in s.trees c))) o))
-          ≡ (is_in name_eq y (option_to_list (option_and_then (λ r. option_map (λ (n : Node). n.name) (find (has_slot_name own_name) (nodes (subtree s.trees r)))) o)) && looks_for own_name (node_in s.trees c))
+      by : (o : Option NodeName) → is_in name_eq y
+          (option_to_list (option_and_then
+          (λ r. option_and_then (λ a. option_map (λ (n : Node). n.name) (find (has_slot_name a) (nodes (subtree s.trees r))))
+          (slottable_name (node_in s.trees c))) o))
+          ≡ (is_in name_eq y (option_to_list
+          (option_and_then (λ r. option_map (λ (n : Node). n.name) (find (has_slot_name own_name) (nodes (subtree s.trees r)))) o)) &&
+          looks_for own_name (node_in s.trees c))
       by None = refl
       by (Some r) = named_so r (slottable_name (node_in s.trees c))

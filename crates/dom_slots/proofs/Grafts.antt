@@ -53,12 +53,15 @@ module _ (m : Node) (d : Trees) where
   pub above-others : (p : Spot) (us : Trees) (y : NodeName) → (Has (tree m d none) y → ⊥) → inclusive_ancestors (grafted p us) y ≡ inclusive_ancestors us y
   above-others Before us y off = rw (name_eq-other m.name y (λ e. off (inl e)), above-absent d y (λ i. off (inr (inl i)))) refl
   above-others (Below p) none y off = above-absent (tree m d none) y off
-  above-others (Below p) (tree n c r) y off = ap (λ path. if name_eq n.name y then y ∷ [] else on_top path n.name (inclusive_ancestors r y)) (above-others p c y off)
+  above-others (Below p) (tree n c r) y off =
+      ap (λ path. if name_eq n.name y then y ∷ [] else on_top path n.name (inclusive_ancestors r y)) (above-others p c y off)
   above-others (Behind p) none y off = above-absent (tree m d none) y off
-  above-others (Behind p) (tree n c r) y off = ap (λ path. if name_eq n.name y then y ∷ [] else on_top (inclusive_ancestors c y) n.name path) (above-others p r y off)
+  above-others (Behind p) (tree n c r) y off =
+      ap (λ path. if name_eq n.name y then y ∷ [] else on_top (inclusive_ancestors c y) n.name path) (above-others p r y off)
 
   -- so does its tree, where the new one is not put into it
-  pub tree-others : (p : Spot) (us : Trees) (y : NodeName) → (Has (tree m d none) y → ⊥) → (Has (subtree (grafted p us) y) m.name → ⊥) → subtree (grafted p us) y ≡ subtree us y
+  pub tree-others : (p : Spot) (us : Trees) (y : NodeName) → (Has (tree m d none) y → ⊥) → (Has (subtree (grafted p us) y) m.name → ⊥) →
+      subtree (grafted p us) y ≡ subtree us y
   tree-others Before us y off apart = rw (name_eq-other m.name y (λ e. off (inl e)), subtree-absent d y (λ i. off (inr (inl i)))) refl
   tree-others (Below p) none y off apart = subtree-absent (tree m d none) y off
   tree-others (Below p) (tree n c r) y off apart = elim (cases_Bool (name_eq n.name y)) [
@@ -66,17 +69,20 @@ module _ (m : Node) (d : Trees) where
     | inr e ↦ rw e (below (rw e at apart) (tree-others p c y off))
   ]
     where
-      below : (Has (or_else (subtree (grafted p c) y) (subtree r y)) m.name → ⊥) → ((Has (subtree (grafted p c) y) m.name → ⊥) → subtree (grafted p c) y ≡ subtree c y)
+      below : (Has (or_else (subtree (grafted p c) y) (subtree r y)) m.name → ⊥) →
+          ((Has (subtree (grafted p c) y) m.name → ⊥) → subtree (grafted p c) y ≡ subtree c y)
           → or_else (subtree (grafted p c) y) (subtree r y) ≡ or_else (subtree c y) (subtree r y)
       below away deeper =
-          ap (λ (ts : Trees). or_else ts (subtree r y)) (deeper (λ i. away (subst (λ (ts : Trees). Has ts m.name) (sym (or_else-has (subtree (grafted p c) y) (subtree r y) m.name i)) i)))
+          ap (λ (ts : Trees). or_else ts (subtree r y))
+          (deeper (λ i. away (subst (λ (ts : Trees). Has ts m.name) (sym (or_else-has (subtree (grafted p c) y) (subtree r y) m.name i)) i)))
   tree-others (Behind p) none y off apart = subtree-absent (tree m d none) y off
   tree-others (Behind p) (tree n c r) y off apart = elim (cases_Bool (name_eq n.name y)) [
     | inl e ↦ rw e refl
     | inr e ↦ rw e (behind (subtree c y) (rw e at apart) (tree-others p r y off))
   ]
     where
-      behind : (ts : Trees) → (Has (or_else ts (subtree (grafted p r) y)) m.name → ⊥) → ((Has (subtree (grafted p r) y) m.name → ⊥) → subtree (grafted p r) y ≡ subtree r y)
+      behind : (ts : Trees) → (Has (or_else ts (subtree (grafted p r) y)) m.name → ⊥) →
+          ((Has (subtree (grafted p r) y) m.name → ⊥) → subtree (grafted p r) y ≡ subtree r y)
           → or_else ts (subtree (grafted p r) y) ≡ or_else ts (subtree r y)
       behind none away deeper = deeper away
       behind (tree k b s) away deeper = refl
@@ -86,7 +92,8 @@ module _ (m : Node) (d : Trees) where
   tree-own Before us y off = ap (λ (ts : Trees). if name_eq m.name y then tree m d none else or_else (subtree d y) ts) (subtree-absent us y off)
   tree-own (Below p) none y off = refl
   tree-own (Below p) (tree n c r) y off =
-      rw (name_eq-other n.name y (λ e. off (inl e)), tree-own p c y (λ i. off (inr (inl i))), subtree-absent r y (λ i. off (inr (inr i)))) (or_else-none (subtree (tree m d none) y))
+      rw (name_eq-other n.name y (λ e. off (inl e)), tree-own p c y (λ i. off (inr (inl i))), subtree-absent r y (λ i. off (inr (inr i))))
+      (or_else-none (subtree (tree m d none) y))
   tree-own (Behind p) none y off = refl
   tree-own (Behind p) (tree n c r) y off =
       rw (name_eq-other n.name y (λ e. off (inl e)), subtree-absent c y (λ i. off (inr (inl i)))) (tree-own p r y (λ i. off (inr (inr i))))
@@ -216,7 +223,13 @@ module _ (m : Node) (d : Trees) where
       path none away = rw (name_eq-from m.name m.name refl) refl
       path (tree n c r) away = elim (cases_Bool (name_before y n.name)) [
         | inl e ↦ rw (e, name_eq-from m.name m.name refl) refl
-        | inr e ↦ rw (e, name_eq-other n.name m.name (λ same. away (inl same)), above-absent c m.name (λ i. away (inr (inl i))), path r (λ i. away (inr (inr i)))) refl
+        | inr e ↦ rw (
+          e,
+          name_eq-other n.name m.name (λ same. away (inl same)),
+          above-absent c m.name (λ i. away (inr (inl i))),
+          path r
+              (λ i. away (inr (inr i))),
+        ) refl
       ]
 
   -- or before a node
@@ -240,12 +253,18 @@ module _ (m : Node) (d : Trees) where
     below-grafts (tree n c r) once (inl e) =
         let w = before-grafts before c in (
           Below w.0,
-          rw (name_eq-from n.name parent e, below-absent c (λ i. once.0 (subst (Has c) (sym e) i)), below-absent r (λ i. once.1 (subst (Has r) (sym e) i))) (ap (λ (ts : Trees). tree n ts r) w.1),
+          rw (
+            name_eq-from n.name parent e,
+            below-absent c (λ i. once.0 (subst (Has c) (sym e) i)),
+            below-absent r
+                (λ i. once.1 (subst (Has r) (sym e) i)),
+          ) (ap (λ (ts : Trees). tree n ts r) w.1),
         )
     below-grafts (tree n c r) once (inr (inl h)) =
         let w = below-grafts c once.3 h in (
           Below w.0,
-          rw (name_eq-other n.name parent (λ e. once.0 (subst (Has c) (sym e) h)), below-absent r (λ i. once.2 parent h i)) (ap (λ (ts : Trees). tree n ts r) w.1),
+          rw (name_eq-other n.name parent (λ e. once.0 (subst (Has c) (sym e) h)), below-absent r (λ i. once.2 parent h i))
+              (ap (λ (ts : Trees). tree n ts r) w.1),
         )
     below-grafts (tree n c r) once (inr (inr h)) =
         let w = below-grafts r once.4 h in (

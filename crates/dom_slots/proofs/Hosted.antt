@@ -40,29 +40,34 @@ module _ (names : List NodeName) (distinct : AreDistinct names) where
   ]
 
   -- the host of a root by keys is that by names
-  pub host-named : (hosts : List ShadowHost) → HostsAreNodes names hosts → (k : ℕ) → k < length names → option_map (name_at names) (host_of_root hosts k) ≡ host_named names hosts (name_at names k)
+  pub host-named : (hosts : List ShadowHost) → HostsAreNodes names hosts → (k : ℕ) → k < length names →
+      option_map (name_at names) (host_of_root hosts k) ≡ host_named names hosts (name_at names k)
   host-named [] h k i = refl
   host-named (x ∷ hosts) h k i =
       let same = key-test k x.root i h.1 in
       elim (cases_Bool (nat_eq k x.root)) [ inl e ↦ rw (sym same ∙ e, e) refl | inr e ↦ rw (sym same ∙ e, e) (host-named hosts h.2 k i) ]
 
   -- and so the root of a host
-  pub root-named : (hosts : List ShadowHost) → HostsAreNodes names hosts → (k : ℕ) → k < length names → option_map (name_at names) (root_of_host hosts k) ≡ root_named names hosts (name_at names k)
+  pub root-named : (hosts : List ShadowHost) → HostsAreNodes names hosts → (k : ℕ) → k < length names →
+      option_map (name_at names) (root_of_host hosts k) ≡ root_named names hosts (name_at names k)
   root-named [] h k i = refl
   root-named (x ∷ hosts) h k i =
       let same = key-test k x.host i h.0 in
       elim (cases_Bool (nat_eq k x.host)) [ inl e ↦ rw (sym same ∙ e, e) refl | inr e ↦ rw (sym same ∙ e, e) (root-named hosts h.2 k i) ]
 
   -- whether a key is the one found, by names
-  pub found-test : (o : Option ℕ) (k : ℕ) → ForSome o (λ j. j < length names) → k < length names → option_eq KeyImpl.ghosts.eq o (Some k) ≡ is_in name_eq (name_at names k) (option_to_list (option_map (name_at names) o))
+  pub found-test : (o : Option ℕ) (k : ℕ) → ForSome o (λ j. j < length names) → k < length names →
+      option_eq KeyImpl.ghosts.eq o (Some k) ≡ is_in name_eq (name_at names k) (option_to_list (option_map (name_at names) o))
   found-test None k h i = refl
   found-test (Some j) k h i = elim (cases_Bool (nat_eq j k)) [
     | inl e ↦ e ∙ sym (ap (λ b. b || false) (name_eq-from (name_at names k) (name_at names j) (ap (name_at names) (sym (eqb-true j k e)))))
-    | inr e ↦ e ∙ sym (ap (λ b. b || false) (name_eq-other (name_at names k) (name_at names j) (λ same. both_ways _ e (eq-eqb j k (sym (distinct k j i (h j refl) same))))))
+    | inr e ↦ e ∙ sym (ap (λ b. b || false)
+        (name_eq-other (name_at names k) (name_at names j) (λ same. both_ways _ e (eq-eqb j k (sym (distinct k j i (h j refl) same))))))
   ]
 
 -- a key that has the name of another one is that one
-pub named-key : (names : List NodeName) → AreDistinct names → (o : Option ℕ) → ForSome o (λ k. k < length names) → (k : ℕ) → k < length names → option_map (name_at names) o ≡ Some (name_at names k) → o ≡ Some k
+pub named-key : (names : List NodeName) → AreDistinct names → (o : Option ℕ) → ForSome o (λ k. k < length names) → (k : ℕ) → k < length names →
+    option_map (name_at names) o ≡ Some (name_at names k) → o ≡ Some k
 named-key names distinct None nodes k within e = absurd (none-some (name_at names k) e)
 named-key names distinct (Some j) nodes k within e = ap Some (distinct j k (nodes j refl) within (same_Some (name_at names j) (name_at names k) e))
 

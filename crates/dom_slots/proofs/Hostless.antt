@@ -17,22 +17,28 @@ filter_none p h [] = refl
 filter_none p h (x ∷ xs) = rw (h x) (filter_none p h xs)
 
 -- around any node
-hostless-around : (names : List NodeName) (was now : Trees) (x around : NodeName) (is_move : Bool) → [] ≡ signals_at (shadow_trees names was []) (shadow_trees names now []) x around is_move
+hostless-around : (names : List NodeName) (was now : Trees) (x around : NodeName) (is_move : Bool) →
+    [] ≡ signals_at (shadow_trees names was []) (shadow_trees names now []) x around is_move
 hostless-around names was now x around is_move =
     let s : ShadowTrees = shadow_trees names was [] in
     let t : ShadowTrees = shadow_trees names now [] in
     let p : NodeName → Bool = is_changed_at s t in
     let own = option_to_list (slot_at s x) ++ option_to_list (slot_at t x) in
     let others = slots_among (subtree now (root_of now around)) ++ slots_among (subtree now x) in
-    let bare : (is_move && is_bare_at t around) ≡ false = third-fails is_move (is_slot_element (node_in now around)) (is_some (t.host_of (root_of now around)) && is_empty (assigned_at t around)) refl in
+    let bare : (is_move && is_bare_at t around) ≡ false =
+    third-fails is_move (is_slot_element (node_in now around))
+    (is_some (t.host_of (root_of now around)) && is_empty (assigned_at t around)) refl in
     sym (ap (λ xs. distinct name_eq (xs ++ (if is_move && is_bare_at t around then around ∷ [] else []) ++ filter p others)) (filter_none p (λ y. refl) own)
     ∙ (ap (λ (b : Bool). distinct name_eq ([] ++ (if b then around ∷ [] else []) ++ filter p others)) bare
     ∙ ap (distinct name_eq) (filter_none p (λ y. refl) others)))
 
 -- at any step
-pub hostless-signals : (names : List NodeName) (was now : Trees) (step : Step) (left : Option ℕ) → [] ≡ step_signals names (shadow_trees names was []) (shadow_trees names now []) step left
+pub hostless-signals : (names : List NodeName) (was now : Trees) (step : Step) (left : Option ℕ) →
+    [] ≡ step_signals names (shadow_trees names was []) (shadow_trees names now []) step left
 hostless-signals names was now step left = by (around_of step left)
   where
-    by : (o : Option ℕ) → [] ≡ option_map_or (λ around. signals_at (shadow_trees names was []) (shadow_trees names now []) (name_at names (step_node step)) (name_at names around) (is_move step)) o []
+    by : (o : Option ℕ) → [] ≡ option_map_or
+        (λ around. signals_at (shadow_trees names was []) (shadow_trees names now []) (name_at names (step_node step)) (name_at names around)
+        (is_move step)) o []
     by None = refl
     by (Some around) = hostless-around names was now (name_at names (step_node step)) (name_at names around) (is_move step)

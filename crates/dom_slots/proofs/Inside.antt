@@ -1,6 +1,7 @@
 -- A step inside of a shadow tree changes at most what is assigned to the old and to the new slot of its node and, where it
 -- moves a slot or changes its attributes, to the slots of the trees that it concerns.
-use Rattle.std.proofs.Common.{◌≡◌, ◌⊎◌, inl, inr, ℕ, ◌<◌, Bool, true, false, not, ◌&&◌, List, [], ◌++◌, All, map, filter, length, Option, None, Some, fold, refl, sym, ap, subst, ◌∙◌, true≢false}
+use Rattle.std.proofs.Common.{◌≡◌, ◌⊎◌, inl, inr, ℕ, ◌<◌, Bool, true, false, not, ◌&&◌, List, [], ◌++◌, All, map, filter, length, Option, None, Some}
+use Rattle.std.proofs.Common.{fold, refl, sym, ap, subst, ◌∙◌, true≢false}
 use Rattle.std.specs.Prelude.{option_to_list}
 use Rattle.std.specs.Option.{option_map, option_map_or}
 use Rattle.std.proofs.lemmas.Bool.{or_parts, false_from_ne_true}
@@ -44,11 +45,13 @@ attribute-slot a (Some v) n = refl
 abbrev AloneKept : List NodeName → List ShadowHost → NodeName → Trees → Trees → Type 0
 AloneKept names hosts x was now = parent_of was x ≡ None → parent_of now x ≡ None → KeepsAssigned names hosts x was now
 
-alone-so : (names : List NodeName) (hosts : List ShadowHost) (m : Node) (d us : Trees) (p q : Spot) → ((y : NodeName) → Has us y → Has (tree m d none) y → ⊥) → AreBoth names hosts (grafted m d p us) (grafted m d q us)
+alone-so : (names : List NodeName) (hosts : List ShadowHost) (m : Node) (d us : Trees) (p q : Spot) →
+    ((y : NodeName) → Has us y → Has (tree m d none) y → ⊥) → AreBoth names hosts (grafted m d p us) (grafted m d q us)
     → AloneKept names hosts m.name (grafted m d p us) (grafted m d q us)
 alone-so names hosts m d us p q apart both e g = alone-kept names hosts m d us p q apart both e g
 
-far-so : (names : List NodeName) (hosts : List ShadowHost) (m : Node) (d us : Trees) (p q : Spot) → ((y : NodeName) → Has us y → Has (tree m d none) y → ⊥) → AreBoth names hosts (grafted m d p us) (grafted m d q us)
+far-so : (names : List NodeName) (hosts : List ShadowHost) (m : Node) (d us : Trees) (p q : Spot) →
+    ((y : NodeName) → Has us y → Has (tree m d none) y → ⊥) → AreBoth names hosts (grafted m d p us) (grafted m d q us)
     → KeepsFar names hosts m.name (grafted m d p us) (grafted m d q us)
 far-so names hosts m d us p q apart both = far-kept names hosts m d us p q apart both
 
@@ -72,7 +75,8 @@ module _ (was : Trees) (f : NamedTrees) (s : SlotsNow) (b : BegunStep) (ended : 
   here_now = there-now was f s b ended stands
 
   -- a slot that is not among those of a tree does not stand in it
-  off_slots : (top y : NodeName) → is_slot_element (node_in f.trees y) ≡ true → is_in name_eq y (slots_among (subtree f.trees top)) ≡ false → Has (subtree f.trees top) y → ⊥
+  off_slots : (top y : NodeName) → is_slot_element (node_in f.trees y) ≡ true → is_in name_eq y (slots_among (subtree f.trees top)) ≡ false →
+      Has (subtree f.trees top) y → ⊥
   off_slots top y e off i = true≢false (sym (is_in-from y (slots_among (subtree f.trees top)) (slot-among f.trees both.once_now top y i e)) ∙ off)
 
   -- a node stands in its own tree
@@ -82,14 +86,17 @@ module _ (was : Trees) (f : NamedTrees) (s : SlotsNow) (b : BegunStep) (ended : 
   -- who is no slot around, and none of a tree that was left
   abbrev IsBeyond : Step → NodeName → Type 0
   IsBeyond step y =
-      (k : ℕ) × (around_of step b.left ≡ Some k) × (is_in name_eq y (slots_around f s.hosts step (name_at f.names k)) ≡ false) × (is_in name_eq y (left_slots f s.hosts step b.left) ≡ false)
+      (k : ℕ) × (around_of step b.left ≡ Some k) × (is_in name_eq y (slots_around f s.hosts step (name_at f.names k)) ≡ false) ×
+      (is_in name_eq y (left_slots f s.hosts step b.left) ≡ false)
 
-  beyond_parts : (step : Step) (y : NodeName) (beyond : IsBeyond step y) → (is_in name_eq y (tree_slots f.trees (name_at f.names beyond.0)) ≡ false) × (is_in name_eq y (slots_among (subtree f.trees (At step))) ≡ false)
+  beyond_parts : (step : Step) (y : NodeName) (beyond : IsBeyond step y) →
+      (is_in name_eq y (tree_slots f.trees (name_at f.names beyond.0)) ≡ false) × (is_in name_eq y (slots_among (subtree f.trees (At step))) ≡ false)
   beyond_parts step y beyond =
       or_parts _ _ (sym (list_any-append (name_eq y) (tree_slots f.trees (name_at f.names beyond.0)) (slots_among (subtree f.trees (At step)))) ∙ beyond.2)
 
   -- a slot in no tree that was left does not stand in that one
-  not_left : (y a : NodeName) (o : Option ℕ) → option_map (name_at f.names) o ≡ Some a → is_in name_eq y (option_map_or (λ k. tree_slots f.trees (name_at f.names k)) o []) ≡ false → is_in name_eq y (tree_slots f.trees a) ≡ false
+  not_left : (y a : NodeName) (o : Option ℕ) → option_map (name_at f.names) o ≡ Some a →
+      is_in name_eq y (option_map_or (λ k. tree_slots f.trees (name_at f.names k)) o []) ≡ false → is_in name_eq y (tree_slots f.trees a) ≡ false
   not_left y a None e off = absurd (none-some a e)
   not_left y a (Some k) e off = subst (λ z. is_in name_eq y (tree_slots f.trees z) ≡ false) (same_Some (name_at f.names k) a e) off
 
@@ -100,9 +107,11 @@ module _ (was : Trees) (f : NamedTrees) (s : SlotsNow) (b : BegunStep) (ended : 
   stays : Stays b.step
   stays = by b.step ended.nodes ended.step ended.left_is
     where
-      by : (step : Step) → StepHasNodes f.names step → IsStepFrom f.names was f.trees step b.left → option_map (name_at f.names) b.left ≡ left_by f.names was step → Stays step
+      by : (step : Step) → StepHasNodes f.names step → IsStepFrom f.names was f.trees step b.left →
+          option_map (name_at f.names) b.left ≡ left_by f.names was step → Stays step
       by (Place z parent next) nodes is left y h i may =
-          place-so f.names s.hosts (KeepsFar f.names s.hosts) (far-so f.names s.hosts) (name_at f.names z) was f.trees both (here_was z nodes.0) (here_now z nodes.0) (name_at f.names parent) (option_map (name_at f.names) next) is y h i
+          place-so f.names s.hosts (KeepsFar f.names s.hosts) (far-so f.names s.hosts) (name_at f.names z) was f.trees both (here_was z nodes.0)
+          (here_now z nodes.0) (name_at f.names parent) (option_map (name_at f.names) next) is y h i
           (far may)
         where
           x : NodeName
@@ -119,10 +128,12 @@ module _ (was : Trees) (f : NamedTrees) (s : SlotsNow) (b : BegunStep) (ended : 
               same_tree : (a : NodeName) → parent_of f.trees x ≡ Some a → root_of f.trees a ≡ root_of f.trees up
               same_tree a e =
                   sym (root-parent f.trees both.once_now x a (here_now z nodes.0) e)
-                  ∙ place-root x was f.trees both.once_was (here_was z nodes.0) (here_now z nodes.0) up (option_map (name_at f.names) next) is both.once_now (here_now parent nodes.1)
+                  ∙ place-root x was f.trees both.once_was (here_was z nodes.0) (here_now z nodes.0) up (option_map (name_at f.names) next) is
+                  both.once_now (here_now parent nodes.1)
 
               off_up : is_in name_eq y (tree_slots f.trees up) ≡ false
-              off_up = subst (λ k. is_in name_eq y (tree_slots f.trees (name_at f.names k)) ≡ false) (sym (same_Some parent beyond.0 beyond.1)) (beyond_parts (Place z parent next) y beyond).0
+              off_up = subst (λ k. is_in name_eq y (tree_slots f.trees (name_at f.names k)) ≡ false) (sym (same_Some parent beyond.0 beyond.1))
+                  (beyond_parts (Place z parent next) y beyond).0
 
               away : is_slot_element (node_in f.trees y) ≡ true → IsAway x was f.trees y
               away slot = record {
@@ -131,7 +142,8 @@ module _ (was : Trees) (f : NamedTrees) (s : SlotsNow) (b : BegunStep) (ended : 
                 parent = λ a e j. off_slots (root_of f.trees up) y slot off_up (subst (λ t. Has (subtree f.trees t) y) (same_tree a e) j);
               }
       by (Removal z) nodes is left y h i may =
-          removal-so f.names s.hosts (KeepsFar f.names s.hosts) (far-so f.names s.hosts) (name_at f.names z) was f.trees both (here_was z nodes) is.1 y h i (far may)
+          removal-so f.names s.hosts (KeepsFar f.names s.hosts) (far-so f.names s.hosts) (name_at f.names z) was f.trees both (here_was z nodes)
+          is.1 y h i (far may)
         where
           x : NodeName
           x = name_at f.names z
@@ -143,7 +155,8 @@ module _ (was : Trees) (f : NamedTrees) (s : SlotsNow) (b : BegunStep) (ended : 
             where
               off_left : (a : NodeName) → parent_of was x ≡ Some a → is_in name_eq y (tree_slots f.trees a) ≡ false
               off_left a e =
-                  let same : name_at f.names beyond.0 ≡ a = same_Some (name_at f.names beyond.0) a (sym (ap (option_map (name_at f.names)) beyond.1) ∙ (left ∙ e)) in
+                  let same : name_at f.names beyond.0 ≡ a =
+                  same_Some (name_at f.names beyond.0) a (sym (ap (option_map (name_at f.names)) beyond.1) ∙ (left ∙ e)) in
                   subst (λ t. is_in name_eq y (tree_slots f.trees t) ≡ false) same (beyond_parts (Removal z) y beyond).0
 
               away : is_slot_element (node_in f.trees y) ≡ true → IsAway x was f.trees y
@@ -153,7 +166,8 @@ module _ (was : Trees) (f : NamedTrees) (s : SlotsNow) (b : BegunStep) (ended : 
                 parent = λ a e. absurd (none-some a (sym (removal-unparented x was f.trees both.once_was (here_was z nodes) is.1) ∙ e));
               }
       by (Attribute z) nodes is left y h i may =
-          subst Kept (sym is.2) (λ two j apart. changed-far x (with_attribute is.0 is.1) (attribute-name is.0 is.1) (attribute-slot is.0 is.1) f.names s.hosts was two y h j apart) both i (apart_so may)
+          subst Kept (sym is.2) (λ two j apart. changed-far x (with_attribute is.0 is.1) (attribute-name is.0 is.1) (attribute-slot is.0 is.1)
+          f.names s.hosts was two y h j apart) both i (apart_so may)
         where
           x : NodeName
           x = name_at f.names z
@@ -165,14 +179,18 @@ module _ (was : Trees) (f : NamedTrees) (s : SlotsNow) (b : BegunStep) (ended : 
           Kept ts = AreBoth f.names s.hosts was ts → Has ts y → IsApart ts → KeepsBut f.names s.hosts x was ts y
 
           apart_so : MovesNone f s.hosts (Attribute z) ⊎ IsBeyond (Attribute z) y → IsApart f.trees
-          apart_so (inl (inl bare)) = inl (false_from_ne_true _ (λ slot. subst (In x) bare (slot-among f.trees both.once_now x x (own_tree x (here_now z nodes)) slot)))
+          apart_so (inl (inl bare)) = inl
+              (false_from_ne_true _ (λ slot. subst (In x) bare (slot-among f.trees both.once_now x x (own_tree x (here_now z nodes)) slot)))
           apart_so (inl (inr no_slot)) = inl no_slot.1
           apart_so (inr beyond) =
-              inr (λ slot. off_slots (root_of f.trees x) y slot (subst (λ k. is_in name_eq y (tree_slots f.trees (name_at f.names k)) ≡ false) (sym (same_Some z beyond.0 beyond.1)) (beyond_parts (Attribute z) y beyond).0))
+              inr (λ slot. off_slots (root_of f.trees x) y slot
+              (subst (λ k. is_in name_eq y (tree_slots f.trees (name_at f.names k)) ≡ false) (sym (same_Some z beyond.0 beyond.1))
+              (beyond_parts (Attribute z) y beyond).0))
 
   -- where no slot is moved, and the node is not moved and has the slot that it had, all stays
   abbrev IsStill : Step → Type 0
-  IsStill step = MovesNone f s.hosts step → is_move step ≡ false → slot_at before (At step) ≡ slot_at after (At step) → (y : NodeName) → Has was y → Has f.trees y → assigned_at before y ≡ assigned_at after y
+  IsStill step = MovesNone f s.hosts step → is_move step ≡ false → slot_at before (At step) ≡ slot_at after (At step) → (y : NodeName) →
+      Has was y → Has f.trees y → assigned_at before y ≡ assigned_at after y
 
   still : IsStill b.step
   still = by b.step ended.nodes ended.step
@@ -181,7 +199,8 @@ module _ (was : Trees) (f : NamedTrees) (s : SlotsNow) (b : BegunStep) (ended : 
       by (Place z parent next) nodes is moves no_move same y h i = absurd (true≢false no_move)
       by (Removal z) nodes is moves no_move same y h i = absurd (true≢false no_move)
       by (Attribute z) nodes is moves no_move same y h i =
-          subst Kept (sym is.2) (λ two off slots. changed-still x (with_attribute is.0 is.1) (attribute-name is.0 is.1) (attribute-slot is.0 is.1) f.names s.hosts was two off y (ap (λ o. is_in name_eq y (option_to_list o)) slots)) both
+          subst Kept (sym is.2) (λ two off slots. changed-still x (with_attribute is.0 is.1) (attribute-name is.0 is.1) (attribute-slot is.0 is.1)
+          f.names s.hosts was two off y (ap (λ o. is_in name_eq y (option_to_list o)) slots)) both
           (no_slot moves) same
         where
           x : NodeName
@@ -189,7 +208,9 @@ module _ (was : Trees) (f : NamedTrees) (s : SlotsNow) (b : BegunStep) (ended : 
 
           Kept : Trees → Type 0
           Kept ts =
-              AreBoth f.names s.hosts was ts → is_slot_element (node_in ts x) ≡ false → slot_at before x ≡ slot_at (shadow_trees f.names ts s.hosts) x → assigned_at before y ≡ assigned_at (shadow_trees f.names ts s.hosts) y
+              AreBoth f.names s.hosts was ts → is_slot_element (node_in ts x) ≡ false →
+              slot_at before x ≡ slot_at (shadow_trees f.names ts s.hosts) x →
+              assigned_at before y ≡ assigned_at (shadow_trees f.names ts s.hosts) y
 
           no_slot : MovesNone f s.hosts (Attribute z) → is_slot_element (node_in f.trees x) ≡ false
           no_slot (inl bare) = false_from_ne_true _ (λ slot. subst (In x) bare (slot-among f.trees both.once_now x x (own_tree x (here_now z nodes)) slot))
@@ -202,14 +223,19 @@ module _ (was : Trees) (f : NamedTrees) (s : SlotsNow) (b : BegunStep) (ended : 
   alone : around_of b.step b.left ≡ None → IsAlone b.step
   alone = by b.step ended.nodes ended.step ended.left_is
     where
-      by : (step : Step) → StepHasNodes f.names step → IsStepFrom f.names was f.trees step b.left → option_map (name_at f.names) b.left ≡ left_by f.names was step → around_of step b.left ≡ None → IsAlone step
+      by : (step : Step) → StepHasNodes f.names step → IsStepFrom f.names was f.trees step b.left →
+          option_map (name_at f.names) b.left ≡ left_by f.names was step → around_of step b.left ≡ None → IsAlone step
       by (Place z parent next) nodes is left e = absurd (none-some parent (sym e))
       by (Attribute z) nodes is left e = absurd (none-some z (sym e))
       by (Removal z) nodes is left e =
           let x = name_at f.names z in
           let up_was : parent_of was x ≡ None = sym left ∙ ap (option_map (name_at f.names)) e in
-          let up_now = removal-unparented x was f.trees both.once_was (here_was z nodes) is.1 in
-          (removal-so f.names s.hosts (AloneKept f.names s.hosts) (alone-so f.names s.hosts) x was f.trees both (here_was z nodes) is.1 up_was up_now, up_was, up_now)
+          let up_now = removal-unparented x was f.trees both.once_was (here_was z nodes) is.1 in (
+            removal-so f.names s.hosts (AloneKept f.names s.hosts) (alone-so f.names s.hosts) x was f.trees both (here_was z nodes) is.1 up_was
+                up_now,
+            up_was,
+            up_now,
+          )
 
   abbrev x : NodeName
   x = At b.step
@@ -222,17 +248,20 @@ module _ (was : Trees) (f : NamedTrees) (s : SlotsNow) (b : BegunStep) (ended : 
 
   -- by keys, what is assigned to all but these slots stays
   abbrev KeepsAllBut : List NodeName → Type 0
-  KeepsAllBut slots = (k : ℕ) → k < length f.names → is_in name_eq (name_at f.names k) slots ≡ false → assigned_at before (name_at f.names k) ≡ assigned_at after (name_at f.names k)
+  KeepsAllBut slots = (k : ℕ) → k < length f.names → is_in name_eq (name_at f.names k) slots ≡ false →
+      assigned_at before (name_at f.names k) ≡ assigned_at after (name_at f.names k)
 
   none_around : around_of b.step b.left ≡ None → KeepsAllBut own
   none_around e k within other =
       let none = not-own was f s b ended stands (name_at f.names k) other in
-      assigned-kept f.names s.hosts was f.trees both.once_was both.once_now x (name_at f.names k) none.0 none.1 ((alone e).0 (name_at f.names k) (here_was k within) (here_now k within))
+      assigned-kept f.names s.hosts was f.trees both.once_was both.once_now x (name_at f.names k) none.0 none.1
+      ((alone e).0 (name_at f.names k) (here_was k within) (here_now k within))
 
   none_moved : MovesNone f s.hosts b.step → KeepsAllBut own
   none_moved moves k within other =
       let off = not-own was f s b ended stands (name_at f.names k) other in
-      assigned-kept f.names s.hosts was f.trees both.once_was both.once_now x (name_at f.names k) off.0 off.1 (stays (name_at f.names k) (here_was k within) (here_now k within) (inl moves))
+      assigned-kept f.names s.hosts was f.trees both.once_was both.once_now x (name_at f.names k) off.0 off.1
+      (stays (name_at f.names k) (here_was k within) (here_now k within) (inl moves))
 
   -- and before the first list is renewed all are those of the trees now but for the node of the step
   pub inside-but-for : AreDistinct f.names → MovesNone f s.hosts b.step → IsButFor f s.hosts s.table b.slot b.step
@@ -243,18 +272,21 @@ module _ (was : Trees) (f : NamedTrees) (s : SlotsNow) (b : BegunStep) (ended : 
   told_slots around = own ++ slots_around f s.hosts b.step (name_at f.names around)
 
   moved : (around : ℕ) → around_of b.step b.left ≡ Some around → (k : ℕ) → k < length f.names → is_in name_eq (name_at f.names k) (told_slots around) ≡ false
-      → is_in name_eq (name_at f.names k) (left_slots f s.hosts b.step b.left) ≡ false → assigned_at before (name_at f.names k) ≡ assigned_at after (name_at f.names k)
+      → is_in name_eq (name_at f.names k) (left_slots f s.hosts b.step b.left) ≡ false →
+      assigned_at before (name_at f.names k) ≡ assigned_at after (name_at f.names k)
   moved around e k within other off =
       let y = name_at f.names k in
       let parts = or_parts _ _ (sym (list_any-append (name_eq y) own (slots_around f s.hosts b.step (name_at f.names around))) ∙ other) in
       let none = not-own was f s b ended stands y parts.0 in
-      assigned-kept f.names s.hosts was f.trees both.once_was both.once_now x y none.0 none.1 (stays y (here_was k within) (here_now k within) (inr (around, e, parts.1, off)))
+      assigned-kept f.names s.hosts was f.trees both.once_was both.once_now x y none.0 none.1
+      (stays y (here_was k within) (here_now k within) (inr (around, e, parts.1, off)))
 
   -- ---- the lists that are renewed
 
   moved_table : (around : ℕ) → around_of b.step b.left ≡ Some around → (told : List NodeName) (table : SlotTable) (keys : List ℕ)
       → AreMoved f s.hosts is_other s.table own told b.step b.left (name_at f.names around) table keys → IsTableOf f s.hosts table
-  moved_table around e told table keys m = record { nodes = late.1.nodes; lists = λ k within. by k within (is_in name_eq (name_at f.names k) lefts) refl; beyond = late.1.beyond }
+  moved_table around e told table keys m =
+      record { nodes = late.1.nodes; lists = λ k within. by k within (is_in name_eq (name_at f.names k) lefts) refl; beyond = late.1.beyond }
     where
       lefts : List NodeName
       lefts = left_slots f s.hosts b.step b.left
@@ -263,27 +295,32 @@ module _ (was : Trees) (f : NamedTrees) (s : SlotsNow) (b : BegunStep) (ended : 
       q y = is_other y && not (is_in name_eq y (told_slots around))
 
       late : (others : List ℕ) × AreRenewed f s.hosts q m.0 lefts (filter q lefts) table others
-      late = m.2 q (renewed-anew f s.hosts is_other s.table (told_slots around) (told ++ filter is_other (slots_around f s.hosts b.step (name_at f.names around))) m.0 keys m.1)
+      late = m.2 q (renewed-anew f s.hosts is_other s.table (told_slots around)
+          (told ++ filter is_other (slots_around f s.hosts b.step (name_at f.names around))) m.0 keys m.1)
 
-      early : (k : ℕ) → k < length f.names → is_in name_eq (name_at f.names k) lefts ≡ false → (c : Bool) → is_in name_eq (name_at f.names k) (told_slots around) ≡ c → map (name_at f.names) (list_of m.0 k) ≡ assigned_at after (name_at f.names k)
+      early : (k : ℕ) → k < length f.names → is_in name_eq (name_at f.names k) lefts ≡ false → (c : Bool) →
+          is_in name_eq (name_at f.names k) (told_slots around) ≡ c → map (name_at f.names) (list_of m.0 k) ≡ assigned_at after (name_at f.names k)
       early k within off true i = m.1.renewed k within i
       early k within off false i = ap (map (name_at f.names)) (m.1.kept k within i) ∙ (ended.slots.table.lists k within ∙ moved around e k within i off)
 
-      by : (k : ℕ) → k < length f.names → (c : Bool) → is_in name_eq (name_at f.names k) lefts ≡ c → map (name_at f.names) (list_of table k) ≡ assigned_at after (name_at f.names k)
+      by : (k : ℕ) → k < length f.names → (c : Bool) → is_in name_eq (name_at f.names k) lefts ≡ c →
+          map (name_at f.names) (list_of table k) ≡ assigned_at after (name_at f.names k)
       by k within true i = late.1.renewed k within i
       by k within false i = ap (map (name_at f.names)) (late.1.kept k within i) ∙ early k within i (is_in name_eq (name_at f.names k) (told_slots around)) refl
 
   module _ (table : SlotTable) (keys : List ℕ) (inside : IsInside f s.hosts is_other s.table b.step b.left b.slot table keys) where
     -- where slots may have been moved around a node
     abbrev MayMoveAt : ℕ → Type 0
-    MayMoveAt k = MayMove f s.hosts is_other s.table own (filter is_other own ++ bare_around f s.hosts b.step (name_at f.names k)) b.step b.left (name_at f.names k) table keys
+    MayMoveAt k = MayMove f s.hosts is_other s.table own (filter is_other own ++ bare_around f s.hosts b.step (name_at f.names k)) b.step b.left
+        (name_at f.names k) table keys
 
     -- the table is that of the trees now
     pub inside-table : IsTableOf f s.hosts table
     inside-table = by (around_of b.step b.left) refl
       where
         at : (k : ℕ) → around_of b.step b.left ≡ Some k → MayMoveAt k → IsTableOf f s.hosts table
-        at k e (inl r) = renewed-table was f s b ended stands own (none_moved r.0) (filter is_other own ++ bare_around f s.hosts b.step (name_at f.names k)) table keys r.1
+        at k e (inl r) = renewed-table was f s b ended stands own (none_moved r.0)
+            (filter is_other own ++ bare_around f s.hosts b.step (name_at f.names k)) table keys r.1
         at k e (inr m) = moved_table k e (filter is_other own ++ bare_around f s.hosts b.step (name_at f.names k)) table keys m
 
         by : (o : Option ℕ) → around_of b.step b.left ≡ o → IsTableOf f s.hosts table
@@ -301,16 +338,20 @@ module _ (was : Trees) (f : NamedTrees) (s : SlotsNow) (b : BegunStep) (ended : 
         at k (inl r) =
             let y = name_at f.names k in
             let bare = bare_around f s.hosts b.step y in
-            let more : (z : NodeName) → In z (slots_around f s.hosts b.step y) → is_other z ≡ true → is_in name_eq z own ≡ true = λ z i. elim (In-parts z (tree_slots f.trees y) (slots_among (subtree f.trees x)) i) [
+            let more : (z : NodeName) → In z (slots_around f s.hosts b.step y) → is_other z ≡ true → is_in name_eq z own ≡ true =
+            λ z i. elim (In-parts z (tree_slots f.trees y) (slots_among (subtree f.trees x)) i) [
               | inl j ↦ others-among was f s b ended stands own (none_moved r.0) (root_of f.trees y) z j
               | inr j ↦ others-among was f s b ended stands own (none_moved r.0) x z j
             ] in
             r.1.keys_are ∙ (fold-distinct (filter is_other own ++ bare) ∙ sym (own-signalled is_other own bare (slots_around f s.hosts b.step y) more))
         at k (inr m) =
-            m.1.keys_are ∙ fold-distinct ((filter is_other own ++ bare_around f s.hosts b.step (name_at f.names k)) ++ filter is_other (slots_around f s.hosts b.step (name_at f.names k)))
+            m.1.keys_are ∙ fold-distinct
+            ((filter is_other own ++ bare_around f s.hosts b.step (name_at f.names k)) ++
+            filter is_other (slots_around f s.hosts b.step (name_at f.names k)))
 
         by : (o : Option ℕ) → around_of b.step b.left ≡ o → map (name_at f.names) keys ≡ told_at o
-        by None e = (inside.alone e).keys_are ∙ ap (λ ys. fold (append_once name_eq) [] (filter is_other ys)) (none-own was f s b ended stands (alone e).1 (alone e).2)
+        by None e = (inside.alone e).keys_are ∙ ap (λ ys. fold (append_once name_eq) [] (filter is_other ys))
+            (none-own was f s b ended stands (alone e).1 (alone e).2)
         by (Some k) e = at k (inside.around k e)
 
     -- and nodes

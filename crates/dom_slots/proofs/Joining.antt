@@ -1,5 +1,6 @@
 -- A list that a node joins.
-use Rattle.std.proofs.Common.{◌≡◌, inl, inr, ℕ, ◌<◌, Bool, true, false, not, ◌&&◌, ◌||◌, List, [], ◌∷◌, ◌++◌, All, map, filter, length, Option, None, Some, refl, sym, ap, subst, ◌∙◌, true≢false}
+use Rattle.std.proofs.Common.{◌≡◌, inl, inr, ℕ, ◌<◌, Bool, true, false, not, ◌&&◌, ◌||◌, List, [], ◌∷◌, ◌++◌, All, map, filter, length, Option, None}
+use Rattle.std.proofs.Common.{Some, refl, sym, ap, subst, ◌∙◌, true≢false}
 use Rattle.std.specs.Prelude.{nat_eq, drop, if◌then◌else◌, option_to_list}
 use Rattle.std.specs.Option.{option_map, option_map_or, option_eq, ForSome}
 use Rattle.std.proofs.lemmas.Bool.{eqb-true, eq-eqb, and_parts, or_right, false_from_ne_true}
@@ -12,7 +13,8 @@ use Rattle.dom_model.specs.Slots.{slot_name}
 use Rattle.dom_model.specs.Tree.{node_in, parent_of, root_of, children_of, siblings}
 use Rattle.dom_tree.specs.Forest.{NamedTrees, name_at}
 use Rattle.dom_traversal.proofs.Children.{parent-of_child, child-of_parent}
-use Rattle.dom_traversal.proofs.Lists.{In, Single, Single-apart, Single-right, In-parts, after-in, name_eq-from, name_eq-other, filter-same, filter-yes, first_split, split_at}
+use Rattle.dom_traversal.proofs.Lists.{In, Single, Single-apart, Single-right, In-parts, after-in, name_eq-from, name_eq-other, filter-same}
+use Rattle.dom_traversal.proofs.Lists.{filter-yes, first_split, split_at}
 use Rattle.dom_traversal.proofs.Shapes.{Once, Has}
 use Rattle.node_arena.specs.Nodes.{put_before, insert_before}
 use Rattle.node_arena.specs.contracts.key.KeyPartialEq.TheImpl as KeyImpl
@@ -54,15 +56,18 @@ inserted-inside P n here (Some c) xs all = put-inside P n here c xs all
 but-between : (x : NodeName) (a b : List NodeName) → (In x a → ⊥) → (In x b → ⊥) → names_but x (a ++ x ∷ b) ≡ a ++ b
 but-between x [] b off_a off_b = ap (λ d. if not d then x ∷ names_but x b else names_but x b) (name_eq-from x x refl) ∙ but-none x b off_b
 but-between x (z ∷ zs) b off_a off_b =
-    ap (λ d. if not d then z ∷ names_but x (zs ++ x ∷ b) else names_but x (zs ++ x ∷ b)) (name_eq-other x z (λ e. off_a (inl e))) ∙ ap (λ ys. z ∷ ys) (but-between x zs b (λ i. off_a (inr i)) off_b)
+    ap (λ d. if not d then z ∷ names_but x (zs ++ x ∷ b) else names_but x (zs ++ x ∷ b)) (name_eq-other x z (λ e. off_a (inl e))) ∙
+    ap (λ ys. z ∷ ys) (but-between x zs b (λ i. off_a (inr i)) off_b)
 
 module _ (names : List NodeName) (distinct : AreDistinct names) (n : ℕ) where
   -- a key that is put just before another one has its name there
-  put-named : (c : ℕ) → c < length names → (a b : List NodeName) → (In (name_at names c) a → ⊥) → first_of b ≡ Some (name_at names c) → (ks : List ℕ) → All (λ k. k < length names) ks → map (name_at names) ks ≡ a ++ b
+  put-named : (c : ℕ) → c < length names → (a b : List NodeName) → (In (name_at names c) a → ⊥) → first_of b ≡ Some (name_at names c) →
+      (ks : List ℕ) → All (λ k. k < length names) ks → map (name_at names) ks ≡ a ++ b
       → map (name_at names) (put_before ks n c) ≡ a ++ name_at names n ∷ b
   put-named c node [] b off first [] inside is = absurd (none-some (name_at names c) (ap first_of is ∙ first))
   put-named c node [] b off first (k ∷ ks) inside is =
-      let same : k ≡ c = distinct k c (All-head (λ j. j < length names) k ks inside) node (same_Some (name_at names k) (name_at names c) (ap first_of is ∙ first)) in
+      let same : k ≡ c = distinct k c (All-head (λ j. j < length names) k ks inside) node
+      (same_Some (name_at names k) (name_at names c) (ap first_of is ∙ first)) in
       ap (λ d. map (name_at names) (if d then n ∷ k ∷ ks else k ∷ put_before ks n c)) (eq-eqb k c same) ∙ ap (λ ys. name_at names n ∷ ys) is
   put-named c node (z ∷ a) b off first [] inside is = absurd (none-some z (ap first_of is))
   put-named c node (z ∷ a) b off first (k ∷ ks) inside is =
@@ -73,13 +78,15 @@ module _ (names : List NodeName) (distinct : AreDistinct names) (n : ℕ) where
       ∙ ap (λ ys. z ∷ ys) (put-named c node a b (λ i. off (inr i)) first ks (All-tail (λ j. j < length names) k ks inside) (ap (drop 1) is)))
 
   -- one that is put before another one or last, where those behind it begin with that one
-  inserted-named : (before : Option ℕ) → ForSome before (λ k. k < length names) → (a b : List NodeName) → ((y : NodeName) → In y a → In y b → ⊥) → option_map (name_at names) before ≡ first_of b → (ks : List ℕ) → All (λ k. k < length names) ks
+  inserted-named : (before : Option ℕ) → ForSome before (λ k. k < length names) → (a b : List NodeName) → ((y : NodeName) → In y a → In y b → ⊥) →
+      option_map (name_at names) before ≡ first_of b → (ks : List ℕ) → All (λ k. k < length names) ks
       → map (name_at names) ks ≡ a ++ b → map (name_at names) (insert_before ks n before) ≡ a ++ name_at names n ∷ b
   inserted-named None node a [] apart first ks inside is = map-append (name_at names) ks (n ∷ []) ∙ ap (λ ys. ys ++ name_at names n ∷ []) (is ∙ append-nil a)
   inserted-named None node a (y ∷ b) apart first ks inside is = absurd (none-some y first)
   inserted-named (Some c) node a b apart first ks inside is =
       put-named c (node c refl) a b
-      (λ i. let s = first_split b (name_at names c) (sym first) in apart (name_at names c) i (subst (In (name_at names c)) (sym s.1) (inl refl))) (sym first) ks inside is
+      (λ i. let s = first_split b (name_at names c) (sym first) in apart (name_at names c) i (subst (In (name_at names c)) (sym s.1) (inl refl)))
+      (sym first) ks inside is
 
 -- ---- the list of the slot of a child
 
@@ -87,10 +94,12 @@ module _ (names : List NodeName) (distinct : AreDistinct names) (n : ℕ) where
 pub inserted-differs : (n : ℕ) (before : Option ℕ) (xs : List ℕ) → is_in nat_eq n xs ≡ false → true ≡ not (list_eq nat_eq xs (insert_before xs n before))
 inserted-differs n before xs off =
     sym (ap not (false_from_ne_true (list_eq nat_eq xs (insert_before xs n before)) (λ same.
-    true≢false (sym (ap (is_in nat_eq n) (same_keys xs (insert_before xs n before) same) ∙ (in-inserted n n before xs ∙ or_right (is_in nat_eq n xs) (nat_eq n n) (eq-eqb n n refl))) ∙ off))))
+    true≢false (sym (ap (is_in nat_eq n) (same_keys xs (insert_before xs n before) same) ∙
+    (in-inserted n n before xs ∙ or_right (is_in nat_eq n xs) (nat_eq n n) (eq-eqb n n refl))) ∙ off))))
 
 module _ (f : NamedTrees) (once : Once f.trees) (distinct : AreDistinct f.names) (hosts : List ShadowHost) (n k : ℕ) (h : NodeName)
-    (at : Has f.trees (name_at f.names n)) (up : parent_of f.trees (name_at f.names n) ≡ Some h) (hosted : host_named f.names hosts (root_of f.trees (name_at f.names k)) ≡ Some h)
+    (at : Has f.trees (name_at f.names n)) (up : parent_of f.trees (name_at f.names n) ≡ Some h)
+    (hosted : host_named f.names hosts (root_of f.trees (name_at f.names k)) ≡ Some h)
     (own : slot_at (shadows f hosts) (name_at f.names n) ≡ Some (name_at f.names k)) where
   abbrev s : ShadowTrees
   s = shadows f hosts
@@ -146,7 +155,8 @@ module _ (f : NamedTrees) (once : Once f.trees) (distinct : AreDistinct f.names)
   off_rear i = (Single-right (items_before name_eq x all) (x ∷ items_after name_eq x all) single).0 (in_filtered x (items_after name_eq x all) i)
 
   apart : (z : NodeName) → In z front → In z rear → ⊥
-  apart z i j = Single-apart z (items_before name_eq x all) (x ∷ items_after name_eq x all) single (in_filtered z (items_before name_eq x all) i) (inr (in_filtered z (items_after name_eq x all) j))
+  apart z i j = Single-apart z (items_before name_eq x all) (x ∷ items_after name_eq x all) single (in_filtered z (items_before name_eq x all) i)
+      (inr (in_filtered z (items_after name_eq x all) j))
 
   -- behind it those are assigned that look for the name of the slot
   looks : (z : NodeName) → In z (items_after name_eq x all) → looks_for (slot_name (node_in f.trees y)) (node_in f.trees z) ≡ mine z
@@ -155,8 +165,10 @@ module _ (f : NamedTrees) (once : Once f.trees) (distinct : AreDistinct f.names)
       let parent : parent_of f.trees z ≡ Some h = (parent-of_child f.trees h z once stands (after-in x z all i)).0 in
       sym (assigned-first s once h y z parent ∙ ap (λ b. b && looks_for (slot_name (node_in f.trees y)) (node_in f.trees z)) first)
 
-  module _ (list : List ℕ) (inside : All (λ j. j < length f.names) list) (right : map (name_at f.names) list ≡ names_but x (assigned_at s y)) (before : Option ℕ) (node : ForSome before (λ j. j < length f.names))
-      (is : option_map (name_at f.names) before ≡ first_of (filter (λ z. looks_for (slot_name (node_in f.trees y)) (node_in f.trees z)) (items_after name_eq x (siblings f.trees x)))) where
+  module _ (list : List ℕ) (inside : All (λ j. j < length f.names) list) (right : map (name_at f.names) list ≡ names_but x (assigned_at s y))
+      (before : Option ℕ) (node : ForSome before (λ j. j < length f.names))
+      (is : option_map (name_at f.names) before ≡ first_of
+      (filter (λ z. looks_for (slot_name (node_in f.trees y)) (node_in f.trees z)) (items_after name_eq x (siblings f.trees x)))) where
     parts : map (name_at f.names) list ≡ front ++ rear
     parts = right ∙ (ap (names_but x) assigned-parts ∙ but-between x front rear off_front off_rear)
 
@@ -164,8 +176,10 @@ module _ (f : NamedTrees) (once : Once f.trees) (distinct : AreDistinct f.names)
     pub joined : map (name_at f.names) (insert_before list n before) ≡ assigned_at s y
     joined =
         inserted-named f.names distinct n before node front rear apart
-        (is ∙ (ap (λ ys. first_of (filter (λ z. looks_for (slot_name (node_in f.trees y)) (node_in f.trees z)) (items_after name_eq x ys))) (siblings-children f once x h at up)
-        ∙ ap first_of (filter-same (λ z. looks_for (slot_name (node_in f.trees y)) (node_in f.trees z)) mine (items_after name_eq x all) looks))) list inside parts
+        (is ∙ (ap (λ ys. first_of (filter (λ z. looks_for (slot_name (node_in f.trees y)) (node_in f.trees z)) (items_after name_eq x ys)))
+        (siblings-children f once x h at up)
+        ∙ ap first_of (filter-same (λ z. looks_for (slot_name (node_in f.trees y)) (node_in f.trees z)) mine (items_after name_eq x all) looks)))
+        list inside parts
         ∙ sym assigned-parts
 
     -- it was not in the list

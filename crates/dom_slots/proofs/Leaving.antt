@@ -21,7 +21,8 @@ without-out n (x ∷ xs) = by (nat_eq x n) refl (without-out n xs)
   where
     by : (d : Bool) → nat_eq x n ≡ d → is_in nat_eq n (without n xs) ≡ false → is_in nat_eq n (if not d then x ∷ without n xs else without n xs) ≡ false
     by true e rest = rest
-    by false e rest = ap (λ d. d || is_in nat_eq n (without n xs)) (false_from_ne_true (nat_eq n x) (λ same. true≢false (sym (eq-eqb x n (sym (eqb-true n x same))) ∙ e))) ∙ rest
+    by false e rest = ap (λ d. d || is_in nat_eq n (without n xs))
+        (false_from_ne_true (nat_eq n x) (λ same. true≢false (sym (eq-eqb x n (sym (eqb-true n x same))) ∙ e))) ∙ rest
 
 -- a list in which the node does not stand is the same
 pub without-same : (n : ℕ) (xs : List ℕ) → is_in nat_eq n xs ≡ false → without n xs ≡ xs
@@ -45,10 +46,12 @@ without-differs n xs = by (is_in nat_eq n xs) refl
   where
     by : (d : Bool) → is_in nat_eq n xs ≡ d → d ≡ not (list_eq nat_eq xs (without n xs))
     by false e = sym (ap (λ ys. not (list_eq nat_eq xs ys)) (without-same n xs e) ∙ ap not (list_same xs))
-    by true e = sym (ap not (false_from_ne_true (list_eq nat_eq xs (without n xs)) (λ same. true≢false (sym e ∙ (ap (is_in nat_eq n) (same_keys xs (without n xs) same) ∙ without-out n xs)))))
+    by true e = sym (ap not (false_from_ne_true (list_eq nat_eq xs (without n xs))
+        (λ same. true≢false (sym e ∙ (ap (is_in nat_eq n) (same_keys xs (without n xs) same) ∙ without-out n xs)))))
 
 -- the lists after that of one slot was changed, by the list that it had
-pub at-slot : (change : List ℕ → List ℕ) (k : ℕ) (table new : SlotTable) → ((j : ℕ) → list_of new j ≡ (if nat_eq k j then change (list_of table j) else list_of table j))
+pub at-slot : (change : List ℕ → List ℕ) (k : ℕ) (table new : SlotTable) →
+    ((j : ℕ) → list_of new j ≡ (if nat_eq k j then change (list_of table j) else list_of table j))
     → (j : ℕ) → list_of new j ≡ (if nat_eq k j then change (list_of table k) else list_of table j)
 at-slot change k table new lists j = lists j ∙ by (nat_eq k j) refl
   where
@@ -62,13 +65,16 @@ module _ (names : List NodeName) (distinct : AreDistinct names) (n : ℕ) (node 
   -- a list of names without the name of a node is that of the keys without it
   pub without-named : (ks : List ℕ) → All (λ k. k < length names) ks → map (name_at names) (without n ks) ≡ names_but (name_at names n) (map (name_at names) ks)
   without-named [] inside = refl
-  without-named (k ∷ ks) inside = by (nat_eq k n) (name_eq (name_at names n) (name_at names k)) same (without-named ks (All-tail (λ j. j < length names) k ks inside))
+  without-named (k ∷ ks) inside = by (nat_eq k n) (name_eq (name_at names n) (name_at names k)) same
+      (without-named ks (All-tail (λ j. j < length names) k ks inside))
     where
       same : nat_eq k n ≡ name_eq (name_at names n) (name_at names k)
       same = key-test names distinct k n (All-head (λ j. j < length names) k ks inside) node ∙ name_eq-turned (name_at names k) (name_at names n)
 
       by : (d e : Bool) → d ≡ e → map (name_at names) (without n ks) ≡ names_but (name_at names n) (map (name_at names) ks)
-          → map (name_at names) (if not d then k ∷ without n ks else without n ks) ≡ (if not e then name_at names k ∷ names_but (name_at names n) (map (name_at names) ks) else names_but (name_at names n) (map (name_at names) ks))
+          → map (name_at names) (if not d then k ∷ without n ks else without n ks) ≡
+          (if not e then name_at names k ∷ names_but (name_at names n) (map (name_at names) ks) else names_but (name_at names n)
+          (map (name_at names) ks))
       by true true is rest = rest
       by false false is rest = ap (λ ys. name_at names k ∷ ys) rest
       by true false is rest = absurd (true≢false is)

@@ -28,7 +28,8 @@ module _ (a : DomString) where
   first_append (m ∷ ms) ns = by (has_slot_name a m) (first_append ms ns)
     where
       by : (b : Bool) → first_slot a (ms ++ ns) ≡ option_or (first_slot a ms) (first_slot a ns)
-          → option_map (λ (n : Node). n.name) (if b then Some m else find (has_slot_name a) (ms ++ ns)) ≡ option_or (option_map (λ (n : Node). n.name) (if b then Some m else find (has_slot_name a) ms)) (first_slot a ns)
+          → option_map (λ (n : Node). n.name) (if b then Some m else find (has_slot_name a) (ms ++ ns)) ≡ option_or
+          (option_map (λ (n : Node). n.name) (if b then Some m else find (has_slot_name a) ms)) (first_slot a ns)
       by true rest = refl
       by false rest = rest
 
@@ -36,7 +37,8 @@ module _ (a : DomString) where
   first_behind : (m : Node) (ms ns : List Node) → first_slot a ms ≡ first_slot a ns → first_slot a (m ∷ ms) ≡ first_slot a (m ∷ ns)
   first_behind m ms ns same = by (has_slot_name a m)
     where
-      by : (b : Bool) → option_map (λ (n : Node). n.name) (if b then Some m else find (has_slot_name a) ms) ≡ option_map (λ (n : Node). n.name) (if b then Some m else find (has_slot_name a) ns)
+      by : (b : Bool) → option_map (λ (n : Node). n.name) (if b then Some m else find (has_slot_name a) ms) ≡ option_map (λ (n : Node). n.name)
+          (if b then Some m else find (has_slot_name a) ns)
       by true = refl
       by false = same
 
@@ -66,14 +68,17 @@ module _ (m : Node) (d : Trees) (bare : slots_among (tree m d none) ≡ []) wher
     grafted_first (Below p) none = no-slot_named a (nodes (tree m d none)) bare
     grafted_first (Below p) (tree n c r) =
         first_behind a n (nodes (grafted m d p c) ++ nodes r) (nodes c ++ nodes r)
-        (first_append a (nodes (grafted m d p c)) (nodes r) ∙ (ap (λ o. option_or o (first_slot a (nodes r))) (grafted_first p c) ∙ sym (first_append a (nodes c) (nodes r))))
+        (first_append a (nodes (grafted m d p c)) (nodes r) ∙
+        (ap (λ o. option_or o (first_slot a (nodes r))) (grafted_first p c) ∙ sym (first_append a (nodes c) (nodes r))))
     grafted_first (Behind p) none = no-slot_named a (nodes (tree m d none)) bare
     grafted_first (Behind p) (tree n c r) =
         first_behind a n (nodes c ++ nodes (grafted m d p r)) (nodes c ++ nodes r)
-        (first_append a (nodes c) (nodes (grafted m d p r)) ∙ (ap (option_or (first_slot a (nodes c))) (grafted_first p r) ∙ sym (first_append a (nodes c) (nodes r))))
+        (first_append a (nodes c) (nodes (grafted m d p r)) ∙
+        (ap (option_or (first_slot a (nodes c))) (grafted_first p r) ∙ sym (first_append a (nodes c) (nodes r))))
 
     -- the tree of another node has the slots that it had
-    subtree_first : (p : Spot) (us : Trees) (r : NodeName) → (Has (tree m d none) r → ⊥) → first_slot a (nodes (subtree (grafted m d p us) r)) ≡ first_slot a (nodes (subtree us r))
+    subtree_first : (p : Spot) (us : Trees) (r : NodeName) → (Has (tree m d none) r → ⊥) →
+        first_slot a (nodes (subtree (grafted m d p us) r)) ≡ first_slot a (nodes (subtree us r))
     subtree_first Before us r off = rw (name_eq-other m.name r (λ e. off (inl e)), subtree-absent d r (λ i. off (inr (inl i)))) refl
     subtree_first (Below p) none r off = ap (λ (ts : Trees). first_slot a (nodes ts)) (subtree-absent (tree m d none) r off)
     subtree_first (Below p) (tree n c s) r off = elim (cases_Bool (name_eq n.name r)) [
@@ -81,20 +86,24 @@ module _ (m : Node) (d : Trees) (bare : slots_among (tree m d none) ≡ []) wher
       | inr e ↦ rw e (below (subtree (grafted m d p c) r) (subtree c r) (Alike-others m d p c r off) (subtree_first p c r off))
     ]
       where
-        below : (ts us : Trees) → Alike m d ts us → first_slot a (nodes ts) ≡ first_slot a (nodes us) → first_slot a (nodes (or_else ts (subtree s r))) ≡ first_slot a (nodes (or_else us (subtree s r)))
+        below : (ts us : Trees) → Alike m d ts us → first_slot a (nodes ts) ≡ first_slot a (nodes us) →
+            first_slot a (nodes (or_else ts (subtree s r))) ≡ first_slot a (nodes (or_else us (subtree s r)))
         below none none h same = refl
         below none (tree k b t) h same = absurd h
         below (tree k b t) none h same = absurd h
         below (tree k b t) (tree l e u) h same = same
     subtree_first (Behind p) none r off = ap (λ (ts : Trees). first_slot a (nodes ts)) (subtree-absent (tree m d none) r off)
-    subtree_first (Behind p) (tree n c s) r off = elim (cases_Bool (name_eq n.name r)) [ inl e ↦ rw e refl | inr e ↦ rw e (behind (subtree c r) (subtree_first p s r off)) ]
+    subtree_first (Behind p) (tree n c s) r off =
+        elim (cases_Bool (name_eq n.name r)) [ inl e ↦ rw e refl | inr e ↦ rw e (behind (subtree c r) (subtree_first p s r off)) ]
       where
-        behind : (ts : Trees) → first_slot a (nodes (subtree (grafted m d p s) r)) ≡ first_slot a (nodes (subtree s r)) → first_slot a (nodes (or_else ts (subtree (grafted m d p s) r))) ≡ first_slot a (nodes (or_else ts (subtree s r)))
+        behind : (ts : Trees) → first_slot a (nodes (subtree (grafted m d p s) r)) ≡ first_slot a (nodes (subtree s r)) →
+            first_slot a (nodes (or_else ts (subtree (grafted m d p s) r))) ≡ first_slot a (nodes (or_else ts (subtree s r)))
         behind none same = same
         behind (tree k b t) same = refl
 
   -- a node finds the same slot in the tree of each node, wherever this one is put
-  pub grafted-found : (us : Trees) (p q : Spot) → ((y : NodeName) → Has us y → Has (tree m d none) y → ⊥) → (r : NodeName) (n : Node) → slot_in (subtree (grafted m d p us) r) n ≡ slot_in (subtree (grafted m d q us) r) n
+  pub grafted-found : (us : Trees) (p q : Spot) → ((y : NodeName) → Has us y → Has (tree m d none) y → ⊥) → (r : NodeName) (n : Node) →
+      slot_in (subtree (grafted m d p us) r) n ≡ slot_in (subtree (grafted m d q us) r) n
   grafted-found us p q apart r n = elim (has_or_not (tree m d none) r) [
     | inl i ↦ let off : Has us r → ⊥ = λ j. apart r j i in ap (λ (ts : Trees). slot_in ts n) (tree-own m d p us r off ∙ sym (tree-own m d q us r off))
     | inr off ↦ found_so (subtree (grafted m d p us) r) (subtree (grafted m d q us) r) (λ a. subtree_first a p us r off ∙ sym (subtree_first a q us r off)) n
@@ -115,25 +124,30 @@ module _ (x : NodeName) (g : Node → Node) (keeps : (n : Node) → (g n).name �
   changed-slot ts y =
       let named : Node → Bool = λ n. name_eq n.name y in
       ap (λ ns. is_slot_element (unwrap_or (find named ns) (no_node y))) (nodes_recast (changed x g keeps) (changed_name x g keeps) ts)
-      ∙ (ap (λ o. is_slot_element (unwrap_or o (no_node y))) (found_recast (changed x g keeps) (changed_name x g keeps) named (λ n. ap (λ z. name_eq z y) (changed_name x g keeps n)) (nodes ts)) ∙ by (find named (nodes ts)))
+      ∙ (ap (λ o. is_slot_element (unwrap_or o (no_node y)))
+      (found_recast (changed x g keeps) (changed_name x g keeps) named (λ n. ap (λ z. name_eq z y) (changed_name x g keeps n)) (nodes ts)) ∙
+      by (find named (nodes ts)))
     where
       by : (o : Option Node) → is_slot_element (unwrap_or (option_map (changed x g keeps) o) (no_node y)) ≡ is_slot_element (unwrap_or o (no_node y))
       by None = refl
       by (Some n) = changed_element n
 
   module _ (a : DomString) where
-    changed_first : (ns : List Node) → ((n : Node) → InNodes n ns → n.name ≡ x → is_slot_element n ≡ false) → first_slot a (map (changed x g keeps) ns) ≡ first_slot a ns
+    changed_first : (ns : List Node) → ((n : Node) → InNodes n ns → n.name ≡ x → is_slot_element n ≡ false) →
+        first_slot a (map (changed x g keeps) ns) ≡ first_slot a ns
     changed_first [] none_slot = refl
     changed_first (n ∷ ns) none_slot = by (name_eq n.name x) refl (changed_first ns (λ m i. none_slot m (inr i)))
       where
-        by : (b : Bool) → name_eq n.name x ≡ b → first_slot a (map (changed x g keeps) ns) ≡ first_slot a ns → first_slot a ((if b then g n else n) ∷ map (changed x g keeps) ns) ≡ first_slot a (n ∷ ns)
+        by : (b : Bool) → name_eq n.name x ≡ b → first_slot a (map (changed x g keeps) ns) ≡ first_slot a ns →
+            first_slot a ((if b then g n else n) ∷ map (changed x g keeps) ns) ≡ first_slot a (n ∷ ns)
         by true e rest =
             let off = none_slot n (inl refl) (name_eq-true n.name x e) in
             first_without a (g n) (map (changed x g keeps) ns) (element n ∙ off) ∙ (rest ∙ sym (first_without a n ns off))
         by false e rest = first_behind a n (map (changed x g keeps) ns) ns rest
 
   -- a node finds the same slot in the tree of each node
-  pub changed-found : (ts : Trees) → Once ts → is_slot_element (node_in ts x) ≡ false → (r : NodeName) (n : Node) → slot_in (subtree ts r) n ≡ slot_in (subtree (change_node g x ts) r) n
+  pub changed-found : (ts : Trees) → Once ts → is_slot_element (node_in ts x) ≡ false → (r : NodeName) (n : Node) →
+      slot_in (subtree ts r) n ≡ slot_in (subtree (change_node g x ts) r) n
   changed-found ts once off r n =
       found_so (subtree ts r) (subtree (change_node g x ts) r)
       (λ a. sym (ap (λ (us : Trees). first_slot a (nodes us)) (subtree_recast (changed x g keeps) (changed_name x g keeps) ts r)

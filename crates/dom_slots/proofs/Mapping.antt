@@ -1,5 +1,6 @@
 -- The members of lists after nodes were taken out of them and put into them, and the lists of slots beside the slots of nodes.
-use Rattle.std.proofs.Common.{◌≡◌, inl, inr, ℕ, ◌+◌, ◌<◌, Bool, true, false, not, ◌&&◌, ◌||◌, List, [], ◌∷◌, ◌++◌, take, length, get_or, Option, Some, None, refl, sym, ap, ◌∙◌, true≢false}
+use Rattle.std.proofs.Common.{◌≡◌, inl, inr, ℕ, ◌+◌, ◌<◌, Bool, true, false, not, ◌&&◌, ◌||◌, List, [], ◌∷◌, ◌++◌, take, length, get_or, Option, Some}
+use Rattle.std.proofs.Common.{None, refl, sym, ap, ◌∙◌, true≢false}
 use Rattle.std.specs.Prelude.{nat_eq, slice_get, if◌then◌else◌}
 use Rattle.std.proofs.lemmas.Bool.{cases_Bool, eqb-true, eq-eqb, false_from_ne_true}
 use Rattle.std.proofs.lemmas.List.{take_more}
@@ -65,16 +66,19 @@ in-put n b k (x ∷ xs) = by (nat_eq x b) (in-put n b k xs)
     along true m d = refl
     along false m d = refl
 
-    by : (c : Bool) → is_in nat_eq k (put_before xs n b) ≡ (is_in nat_eq k xs || nat_eq n k) → is_in nat_eq k (if c then n ∷ x ∷ xs else x ∷ put_before xs n b) ≡ ((nat_eq k x || is_in nat_eq k xs) || nat_eq n k)
+    by : (c : Bool) → is_in nat_eq k (put_before xs n b) ≡ (is_in nat_eq k xs || nat_eq n k) →
+        is_in nat_eq k (if c then n ∷ x ∷ xs else x ∷ put_before xs n b) ≡ ((nat_eq k x || is_in nat_eq k xs) || nat_eq n k)
     by true rest = ap (λ d. d || (nat_eq k x || is_in nat_eq k xs)) (nat_eq-turned k n) ∙ turned (nat_eq n k) (nat_eq k x) (is_in nat_eq k xs)
     by false rest = ap (λ m. nat_eq k x || m) rest ∙ along (nat_eq k x) (is_in nat_eq k xs) (nat_eq n k)
 
 -- the members of a list with a node more
 pub in-inserted : (n k : ℕ) (before : Option ℕ) (xs : List ℕ) → is_in nat_eq k (insert_before xs n before) ≡ (is_in nat_eq k xs || nat_eq n k)
 in-inserted n k (Some b) xs = in-put n b k xs
-in-inserted n k None xs = list_any-append (nat_eq k) xs (n ∷ []) ∙ (or_last (is_in nat_eq k xs) (nat_eq k n) ∙ ap (λ d. is_in nat_eq k xs || d) (nat_eq-turned k n))
+in-inserted n k None xs = list_any-append (nat_eq k) xs (n ∷ []) ∙
+    (or_last (is_in nat_eq k xs) (nat_eq k n) ∙ ap (λ d. is_in nat_eq k xs || d) (nat_eq-turned k n))
 
-pub put-member : (n k : ℕ) (before : Option ℕ) (d : Bool) (xs : List ℕ) → is_in nat_eq k (if d then insert_before xs n before else xs) ≡ (is_in nat_eq k xs || (d && nat_eq n k))
+pub put-member : (n k : ℕ) (before : Option ℕ) (d : Bool) (xs : List ℕ) →
+    is_in nat_eq k (if d then insert_before xs n before else xs) ≡ (is_in nat_eq k xs || (d && nat_eq n k))
 put-member n k before true xs = in-inserted n k before xs
 put-member n k before false xs = sym (or_false (is_in nat_eq k xs))
   where
@@ -104,19 +108,23 @@ abbrev pub Agree : (ℕ → List ℕ) → (ℕ → List ℕ) → Type 0
 Agree lists slots = (k s : ℕ) → is_in nat_eq s (slots k) ≡ is_in nat_eq k (lists s)
 
 module _ (slot n : ℕ) (lists new_lists slots new_slots : ℕ → List ℕ) (agree : Agree lists slots) where
-  pub agree-taken_out : ((k : ℕ) → new_lists k ≡ (if nat_eq slot k then without n (lists k) else lists k)) → ((k : ℕ) → new_slots k ≡ (if nat_eq n k then without slot (slots k) else slots k)) → Agree new_lists new_slots
+  pub agree-taken_out : ((k : ℕ) → new_lists k ≡ (if nat_eq slot k then without n (lists k) else lists k)) →
+      ((k : ℕ) → new_slots k ≡ (if nat_eq n k then without slot (slots k) else slots k)) → Agree new_lists new_slots
   agree-taken_out by_slot by_node k s =
       ap (is_in nat_eq s) (by_node k)
       ∙ (taken-member slot s (nat_eq n k) (slots k)
       ∙ (ap (λ m. m && not (nat_eq n k && nat_eq slot s)) (agree k s)
-      ∙ (ap (λ b. is_in nat_eq k (lists s) && not b) (and_turned (nat_eq n k) (nat_eq slot s)) ∙ sym (ap (is_in nat_eq k) (by_slot s) ∙ taken-member n k (nat_eq slot s) (lists s)))))
+      ∙ (ap (λ b. is_in nat_eq k (lists s) && not b) (and_turned (nat_eq n k) (nat_eq slot s)) ∙
+      sym (ap (is_in nat_eq k) (by_slot s) ∙ taken-member n k (nat_eq slot s) (lists s)))))
 
-  pub agree-put : (before : Option ℕ) → ((k : ℕ) → new_lists k ≡ (if nat_eq slot k then insert_before (lists k) n before else lists k)) → ((k : ℕ) → new_slots k ≡ (if nat_eq n k then insert_before (slots k) slot None else slots k)) → Agree new_lists new_slots
+  pub agree-put : (before : Option ℕ) → ((k : ℕ) → new_lists k ≡ (if nat_eq slot k then insert_before (lists k) n before else lists k)) →
+      ((k : ℕ) → new_slots k ≡ (if nat_eq n k then insert_before (slots k) slot None else slots k)) → Agree new_lists new_slots
   agree-put before by_slot by_node k s =
       ap (is_in nat_eq s) (by_node k)
       ∙ (put-member slot s None (nat_eq n k) (slots k)
       ∙ (ap (λ m. m || (nat_eq n k && nat_eq slot s)) (agree k s)
-      ∙ (ap (λ b. is_in nat_eq k (lists s) || b) (and_turned (nat_eq n k) (nat_eq slot s)) ∙ sym (ap (is_in nat_eq k) (by_slot s) ∙ put-member n k before (nat_eq slot s) (lists s)))))
+      ∙ (ap (λ b. is_in nat_eq k (lists s) || b) (and_turned (nat_eq n k) (nat_eq slot s)) ∙
+      sym (ap (is_in nat_eq k) (by_slot s) ∙ put-member n k before (nat_eq slot s) (lists s)))))
 
 -- ---- one node after another
 
@@ -135,18 +143,22 @@ none_taken true false = refl
 none_taken false d = refl
 
 -- members of the first items and one more
-in-more : (k : ℕ) (nodes : List ℕ) (i n : ℕ) → n ≡ get_or nodes i n → i < length nodes → is_in nat_eq k (take (i + 1) nodes) ≡ (is_in nat_eq k (take i nodes) || nat_eq n k)
+in-more : (k : ℕ) (nodes : List ℕ) (i n : ℕ) → n ≡ get_or nodes i n → i < length nodes →
+    is_in nat_eq k (take (i + 1) nodes) ≡ (is_in nat_eq k (take i nodes) || nat_eq n k)
 in-more k nodes i n at within =
     ap (is_in nat_eq k) (take_more nodes i n within ∙ ap (λ j. take i nodes ++ j ∷ []) (sym at))
-    ∙ (list_any-append (nat_eq k) (take i nodes) (n ∷ []) ∙ (or_last (is_in nat_eq k (take i nodes)) (nat_eq k n) ∙ ap (λ d. is_in nat_eq k (take i nodes) || d) (nat_eq-turned k n)))
+    ∙ (list_any-append (nat_eq k) (take i nodes) (n ∷ []) ∙
+    (or_last (is_in nat_eq k (take i nodes)) (nat_eq k n) ∙ ap (λ d. is_in nat_eq k (take i nodes) || d) (nat_eq-turned k n)))
 
 module _ (was : ℕ → List ℕ) (slot : ℕ) (nodes : List ℕ) (i n : ℕ) (at : n ≡ get_or nodes i n) (within : i < length nodes) (now next : ℕ → List ℕ) where
-  pub taken-more : ((k : ℕ) → next k ≡ (if nat_eq n k then without slot (now k) else now k)) → AreTaken was slot (take i nodes) now → AreTaken was slot (take (i + 1) nodes) next
+  pub taken-more : ((k : ℕ) → next k ≡ (if nat_eq n k then without slot (now k) else now k)) → AreTaken was slot (take i nodes) now →
+      AreTaken was slot (take (i + 1) nodes) next
   taken-more updated taken k s =
       ap (is_in nat_eq s) (updated k)
       ∙ (taken-member slot s (nat_eq n k) (now k)
       ∙ (ap (λ m. m && not (nat_eq n k && nat_eq slot s)) (taken k s)
-      ∙ (both (is_in nat_eq s (was k)) (nat_eq slot s) (is_in nat_eq k (take i nodes)) (nat_eq n k) ∙ ap (λ m. is_in nat_eq s (was k) && not (nat_eq slot s && m)) (sym (in-more k nodes i n at within)))))
+      ∙ (both (is_in nat_eq s (was k)) (nat_eq slot s) (is_in nat_eq k (take i nodes)) (nat_eq n k) ∙
+      ap (λ m. is_in nat_eq s (was k) && not (nat_eq slot s && m)) (sym (in-more k nodes i n at within)))))
     where
       both : (a d m e : Bool) → ((a && not (d && m)) && not (e && d)) ≡ (a && not (d && (m || e)))
       both false d m e = refl
@@ -156,12 +168,14 @@ module _ (was : ℕ → List ℕ) (slot : ℕ) (nodes : List ℕ) (i n : ℕ) (a
       both true true false true = refl
       both true true false false = refl
 
-  pub given-more : ((k : ℕ) → next k ≡ (if nat_eq n k then insert_before (now k) slot None else now k)) → AreGiven was slot (take i nodes) now → AreGiven was slot (take (i + 1) nodes) next
+  pub given-more : ((k : ℕ) → next k ≡ (if nat_eq n k then insert_before (now k) slot None else now k)) → AreGiven was slot (take i nodes) now →
+      AreGiven was slot (take (i + 1) nodes) next
   given-more updated given k s =
       ap (is_in nat_eq s) (updated k)
       ∙ (put-member slot s None (nat_eq n k) (now k)
       ∙ (ap (λ m. m || (nat_eq n k && nat_eq slot s)) (given k s)
-      ∙ (both (is_in nat_eq s (was k)) (nat_eq slot s) (is_in nat_eq k (take i nodes)) (nat_eq n k) ∙ ap (λ m. is_in nat_eq s (was k) || (nat_eq slot s && m)) (sym (in-more k nodes i n at within)))))
+      ∙ (both (is_in nat_eq s (was k)) (nat_eq slot s) (is_in nat_eq k (take i nodes)) (nat_eq n k) ∙
+      ap (λ m. is_in nat_eq s (was k) || (nat_eq slot s && m)) (sym (in-more k nodes i n at within)))))
     where
       both : (a d m e : Bool) → ((a || (d && m)) || (e && d)) ≡ (a || (d && (m || e)))
       both true d m e = refl
@@ -172,7 +186,8 @@ module _ (was : ℕ → List ℕ) (slot : ℕ) (nodes : List ℕ) (i n : ℕ) (a
       both false true false false = refl
 
 -- a slot is given another list: it is taken from the nodes of its old list, and given to those of the new one
-pub agree-inserted : (slot : ℕ) (list : List ℕ) (lists new_lists slots mid after : ℕ → List ℕ) → Agree lists slots → ((k : ℕ) → new_lists k ≡ (if nat_eq slot k then list else lists k)) → AreTaken slots slot (lists slot) mid → AreGiven mid slot list after
+pub agree-inserted : (slot : ℕ) (list : List ℕ) (lists new_lists slots mid after : ℕ → List ℕ) → Agree lists slots →
+    ((k : ℕ) → new_lists k ≡ (if nat_eq slot k then list else lists k)) → AreTaken slots slot (lists slot) mid → AreGiven mid slot list after
     → Agree new_lists after
 agree-inserted slot list lists new_lists slots mid after agree by_slot taken given k s =
     given k s
@@ -187,6 +202,9 @@ agree-inserted slot list lists new_lists slots mid after agree by_slot taken giv
     there true = refl
     there false = refl
 
-    by : (d : Bool) → nat_eq slot s ≡ d → ((is_in nat_eq k (lists s) && not (d && is_in nat_eq k (lists slot))) || (d && is_in nat_eq k list)) ≡ is_in nat_eq k (if d then list else lists s)
-    by true e = ap (λ j. (is_in nat_eq k (lists s) && not (is_in nat_eq k (lists j))) || is_in nat_eq k list) (eqb-true slot s e) ∙ here (is_in nat_eq k (lists s)) (is_in nat_eq k list)
+    by : (d : Bool) → nat_eq slot s ≡ d →
+        ((is_in nat_eq k (lists s) && not (d && is_in nat_eq k (lists slot))) || (d && is_in nat_eq k list)) ≡ is_in nat_eq k
+        (if d then list else lists s)
+    by true e = ap (λ j. (is_in nat_eq k (lists s) && not (is_in nat_eq k (lists j))) || is_in nat_eq k list) (eqb-true slot s e) ∙
+        here (is_in nat_eq k (lists s)) (is_in nat_eq k list)
     by false e = there (is_in nat_eq k (lists s))

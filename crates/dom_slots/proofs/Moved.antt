@@ -3,7 +3,8 @@ use Rattle.std.proofs.Common.{◌≡◌, ◌⊎◌, inl, inr, ◌+◌, length, L
 use Rattle.std.specs.Prelude.{unwrap_or}
 use Rattle.dom_base.specs.declared.NodeName.{NodeName}
 use Rattle.dom_model.specs.Names.{name_eq, items_before, last_of}
-use Rattle.dom_model.specs.Tree.{Trees, none, tree, Node, nodes, roots, names_of, node_in, trees_below, subtree, inclusive_ancestors, parent_of, root_of, children_of}
+use Rattle.dom_model.specs.Tree.{Trees, none, tree, Node, nodes, roots, names_of, node_in, trees_below, subtree, inclusive_ancestors, parent_of}
+use Rattle.dom_model.specs.Tree.{root_of, children_of}
 use Rattle.dom_traversal.proofs.Chains.{above-split}
 use Rattle.dom_traversal.proofs.Children.{parent-of_child}
 use Rattle.dom_traversal.proofs.Shapes.{Has, Once, has_or_not, subtree-here, subtree-present, above-from_below, above-parent}
@@ -31,7 +32,8 @@ pub record IsAside (names : List NodeName) (hosts : List ShadowHost) (x : NodeNa
   pub parent : Outside names hosts now (parent_of now x)
 
 -- the root of x has no host afterwards
-pub root-aside : (names : List NodeName) (hosts : List ShadowHost) (x : NodeName) (was now : Trees) → IsAside names hosts x was now → Has now x → host_named names hosts (root_of now x) ≡ None
+pub root-aside : (names : List NodeName) (hosts : List ShadowHost) (x : NodeName) (was now : Trees) → IsAside names hosts x was now → Has now x →
+    host_named names hosts (root_of now x) ≡ None
 root-aside names hosts x was now aside at = by (parent_of now x) refl
   where
     by : (o : Option NodeName) → parent_of now x ≡ o → host_named names hosts (root_of now x) ≡ None
@@ -51,10 +53,12 @@ not-below ts once x p h e i =
     let up = above-parent ts x p once h e in
     let round = above-split ts x p once up.1 (above-from_below ts x p once h i) in
     let front = items_before name_eq x (inclusive_ancestors ts p) in
-    let long : length (inclusive_ancestors ts p) ≡ length front + length (inclusive_ancestors ts x) = ap (length {A = NodeName}) round ∙ length-append front (inclusive_ancestors ts x) in
+    let long : length (inclusive_ancestors ts p) ≡ length front + length (inclusive_ancestors ts x) =
+    ap (length {A = NodeName}) round ∙ length-append front (inclusive_ancestors ts x) in
     omega (arith, long, ap (length {A = NodeName}) up.0)
 
-module _ (names : List NodeName) (hosts : List ShadowHost) (m : Node) (d us : Trees) (p q : Spot) (apart : (y : NodeName) → Has us y → Has (tree m d none) y → ⊥)
+module _ (names : List NodeName) (hosts : List ShadowHost) (m : Node) (d us : Trees) (p q : Spot)
+    (apart : (y : NodeName) → Has us y → Has (tree m d none) y → ⊥)
     (both : AreBoth names hosts (grafted m d p us) (grafted m d q us)) where
   abbrev was : Trees
   was = grafted m d p us
@@ -86,8 +90,10 @@ module _ (names : List NodeName) (hosts : List ShadowHost) (m : Node) (d us : Tr
 
   children_same : (h : NodeName) → others x (children_of was h) ≡ others x (children_of now h)
   children_same h = elim (has_or_not (tree m d none) h) [
-    | inl i ↦ let off : Has us h → ⊥ = λ j. apart h j i in ap (λ (ts : Trees). others x (names_of (roots (trees_below ts)))) (tree-own m d p us h off ∙ sym (tree-own m d q us h off))
-    | inr off ↦ alike_children (subtree was h) (subtree us h) (Alike-others m d p us h off) ∙ sym (alike_children (subtree now h) (subtree us h) (Alike-others m d q us h off))
+    | inl i ↦ let off : Has us h → ⊥ = λ j. apart h j i in ap (λ (ts : Trees). others x (names_of (roots (trees_below ts))))
+        (tree-own m d p us h off ∙ sym (tree-own m d q us h off))
+    | inr off ↦ alike_children (subtree was h) (subtree us h) (Alike-others m d p us h off) ∙
+        sym (alike_children (subtree now h) (subtree us h) (Alike-others m d q us h off))
   ]
 
   alike_roots : (n k : Node) (b c ts : Trees) → Alike m d (tree n b none) ts → Alike m d (tree k c none) ts → n ≡ k
@@ -99,7 +105,8 @@ module _ (names : List NodeName) (hosts : List ShadowHost) (m : Node) (d us : Tr
       let v = node-of_tree was both.once_was y h in
       let w = node-of_tree now both.once_now y g in
       v.3 ∙ (elim (has_or_not (tree m d none) y) [
-        | inl i ↦ root_of_both v.0 w.0 v.1 w.1 (sym v.2 ∙ ((let off : Has us y → ⊥ = λ j. apart y j i in tree-own m d p us y off ∙ sym (tree-own m d q us y off)) ∙ w.2))
+        | inl i ↦ root_of_both v.0 w.0 v.1 w.1
+            (sym v.2 ∙ ((let off : Has us y → ⊥ = λ j. apart y j i in tree-own m d p us y off ∙ sym (tree-own m d q us y off)) ∙ w.2))
         | inr off ↦
             alike_roots v.0 w.0 v.1 w.1 (subtree us y) (subst (λ (ts : Trees). Alike m d ts (subtree us y)) v.2 (Alike-others m d p us y off))
             (subst (λ (ts : Trees). Alike m d ts (subtree us y)) w.2 (Alike-others m d q us y off))
@@ -122,16 +129,19 @@ module _ (names : List NodeName) (hosts : List ShadowHost) (m : Node) (d us : Tr
   }
 
   -- a node stays in its tree where x neither stood nor stands in it
-  settled_so : (y : NodeName) → Has was y → (Has (tree m d none) y → ⊥) → (Has (subtree was (root_of was y)) x → ⊥) → (Has (subtree now (root_of was y)) x → ⊥) → IsSettled was now y
+  settled_so : (y : NodeName) → Has was y → (Has (tree m d none) y → ⊥) → (Has (subtree was (root_of was y)) x → ⊥) →
+      (Has (subtree now (root_of was y)) x → ⊥) → IsSettled was now y
   settled_so y h off away away_now =
       let top : Has (tree m d none) (root_of was y) → ⊥ = λ i.
-      let same : root_of was (root_of was y) ≡ root_of was x = root-below was both.once_was x (root_of was y) (Has-grafted m d p us) (in_own p (root_of was y) i) in
+      let same : root_of was (root_of was y) ≡ root_of was x =
+      root-below was both.once_was x (root_of was y) (Has-grafted m d p us) (in_own p (root_of was y) i) in
       let root_is : root_of was x ≡ root_of was y = sym same ∙ root-of_root was both.once_was y h in
       away (subst (λ z. Has (subtree was z) x) root_is (in-tree_of_root was both.once_was x (Has-grafted m d p us))) in
       record { root = root_same y off; tree = tree-others m d p us (root_of was y) top away ∙ sym (tree-others m d q us (root_of was y) top away_now) }
 
   -- so it is where it stands in the tree of neither parent
-  pub moved-settled : (y : NodeName) → Has was y → Has now y → (Has (subtree now x) y → ⊥) → ((a : NodeName) → parent_of was x ≡ Some a → Has (subtree now (root_of now a)) y → ⊥)
+  pub moved-settled : (y : NodeName) → Has was y → Has now y → (Has (subtree now x) y → ⊥) →
+      ((a : NodeName) → parent_of was x ≡ Some a → Has (subtree now (root_of now a)) y → ⊥)
       → ((a : NodeName) → parent_of now x ≡ Some a → Has (subtree now (root_of now a)) y → ⊥) → IsSettled was now y
   moved-settled y h g away left parent = settled_so y h off (before (parent_of was x) refl) (after (parent_of now x) refl)
     where
@@ -148,16 +158,20 @@ module _ (names : List NodeName) (hosts : List ShadowHost) (m : Node) (d us : Tr
       before (Some a) e i =
           let apart_from : Has (tree m d none) a → ⊥ = λ k. not-below was both.once_was x a (Has-grafted m d p us) e (in_own p a k) in
           let same : root_of now y ≡ root_of now a =
-          sym (root_same y off) ∙ (sym (root-within was both.once_was y x h i) ∙ (root-parent was both.once_was x a (Has-grafted m d p us) e ∙ root_same a apart_from)) in
+          sym (root_same y off) ∙ (sym (root-within was both.once_was y x h i) ∙
+          (root-parent was both.once_was x a (Has-grafted m d p us) e ∙ root_same a apart_from)) in
           left a e (subst (λ z. Has (subtree now z) y) same own_root)
 
       after : (o : Option NodeName) → parent_of now x ≡ o → Has (subtree now (root_of was y)) x → ⊥
       after None e i =
-          let same : root_of now y ≡ x = sym (root-within now both.once_now y x g (subst (λ z. Has (subtree now z) x) (root_same y off) i)) ∙ root-alone now x (Has-grafted m d q us) e in
+          let same : root_of now y ≡ x =
+          sym (root-within now both.once_now y x g (subst (λ z. Has (subtree now z) x) (root_same y off) i)) ∙
+          root-alone now x (Has-grafted m d q us) e in
           away (subst (λ z. Has (subtree now z) y) same own_root)
       after (Some a) e i =
           let same : root_of now y ≡ root_of now a =
-          sym (root-within now both.once_now y x g (subst (λ z. Has (subtree now z) x) (root_same y off) i)) ∙ root-parent now both.once_now x a (Has-grafted m d q us) e in
+          sym (root-within now both.once_now y x g (subst (λ z. Has (subtree now z) x) (root_same y off) i)) ∙
+          root-parent now both.once_now x a (Has-grafted m d q us) e in
           parent a e (subst (λ z. Has (subtree now z) y) same own_root)
 
   -- the nodes of a tree that had no parent and has none stay in it
@@ -183,7 +197,8 @@ module _ (names : List NodeName) (hosts : List ShadowHost) (m : Node) (d us : Tr
     root_now = root-aside names hosts x was now aside (Has-grafted m d q us)
 
     -- each node stays in its tree, or it is in no shadow tree
-    placed_so : (y : NodeName) → Has was y → Has now y → IsSettled was now y ⊎ ((host_named names hosts (root_of was y) ≡ None) × (host_named names hosts (root_of now y) ≡ None))
+    placed_so : (y : NodeName) → Has was y → Has now y → IsSettled was now y ⊎
+        ((host_named names hosts (root_of was y) ≡ None) × (host_named names hosts (root_of now y) ≡ None))
     placed_so y h g = elim (has_or_not (tree m d none) y) [
       | inl i ↦ inr (
         ap (host_named names hosts) (root-below was both.once_was x y (Has-grafted m d p us) (in_own p y i)) ∙ root_was,
@@ -191,7 +206,8 @@ module _ (names : List NodeName) (hosts : List ShadowHost) (m : Node) (d us : Tr
       )
       | inr off ↦ elim (has_or_not (subtree was (root_of was y)) x) [
         | inl i ↦
-            let none_was : host_named names hosts (root_of was y) ≡ None = ap (host_named names hosts) (sym (root-within was both.once_was y x h i)) ∙ root_was in
+            let none_was : host_named names hosts (root_of was y) ≡ None =
+            ap (host_named names hosts) (sym (root-within was both.once_was y x h i)) ∙ root_was in
             inr (none_was, ap (host_named names hosts) (sym (root_same y off)) ∙ none_was)
         | inr away ↦ elim (has_or_not (subtree now (root_of was y)) x) [
           | inl i ↦

@@ -47,7 +47,8 @@ in_tree (tree n c r) x m h = elim (cases_Bool (name_eq n.name x)) [
     by (inl h') = in_left m (n ∷ nodes c) (nodes r) h'
     by (inr no_more) = absurd no_more
 
-    beside : (us : Trees) → subtree c x ≡ us → (InNodes m (nodes (subtree c x)) → InNodes m (nodes c)) → (InNodes m (nodes (subtree r x)) → InNodes m (nodes r)) → InNodes m (nodes (or_else us (subtree r x)))
+    beside : (us : Trees) → subtree c x ≡ us → (InNodes m (nodes (subtree c x)) → InNodes m (nodes c)) →
+        (InNodes m (nodes (subtree r x)) → InNodes m (nodes r)) → InNodes m (nodes (or_else us (subtree r x)))
         → InNodes m (nodes (tree n c r))
     beside none e below after h' = inr (in_right m (nodes c) (nodes r) (after h'))
     beside (tree k d s) e below after h' = inr (in_left m (nodes c) (nodes r) (below (subst (λ (vs : Trees). InNodes m (nodes vs)) (sym e) h')))
@@ -65,7 +66,8 @@ pub node_in-self : (ts : Trees) → Once ts → (m : Node) → InNodes m (nodes 
 node_in-self ts once m h = ap (λ o. unwrap_or o (no_node m.name)) (find-self m (nodes ts) (Single-names ts once) h)
 
 -- the names of the nodes that pass a test are the names of which the nodes pass
-filter-names : (ts : Trees) (q : Node → Bool) (ns : List Node) → ((m : Node) → InNodes m ns → node_in ts m.name ≡ m) → names_of (filter q ns) ≡ filter (λ y. q (node_in ts y)) (names_of ns)
+filter-names : (ts : Trees) (q : Node → Bool) (ns : List Node) → ((m : Node) → InNodes m ns → node_in ts m.name ≡ m) →
+    names_of (filter q ns) ≡ filter (λ y. q (node_in ts y)) (names_of ns)
 filter-names ts q [] h = refl
 filter-names ts q (n ∷ ns) h =
     let same : q (node_in ts n.name) ≡ q n = ap q (h n (inl refl)) in
@@ -83,5 +85,6 @@ module _ (ts : Trees) (once : Once ts) (q : Node → Bool) (top : NodeName) wher
   named-filter = filter-names ts q (nodes (subtree ts top)) (λ m i. node_in-self ts once m (in_tree ts top m i))
 
   -- and the first of them
-  pub named-first : option_map (λ (n : Node). n.name) (find q (nodes (subtree ts top))) ≡ first_of (filter (λ y. q (node_in ts y)) (inclusive_descendants ts top))
+  pub named-first : option_map (λ (n : Node). n.name) (find q (nodes (subtree ts top))) ≡ first_of
+      (filter (λ y. q (node_in ts y)) (inclusive_descendants ts top))
   named-first = find-first q (nodes (subtree ts top)) ∙ ap first_of named-filter

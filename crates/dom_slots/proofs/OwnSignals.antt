@@ -28,16 +28,20 @@ added_in y done (x ∷ xs) (inl e) = still_in y (append_once name_eq done x) xs 
     by true there = ap (λ (b : Bool). is_in name_eq y (if b then done else done ++ x ∷ [])) there ∙ (ap (λ z. is_in name_eq z done) e ∙ there)
     by false off =
         ap (λ (b : Bool). is_in name_eq y (if b then done else done ++ x ∷ [])) off
-        ∙ (list_any-append (name_eq y) done (x ∷ []) ∙ or_right (is_in name_eq y done) (name_eq y x || false) (or_left (name_eq y x) false (name_eq-from y x e)))
+        ∙ (list_any-append (name_eq y) done (x ∷ []) ∙ or_right (is_in name_eq y done) (name_eq y x || false)
+        (or_left (name_eq y x) false (name_eq-from y x e)))
 added_in y done (x ∷ xs) (inr i) = added_in y (append_once name_eq done x) xs i
 
 -- who is there already adds nothing
 none_added : (done xs : List NodeName) → ((y : NodeName) → In y xs → is_in name_eq y done ≡ true) → fold (append_once name_eq) done xs ≡ done
 none_added done [] all = refl
-none_added done (x ∷ xs) all = ap (λ (b : Bool). fold (append_once name_eq) (if b then done else done ++ x ∷ []) xs) (all x (inl refl)) ∙ none_added done xs (λ y i. all y (inr i))
+none_added done (x ∷ xs) all = ap (λ (b : Bool). fold (append_once name_eq) (if b then done else done ++ x ∷ []) xs) (all x (inl refl)) ∙
+    none_added done xs (λ y i. all y (inr i))
 
-pub again_added : (xs ys : List NodeName) → ((y : NodeName) → In y ys → is_in name_eq y xs ≡ true) → fold (append_once name_eq) [] (xs ++ ys) ≡ fold (append_once name_eq) [] xs
-again_added xs ys all = fold-append (append_once name_eq) [] xs ys ∙ none_added (fold (append_once name_eq) [] xs) ys (λ y i. added_in y [] xs (In-from y xs (all y i)))
+pub again_added : (xs ys : List NodeName) → ((y : NodeName) → In y ys → is_in name_eq y xs ≡ true) →
+    fold (append_once name_eq) [] (xs ++ ys) ≡ fold (append_once name_eq) [] xs
+again_added xs ys all = fold-append (append_once name_eq) [] xs ys ∙ none_added (fold (append_once name_eq) [] xs) ys
+    (λ y i. added_in y [] xs (In-from y xs (all y i)))
 
 -- who passes a test is one of these
 pub passing : (p : NodeName → Bool) (y : NodeName) (xs : List NodeName) → In y (filter p xs) → In y xs × (p y ≡ true)
@@ -67,5 +71,6 @@ own-signalled p own bare others all =
     ∙ (again_added (filter p own ++ bare) (filter p others)
     (λ y i.
     let w = passing p y others i in
-    list_any-append (name_eq y) (filter p own) bare ∙ or_left (is_in name_eq y (filter p own)) _ (is_in-from y (filter p own) (passes p y own (In-from y own (all y w.0 w.1)) w.1)))
+    list_any-append (name_eq y) (filter p own) bare ∙ or_left (is_in name_eq y (filter p own)) _
+    (is_in-from y (filter p own) (passes p y own (In-from y own (all y w.0 w.1)) w.1)))
     ∙ fold-distinct (filter p own ++ bare))

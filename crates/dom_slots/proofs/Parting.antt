@@ -1,5 +1,6 @@
 -- The lists of the old and of the new slot of a node, where all others stay.
-use Rattle.std.proofs.Common.{◌≡◌, ℕ, ◌<◌, Bool, false, not, ◌||◌, List, [], ◌++◌, All, map, filter, length, Option, None, Some, refl, sym, ap, subst, ◌∙◌, true≢false}
+use Rattle.std.proofs.Common.{◌≡◌, ℕ, ◌<◌, Bool, false, not, ◌||◌, List, [], ◌++◌, All, map, filter, length, Option, None, Some, refl, sym, ap, subst}
+use Rattle.std.proofs.Common.{◌∙◌, true≢false}
 use Rattle.std.specs.Prelude.{nat_eq, option_to_list}
 use Rattle.std.specs.Option.{option_map, option_eq, ForSome}
 use Rattle.std.proofs.lemmas.Bool.{eqb-true, eq-eqb, false_from_ne_true}
@@ -23,8 +24,10 @@ use Rattle.dom_slots.proofs.Leaving.{without-named, without-same, list_same}
 use Rattle.dom_slots.proofs.Renewing.{renewed-stays}
 use Rattle.dom_slots.proofs.Shortened.{but-none}
 
-module _ (f : NamedTrees) (distinct : AreDistinct f.names) (hosts : List ShadowHost) (step : Step) (node : step_node step < length f.names) (old_slot new_slot : Option ℕ)
-    (new_node : ForSome new_slot (λ k. k < length f.names)) (own : option_map (name_at f.names) new_slot ≡ slot_at (shadows f hosts) (name_at f.names (step_node step))) where
+module _ (f : NamedTrees) (distinct : AreDistinct f.names) (hosts : List ShadowHost) (step : Step) (node : step_node step < length f.names)
+    (old_slot new_slot : Option ℕ)
+    (new_node : ForSome new_slot (λ k. k < length f.names))
+    (own : option_map (name_at f.names) new_slot ≡ slot_at (shadows f hosts) (name_at f.names (step_node step))) where
   abbrev x : NodeName
   x = name_at f.names (step_node step)
 
@@ -36,22 +39,29 @@ module _ (f : NamedTrees) (distinct : AreDistinct f.names) (hosts : List ShadowH
   not-new apart k within was now =
       true≢false (sym (ap (λ o. option_eq KeyImpl.ghosts.eq o old_slot) now ∙ (ap (λ o. option_eq KeyImpl.ghosts.eq (Some k) o) was ∙ eq-eqb k k refl)) ∙ apart)
 
-  not_among : (o : Option ℕ) → ForSome o (λ k. k < length f.names) → (k : ℕ) → k < length f.names → (o ≡ Some k → ⊥) → is_in name_eq (name_at f.names k) (Slots o) ≡ false
+  not_among : (o : Option ℕ) → ForSome o (λ k. k < length f.names) → (k : ℕ) → k < length f.names → (o ≡ Some k → ⊥) →
+      is_in name_eq (name_at f.names k) (Slots o) ≡ false
   not_among None nodes k within off = refl
   not_among (Some j) nodes k within off =
-      ap (λ d. d || false) (sym (key-test f.names distinct k j within (nodes j refl)) ∙ false_from_ne_true (nat_eq k j) (λ e. off (ap Some (sym (eqb-true k j e)))))
+      ap (λ d. d || false) (sym (key-test f.names distinct k j within (nodes j refl)) ∙
+      false_from_ne_true (nat_eq k j) (λ e. off (ap Some (sym (eqb-true k j e)))))
 
-  module _ (table : SlotTable) (but : IsButFor f hosts table old_slot step) (inside : (k : ℕ) → All (λ j. j < length f.names) (list_of table k)) (apart : option_eq KeyImpl.ghosts.eq new_slot old_slot ≡ false) where
+  module _ (table : SlotTable) (but : IsButFor f hosts table old_slot step) (inside : (k : ℕ) → All (λ j. j < length f.names) (list_of table k))
+      (apart : option_eq KeyImpl.ghosts.eq new_slot old_slot ≡ false) where
     -- without the node the list of its old slot is what is assigned to that now
-    pub leaves-right : ((k : ℕ) → old_slot ≡ Some k → k < length f.names) → (k : ℕ) → old_slot ≡ Some k → map (name_at f.names) (without (step_node step) (list_of table k)) ≡ assigned_at (shadows f hosts) (name_at f.names k)
+    pub leaves-right : ((k : ℕ) → old_slot ≡ Some k → k < length f.names) → (k : ℕ) → old_slot ≡ Some k →
+        map (name_at f.names) (without (step_node step) (list_of table k)) ≡ assigned_at (shadows f hosts) (name_at f.names k)
     leaves-right old_node k was =
         without-named f.names distinct (step_node step) node (list_of table k) (inside k)
         ∙ (but.others k (old_node k was)
         ∙ but-none x (assigned_at (shadows f hosts) (name_at f.names k))
-        (λ i. not-new apart k (old_node k was) was (named-key f.names distinct new_slot new_node k (old_node k was) (own ∙ slot-assigned (shadows f hosts) x (name_at f.names k) i))))
+        (λ i. not-new apart k (old_node k was) was
+        (named-key f.names distinct new_slot new_node k (old_node k was) (own ∙ slot-assigned (shadows f hosts) x (name_at f.names k) i))))
 
     -- when it has left, the list of its new slot has all others
-    pub joins-right : ForSome old_slot (λ k. k < length f.names) → (p : NodeName → Bool) (told : List NodeName) (left : SlotTable) (keys : List ℕ) → AreRenewed f hosts p table (Slots old_slot) told left keys → (k : ℕ) → new_slot ≡ Some k
+    pub joins-right : ForSome old_slot (λ k. k < length f.names) →
+        (p : NodeName → Bool) (told : List NodeName) (left : SlotTable) (keys : List ℕ) →
+        AreRenewed f hosts p table (Slots old_slot) told left keys → (k : ℕ) → new_slot ≡ Some k
         → map (name_at f.names) (list_of left k) ≡ names_but x (assigned_at (shadows f hosts) (name_at f.names k))
     joins-right old_node p told left keys r k now =
         let within = new_node k now in
@@ -61,23 +71,32 @@ module _ (f : NamedTrees) (distinct : AreDistinct f.names) (hosts : List ShadowH
         ∙ (without-named f.names distinct (step_node step) node (list_of table k) (inside k) ∙ but.others k within)
 
   -- the two slots
-  pub both-slots : (p : NodeName → Bool) (old table : SlotTable) (keys : List ℕ) → AreRenewed f hosts p old (Slots old_slot ++ Slots new_slot) (filter p (Slots old_slot) ++ filter p (Slots new_slot)) table keys
+  pub both-slots : (p : NodeName → Bool) (old table : SlotTable) (keys : List ℕ) →
+      AreRenewed f hosts p old (Slots old_slot ++ Slots new_slot) (filter p (Slots old_slot) ++ filter p (Slots new_slot)) table keys
       → AreRenewed f hosts p old (own_slots f hosts old_slot step) (filter p (own_slots f hosts old_slot step)) table keys
   both-slots p old table keys r =
       subst (λ ys. AreRenewed f hosts p old (Slots old_slot ++ ys) (filter p (Slots old_slot ++ ys)) table keys) (ap option_to_list own)
       (subst (λ ys. AreRenewed f hosts p old (Slots old_slot ++ Slots new_slot) ys table keys) (sym (filter-append p (Slots old_slot) (Slots new_slot))) r)
 
   -- a list that is right stays
-  one-stays : (o : Option ℕ) → ForSome o (λ k. k < length f.names) → (p : NodeName → Bool) (old : SlotTable) (done told : List NodeName) (table : SlotTable) (keys : List ℕ) → AreRenewed f hosts p old done told table keys
-      → ((k : ℕ) → k < length f.names → map (name_at f.names) (list_of table k) ≡ assigned_at (shadows f hosts) (name_at f.names k)) → AreRenewed f hosts p old (done ++ Slots o) (told ++ filter p (Slots o)) table keys
+  one-stays : (o : Option ℕ) → ForSome o (λ k. k < length f.names) →
+      (p : NodeName → Bool) (old : SlotTable) (done told : List NodeName) (table : SlotTable) (keys : List ℕ) →
+      AreRenewed f hosts p old done told table keys
+      → ((k : ℕ) → k < length f.names → map (name_at f.names) (list_of table k) ≡ assigned_at (shadows f hosts) (name_at f.names k)) →
+      AreRenewed f hosts p old (done ++ Slots o) (told ++ filter p (Slots o)) table keys
   one-stays None nodes p old done told table keys r right =
-      subst (λ ds. AreRenewed f hosts p old ds (told ++ []) table keys) (sym (append-nil done)) (subst (λ ts. AreRenewed f hosts p old done ts table keys) (sym (append-nil told)) r)
+      subst (λ ds. AreRenewed f hosts p old ds (told ++ []) table keys) (sym (append-nil done))
+      (subst (λ ts. AreRenewed f hosts p old done ts table keys) (sym (append-nil told)) r)
   one-stays (Some k) nodes p old done told table keys r right =
-      renewed-stays f distinct hosts p old done told table keys r k (nodes k refl) (list_of table k) (right k (nodes k refl)) (r.nodes k) (ap (λ b. not b) (list_same (list_of table k))) keys refl
+      renewed-stays f distinct hosts p old done told table keys r k (nodes k refl) (list_of table k) (right k (nodes k refl)) (r.nodes k)
+      (ap (λ b. not b) (list_same (list_of table k))) keys refl
 
   -- where all lists are right nothing is signalled
-  pub both-stay : ForSome old_slot (λ k. k < length f.names) → (p : NodeName → Bool) (table : SlotTable) → ((k : ℕ) → k < length f.names → map (name_at f.names) (list_of table k) ≡ assigned_at (shadows f hosts) (name_at f.names k))
-      → AreRenewed f hosts p table [] [] table [] → AreRenewed f hosts p table (own_slots f hosts old_slot step) (filter p (own_slots f hosts old_slot step)) table []
+  pub both-stay : ForSome old_slot (λ k. k < length f.names) → (p : NodeName → Bool) (table : SlotTable) →
+      ((k : ℕ) → k < length f.names → map (name_at f.names) (list_of table k) ≡ assigned_at (shadows f hosts) (name_at f.names k))
+      → AreRenewed f hosts p table [] [] table [] →
+      AreRenewed f hosts p table (own_slots f hosts old_slot step) (filter p (own_slots f hosts old_slot step)) table []
   both-stay old_node p table right start =
       both-slots p table table []
-      (one-stays new_slot new_node p table (Slots old_slot) (filter p (Slots old_slot)) table [] (one-stays old_slot old_node p table [] [] table [] start right) right)
+      (one-stays new_slot new_node p table (Slots old_slot) (filter p (Slots old_slot)) table []
+      (one-stays old_slot old_node p table [] [] table [] start right) right)

@@ -1,5 +1,6 @@
 -- The places of nodes in lists, and the lists by slots of which one is changed.
-use Rattle.std.proofs.Common.{◌≡◌, ℕ, ◌+◌, ◌<◌, ◌≤◌, Bool, true, false, cond, not, List, [], ◌∷◌, length, Option, Some, None, refl, sym, ap, ◌∙◌, true≢false, arith, one-add}
+use Rattle.std.proofs.Common.{◌≡◌, ℕ, ◌+◌, ◌<◌, ◌≤◌, Bool, true, false, cond, not, List, [], ◌∷◌, length, Option, Some, None, refl, sym, ap, ◌∙◌}
+use Rattle.std.proofs.Common.{true≢false, arith, one-add}
 use Rattle.std.specs.Prelude.{nat_eq, nat_lt, if◌then◌else◌, unwrap_or, Vec}
 use Rattle.std.specs.List.{insert, position, position_or_len}
 use Rattle.std.proofs.lemmas.Bool.{eqb-true, lt-ltb}
@@ -24,7 +25,8 @@ module _ (b : ℕ) where
   pub place-or-end : (xs : List ℕ) → unwrap_or (position is_here xs) (length xs) ≡ position_or_len is_here xs
   place-or-end xs = by (nat_lt (position_or_len is_here xs) (length xs)) refl
     where
-      by : (d : Bool) → nat_lt (position_or_len is_here xs) (length xs) ≡ d → unwrap_or (cond d (Some (position_or_len is_here xs)) None) (length xs) ≡ position_or_len is_here xs
+      by : (d : Bool) → nat_lt (position_or_len is_here xs) (length xs) ≡ d →
+          unwrap_or (cond d (Some (position_or_len is_here xs)) None) (length xs) ≡ position_or_len is_here xs
       by true e = refl
       by false e =
           let within : position_or_len is_here xs ≤ length xs = place-within xs in
@@ -36,7 +38,8 @@ module _ (b : ℕ) where
   inserted-there [] c = refl
   inserted-there (x ∷ xs) c = by (is_here x) (inserted-there xs c)
     where
-      by : (d : Bool) → insert xs (position_or_len is_here xs) c ≡ put_before xs c b → insert (x ∷ xs) (cond (not d) (1 + position_or_len is_here xs) 0) c ≡ (if d then c ∷ x ∷ xs else x ∷ put_before xs c b)
+      by : (d : Bool) → insert xs (position_or_len is_here xs) c ≡ put_before xs c b →
+          insert (x ∷ xs) (cond (not d) (1 + position_or_len is_here xs) 0) c ≡ (if d then c ∷ x ∷ xs else x ∷ put_before xs c b)
       by true rest = refl
       by false rest = rw one-add (ap (λ ys. x ∷ ys) rest)
 
@@ -46,7 +49,8 @@ first-inserted n None = refl
 first-inserted n (Some b) = refl
 
 -- the lists after that of one slot was changed
-pub list-changed : {A : Type 0} (change : List ℕ → List ℕ) (slot : ℕ) (v : Vec ℕ A) (was now : ℕ → Option (Vec ℕ A)) → ((k : ℕ) → now k ≡ cond (nat_eq slot k) (Some v) (was k)) → v.items ≡ change (items_or (was slot))
+pub list-changed : {A : Type 0} (change : List ℕ → List ℕ) (slot : ℕ) (v : Vec ℕ A) (was now : ℕ → Option (Vec ℕ A)) →
+    ((k : ℕ) → now k ≡ cond (nat_eq slot k) (Some v) (was k)) → v.items ≡ change (items_or (was slot))
     → (k : ℕ) → items_or (now k) ≡ (if nat_eq slot k then change (items_or (was k)) else items_or (was k))
 list-changed change slot v was now updated is k = ap items_or (updated k) ∙ by (nat_eq slot k) refl
   where

@@ -5,7 +5,8 @@ use Rattle.std.specs.Option.{option_map, option_map_or, option_and_then}
 use Rattle.std.proofs.lemmas.List.{map-append}
 use Rattle.dom_base.specs.declared.NodeName.{NodeName}
 use Rattle.dom_model.specs.Names.{DomString, Word, name_eq, is_in, first_of}
-use Rattle.dom_model.specs.Tree.{Trees, none, tree, Node, nodes, roots, names_of, no_node, node_in, or_else, subtree, inclusive_ancestors, trees_below, children_of}
+use Rattle.dom_model.specs.Tree.{Trees, none, tree, Node, nodes, roots, names_of, no_node, node_in, or_else, subtree, inclusive_ancestors}
+use Rattle.dom_model.specs.Tree.{trees_below, children_of}
 use Rattle.dom_model.specs.TreeChanges.{map_nodes}
 use Rattle.dom_model.specs.Slots.{has_slot_name, slottable_name}
 use Rattle.dom_tree.specs.Forest.{NamedTrees, name_at}
@@ -54,7 +55,8 @@ module _ (h : Node → Node) (name : (n : Node) → (h n).name ≡ n.name) where
       either none = refl
       either (tree m d s) = refl
 
-      chosen : (b : Bool) → (if b then tree (h n) (map_nodes h c) none else map_nodes h (or_else (subtree c x) (subtree r x))) ≡ map_nodes h (if b then tree n c none else or_else (subtree c x) (subtree r x))
+      chosen : (b : Bool) → (if b then tree (h n) (map_nodes h c) none else map_nodes h (or_else (subtree c x) (subtree r x))) ≡ map_nodes h
+          (if b then tree n c none else or_else (subtree c x) (subtree r x))
       chosen true = refl
       chosen false = refl
 
@@ -79,17 +81,20 @@ module _ (h : Node → Node) (name : (n : Node) → (h n).name ≡ n.name) where
 
 module _ (h : Node → Node) (keeps : KeepsSlots h) where
   slottable_recast : (n : Node) → slottable_name (h n) ≡ slottable_name n
-  slottable_recast n = λ j. slottable_name record { name = n.name; kind = keeps.kind n j; element = []; attributes = keeps.attributes n j; text = []; document = None }
+  slottable_recast n = λ j. slottable_name
+      record { name = n.name; kind = keeps.kind n j; element = []; attributes = keeps.attributes n j; text = []; document = None }
 
   slot_recast : (name : DomString) (n : Node) → has_slot_name name (h n) ≡ has_slot_name name n
-  slot_recast name n = λ j. has_slot_name name record { name = n.name; kind = keeps.kind n j; element = keeps.element n j; attributes = keeps.attributes n j; text = []; document = None }
+  slot_recast name n = λ j. has_slot_name name
+      record { name = n.name; kind = keeps.kind n j; element = keeps.element n j; attributes = keeps.attributes n j; text = []; document = None }
 
   -- the node of a name looks for its slot as before
   looks_recast : (ts : Trees) (x : NodeName) → slottable_name (node_in (map_nodes h ts) x) ≡ slottable_name (node_in ts x)
   looks_recast ts x =
       let named : Node → Bool = λ n. name_eq n.name x in
       ap (λ ns. slottable_name (unwrap_or (find named ns) (no_node x))) (nodes_recast h keeps.name ts)
-      ∙ (ap (λ o. slottable_name (unwrap_or o (no_node x))) (found_recast h keeps.name named (λ n. ap (λ y. name_eq y x) (keeps.name n)) (nodes ts)) ∙ chosen (find named (nodes ts)))
+      ∙ (ap (λ o. slottable_name (unwrap_or o (no_node x)))
+      (found_recast h keeps.name named (λ n. ap (λ y. name_eq y x) (keeps.name n)) (nodes ts)) ∙ chosen (find named (nodes ts)))
     where
       chosen : (o : Option Node) → slottable_name (unwrap_or (option_map h o) (no_node x)) ≡ slottable_name (unwrap_or o (no_node x))
       chosen None = refl
@@ -97,12 +102,14 @@ module _ (h : Node → Node) (keeps : KeepsSlots h) where
 
   -- and the first slot of a name is the same
   first_recast : (ts : Trees) (r : NodeName) (name : DomString)
-      → option_map (λ (n : Node). n.name) (find (has_slot_name name) (nodes (subtree (map_nodes h ts) r))) ≡ option_map (λ (n : Node). n.name) (find (has_slot_name name) (nodes (subtree ts r)))
+      → option_map (λ (n : Node). n.name) (find (has_slot_name name) (nodes (subtree (map_nodes h ts) r))) ≡ option_map (λ (n : Node). n.name)
+      (find (has_slot_name name) (nodes (subtree ts r)))
   first_recast ts r name =
       let named : Option Node → Option NodeName = option_map (λ (n : Node). n.name) in
       ap (λ t. named (find (has_slot_name name) (nodes t))) (subtree_recast h keeps.name ts r)
       ∙ (ap (λ ns. named (find (has_slot_name name) ns)) (nodes_recast h keeps.name (subtree ts r))
-      ∙ (ap named (found_recast h keeps.name (has_slot_name name) (slot_recast name) (nodes (subtree ts r))) ∙ chosen (find (has_slot_name name) (nodes (subtree ts r)))))
+      ∙ (ap named (found_recast h keeps.name (has_slot_name name) (slot_recast name) (nodes (subtree ts r))) ∙
+      chosen (find (has_slot_name name) (nodes (subtree ts r)))))
     where
       chosen : (o : Option Node) → option_map (λ (n : Node). n.name) (option_map h o) ≡ option_map (λ (n : Node). n.name) o
       chosen None = refl
@@ -120,15 +127,18 @@ module _ (h : Node → Node) (keeps : KeepsSlots h) where
     assigned_slot : (x : NodeName) → slot_at now x ≡ slot_at was x
     assigned_slot x =
         λ j.
-        option_and_then (λ r. option_and_then (λ name. first_recast ts r name j) (looks_recast ts x j)) (option_and_then (root_named names hosts) (first_of (drop 1 (path_recast h keeps.name ts x j))))
+        option_and_then (λ r. option_and_then (λ name. first_recast ts r name j) (looks_recast ts x j))
+        (option_and_then (root_named names hosts) (first_of (drop 1 (path_recast h keeps.name ts x j))))
 
     pub assigned-recast : (y : NodeName) → assigned_at now y ≡ assigned_at was y
     assigned-recast y =
         λ j.
-        option_map_or (λ host. filter (λ x. is_in name_eq y (option_to_list (assigned_slot x j))) (children_recast h keeps.name ts host j)) (host_named names hosts (unwrap_or (Rattle.dom_model.specs.Names.last_of (path_recast h keeps.name ts y j)) y)) []
+        option_map_or (λ host. filter (λ x. is_in name_eq y (option_to_list (assigned_slot x j))) (children_recast h keeps.name ts host j))
+        (host_named names hosts (unwrap_or (Rattle.dom_model.specs.Names.last_of (path_recast h keeps.name ts y j)) y)) []
 
 -- the slots of a forest stay those of it
-pub slots-recast : (f g : NamedTrees) (s : SlotsNow) (h : Node → Node) → KeepsSlots h → g.names ≡ f.names → g.trees ≡ map_nodes h f.trees → AreSlotsOf f s → AreSlotsOf g s
+pub slots-recast : (f g : NamedTrees) (s : SlotsNow) (h : Node → Node) → KeepsSlots h → g.names ≡ f.names → g.trees ≡ map_nodes h f.trees →
+    AreSlotsOf f s → AreSlotsOf g s
 slots-recast f g s h keeps names trees slots =
     let there : record { names = f.names; trees = map_nodes h f.trees } ≡ g = λ j. record { names = sym names j; trees = sym trees j } in
     Rattle.std.proofs.Common.subst (λ (k : NamedTrees). AreSlotsOf k s) there record {

@@ -1,5 +1,6 @@
 -- The list of a slot is renewed.
-use Rattle.std.proofs.Common.{◌≡◌, inl, inr, ℕ, ◌<◌, Bool, true, false, not, ◌&&◌, ◌||◌, List, [], ◌∷◌, ◌++◌, All, map, fold, filter, length, refl, sym, ap, subst, ◌∙◌, true≢false}
+use Rattle.std.proofs.Common.{◌≡◌, inl, inr, ℕ, ◌<◌, Bool, true, false, not, ◌&&◌, ◌||◌, List, [], ◌∷◌, ◌++◌, All, map, fold, filter, length, refl}
+use Rattle.std.proofs.Common.{sym, ap, subst, ◌∙◌, true≢false}
 use Rattle.std.specs.Prelude.{nat_eq, if◌then◌else◌}
 use Rattle.std.proofs.lemmas.Bool.{and_parts, or_parts, or_left, or_right, eqb-true}
 use Rattle.std.proofs.lemmas.List.{append-nil}
@@ -28,8 +29,10 @@ same_keys (j ∷ js) (k ∷ ks) e =
     let parts = and_parts (nat_eq j k) (list_eq nat_eq js ks) e in
     ap (λ i. i ∷ js) (eqb-true j k parts.0) ∙ ap (λ is. k ∷ is) (same_keys js ks parts.1)
 
-module _ (f : NamedTrees) (apart : AreDistinct f.names) (hosts : List ShadowHost) (p : NodeName → Bool) (old : SlotTable) (done told : List NodeName) (table : SlotTable) (keys : List ℕ) (r : AreRenewed f hosts p old done told table keys)
-    (k : ℕ) (node : k < length f.names) (list : List ℕ) (right : map (name_at f.names) list ≡ assigned_at (shadows f hosts) (name_at f.names k)) (inside : All (λ j. j < length f.names) list) where
+module _ (f : NamedTrees) (apart : AreDistinct f.names) (hosts : List ShadowHost) (p : NodeName → Bool) (old : SlotTable)
+    (done told : List NodeName) (table : SlotTable) (keys : List ℕ) (r : AreRenewed f hosts p old done told table keys)
+    (k : ℕ) (node : k < length f.names) (list : List ℕ) (right : map (name_at f.names) list ≡ assigned_at (shadows f hosts) (name_at f.names k))
+    (inside : All (λ j. j < length f.names) list) where
   abbrev x : NodeName
   x = name_at f.names k
 
@@ -37,16 +40,19 @@ module _ (f : NamedTrees) (apart : AreDistinct f.names) (hosts : List ShadowHost
   differs = not (list_eq nat_eq (list_of table k) list)
 
   differs-named : differs ≡ not (list_eq name_eq (map (name_at f.names) (list_of table k)) (assigned_at (shadows f hosts) x))
-  differs-named = ap not (list_eq-named f.names apart (list_of table k) list (r.nodes k) inside ∙ ap (list_eq name_eq (map (name_at f.names) (list_of table k))) right)
+  differs-named = ap not (list_eq-named f.names apart (list_of table k) list (r.nodes k) inside ∙
+      ap (list_eq name_eq (map (name_at f.names) (list_of table k))) right)
 
   -- a list that was renewed is no other
   renewed-same : is_in name_eq x done ≡ true → differs ≡ false
   renewed-same i =
-      differs-named ∙ (ap (λ ys. not (list_eq name_eq ys (assigned_at (shadows f hosts) x))) (r.renewed k node i) ∙ ap not (list_eq-self (assigned_at (shadows f hosts) x)))
+      differs-named ∙ (ap (λ ys. not (list_eq name_eq ys (assigned_at (shadows f hosts) x))) (r.renewed k node i) ∙
+      ap not (list_eq-self (assigned_at (shadows f hosts) x)))
 
   -- one that was not is another one just where p says so
   kept-other : is_in name_eq x done ≡ false → differs ≡ p x
-  kept-other i = differs-named ∙ (ap (λ ks. not (list_eq name_eq (map (name_at f.names) ks) (assigned_at (shadows f hosts) x))) (r.kept k node i) ∙ sym (r.others k node))
+  kept-other i = differs-named ∙ (ap (λ ks. not (list_eq name_eq (map (name_at f.names) ks) (assigned_at (shadows f hosts) x)))
+      (r.kept k node i) ∙ sym (r.others k node))
 
   in_longer : (y : NodeName) → is_in name_eq y (done ++ x ∷ []) ≡ (is_in name_eq y done || (name_eq y x || false))
   in_longer y = list_any-append (name_eq y) done (x ∷ [])
@@ -63,14 +69,17 @@ module _ (f : NamedTrees) (apart : AreDistinct f.names) (hosts : List ShadowHost
     elsewhere : (j : ℕ) → nat_eq k j ≡ false → list_of new j ≡ list_of table j
     elsewhere j e = lists j ∙ ap (λ (b : Bool). if b then list else list_of table j) e
 
-    renewed_so : (j : ℕ) → j < length f.names → is_in name_eq (name_at f.names j) (done ++ x ∷ []) ≡ true → map (name_at f.names) (list_of new j) ≡ assigned_at (shadows f hosts) (name_at f.names j)
+    renewed_so : (j : ℕ) → j < length f.names → is_in name_eq (name_at f.names j) (done ++ x ∷ []) ≡ true →
+        map (name_at f.names) (list_of new j) ≡ assigned_at (shadows f hosts) (name_at f.names j)
     renewed_so j h i = by (nat_eq k j) refl
       where
         by : (b : Bool) → nat_eq k j ≡ b → map (name_at f.names) (list_of new j) ≡ assigned_at (shadows f hosts) (name_at f.names j)
-        by true e = ap (map (name_at f.names)) (lists j ∙ ap (λ (b : Bool). if b then list else list_of table j) e) ∙ (right ∙ ap (λ m. assigned_at (shadows f hosts) (name_at f.names m)) (eqb-true k j e))
+        by true e = ap (map (name_at f.names)) (lists j ∙ ap (λ (b : Bool). if b then list else list_of table j) e) ∙
+            (right ∙ ap (λ m. assigned_at (shadows f hosts) (name_at f.names m)) (eqb-true k j e))
         by false e =
             ap (map (name_at f.names)) (elsewhere j e)
-            ∙ r.renewed j h (or_none (is_in name_eq (name_at f.names j) done) (name_eq (name_at f.names j) x) (sym (key-turned j h) ∙ e) (sym (in_longer (name_at f.names j)) ∙ i))
+            ∙ r.renewed j h (or_none (is_in name_eq (name_at f.names j) done) (name_eq (name_at f.names j) x) (sym (key-turned j h) ∙ e)
+            (sym (in_longer (name_at f.names j)) ∙ i))
 
     kept_so : (j : ℕ) → j < length f.names → is_in name_eq (name_at f.names j) (done ++ x ∷ []) ≡ false → list_of new j ≡ list_of old j
     kept_so j h i =
@@ -91,21 +100,25 @@ module _ (f : NamedTrees) (apart : AreDistinct f.names) (hosts : List ShadowHost
             or-none true = refl
             or-none false = refl
 
-    keys_so : next ≡ (if differs then append_once nat_eq keys k else keys) → map (name_at f.names) next ≡ fold (append_once name_eq) [] (told ++ filter p (x ∷ []))
+    keys_so : next ≡ (if differs then append_once nat_eq keys k else keys) →
+        map (name_at f.names) next ≡ fold (append_once name_eq) [] (told ++ filter p (x ∷ []))
     keys_so is = by (is_in name_eq x done) refl (p x) refl
       where
         stays : differs ≡ false → map (name_at f.names) next ≡ fold (append_once name_eq) [] told
         stays e = ap (map (name_at f.names)) (is ∙ ap (λ (b : Bool). if b then append_once nat_eq keys k else keys) e) ∙ r.keys_are
 
-        by : (a : Bool) → is_in name_eq x done ≡ a → (b : Bool) → p x ≡ b → map (name_at f.names) next ≡ fold (append_once name_eq) [] (told ++ filter p (x ∷ []))
+        by : (a : Bool) → is_in name_eq x done ≡ a → (b : Bool) → p x ≡ b →
+            map (name_at f.names) next ≡ fold (append_once name_eq) [] (told ++ filter p (x ∷ []))
         by true i b e =
             stays (renewed-same i)
             ∙ sym (again_added told (filter p (x ∷ []))
             (λ y j. let w = passing p y (x ∷ []) j in elim w.0 [ inl same ↦ r.among y (ap (λ z. is_in name_eq z done) same ∙ i) w.1 | inr none ↦ absurd none ]))
         by false i true e =
-            (one_signalled f.names apart told keys next k record { nodes = r.keys_nodes; are = r.keys_are } node (is ∙ ap (λ (b : Bool). if b then append_once nat_eq keys k else keys) (kept-other i ∙ e))).are
+            (one_signalled f.names apart told keys next k record { nodes = r.keys_nodes; are = r.keys_are } node
+            (is ∙ ap (λ (b : Bool). if b then append_once nat_eq keys k else keys) (kept-other i ∙ e))).are
             ∙ ap (λ ys. fold (append_once name_eq) [] (told ++ ys)) (sym (filter-yes p x [] e))
-        by false i false e = stays (kept-other i ∙ e) ∙ ap (fold (append_once name_eq) []) (sym (append-nil told) ∙ ap (λ ys. told ++ ys) (sym (filter-no p x [] e)))
+        by false i false e = stays (kept-other i ∙ e) ∙
+            ap (fold (append_once name_eq) []) (sym (append-nil told) ∙ ap (λ ys. told ++ ys) (sym (filter-no p x [] e)))
 
     nodes_so : next ≡ (if differs then append_once nat_eq keys k else keys) → All (λ j. j < length f.names) next
     nodes_so is = subst (All (λ j. j < length f.names)) (sym is) (by differs)
@@ -115,7 +128,8 @@ module _ (f : NamedTrees) (apart : AreDistinct f.names) (hosts : List ShadowHost
         by false = r.keys_nodes
 
     -- one list more is renewed
-    pub renewed-more : next ≡ (if differs then append_once nat_eq keys k else keys) → AreRenewed f hosts p old (done ++ x ∷ []) (told ++ filter p (x ∷ [])) new next
+    pub renewed-more : next ≡ (if differs then append_once nat_eq keys k else keys) →
+        AreRenewed f hosts p old (done ++ x ∷ []) (told ++ filter p (x ∷ [])) new next
     renewed-more is = record {
       others = r.others;
       renewed = renewed_so;
@@ -129,7 +143,8 @@ module _ (f : NamedTrees) (apart : AreDistinct f.names) (hosts : List ShadowHost
 
   -- a list that is no other stays
   pub renewed-stays : differs ≡ false → (next : List ℕ) → next ≡ keys → AreRenewed f hosts p old (done ++ x ∷ []) (told ++ filter p (x ∷ [])) table next
-  renewed-stays e next is = renewed-more table (λ j. by j (nat_eq k j) refl) next (is ∙ ap (λ (b : Bool). if b then append_once nat_eq keys k else keys) (sym e))
+  renewed-stays e next is = renewed-more table (λ j. by j (nat_eq k j) refl) next
+      (is ∙ ap (λ (b : Bool). if b then append_once nat_eq keys k else keys) (sym e))
     where
       same : list_of table k ≡ list
       same = same_keys (list_of table k) list (turned (list_eq nat_eq (list_of table k) list) e)
@@ -143,7 +158,8 @@ module _ (f : NamedTrees) (apart : AreDistinct f.names) (hosts : List ShadowHost
       by j false h = refl
 
 -- The renewal may be taken up anew: of the table that it left no list that was renewed is another one.
-pub renewed-anew : (f : NamedTrees) (hosts : List ShadowHost) (p : NodeName → Bool) (old : SlotTable) (done told : List NodeName) (table : SlotTable) (keys : List ℕ) → AreRenewed f hosts p old done told table keys
+pub renewed-anew : (f : NamedTrees) (hosts : List ShadowHost) (p : NodeName → Bool) (old : SlotTable) (done told : List NodeName)
+    (table : SlotTable) (keys : List ℕ) → AreRenewed f hosts p old done told table keys
     → AreRenewed f hosts (λ y. p y && not (is_in name_eq y done)) table [] [] table []
 renewed-anew f hosts p old done told table keys r = record {
   others = λ k within. by k within (is_in name_eq (name_at f.names k) done) refl;
@@ -165,19 +181,24 @@ renewed-anew f hosts p old done told table keys r = record {
     and_true false = refl
 
     by : (k : ℕ) → k < length f.names → (b : Bool) → is_in name_eq (name_at f.names k) done ≡ b
-        → (p (name_at f.names k) && not (is_in name_eq (name_at f.names k) done)) ≡ not (list_eq name_eq (map (name_at f.names) (list_of table k)) (assigned_at (shadows f hosts) (name_at f.names k)))
+        → (p (name_at f.names k) && not (is_in name_eq (name_at f.names k) done)) ≡ not
+        (list_eq name_eq (map (name_at f.names) (list_of table k)) (assigned_at (shadows f hosts) (name_at f.names k)))
     by k within true i =
         ap (λ b. p (name_at f.names k) && not b) i
         ∙ (and_false (p (name_at f.names k))
-        ∙ sym (ap (λ xs. not (list_eq name_eq xs (assigned_at (shadows f hosts) (name_at f.names k)))) (r.renewed k within i) ∙ ap not (list_eq-self (assigned_at (shadows f hosts) (name_at f.names k)))))
+        ∙ sym (ap (λ xs. not (list_eq name_eq xs (assigned_at (shadows f hosts) (name_at f.names k)))) (r.renewed k within i) ∙
+        ap not (list_eq-self (assigned_at (shadows f hosts) (name_at f.names k)))))
     by k within false i =
         ap (λ b. p (name_at f.names k) && not b) i
         ∙ (and_true (p (name_at f.names k))
-        ∙ (r.others k within ∙ ap (λ ks. not (list_eq name_eq (map (name_at f.names) ks) (assigned_at (shadows f hosts) (name_at f.names k)))) (sym (r.kept k within i))))
+        ∙ (r.others k within ∙ ap (λ ks. not (list_eq name_eq (map (name_at f.names) ks) (assigned_at (shadows f hosts) (name_at f.names k))))
+        (sym (r.kept k within i))))
 
 -- A slot more is signalled, whatever its list.
-pub told-more : (f : NamedTrees) (apart : AreDistinct f.names) (hosts : List ShadowHost) (p : NodeName → Bool) (old : SlotTable) (done told : List NodeName) (table : SlotTable) (keys next : List ℕ) (k : ℕ)
-    → AreRenewed f hosts p old done told table keys → k < length f.names → next ≡ append_once nat_eq keys k → AreRenewed f hosts p old done (told ++ name_at f.names k ∷ []) table next
+pub told-more : (f : NamedTrees) (apart : AreDistinct f.names) (hosts : List ShadowHost) (p : NodeName → Bool) (old : SlotTable)
+    (done told : List NodeName) (table : SlotTable) (keys next : List ℕ) (k : ℕ)
+    → AreRenewed f hosts p old done told table keys → k < length f.names → next ≡ append_once nat_eq keys k →
+    AreRenewed f hosts p old done (told ++ name_at f.names k ∷ []) table next
 told-more f apart hosts p old done told table keys next k r node is =
     let more = one_signalled f.names apart told keys next k record { nodes = r.keys_nodes; are = r.keys_are } node is in
     record {

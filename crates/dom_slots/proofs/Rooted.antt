@@ -7,7 +7,8 @@ use Rattle.dom_model.specs.Names.{name_eq, items_before, last_of}
 use Rattle.dom_model.specs.Tree.{Trees, subtree, inclusive_ancestors, parent_of, root_of}
 use Rattle.dom_traversal.proofs.Chains.{above-split}
 use Rattle.dom_traversal.proofs.Lists.{In}
-use Rattle.dom_traversal.proofs.Shapes.{Has, Once, has_or_not, subtree-absent, Has-above, Has-subtree, above-from_below, below-from_above, above-parent, above-present, above-root}
+use Rattle.dom_traversal.proofs.Shapes.{Has, Once, has_or_not, subtree-absent, Has-above, Has-subtree, above-from_below, below-from_above}
+use Rattle.dom_traversal.proofs.Shapes.{above-parent, above-present, above-root}
 
 -- the last item is one of the items
 last-in : (x : NodeName) (xs : List NodeName) (d : NodeName) → In (unwrap_or (last_or (Some x) xs) d) (x ∷ xs)
@@ -15,7 +16,8 @@ last-in x [] d = inl refl
 last-in x (y ∷ ys) d = inr (last-in y ys d)
 
 -- and that of the back of a list
-last-back : (o : Option NodeName) (xs : List NodeName) (a : NodeName) (ys : List NodeName) (d e : NodeName) → unwrap_or (last_or o (xs ++ a ∷ ys)) d ≡ unwrap_or (last_or (Some a) ys) e
+last-back : (o : Option NodeName) (xs : List NodeName) (a : NodeName) (ys : List NodeName) (d e : NodeName) →
+    unwrap_or (last_or o (xs ++ a ∷ ys)) d ≡ unwrap_or (last_or (Some a) ys) e
 last-back o [] a ys d e = same a ys
   where
     same : (b : NodeName) (zs : List NodeName) → unwrap_or (last_or (Some b) zs) d ≡ unwrap_or (last_or (Some b) zs) e

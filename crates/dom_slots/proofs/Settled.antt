@@ -25,7 +25,8 @@ pub record IsSettled (was now : Trees) (y : NodeName) : Type 0 where
 pub record KeepsHosts (names : List NodeName) (hosts : List ShadowHost) (x : NodeName) (was now : Trees) : Type 0 where
   pub stands : (r h : NodeName) → host_named names hosts r ≡ Some h → Has was h × Has now h
   pub children : (r h : NodeName) → host_named names hosts r ≡ Some h → others x (children_of was h) ≡ others x (children_of now h)
-  pub contents : (r h c : NodeName) → host_named names hosts r ≡ Some h → In c (children_of was h) → In c (children_of now h) → (c ≡ x → ⊥) → node_in was c ≡ node_in now c
+  pub contents : (r h c : NodeName) → host_named names hosts r ≡ Some h → In c (children_of was h) → In c (children_of now h) → (c ≡ x → ⊥) →
+      node_in was c ≡ node_in now c
 
 -- what is assigned to a node stays but for x
 abbrev pub KeepsBut : List NodeName → List ShadowHost → NodeName → Trees → Trees → NodeName → Type 0
@@ -41,7 +42,8 @@ others-in : (x c : NodeName) (xs : List NodeName) → In c (others x xs) → In 
 others-in x c [] i = absurd i
 others-in x c (z ∷ zs) i = by (name_eq x z) refl i (others-in x c zs)
   where
-    by : (b : Bool) → name_eq x z ≡ b → In c (if not b then z ∷ others x zs else others x zs) → (In c (others x zs) → In c zs × (c ≡ x → ⊥)) → In c (z ∷ zs) × (c ≡ x → ⊥)
+    by : (b : Bool) → name_eq x z ≡ b → In c (if not b then z ∷ others x zs else others x zs) → (In c (others x zs) → In c zs × (c ≡ x → ⊥)) →
+        In c (z ∷ zs) × (c ≡ x → ⊥)
     by true e j deeper = let d = deeper j in (inr d.0, d.1)
     by false e (inl same) deeper = (inl same, λ is. true≢false (sym (name_eq-from x z (sym is ∙ same)) ∙ e))
     by false e (inr j) deeper = let d = deeper j in (inr d.0, d.1)
@@ -51,10 +53,12 @@ filter-others : (p : NodeName → Bool) (x : NodeName) (xs : List NodeName) → 
 filter-others p x [] = refl
 filter-others p x (z ∷ zs) = by (name_eq x z) refl (p z) refl (filter-others p x zs)
   where
-    by : (b : Bool) → name_eq x z ≡ b → (d : Bool) → p z ≡ d → others x (filter p zs) ≡ filter p (others x zs) → others x (if d then z ∷ filter p zs else filter p zs) ≡ filter p (if not b then z ∷ others x zs else others x zs)
+    by : (b : Bool) → name_eq x z ≡ b → (d : Bool) → p z ≡ d → others x (filter p zs) ≡ filter p (others x zs) →
+        others x (if d then z ∷ filter p zs else filter p zs) ≡ filter p (if not b then z ∷ others x zs else others x zs)
     by true e true i rest = ap (λ c. if not c then z ∷ others x (filter p zs) else others x (filter p zs)) e ∙ rest
     by true e false i rest = rest
-    by false e true i rest = ap (λ c. if not c then z ∷ others x (filter p zs) else others x (filter p zs)) e ∙ (ap (λ ys. z ∷ ys) rest ∙ sym (ap (λ c. if c then z ∷ filter p (others x zs) else filter p (others x zs)) i))
+    by false e true i rest = ap (λ c. if not c then z ∷ others x (filter p zs) else others x (filter p zs)) e ∙
+        (ap (λ ys. z ∷ ys) rest ∙ sym (ap (λ c. if c then z ∷ filter p (others x zs) else filter p (others x zs)) i))
     by false e false i rest = rest ∙ sym (ap (λ c. if c then z ∷ filter p (others x zs) else filter p (others x zs)) i)
 
 -- a test that x fails finds no x
@@ -63,7 +67,8 @@ without-failing p x fails xs = but-none x (filter p xs) (λ i. true≢false (sym
 
 -- ---- a slot is found in the tree in which it is looked for
 
-found-other : (q : Node → Bool) (ns : List Node) (y : NodeName) → (In y (names_of ns) → ⊥) → is_in name_eq y (option_to_list (option_map (λ (n : Node). n.name) (find q ns))) ≡ false
+found-other : (q : Node → Bool) (ns : List Node) (y : NodeName) → (In y (names_of ns) → ⊥) →
+    is_in name_eq y (option_to_list (option_map (λ (n : Node). n.name) (find q ns))) ≡ false
 found-other q [] y off = refl
 found-other q (n ∷ ns) y off = by (q n) (found-other q ns y (λ i. off (inr i)))
   where
@@ -75,7 +80,8 @@ found-other q (n ∷ ns) y off = by (q n) (found-other q ns y (λ i. off (inr i)
 pub slot-outside : (ts : Trees) (n : Node) (y : NodeName) → (Has ts y → ⊥) → is_in name_eq y (option_to_list (slot_in ts n)) ≡ false
 slot-outside ts n y off = by (slottable_name n)
   where
-    by : (o : Option DomString) → is_in name_eq y (option_to_list (option_and_then (λ name. option_map (λ (m : Node). m.name) (find (has_slot_name name) (nodes ts))) o)) ≡ false
+    by : (o : Option DomString) → is_in name_eq y
+        (option_to_list (option_and_then (λ name. option_map (λ (m : Node). m.name) (find (has_slot_name name) (nodes ts))) o)) ≡ false
     by None = refl
     by (Some name) = found-other (has_slot_name name) (nodes ts) y (λ i. off (Has-names ts y i))
 
@@ -89,11 +95,13 @@ module _ (names : List NodeName) (hosts : List ShadowHost) (was now : Trees) (on
   after = shadow_trees names now hosts
 
   -- to a node outside of shadow trees nothing is
-  pub assigned-unhosted : (y : NodeName) → host_named names hosts (root_of was y) ≡ None → host_named names hosts (root_of now y) ≡ None → assigned_at before y ≡ assigned_at after y
+  pub assigned-unhosted : (y : NodeName) → host_named names hosts (root_of was y) ≡ None → host_named names hosts (root_of now y) ≡ None →
+      assigned_at before y ≡ assigned_at after y
   assigned-unhosted y e f = ap (λ o. option_map_or (assigned_under before y) o []) e ∙ sym (ap (λ o. option_map_or (assigned_under after y) o []) f)
 
   -- to a node to which x neither was nor is assigned all that was is
-  pub assigned-kept : (x y : NodeName) → is_assigned_at before y x ≡ false → is_assigned_at after y x ≡ false → KeepsBut names hosts x was now y → assigned_at before y ≡ assigned_at after y
+  pub assigned-kept : (x y : NodeName) → is_assigned_at before y x ≡ false → is_assigned_at after y x ≡ false → KeepsBut names hosts x was now y →
+      assigned_at before y ≡ assigned_at after y
   assigned-kept x y not_was not_now kept = sym (bare before not_was) ∙ (kept ∙ bare after not_now)
     where
       bare : (s : ShadowTrees) → is_assigned_at s y x ≡ false → others x (assigned_at s y) ≡ assigned_at s y
@@ -105,39 +113,51 @@ module _ (names : List NodeName) (hosts : List ShadowHost) (was now : Trees) (on
 
   -- a node that has the same root, and that is found alike in the tree of each node
   module _ (y : NodeName) (same_root : root_of was y ≡ root_of now y)
-      (alike : (r : NodeName) (n : Node) → is_in name_eq y (option_to_list (slot_in (subtree was r) n)) ≡ is_in name_eq y (option_to_list (slot_in (subtree now r) n)))
+      (alike : (r : NodeName) (n : Node) →
+      is_in name_eq y (option_to_list (slot_in (subtree was r) n)) ≡ is_in name_eq y (option_to_list (slot_in (subtree now r) n)))
       (x : NodeName) (keeps : KeepsHosts names hosts x was now) where
     -- a child of a host but x is assigned to it in both or in neither
-    child_same : (r h c : NodeName) → host_named names hosts r ≡ Some h → In c (children_of was h) → In c (children_of now h) → (c ≡ x → ⊥) → is_assigned_at before y c ≡ is_assigned_at after y c
+    child_same : (r h c : NodeName) → host_named names hosts r ≡ Some h → In c (children_of was h) → In c (children_of now h) → (c ≡ x → ⊥) →
+        is_assigned_at before y c ≡ is_assigned_at after y c
     child_same r h c e i j other =
         let at = keeps.stands r h e in
         let up_was : parent_of was c ≡ Some h = (parent-of_child was h c once_was at.0 i).0 in
         let up_now : parent_of now c ≡ Some h = (parent-of_child now h c once_now at.1 j).0 in
-        ap (λ o. is_in name_eq y (option_to_list (option_and_then (λ q. slot_in (subtree was q) (node_in was c)) (option_and_then (root_named names hosts) o)))) up_was
-        ∙ (from (root_named names hosts h) ∙ sym (ap (λ o. is_in name_eq y (option_to_list (option_and_then (λ q. slot_in (subtree now q) (node_in now c)) (option_and_then (root_named names hosts) o)))) up_now))
+        ap (λ o. is_in name_eq y (option_to_list
+        (option_and_then (λ q. slot_in (subtree was q) (node_in was c)) (option_and_then (root_named names hosts) o)))) up_was
+        ∙ (from (root_named names hosts h) ∙
+        sym (ap (λ o. is_in name_eq y
+        (option_to_list (option_and_then (λ q. slot_in (subtree now q) (node_in now c)) (option_and_then (root_named names hosts) o)))) up_now))
       where
-        from : (o : Option NodeName) → is_in name_eq y (option_to_list (option_and_then (λ q. slot_in (subtree was q) (node_in was c)) o)) ≡ is_in name_eq y (option_to_list (option_and_then (λ q. slot_in (subtree now q) (node_in now c)) o))
+        from : (o : Option NodeName) → is_in name_eq y (option_to_list (option_and_then (λ q. slot_in (subtree was q) (node_in was c)) o)) ≡ is_in
+            name_eq y (option_to_list (option_and_then (λ q. slot_in (subtree now q) (node_in now c)) o))
         from None = refl
         from (Some q) = ap (λ n. is_in name_eq y (option_to_list (slot_in (subtree was q) n))) (keeps.contents r h c e i j other) ∙ alike q (node_in now c)
 
     -- has assigned to it what was but for x
     pub assigned-found : KeepsBut names hosts x was now y
-    assigned-found = under (host_named names hosts (root_of was y)) refl ∙ ap (λ z. others x (option_map_or (assigned_under after y) (host_named names hosts z) [])) same_root
+    assigned-found = under (host_named names hosts (root_of was y)) refl ∙
+        ap (λ z. others x (option_map_or (assigned_under after y) (host_named names hosts z) [])) same_root
       where
-        under : (o : Option NodeName) → host_named names hosts (root_of was y) ≡ o → others x (option_map_or (assigned_under before y) o []) ≡ others x (option_map_or (assigned_under after y) o [])
+        under : (o : Option NodeName) → host_named names hosts (root_of was y) ≡ o →
+            others x (option_map_or (assigned_under before y) o []) ≡ others x (option_map_or (assigned_under after y) o [])
         under None e = refl
         under (Some h) e =
             let same = keeps.children (root_of was y) h e in
             filter-others (is_assigned_at before y) x (children_of was h)
             ∙ (filter-same (is_assigned_at before y) (is_assigned_at after y) (others x (children_of was h))
-            (λ c i. let w = others-in x c (children_of was h) i in child_same (root_of was y) h c e w.0 (others-in x c (children_of now h) (subst (In c) same i)).0 w.1)
+            (λ c i. let w = others-in x c (children_of was h) i in child_same (root_of was y) h c e w.0
+            (others-in x c (children_of now h) (subst (In c) same i)).0 w.1)
             ∙ (ap (filter (is_assigned_at after y)) same ∙ sym (filter-others (is_assigned_at after y) x (children_of now h))))
 
     -- and x too, where the hosts have their children in their order, and x its slot
-    pub assigned-unmoved : ((r h : NodeName) → host_named names hosts r ≡ Some h → children_of was h ≡ children_of now h) → is_assigned_at before y x ≡ is_assigned_at after y x → assigned_at before y ≡ assigned_at after y
-    assigned-unmoved unmoved mine = under (host_named names hosts (root_of was y)) refl ∙ ap (λ z. option_map_or (assigned_under after y) (host_named names hosts z) []) same_root
+    pub assigned-unmoved : ((r h : NodeName) → host_named names hosts r ≡ Some h → children_of was h ≡ children_of now h) →
+        is_assigned_at before y x ≡ is_assigned_at after y x → assigned_at before y ≡ assigned_at after y
+    assigned-unmoved unmoved mine = under (host_named names hosts (root_of was y)) refl ∙
+        ap (λ z. option_map_or (assigned_under after y) (host_named names hosts z) []) same_root
       where
-        under : (o : Option NodeName) → host_named names hosts (root_of was y) ≡ o → option_map_or (assigned_under before y) o [] ≡ option_map_or (assigned_under after y) o []
+        under : (o : Option NodeName) → host_named names hosts (root_of was y) ≡ o →
+            option_map_or (assigned_under before y) o [] ≡ option_map_or (assigned_under after y) o []
         under None e = refl
         under (Some h) e =
             let same = unmoved (root_of was y) h e in
@@ -149,7 +169,8 @@ module _ (names : List NodeName) (hosts : List ShadowHost) (was now : Trees) (on
 
   module _ (y : NodeName) (at_was : Has was y) (at_now : Has now y) (settled : IsSettled was now y) where
     -- a node that looks in the tree of any other finds it in both or in neither
-    looks_same : (r : NodeName) (n : Node) → is_in name_eq y (option_to_list (slot_in (subtree was r) n)) ≡ is_in name_eq y (option_to_list (slot_in (subtree now r) n))
+    looks_same : (r : NodeName) (n : Node) →
+        is_in name_eq y (option_to_list (slot_in (subtree was r) n)) ≡ is_in name_eq y (option_to_list (slot_in (subtree now r) n))
     looks_same r n =
         let top = root_of was y in
         let top_was : Has was top = Has-root_of was once_was y at_was in
@@ -162,7 +183,8 @@ module _ (names : List NodeName) (hosts : List ShadowHost) (was now : Trees) (on
           | inr off ↦
               slot-outside (subtree was r) n y (λ i. off (in-same_tree was once_was r y i))
               ∙ sym (slot-outside (subtree now r) n y (λ i.
-              off (subst (λ (ts : Trees). Has ts r) (sym settled.tree) (subst (λ z. Has (subtree now z) r) (sym settled.root) (in-same_tree now once_now r y i)))))
+              off (subst (λ (ts : Trees). Has ts r) (sym settled.tree)
+              (subst (λ z. Has (subtree now z) r) (sym settled.root) (in-same_tree now once_now r y i)))))
         ]
 
     -- to a node of a tree that stays the same is assigned what was but for x
@@ -170,6 +192,8 @@ module _ (names : List NodeName) (hosts : List ShadowHost) (was now : Trees) (on
     assigned-settled x keeps = assigned-found y settled.root looks_same x keeps
 
     -- and x too, where it is not moved and has its slot
-    pub unmoved-settled : (x : NodeName) → KeepsHosts names hosts x was now → ((r h : NodeName) → host_named names hosts r ≡ Some h → children_of was h ≡ children_of now h) → is_assigned_at before y x ≡ is_assigned_at after y x
+    pub unmoved-settled : (x : NodeName) → KeepsHosts names hosts x was now →
+        ((r h : NodeName) → host_named names hosts r ≡ Some h → children_of was h ≡ children_of now h) →
+        is_assigned_at before y x ≡ is_assigned_at after y x
         → assigned_at before y ≡ assigned_at after y
     unmoved-settled x keeps unmoved mine = assigned-unmoved y settled.root looks_same x keeps unmoved mine

@@ -8,4 +8,5 @@ use Rattle.dom_slots.specs.Renewals.{names_but}
 -- without a name that is not there all are
 pub but-none : (x : NodeName) (ys : List NodeName) → (In x ys → ⊥) → names_but x ys ≡ ys
 but-none x [] off = refl
-but-none x (y ∷ ys) off = ap (λ d. if not d then y ∷ names_but x ys else names_but x ys) (name_eq-other x y (λ e. off (inl e))) ∙ ap (λ zs. y ∷ zs) (but-none x ys (λ i. off (inr i)))
+but-none x (y ∷ ys) off = ap (λ d. if not d then y ∷ names_but x ys else names_but x ys) (name_eq-other x y (λ e. off (inl e))) ∙
+    ap (λ zs. y ∷ zs) (but-none x ys (λ i. off (inr i)))

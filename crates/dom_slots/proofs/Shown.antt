@@ -41,12 +41,14 @@ module _ (s : ShadowTrees) (w : World) (shown : IsShownBy s w) where
   tree-shown o x is = ap (λ (ts : Trees). subtree ts x) (shown.trees o) ∙ sym (read_own s.trees shown.owned o x is).alone
 
   -- the slot found in a shadow tree
-  searched : (n m : Node) → n ≡ m → (o : Option Owner) → option_and_then (λ c. slot_in (shadow_tree w c) n) o ≡ option_and_then (λ r. slot_in (subtree s.trees r) m) (option_map shadow_root_of o)
+  searched : (n m : Node) → n ≡ m → (o : Option Owner) →
+      option_and_then (λ c. slot_in (shadow_tree w c) n) o ≡ option_and_then (λ r. slot_in (subtree s.trees r) m) (option_map shadow_root_of o)
   searched n m e None = refl
   searched n m e (Some c) = ap (λ (ts : Trees). slot_in ts n) (tree-shown c (shadow_root_of c) refl) ∙ ap (slot_in (subtree s.trees (shadow_root_of c))) e
 
   from_parent : (n m : Node) → n ≡ m → (o : Option NodeName)
-      → option_and_then (λ c. slot_in (shadow_tree w c) n) (option_and_then (component_at w) o) ≡ option_and_then (λ r. slot_in (subtree s.trees r) m) (option_and_then s.shadow_of o)
+      → option_and_then (λ c. slot_in (shadow_tree w c) n) (option_and_then (component_at w) o) ≡ option_and_then
+      (λ r. slot_in (subtree s.trees r) m) (option_and_then s.shadow_of o)
   from_parent n m e None = refl
   from_parent n m e (Some p) = searched n m e (component_at w p) ∙ ap (option_and_then (λ r. slot_in (subtree s.trees r) m)) (sym (shown.roots p))
 
@@ -77,13 +79,16 @@ module _ (s : ShadowTrees) (w : World) (shown : IsShownBy s w) where
       λ j. option_map_or (under j) (host-shown y j) []
 
 -- the slots that a step signals
-pub signals-shown : (s t : ShadowTrees) (was now : World) → IsShownBy s was → IsShownBy t now → (x around : NodeName) (is_move : Bool) → signals was now x around is_move ≡ signals_at s t x around is_move
+pub signals-shown : (s t : ShadowTrees) (was now : World) → IsShownBy s was → IsShownBy t now → (x around : NodeName) (is_move : Bool) →
+    signals was now x around is_move ≡ signals_at s t x around is_move
 signals-shown s t was now before after x around is_move =
     let own : subtree (trees_with now around) (root_at now around) ≡ subtree t.trees (root_of t.trees around) =
-    ap (subtree (trees_with now around)) (root-shown t now after around) ∙ tree-shown t now after around.owner (root_of t.trees around) (stays_own t.trees after.owned around.owner around refl).root in
+    ap (subtree (trees_with now around)) (root-shown t now after around) ∙ tree-shown t now after around.owner (root_of t.trees around)
+    (stays_own t.trees after.owned around.owner around refl).root in
     λ j.
     let changed : NodeName → Bool = λ y. not (list_eq name_eq (assigned-shown s was before y j) (assigned-shown t now after y j)) in
-    let is_bare = is_slot_element (node-shown t now after around j) && (is_some (host-shown t now after around j) && is_empty (assigned-shown t now after around j)) in
+    let is_bare = is_slot_element (node-shown t now after around j) &&
+    (is_some (host-shown t now after around j) && is_empty (assigned-shown t now after around j)) in
     let bare = if is_move && is_bare then around ∷ [] else [] in
     distinct name_eq (filter changed (option_to_list (slot-shown s was before x j) ++ option_to_list (slot-shown t now after x j)) ++ bare
     ++ filter changed (slots_among (own j) ++ slots_among (tree-shown t now after x.owner x refl j)))

@@ -8,7 +8,8 @@ use Rattle.dom_base.specs.declared.NodeName.{NodeName}
 use Rattle.dom_model.specs.Names.{name_eq, first_of, items_after, items_before}
 use Rattle.dom_model.specs.Tree.{Trees, parent_of, children_of, siblings, next_sibling, inclusive_descendants, subtree}
 use Rattle.dom_tree.specs.Forest.{NamedTrees, name_at}
-use Rattle.dom_traversal.proofs.Lists.{In, In-left, In-right, Single, Single-right, Single-apart, no_first, first_split, split_at, after-split, after-in, name_eq-from}
+use Rattle.dom_traversal.proofs.Lists.{In, In-left, In-right, Single, Single-right, Single-apart, no_first, first_split, split_at, after-split}
+use Rattle.dom_traversal.proofs.Lists.{after-in, name_eq-from}
 use Rattle.dom_traversal.proofs.Shapes.{Once, Has, above-present, above-parent, below-from_above}
 use Rattle.dom_traversal.proofs.Children.{In-names, parent-of_child, child-of_parent, descendants-children}
 use Rattle.dom_traversal.proofs.Order.{IsWithin, all_single}
@@ -24,7 +25,8 @@ from-first [] = refl
 from-first (x ∷ xs) = rw (name_eq-from x x refl) refl
 
 -- behind an item comes the next one, with all behind that one
-pub from-next : (x : NodeName) (xs : List NodeName) → Single xs → In x xs → (o : Option NodeName) → o ≡ first_of (items_after name_eq x xs) → items_after name_eq x xs ≡ from_item xs o
+pub from-next : (x : NodeName) (xs : List NodeName) → Single xs → In x xs → (o : Option NodeName) → o ≡ first_of (items_after name_eq x xs) →
+    items_after name_eq x xs ≡ from_item xs o
 from-next x xs single i None e = no_first (items_after name_eq x xs) (sym e)
 from-next x xs single i (Some y) e =
     let s = first_split (items_after name_eq x xs) y (sym e) in
@@ -54,7 +56,11 @@ itself ts x once h = In-names (subtree ts x) x (below-from_above ts x x once h (
 -- no child stands twice among the children
 pub children-single : (ts : Trees) (p : NodeName) → Once ts → Has ts p → Single (children_of ts p)
 children-single ts p once h =
-    let w : IsWithin ts p p = record { once = once; top_stands = h; stands = below-from_above ts p p once h (subst (In p) (sym (above-present ts p h).1) (inl refl)) } in
+    let w : IsWithin ts p p = record {
+      once = once;
+      top_stands = h;
+      stands = below-from_above ts p p once h (subst (In p) (sym (above-present ts p h).1) (inl refl));
+    } in
     let all : Single (p ∷ flat_map (inclusive_descendants ts) (children_of ts p)) = subst Single (descendants-children ts p once h) (all_single ts p p w) in
     single_from_flat (inclusive_descendants ts) (children_of ts p) (λ y i. itself ts y once (parent-of_child ts p y once h i).1) all.1
 
@@ -69,8 +75,12 @@ pub record IsChild (f : NamedTrees) (h : NodeName) (k : ℕ) : Type 0 where
 
 module _ (f : NamedTrees) (once : Once f.trees) (h : NodeName) (stands : Has f.trees h) where
   -- the key of a child found by its name
-  child_found : (o : Option ℕ) → ForSome o (λ k. k < length f.names) → ((y : NodeName) → option_map (name_at f.names) o ≡ Some y → In y (children_of f.trees h)) → ForSome o (IsChild f h)
-  child_found o node among = λ k e. record { node = node k e; parent = (parent-of_child f.trees h (name_at f.names k) once stands (among (name_at f.names k) (ap (option_map (name_at f.names)) e))).0 }
+  child_found : (o : Option ℕ) → ForSome o (λ k. k < length f.names) →
+      ((y : NodeName) → option_map (name_at f.names) o ≡ Some y → In y (children_of f.trees h)) → ForSome o (IsChild f h)
+  child_found o node among = λ k e. record {
+    node = node k e;
+    parent = (parent-of_child f.trees h (name_at f.names k) once stands (among (name_at f.names k) (ap (option_map (name_at f.names)) e))).0;
+  }
 
   -- from the first child on are all
   pub first_step : (o : Option ℕ) → option_map (name_at f.names) o ≡ first_of (children_of f.trees h) → ForSome o (λ k. k < length f.names)
@@ -81,15 +91,19 @@ module _ (f : NamedTrees) (once : Once f.trees) (h : NodeName) (stands : Has f.t
   )
 
   -- behind a child come the next one and all behind that one
-  pub next_step : (k : ℕ) → IsChild f h k → Has f.trees (name_at f.names k) → (next : Option ℕ) → option_map (name_at f.names) next ≡ next_sibling f.trees (name_at f.names k) → ForSome next (λ j. j < length f.names)
-      → (items_after name_eq (name_at f.names k) (children_of f.trees h) ≡ from_item (children_of f.trees h) (option_map (name_at f.names) next)) × ForSome next (IsChild f h)
+  pub next_step : (k : ℕ) → IsChild f h k → Has f.trees (name_at f.names k) → (next : Option ℕ) →
+      option_map (name_at f.names) next ≡ next_sibling f.trees (name_at f.names k) → ForSome next (λ j. j < length f.names)
+      → (items_after name_eq (name_at f.names k) (children_of f.trees h) ≡ from_item (children_of f.trees h) (option_map (name_at f.names) next))
+      × ForSome next (IsChild f h)
   next_step k child at next e node =
       let x = name_at f.names k in
       let all : siblings f.trees x ≡ children_of f.trees h = ap (λ o. option_map_or (children_of f.trees) o (x ∷ [])) child.parent in
-      let first : option_map (name_at f.names) next ≡ first_of (items_after name_eq x (children_of f.trees h)) = e ∙ ap (λ xs. first_of (items_after name_eq x xs)) all in
+      let first : option_map (name_at f.names) next ≡ first_of (items_after name_eq x (children_of f.trees h)) =
+      e ∙ ap (λ xs. first_of (items_after name_eq x xs)) all in
       let among = (child-of_parent f.trees x h once at child.parent).1 in (
         from-next x (children_of f.trees h) (children-single f.trees h once stands) among (option_map (name_at f.names) next) first,
-        child_found next node (λ y is. let s = first_split (items_after name_eq x (children_of f.trees h)) y (sym first ∙ is) in after-in x y (children_of f.trees h) (subst (In y) (sym s.1) (inl refl))),
+        child_found next node (λ y is. let s = first_split (items_after name_eq x (children_of f.trees h)) y (sym first ∙ is) in after-in x y
+            (children_of f.trees h) (subst (In y) (sym s.1) (inl refl))),
       )
 
 -- of a child that is among the siblings of another one, behind which the walk is
@@ -98,8 +112,10 @@ module _ (f : NamedTrees) (once : Once f.trees) (x h : NodeName) (at : Has f.tre
   siblings-children = ap (λ o. option_map_or (children_of f.trees) o (x ∷ [])) up
 
   -- behind a child come the next one and all behind that one
-  pub next_sibling-step : (k : ℕ) → IsChild f h k → Has f.trees (name_at f.names k) → (next : Option ℕ) → option_map (name_at f.names) next ≡ next_sibling f.trees (name_at f.names k) → ForSome next (λ j. j < length f.names)
-      → (items_after name_eq (name_at f.names k) (siblings f.trees x) ≡ from_item (siblings f.trees x) (option_map (name_at f.names) next)) × ((g : NodeName) → parent_of f.trees x ≡ Some g → ForSome next (IsChild f g))
+  pub next_sibling-step : (k : ℕ) → IsChild f h k → Has f.trees (name_at f.names k) → (next : Option ℕ) →
+      option_map (name_at f.names) next ≡ next_sibling f.trees (name_at f.names k) → ForSome next (λ j. j < length f.names)
+      → (items_after name_eq (name_at f.names k) (siblings f.trees x) ≡ from_item (siblings f.trees x) (option_map (name_at f.names) next)) ×
+      ((g : NodeName) → parent_of f.trees x ≡ Some g → ForSome next (IsChild f g))
   next_sibling-step k child here next e node =
       let step = next_step f once h (parent-stands f.trees once x h at up) k child here next e node in (
         subst (λ xs. items_after name_eq (name_at f.names k) xs ≡ from_item xs (option_map (name_at f.names) next)) (sym siblings-children) step.0,
@@ -107,8 +123,10 @@ module _ (f : NamedTrees) (once : Once f.trees) (x h : NodeName) (at : Has f.tre
       )
 
 -- what is left is less
-pub length-next : (f : NamedTrees) (xs : List NodeName) (k : ℕ) (at next : Option ℕ) → at ≡ Some k → items_after name_eq (name_at f.names k) xs ≡ from_item xs (option_map (name_at f.names) next)
+pub length-next : (f : NamedTrees) (xs : List NodeName) (k : ℕ) (at next : Option ℕ) → at ≡ Some k →
+    items_after name_eq (name_at f.names k) xs ≡ from_item xs (option_map (name_at f.names) next)
     → length (from_item xs (option_map (name_at f.names) next)) < length (from_item xs (option_map (name_at f.names) at))
 length-next f xs k at next is e =
-    let longer : length (from_item xs (option_map (name_at f.names) at)) ≡ suc (length (items_after name_eq (name_at f.names k) xs)) = ap (λ o. length (from_item xs (option_map (name_at f.names) o))) is in
+    let longer : length (from_item xs (option_map (name_at f.names) at)) ≡ suc (length (items_after name_eq (name_at f.names k) xs)) =
+    ap (λ o. length (from_item xs (option_map (name_at f.names) o))) is in
     omega (arith, longer, ap (length {A = NodeName}) e)

@@ -1,5 +1,6 @@
 -- Signalled slots by their keys and by their names.
-use Rattle.std.proofs.Common.{◌≡◌, ℕ, ◌<◌, Bool, true, false, ◌&&◌, ◌||◌, not, List, [], ◌∷◌, ◌++◌, All, map, fold, length, filter, refl, sym, ap, subst, ◌∙◌, append_assoc}
+use Rattle.std.proofs.Common.{◌≡◌, ℕ, ◌<◌, Bool, true, false, ◌&&◌, ◌||◌, not, List, [], ◌∷◌, ◌++◌, All, map, fold, length, filter, refl, sym, ap}
+use Rattle.std.proofs.Common.{subst, ◌∙◌, append_assoc}
 use Rattle.std.specs.Prelude.{nat_eq, if◌then◌else◌, Option, None, Some, MatchOption, option_to_list}
 use Rattle.std.specs.Option.{option_map}
 use Rattle.std.proofs.lemmas.List.{append-nil, map-append}
@@ -87,20 +88,23 @@ list_eq-self (x ∷ xs) = rw (name_eq-from x x refl) (list_eq-self xs)
 
 module _ (names : List NodeName) (apart : AreDistinct names) where
   -- a key is among keys just where its name is among their names
-  is_in-named : (k : ℕ) (ks : List ℕ) → k < length names → All (λ j. j < length names) ks → is_in nat_eq k ks ≡ is_in name_eq (name_at names k) (map (name_at names) ks)
+  is_in-named : (k : ℕ) (ks : List ℕ) → k < length names → All (λ j. j < length names) ks →
+      is_in nat_eq k ks ≡ is_in name_eq (name_at names k) (map (name_at names) ks)
   is_in-named k [] node nodes = refl
   is_in-named k (j ∷ ks) node nodes =
       ap (λ b. b || is_in nat_eq k ks) (key-test names apart k j node (All-head (λ i. i < length names) j ks nodes))
       ∙ ap (λ b. name_eq (name_at names k) (name_at names j) || b) (is_in-named k ks node (All-tail (λ i. i < length names) j ks nodes))
 
   -- lists are the same just where their names are
-  pub list_eq-named : (js ks : List ℕ) → All (λ j. j < length names) js → All (λ j. j < length names) ks → list_eq nat_eq js ks ≡ list_eq name_eq (map (name_at names) js) (map (name_at names) ks)
+  pub list_eq-named : (js ks : List ℕ) → All (λ j. j < length names) js → All (λ j. j < length names) ks →
+      list_eq nat_eq js ks ≡ list_eq name_eq (map (name_at names) js) (map (name_at names) ks)
   list_eq-named [] [] h i = refl
   list_eq-named [] (k ∷ ks) h i = refl
   list_eq-named (j ∷ js) [] h i = refl
   list_eq-named (j ∷ js) (k ∷ ks) h i =
       ap (λ b. b && list_eq nat_eq js ks) (key-test names apart j k (All-head (λ m. m < length names) j js h) (All-head (λ m. m < length names) k ks i))
-      ∙ ap (λ b. name_eq (name_at names j) (name_at names k) && b) (list_eq-named js ks (All-tail (λ m. m < length names) j js h) (All-tail (λ m. m < length names) k ks i))
+      ∙ ap (λ b. name_eq (name_at names j) (name_at names k) && b)
+      (list_eq-named js ks (All-tail (λ m. m < length names) j js h) (All-tail (λ m. m < length names) k ks i))
 
   -- these keys are the names of this list, each at its first place
   pub record AreSignalled (xs : List NodeName) (keys : List ℕ) : Type 0 where
@@ -108,7 +112,8 @@ module _ (names : List NodeName) (apart : AreDistinct names) where
     pub are : map (name_at names) keys ≡ fold (append_once name_eq) [] xs
 
   -- one more
-  pub one_signalled : (xs : List NodeName) (keys new : List ℕ) (k : ℕ) → AreSignalled xs keys → k < length names → new ≡ append_once nat_eq keys k → AreSignalled (xs ++ name_at names k ∷ []) new
+  pub one_signalled : (xs : List NodeName) (keys new : List ℕ) (k : ℕ) → AreSignalled xs keys → k < length names →
+      new ≡ append_once nat_eq keys k → AreSignalled (xs ++ name_at names k ∷ []) new
   one_signalled xs keys new k s node e = by (is_in nat_eq k keys) refl
     where
       named : is_in nat_eq k keys ≡ is_in name_eq (name_at names k) (fold (append_once name_eq) [] xs)
@@ -119,7 +124,9 @@ module _ (names : List NodeName) (apart : AreDistinct names) where
           let same : new ≡ keys = e ∙ ap (λ (b : Bool). if b then keys else keys ++ k ∷ []) there in
           record {
             nodes = subst (All (λ j. j < length names)) (sym same) s.nodes;
-            are = ap (map (name_at names)) same ∙ (s.are ∙ (sym (ap (λ (b : Bool). if b then fold (append_once name_eq) [] xs else fold (append_once name_eq) [] xs ++ name_at names k ∷ []) (sym named ∙ there))
+            are = ap (map (name_at names)) same ∙
+                (s.are ∙ (sym (ap (λ (b : Bool). if b then fold (append_once name_eq) [] xs else fold (append_once name_eq) [] xs ++
+                name_at names k ∷ []) (sym named ∙ there))
                 ∙ sym (fold-append (append_once name_eq) [] xs (name_at names k ∷ []))));
           }
       by false off =
@@ -127,7 +134,8 @@ module _ (names : List NodeName) (apart : AreDistinct names) where
           record {
             nodes = subst (All (λ j. j < length names)) (sym longer) (All-push (λ j. j < length names) keys k s.nodes node);
             are = ap (map (name_at names)) longer ∙ (map-append (name_at names) keys (k ∷ []) ∙ (ap (λ ys. ys ++ name_at names k ∷ []) s.are
-                ∙ (sym (ap (λ (b : Bool). if b then fold (append_once name_eq) [] xs else fold (append_once name_eq) [] xs ++ name_at names k ∷ []) (sym named ∙ off))
+                ∙ (sym (ap (λ (b : Bool). if b then fold (append_once name_eq) [] xs else fold (append_once name_eq) [] xs ++
+                name_at names k ∷ []) (sym named ∙ off))
                 ∙ sym (fold-append (append_once name_eq) [] xs (name_at names k ∷ [])))));
           }
 

@@ -21,7 +21,8 @@ module _ (x : NodeName) (was now : Trees) (once : Once was) (at_was : Has was x)
   -- a node that is removed has no parent any more
   pub removal-unparented : now ≡ taken_out x was → parent_of now x ≡ None
   removal-unparented is =
-      let off : Has rest split.node.name → ⊥ = λ h. without-apart was x split.node.name once h (subst (λ (ts : Trees). Has ts split.node.name) (sym split.alone) (inl refl)) in
+      let off : Has rest split.node.name → ⊥ =
+      λ h. without-apart was x split.node.name once h (subst (λ (ts : Trees). Has ts split.node.name) (sym split.alone) (inl refl)) in
       ap (λ (ts : Trees). parent_of ts x) (is ∙ ap (λ (ts : Trees). put_root x ts rest) split.alone)
       ∙ subst (λ z. parent_of (put_root x (tree split.node split.below none) rest) z ≡ None) split.name (root-unparented split.node split.below x rest off)
 
@@ -35,7 +36,8 @@ module _ (x : NodeName) (was now : Trees) (once : Once was) (at_was : Has was x)
       | inl h ↦ h
       | inr off ↦
           let gone : now ≡ rest = now_is ∙ below-absent split.node split.below parent before rest off in
-          absurd (without-apart was x x once (subst (λ (ts : Trees). Has ts x) gone at_now) (subst (λ (ts : Trees). Has ts x) (sym split.alone) (inl split.name)))
+          absurd (without-apart was x x once (subst (λ (ts : Trees). Has ts x) gone at_now)
+          (subst (λ (ts : Trees). Has ts x) (sym split.alone) (inl split.name)))
     ]
 
     -- and a node that is placed stands in its tree
@@ -43,20 +45,24 @@ module _ (x : NodeName) (was now : Trees) (once : Once was) (at_was : Has was x)
     place-root once_now at =
         root-below now once_now parent x at
         (subst (λ z. Has (subtree now parent) z) split.name
-        (subst (λ (ts : Trees). Has (subtree ts parent) split.node.name) (sym now_is) (Has-put_below split.node split.below parent before rest (Once-without was x once) parent_there)))
+        (subst (λ (ts : Trees). Has (subtree ts parent) split.node.name) (sym now_is)
+        (Has-put_below split.node split.below parent before rest (Once-without was x once) parent_there)))
 
 -- what holds of each tree that is moved
 module _ (names : List NodeName) (hosts : List ShadowHost) (P : NodeName → Trees → Trees → Type 0)
-    (holds : (m : Node) (d us : Trees) (p q : Spot) → ((y : NodeName) → Has us y → Has (tree m d none) y → ⊥) → AreBoth names hosts (grafted m d p us) (grafted m d q us) → P m.name (grafted m d p us) (grafted m d q us))
+    (holds : (m : Node) (d us : Trees) (p q : Spot) → ((y : NodeName) → Has us y → Has (tree m d none) y → ⊥) →
+    AreBoth names hosts (grafted m d p us) (grafted m d q us) → P m.name (grafted m d p us) (grafted m d q us))
     (x : NodeName) (was now : Trees) (both : AreBoth names hosts was now) (at_was : Has was x) where
   moved_so : (s : Splits was x) → (q : Spot) → now ≡ grafted s.node s.below q (without x was) → P x was now
   moved_so s q is =
       let us = without x was in
-      let apart = λ (y : NodeName) (h : Has us y) (i : Has (tree s.node s.below none) y). without-apart was x y both.once_was h (subst (λ (ts : Trees). Has ts y) (sym s.alone) i) in
+      let apart = λ (y : NodeName) (h : Has us y) (i : Has (tree s.node s.below none) y). without-apart was x y both.once_was h
+      (subst (λ (ts : Trees). Has ts y) (sym s.alone) i) in
       subst (λ ts. P x ts now) (sym s.whole)
       (subst (P x (grafted s.node s.below s.spot us)) (sym is)
       (subst (λ z. P z (grafted s.node s.below s.spot us) (grafted s.node s.below q us)) s.name
-      (holds s.node s.below us s.spot q apart (subst (λ ts. AreBoth names hosts ts (grafted s.node s.below q us)) s.whole (subst (AreBoth names hosts was) is both)))))
+      (holds s.node s.below us s.spot q apart
+      (subst (λ ts. AreBoth names hosts ts (grafted s.node s.below q us)) s.whole (subst (AreBoth names hosts was) is both)))))
 
   -- holds of a removal
   pub removal-so : now ≡ taken_out x was → P x was now
@@ -69,7 +75,8 @@ module _ (names : List NodeName) (hosts : List ShadowHost) (P : NodeName → Tre
   pub place-so : Has now x → (parent : NodeName) (before : Option NodeName) → now ≡ placed x parent before was → P x was now
   place-so at_now parent before is =
       let s = splits was x both.once_was at_was in
-      let w = below-grafts s.node s.below parent before (without x was) (Once-without was x both.once_was) (parent_there x was now both.once_was at_was at_now parent before is) in
+      let w = below-grafts s.node s.below parent before (without x was) (Once-without was x both.once_was)
+      (parent_there x was now both.once_was at_was at_now parent before is) in
       moved_so s w.0 (now_is x was now both.once_was at_was at_now parent before is ∙ w.1)
 
 -- other attributes are another node of the same name

@@ -17,10 +17,12 @@ items-chosen true v o = refl
 items-chosen false v o = refl
 
 -- the lists after a slot was given one
-pub list-inserted : {A : Type 0} (slot : ℕ) (v : Vec ℕ A) (es now : List (ℕ × Vec ℕ A)) → ((k : ℕ) → lookup (nat_eq k) now ≡ cond (nat_eq slot k) (Some v) (lookup (nat_eq k) es))
+pub list-inserted : {A : Type 0} (slot : ℕ) (v : Vec ℕ A) (es now : List (ℕ × Vec ℕ A)) →
+    ((k : ℕ) → lookup (nat_eq k) now ≡ cond (nat_eq slot k) (Some v) (lookup (nat_eq k) es))
     → (k : ℕ) → list_of (table_in now) k ≡ (if nat_eq slot k then v.items else list_of (table_in es) k)
 list-inserted slot v es now updated k =
-    sym (list-found k now) ∙ (ap items_or (updated k) ∙ (items-chosen (nat_eq slot k) v (lookup (nat_eq k) es) ∙ ap (λ xs. if nat_eq slot k then v.items else xs) (list-found k es)))
+    sym (list-found k now) ∙ (ap items_or (updated k) ∙
+    (items-chosen (nat_eq slot k) v (lookup (nat_eq k) es) ∙ ap (λ xs. if nat_eq slot k then v.items else xs) (list-found k es)))
 
 -- the lists by the entries, after that of one slot was changed
 pub changed-found : {A B : Type 0} (change : List ℕ → List ℕ) (slot : ℕ) (es : List (ℕ × Vec ℕ A)) (now : List (ℕ × Vec ℕ B))

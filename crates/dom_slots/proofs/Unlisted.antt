@@ -1,6 +1,7 @@
 -- A node that stands in no list of a table has no slot in the forest of the table, where its parent is the host of a tree of
 -- its own.
-use Rattle.std.proofs.Common.{◌≡◌, inl, inr, ℕ, ◌<◌, true, false, ◌||◌, List, [], ◌∷◌, All, map, length, Option, None, Some, refl, sym, ap, subst, ◌∙◌, true≢false}
+use Rattle.std.proofs.Common.{◌≡◌, inl, inr, ℕ, ◌<◌, true, false, ◌||◌, List, [], ◌∷◌, All, map, length, Option, None, Some, refl, sym, ap, subst}
+use Rattle.std.proofs.Common.{◌∙◌, true≢false}
 use Rattle.std.specs.Prelude.{nat_eq, option_to_list}
 use Rattle.std.specs.Option.{option_map_or, option_and_then}
 use Rattle.std.proofs.lemmas.Bool.{or_left, or_right}
@@ -25,14 +26,19 @@ use Rattle.dom_slots.proofs.Rooted.{root-alone, root-below}
 use Rattle.dom_slots.proofs.Settled.{slot-outside}
 
 -- a node whose name is among those of keys is among these
-in-keys : (names : List NodeName) → AreDistinct names → (n : ℕ) → n < length names → (ks : List ℕ) → All (λ k. k < length names) ks → In (name_at names n) (map (name_at names) ks) → is_in nat_eq n ks ≡ true
+in-keys : (names : List NodeName) → AreDistinct names → (n : ℕ) → n < length names → (ks : List ℕ) → All (λ k. k < length names) ks →
+    In (name_at names n) (map (name_at names) ks) → is_in nat_eq n ks ≡ true
 in-keys names distinct n node [] inside i = absurd i
 in-keys names distinct n node (k ∷ ks) inside (inl same) =
-    or_left (nat_eq n k) _ (key-test names distinct n k node (All-head (λ j. j < length names) k ks inside) ∙ name_eq-from (name_at names n) (name_at names k) same)
-in-keys names distinct n node (k ∷ ks) inside (inr i) = or_right (nat_eq n k) _ (in-keys names distinct n node ks (All-tail (λ j. j < length names) k ks inside) i)
+    or_left (nat_eq n k) _ (key-test names distinct n k node (All-head (λ j. j < length names) k ks inside) ∙
+    name_eq-from (name_at names n) (name_at names k) same)
+in-keys names distinct n node (k ∷ ks) inside (inr i) =
+    or_right (nat_eq n k) _ (in-keys names distinct n node ks (All-tail (λ j. j < length names) k ks inside) i)
 
-module _ (f : NamedTrees) (stands : StandsOnce f) (once : Once f.trees) (distinct : AreDistinct f.names) (hosts : List ShadowHost) (table : SlotTable) (is : IsTableOf f hosts table) (n : ℕ) (node : n < length f.names)
-    (unlisted : (s : ℕ) → is_in nat_eq n (list_of table s) ≡ false) (at : Has f.trees (name_at f.names n)) (p r : NodeName) (up : parent_of f.trees (name_at f.names n) ≡ Some p) (shadow : root_named f.names hosts p ≡ Some r)
+module _ (f : NamedTrees) (stands : StandsOnce f) (once : Once f.trees) (distinct : AreDistinct f.names) (hosts : List ShadowHost)
+    (table : SlotTable) (is : IsTableOf f hosts table) (n : ℕ) (node : n < length f.names)
+    (unlisted : (s : ℕ) → is_in nat_eq n (list_of table s) ≡ false) (at : Has f.trees (name_at f.names n)) (p r : NodeName)
+    (up : parent_of f.trees (name_at f.names n) ≡ Some p) (shadow : root_named f.names hosts p ≡ Some r)
     (hosted : host_named f.names hosts r ≡ Some p) (here : Has f.trees r) (top : parent_of f.trees r ≡ None) where
   abbrev s : ShadowTrees
   s = shadows f hosts
@@ -53,7 +59,8 @@ module _ (f : NamedTrees) (stands : StandsOnce f) (once : Once f.trees) (distinc
     | inl i ↦
         let root : root_of f.trees y ≡ r = root-below f.trees once r y here i ∙ root-alone f.trees r here top in
         let among : In x (assigned_at s y) =
-        subst (λ o. In x (option_map_or (assigned_under s y) o [])) (sym (ap (host_named f.names hosts) root ∙ hosted)) (to_filter (is_assigned_at s y) x (children_of f.trees p) it_is (child-of_parent f.trees x p once at up).1) in
+        subst (λ o. In x (option_map_or (assigned_under s y) o [])) (sym (ap (host_named f.names hosts) root ∙ hosted))
+        (to_filter (is_assigned_at s y) x (children_of f.trees p) it_is (child-of_parent f.trees x p once at up).1) in
         let key = stands.only y (is_in-from y (names_of (nodes f.trees)) (In-names f.trees y (Has-subtree f.trees r y once i))) in
         let within = slice_get_within f.names key.0 y key.1 in
         let named : name_at f.names key.0 ≡ y = get_or_from_slice_get f.names key.0 y (node_of Page 0) key.1 in

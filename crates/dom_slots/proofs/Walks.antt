@@ -31,7 +31,8 @@ module _ (f : NamedTrees) (once : StandOnce f) (only : StandAlone f) (top : ℕ)
 module _ (names : List NodeName) (p : NodeName → Bool) (found : List ℕ) (k : ℕ) (node : k < length names) (xs all : List NodeName)
     (nodes : All (λ j. j < length names) found) (left : map (name_at names) found ++ filter p (name_at names k ∷ xs) ≡ all) where
   -- a node that passes the test is collected
-  pub collect-yes : (new : List ℕ) → new ≡ found ++ k ∷ [] → p (name_at names k) ≡ true → All (λ j. j < length names) new × (map (name_at names) new ++ filter p xs ≡ all)
+  pub collect-yes : (new : List ℕ) → new ≡ found ++ k ∷ [] → p (name_at names k) ≡ true → All (λ j. j < length names) new ×
+      (map (name_at names) new ++ filter p xs ≡ all)
   collect-yes new e hit = (
     subst (All (λ j. j < length names)) (sym e) (All-push (λ j. j < length names) found k nodes node),
     ap (λ ks. map (name_at names) ks ++ filter p xs) e

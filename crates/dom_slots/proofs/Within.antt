@@ -56,17 +56,21 @@ named-within P (tree n c r) all = (
     later : (x : NodeName) → (is_in name_eq x (names_of (nodes c)) || is_in name_eq x (names_of (nodes r))) ≡ true → has_node (tree n c r) x ≡ true
     later x h =
         behind (name_eq x n.name) (is_in name_eq x (names_of (nodes c ++ nodes r)))
-        (ap (is_in name_eq x) (map-append (λ (m : Node). m.name) (nodes c) (nodes r)) ∙ (list_any-append (name_eq x) (names_of (nodes c)) (names_of (nodes r)) ∙ h))
+        (ap (is_in name_eq x) (map-append (λ (m : Node). m.name) (nodes c) (nodes r)) ∙
+        (list_any-append (name_eq x) (names_of (nodes c)) (names_of (nodes r)) ∙ h))
 
 -- what holds of each node holds of the slots in a tree
-pub slots-within : (P : NodeName → Type 0) (ts : Trees) → ((x : NodeName) → has_node ts x ≡ true → P x) → (top y : NodeName) → In y (slots_among (subtree ts top)) → P y
-slots-within P ts all top y i = kept (nodes (subtree ts top)) (each-within (λ n. P n.name) (subtree ts top) (within-subtree (λ n. P n.name) ts top (named-within P ts all))) i
+pub slots-within : (P : NodeName → Type 0) (ts : Trees) → ((x : NodeName) → has_node ts x ≡ true → P x) → (top y : NodeName) →
+    In y (slots_among (subtree ts top)) → P y
+slots-within P ts all top y i = kept (nodes (subtree ts top))
+    (each-within (λ n. P n.name) (subtree ts top) (within-subtree (λ n. P n.name) ts top (named-within P ts all))) i
   where
     kept : (ns : List Node) → Each (λ n. P n.name) ns → In y (names_of (filter is_slot_element ns)) → P y
     kept [] each j = absurd j
     kept (n ∷ ns) each j = by (is_slot_element n) j (kept ns each.1)
       where
-        by : (b : Bool) → In y (names_of (if b then n ∷ filter is_slot_element ns else filter is_slot_element ns)) → (In y (names_of (filter is_slot_element ns)) → P y) → P y
+        by : (b : Bool) → In y (names_of (if b then n ∷ filter is_slot_element ns else filter is_slot_element ns)) →
+            (In y (names_of (filter is_slot_element ns)) → P y) → P y
         by true (inl e) deeper = subst P (sym e) each.0
         by true (inr k) deeper = deeper k
         by false k deeper = deeper k

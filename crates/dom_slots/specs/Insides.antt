@@ -35,20 +35,24 @@ module _ (f : NamedTrees) (hosts : List ShadowHost) where
 
   -- a step moves no slot, and changes no slot's attributes
   abbrev pub MovesNone : Step → Type 0
-  MovesNone step = (slots_among (subtree f.trees (name_at f.names (step_node step))) ≡ []) ⊎ ((is_move step ≡ false) × (is_slot_element (node_in f.trees (name_at f.names (step_node step))) ≡ false))
+  MovesNone step = (slots_among (subtree f.trees (name_at f.names (step_node step))) ≡ []) ⊎
+      ((is_move step ≡ false) × (is_slot_element (node_in f.trees (name_at f.names (step_node step))) ≡ false))
 
   -- from a table to another one the lists of slots are renewed, whoever is signalled
   abbrev pub AreSilent : List NodeName → SlotTable → SlotTable → Type 0
-  AreSilent slots old table = (q : NodeName → Bool) → AreRenewed f hosts q old [] [] old [] → (keys : List ℕ) × AreRenewed f hosts q old slots (filter q slots) table keys
+  AreSilent slots old table = (q : NodeName → Bool) → AreRenewed f hosts q old [] [] old [] → (keys : List ℕ) ×
+      AreRenewed f hosts q old slots (filter q slots) table keys
 
   -- the lists of the slots around were renewed, and behind them without a signal those of the tree that was left
   abbrev pub AreMoved : (NodeName → Bool) → SlotTable → List NodeName → List NodeName → Step → Option ℕ → NodeName → SlotTable → List ℕ → Type 0
   AreMoved p old done told step left around table keys =
-      (mid : SlotTable) × AreRenewed f hosts p old (done ++ slots_around step around) (told ++ filter p (slots_around step around)) mid keys × AreSilent (left_slots step left) mid table
+      (mid : SlotTable) × AreRenewed f hosts p old (done ++ slots_around step around) (told ++ filter p (slots_around step around)) mid keys ×
+      AreSilent (left_slots step left) mid table
 
   -- so it is, or no slot was moved and nothing more was renewed
   abbrev pub MayMove : (NodeName → Bool) → SlotTable → List NodeName → List NodeName → Step → Option ℕ → NodeName → SlotTable → List ℕ → Type 0
-  MayMove p old done told step left around table keys = (MovesNone step × AreRenewed f hosts p old done told table keys) ⊎ AreMoved p old done told step left around table keys
+  MayMove p old done told step left around table keys = (MovesNone step × AreRenewed f hosts p old done told table keys) ⊎
+      AreMoved p old done told step left around table keys
 
   -- a step inside of a shadow tree, which left this parent if one, renewed and signalled what it concerns around a node, if
   -- there is one

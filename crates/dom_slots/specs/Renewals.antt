@@ -11,9 +11,12 @@ use Rattle.dom_slots.specs.Tables.{SlotTable, list_of}
 
 -- Of an old table the lists of the slots `done` were renewed by a forest, and all others are as they were. The keys are those
 -- of the names `told`, each once, and of the renewed slots all with other nodes than before are among them: p tells which.
-pub record AreRenewed (f : NamedTrees) (hosts : List ShadowHost) (p : NodeName → Bool) (old : SlotTable) (done told : List NodeName) (table : SlotTable) (keys : List ℕ) : Type 0 where
-  pub others : (k : ℕ) → k < length f.names → p (name_at f.names k) ≡ not (list_eq name_eq (map (name_at f.names) (list_of old k)) (assigned_at (shadows f hosts) (name_at f.names k)))
-  pub renewed : (k : ℕ) → k < length f.names → is_in name_eq (name_at f.names k) done ≡ true → map (name_at f.names) (list_of table k) ≡ assigned_at (shadows f hosts) (name_at f.names k)
+pub record AreRenewed (f : NamedTrees) (hosts : List ShadowHost) (p : NodeName → Bool) (old : SlotTable) (done told : List NodeName)
+    (table : SlotTable) (keys : List ℕ) : Type 0 where
+  pub others : (k : ℕ) → k < length f.names →
+      p (name_at f.names k) ≡ not (list_eq name_eq (map (name_at f.names) (list_of old k)) (assigned_at (shadows f hosts) (name_at f.names k)))
+  pub renewed : (k : ℕ) → k < length f.names → is_in name_eq (name_at f.names k) done ≡ true →
+      map (name_at f.names) (list_of table k) ≡ assigned_at (shadows f hosts) (name_at f.names k)
   pub kept : (k : ℕ) → k < length f.names → is_in name_eq (name_at f.names k) done ≡ false → list_of table k ≡ list_of old k
   pub nodes : (k : ℕ) → All (λ j. j < length f.names) (list_of table k)
   pub beyond : (k : ℕ) → length f.names ≤ k → list_of table k ≡ []
@@ -29,7 +32,10 @@ names_but x ys = filter (λ y. not (name_eq x y)) ys
 -- their order; the node itself stands in the list of its old slot alone; and where it was not moved and has the slot that it
 -- had, no list is another one.
 pub record IsButFor (f : NamedTrees) (hosts : List ShadowHost) (table : SlotTable) (slot : Option ℕ) (step : Step) : Type 0 where
-  pub others : (k : ℕ) → k < length f.names → names_but (name_at f.names (step_node step)) (map (name_at f.names) (list_of table k)) ≡ names_but (name_at f.names (step_node step)) (assigned_at (shadows f hosts) (name_at f.names k))
+  pub others : (k : ℕ) → k < length f.names →
+      names_but (name_at f.names (step_node step)) (map (name_at f.names) (list_of table k)) ≡ names_but (name_at f.names (step_node step))
+      (assigned_at (shadows f hosts) (name_at f.names k))
   pub listed : (k : ℕ) → k < length f.names → is_in nat_eq (step_node step) (list_of table k) ≡ true → slot ≡ Some k
-  pub stays : is_move step ≡ false → option_map (name_at f.names) slot ≡ slot_at (shadows f hosts) (name_at f.names (step_node step)) → (k : ℕ) → k < length f.names
+  pub stays : is_move step ≡ false → option_map (name_at f.names) slot ≡ slot_at (shadows f hosts) (name_at f.names (step_node step)) → (k : ℕ) →
+      k < length f.names
       → map (name_at f.names) (list_of table k) ≡ assigned_at (shadows f hosts) (name_at f.names k)

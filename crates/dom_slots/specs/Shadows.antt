@@ -1,5 +1,6 @@
 -- Slots, assigned nodes and signals in trees with shadow hosts, whoever owns the nodes.
-use Rattle.std.specs.Prelude.{◌≡◌, ◌≢◌, Bool, false, not, ◌&&◌, List, [], ◌∷◌, ◌++◌, filter, find, Option, None, option_map, option_to_list, is_some, if◌then◌else◌}
+use Rattle.std.specs.Prelude.{◌≡◌, ◌≢◌, Bool, false, not, ◌&&◌, List, [], ◌∷◌, ◌++◌, filter, find, Option, None, option_map, option_to_list, is_some}
+use Rattle.std.specs.Prelude.{if◌then◌else◌}
 use Rattle.std.specs.Option.{option_and_then, option_map_or}
 use Rattle.dom_base.specs.declared.Owner.{Owner}
 use Rattle.dom_base.specs.declared.NodeName.{NodeName}
@@ -41,7 +42,9 @@ module _ (s : ShadowTrees) where
   -- whether y is the first slot of its own name in the shadow tree of a host
   abbrev pub is_first_at : NodeName → NodeName → Bool
   is_first_at host y =
-      is_in name_eq y (option_to_list (option_and_then (λ r. option_map (λ (n : Node). n.name) (find (has_slot_name (slot_name (node_in s.trees y))) (nodes (subtree s.trees r)))) (s.shadow_of host)))
+      is_in name_eq y (option_to_list (option_and_then
+      (λ r. option_map (λ (n : Node). n.name) (find (has_slot_name (slot_name (node_in s.trees y))) (nodes (subtree s.trees r))))
+      (s.shadow_of host)))
 
   -- the host's children whose slot y is, in their order
   abbrev pub assigned_under : NodeName → NodeName → List NodeName

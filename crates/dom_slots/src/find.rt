@@ -16,7 +16,8 @@ use std::alloc::{AllocError, Global};
 /// The first slot of a name in the tree of `top`.
 pub(crate) fn slot_named(forest: &Forest, top: Key, name: &[u16]) -> Option<Key>
     requires { top < length forest.now.names }
-    ensures value { option_map (name_at forest.now.names) result ≡ option_map (λ (n : Node). n.name) (find (has_slot_name name.now) (nodes (subtree forest.now.trees (name_at forest.now.names top)))) }
+    ensures value { option_map (name_at forest.now.names) result ≡ option_map (λ (n : Node). n.name)
+        (find (has_slot_name name.now) (nodes (subtree forest.now.trees (name_at forest.now.names top)))) }
     ensures node { ForSome result (λ k. k < length forest.now.names) }
 {
     forest.nodes_stand_once();
@@ -106,7 +107,9 @@ pub(crate) fn looks_for(forest: &Forest, key: Key, name: &[u16]) -> bool
 pub(crate) fn next_looking(forest: &Forest, child: Key, name: &[u16]) -> Option<Key>
     requires node { child < length forest.now.names }
     requires parent { (h : Name) × (parent_of forest.now.trees (name_at forest.now.names child) ≡ Some h) }
-    ensures value { option_map (name_at forest.now.names) result ≡ first_of (filter (λ y. looks_for name.now (node_in forest.now.trees y)) (items_after name_eq (name_at forest.now.names child) (siblings forest.now.trees (name_at forest.now.names child)))) }
+    ensures value { option_map (name_at forest.now.names) result ≡ first_of
+        (filter (λ y. looks_for name.now (node_in forest.now.trees y))
+        (items_after name_eq (name_at forest.now.names child) (siblings forest.now.trees (name_at forest.now.names child)))) }
     ensures node { ForSome result (λ k. k < length forest.now.names) }
 {
     forest.nodes_stand_once();

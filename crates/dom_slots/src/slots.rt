@@ -85,7 +85,8 @@ impl Slots {
         ensures table { OnOk result (self.new.table ≡ self.old.table) }
         ensures begun { OnOk result (self.new.begun ≡ None) }
         // They stay the slots of a forest, if no slot stands in the tree of the root.
-        ensures slots { OnOk result ((f : NamedTrees) → StandsOnce f → AreSlotsOf f self.old → host < length f.names → root < length f.names → slots_among (subtree f.trees (name_at f.names root)) ≡ [] → AreSlotsOf f self.new) }
+        ensures slots { OnOk result ((f : NamedTrees) → StandsOnce f → AreSlotsOf f self.old → host < length f.names → root < length f.names →
+            slots_among (subtree f.trees (name_at f.names root)) ≡ [] → AreSlotsOf f self.new) }
         ensures err { OnErr result (self.new ≡ self.old) }
     {
         self.roots.reserve(1)?;

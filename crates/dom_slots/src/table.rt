@@ -130,7 +130,8 @@ impl Table {
 /// Takes a node out of the list of a slot, and tells whether it stood there.
 fn take_from(lists: &mut IndexMap<Key, Vec<Key>>, slot: Key, node: Key) -> bool
     ensures stood { result ≡ is_in nat_eq node (items_or (get nat_eq lists.old slot)) }
-    ensures lists { (k : ℕ) → items_or (get nat_eq lists.new k) ≡ (if nat_eq slot k then without node (items_or (get nat_eq lists.old k)) else items_or (get nat_eq lists.old k)) }
+    ensures lists { (k : ℕ) → items_or (get nat_eq lists.new k) ≡
+        (if nat_eq slot k then without node (items_or (get nat_eq lists.old k)) else items_or (get nat_eq lists.old k)) }
 {
     match lists.get_mut(&slot) {
         Some(list) => {
@@ -151,7 +152,9 @@ fn put_into(
     node: Key,
     before: Option<Key>,
 ) -> Result<(), AllocError>
-    ensures ok { OnOk result ((k : ℕ) → items_or (get nat_eq lists.new k) ≡ (if nat_eq slot k then insert_before (items_or (get nat_eq lists.old k)) node before else items_or (get nat_eq lists.old k))) }
+    ensures ok { OnOk result ((k : ℕ) → items_or
+        (get nat_eq lists.new k) ≡ (if nat_eq slot k then insert_before (items_or (get nat_eq lists.old k)) node before else items_or
+        (get nat_eq lists.old k))) }
     ensures err { OnErr result ((k : ℕ) → items_or (get nat_eq lists.new k) ≡ items_or (get nat_eq lists.old k)) }
 {
     match lists.get_mut(&slot) {
@@ -189,7 +192,9 @@ fn position_of(list: &[Key], node: Key) -> Option<usize>
 
 /// Takes this slot from these nodes.
 fn forget(slots: &mut IndexMap<Key, Vec<Key>>, nodes: &[Key], slot: Key)
-    ensures { (k s : ℕ) → is_in nat_eq s (items_or (get nat_eq slots.new k)) ≡ (is_in nat_eq s (items_or (get nat_eq slots.old k)) && not (nat_eq slot s && is_in nat_eq k nodes.now)) }
+    ensures { (k s : ℕ) → is_in nat_eq s
+        (items_or (get nat_eq slots.new k)) ≡
+        (is_in nat_eq s (items_or (get nat_eq slots.old k)) && not (nat_eq slot s && is_in nat_eq k nodes.now)) }
 {
     for node in nodes {
         let _ = take_from(slots, *node, slot);
@@ -203,7 +208,8 @@ fn remember(
     nodes: &[Key],
     slot: Key,
 ) -> Result<(), AllocError>
-    ensures { OnOk result ((k s : ℕ) → is_in nat_eq s (items_or (get nat_eq slots.new k)) ≡ (is_in nat_eq s (items_or (get nat_eq slots.old k)) || (nat_eq slot s && is_in nat_eq k nodes.now))) }
+    ensures { OnOk result ((k s : ℕ) → is_in nat_eq s
+        (items_or (get nat_eq slots.new k)) ≡ (is_in nat_eq s (items_or (get nat_eq slots.old k)) || (nat_eq slot s && is_in nat_eq k nodes.now))) }
 {
     for node in nodes {
         put_into(alloc, slots, *node, slot, None)?;

@@ -7,14 +7,16 @@ use Rattle.dom_base.specs.declared.Kind.{Kind}
 use Rattle.dom_base.specs.declared.Kind.TheVariants as kinds
 use Rattle.dom_base.specs.declared.Action.{Action}
 use Rattle.dom_model.specs.Names.{Word}
-use Rattle.dom_model.specs.Command.{Spelled, Filter, ListenerWords, Command, new_element, new_text, new_comment, new_fragment, attach, assigned, listen, unlisten}
+use Rattle.dom_model.specs.Command.{Spelled, Filter, ListenerWords, Command, new_element, new_text, new_comment, new_fragment, attach, assigned}
+use Rattle.dom_model.specs.Command.{listen, unlisten}
 use Rattle.dom_text.specs.declared.Keyword.{Keyword}
 use Rattle.dom_text.specs.declared.Keyword.TheVariants as keyword
 use Rattle.dom_text.specs.Words.{kind_word, new_kinds, keyword_word}
 use Rattle.dom_text.specs.Tokens.{IsWord, IsShow, IsNameFilter, IsAttributeFilter}
 use Rattle.dom_text.specs.Grammar.{Part, key, label, node, flag, perhaps, filter_parts, listener_parts, parts, MayUse, Spells}
 use Rattle.dom_text.specs.Readers.{◌>>=◌, Reader, at_end, next_as, named, show_of, name_filter_of, attribute_filter_of, flag_at, last_as}
-use Rattle.dom_text.specs.Decode.{one, two, three, four, node_at, label_at, new_of, new_at, attach_at, assigned_at, action_at, cursor_at, listen_end, listen_at, unlisten_end, unlisten_at}
+use Rattle.dom_text.specs.Decode.{one, two, three, four, node_at, label_at, new_of, new_at, attach_at, assigned_at, action_at, cursor_at, listen_end}
+use Rattle.dom_text.specs.Decode.{listen_at, unlisten_end, unlisten_at}
 use Rattle.dom_text.proofs.WordLaws.{bind_then, some_is, at_end_some}
 use Rattle.dom_text.proofs.PartLaws.{ReadsPart, next_word_reads, next_as_reads, Spells-ends, one_sound, two_sound, three_sound, four_sound}
 use Rattle.dom_text.proofs.StringLaws.{next_string_reads}
@@ -32,33 +34,41 @@ IsBehind k o bytes c = MayUse c o × Spells (parts o c) (32 ∷ keyword_word k +
 abbrev pub Keyed : Keyword → List Part → List ℕ → Type 0
 Keyed k others bytes = Spells (key (keyword_word k) ∷ others) (32 ∷ keyword_word k ++ bytes)
 
-pub none_behind : (makes : Command) (k : Keyword) (o : Owner) (bytes : List ℕ) (c : Command) → (Keyed k [] bytes → IsBehind k o bytes makes) → at_end makes bytes ≡ Some c → IsBehind k o bytes c
+pub none_behind : (makes : Command) (k : Keyword) (o : Owner) (bytes : List ℕ) (c : Command) → (Keyed k [] bytes → IsBehind k o bytes makes) →
+    at_end makes bytes ≡ Some c → IsBehind k o bytes c
 none_behind makes k o bytes c is e =
     let s = at_end_some makes c bytes e in
     subst (IsBehind k o bytes) s.0 (is (keyword_word k, bytes, refl, s.1, refl))
 
-pub one_behind : {A : Type 0} {first : Reader A} {P : A → Part} → ReadsPart first P → (makes : A → Command) (k : Keyword) (o : Owner) (bytes : List ℕ) (c : Command) →
+pub one_behind : {A : Type 0} {first : Reader A} {P : A → Part} → ReadsPart first P →
+    (makes : A → Command) (k : Keyword) (o : Owner) (bytes : List ℕ) (c : Command) →
     ((a : A) → Keyed k (P a ∷ []) bytes → IsBehind k o bytes (makes a)) → one first makes bytes ≡ Some c → IsBehind k o bytes c
 one_behind reads makes k o bytes c is e =
     let s = one_sound reads makes bytes c e in
     subst (IsBehind k o bytes) s.1 (is s.0 (keyword_word k, bytes, refl, s.2, refl))
 
-pub two_behind : {A B : Type 0} {first : Reader A} {second : Reader B} {P : A → Part} {Q : B → Part} → ReadsPart first P → ReadsPart second Q → (makes : A → B → Command) (k : Keyword) (o : Owner) (bytes : List ℕ) (c : Command) →
+pub two_behind : {A B : Type 0} {first : Reader A} {second : Reader B} {P : A → Part} {Q : B → Part} → ReadsPart first P → ReadsPart second Q →
+    (makes : A → B → Command) (k : Keyword) (o : Owner) (bytes : List ℕ) (c : Command) →
     ((a : A) (b : B) → Keyed k (P a ∷ Q b ∷ []) bytes → IsBehind k o bytes (makes a b)) → two first second makes bytes ≡ Some c → IsBehind k o bytes c
 two_behind reads₁ reads₂ makes k o bytes c is e =
     let s = two_sound reads₁ reads₂ makes bytes c e in
     subst (IsBehind k o bytes) s.2 (is s.0 s.1 (keyword_word k, bytes, refl, s.3, refl))
 
-pub three_behind : {A B D : Type 0} {first : Reader A} {second : Reader B} {third : Reader D} {P : A → Part} {Q : B → Part} {R : D → Part} → ReadsPart first P → ReadsPart second Q → ReadsPart third R →
-    (makes : A → B → D → Command) (k : Keyword) (o : Owner) (bytes : List ℕ) (c : Command) → ((a : A) (b : B) (d : D) → Keyed k (P a ∷ Q b ∷ R d ∷ []) bytes → IsBehind k o bytes (makes a b d)) →
+pub three_behind : {A B D : Type 0} {first : Reader A} {second : Reader B} {third : Reader D} {P : A → Part} {Q : B → Part} {R : D → Part} →
+    ReadsPart first P → ReadsPart second Q → ReadsPart third R →
+    (makes : A → B → D → Command) (k : Keyword) (o : Owner) (bytes : List ℕ) (c : Command) →
+    ((a : A) (b : B) (d : D) → Keyed k (P a ∷ Q b ∷ R d ∷ []) bytes → IsBehind k o bytes (makes a b d)) →
     three first second third makes bytes ≡ Some c → IsBehind k o bytes c
 three_behind reads₁ reads₂ reads₃ makes k o bytes c is e =
     let s = three_sound reads₁ reads₂ reads₃ makes bytes c e in
     subst (IsBehind k o bytes) s.3 (is s.0 s.1 s.2 (keyword_word k, bytes, refl, s.4, refl))
 
-pub four_behind : {A B D E : Type 0} {first : Reader A} {second : Reader B} {third : Reader D} {fourth : Reader E} {P : A → Part} {Q : B → Part} {R : D → Part} {S : E → Part} →
-    ReadsPart first P → ReadsPart second Q → ReadsPart third R → ReadsPart fourth S → (makes : A → B → D → E → Command) (k : Keyword) (o : Owner) (bytes : List ℕ) (c : Command) →
-    ((a : A) (b : B) (d : D) (e : E) → Keyed k (P a ∷ Q b ∷ R d ∷ S e ∷ []) bytes → IsBehind k o bytes (makes a b d e)) → four first second third fourth makes bytes ≡ Some c → IsBehind k o bytes c
+pub four_behind : {A B D E : Type 0} {first : Reader A} {second : Reader B} {third : Reader D} {fourth : Reader E} {P : A → Part} {Q : B → Part}
+    {R : D → Part} {S : E → Part} →
+    ReadsPart first P → ReadsPart second Q → ReadsPart third R → ReadsPart fourth S →
+    (makes : A → B → D → E → Command) (k : Keyword) (o : Owner) (bytes : List ℕ) (c : Command) →
+    ((a : A) (b : B) (d : D) (e : E) → Keyed k (P a ∷ Q b ∷ R d ∷ S e ∷ []) bytes → IsBehind k o bytes (makes a b d e)) →
+    four first second third fourth makes bytes ≡ Some c → IsBehind k o bytes c
 four_behind reads₁ reads₂ reads₃ reads₄ makes k o bytes c is e =
     let s = four_sound reads₁ reads₂ reads₃ reads₄ makes bytes c e in
     subst (IsBehind k o bytes) s.4 (is s.0 s.1 s.2 s.3 (keyword_word k, bytes, refl, s.5, refl))
@@ -85,7 +95,8 @@ kind_reads = next_as_reads (record {
   is_word = λ w k p. rw (p.0) (kind_is_word k);
 })
 
-pub new_of_sound : (k : Kind) (o : Owner) (bytes first rest : List ℕ) (c : Command) → first ≡ kind_word k → bytes ≡ 32 ∷ first ++ rest → new_of k rest ≡ Some c → IsBehind keyword.New o bytes c
+pub new_of_sound : (k : Kind) (o : Owner) (bytes first rest : List ℕ) (c : Command) → first ≡ kind_word k → bytes ≡ 32 ∷ first ++ rest →
+    new_of k rest ≡ Some c → IsBehind keyword.New o bytes c
 new_of_sound kinds.Element o bytes first rest c f b e =
     let s = one_sound next_word_reads new_element rest c e in
     subst (IsBehind keyword.New o bytes) s.1 (tt, (codes "new", bytes, refl, (first, rest, f, s.2, b), refl))
@@ -125,21 +136,26 @@ name_filter_reads = next_as_reads name_filter_says
 pub attribute_filter_reads : ReadsPart (next_as attribute_filter_of) IsAttributeFilter
 attribute_filter_reads = next_as_reads attribute_filter_says
 
-pub cursor_sound : (o : Owner) (makes : Spelled → Filter → Command) (bytes : List ℕ) (c : Command) → cursor_at o makes bytes ≡ Some c → (root : Spelled) × (f : Filter) × (makes root f ≡ c) × Spells (node o root ∷ filter_parts f) bytes
+pub cursor_sound : (o : Owner) (makes : Spelled → Filter → Command) (bytes : List ℕ) (c : Command) → cursor_at o makes bytes ≡ Some c →
+    (root : Spelled) × (f : Filter) × (makes root f ≡ c) × Spells (node o root ∷ filter_parts f) bytes
 cursor_sound o makes bytes c e =
-    bind_then (node_at o bytes) (λ root. next_as show_of root.1 >>= λ shown. last_as name_filter_of shown.1 >>= λ f. Some (makes root.0 (record { shown = shown.0; named = f }))) c e λ root h₁ k₁.
-    bind_then (next_as show_of root.1) (λ shown. last_as name_filter_of shown.1 >>= λ f. Some (makes root.0 (record { shown = shown.0; named = f }))) c k₁ λ shown h₂ k₂.
+    bind_then (node_at o bytes) (λ root. next_as show_of root.1 >>= λ shown. last_as name_filter_of shown.1 >>= λ f. Some
+    (makes root.0 (record { shown = shown.0; named = f }))) c e λ root h₁ k₁.
+    bind_then (next_as show_of root.1) (λ shown. last_as name_filter_of shown.1 >>= λ f. Some
+    (makes root.0 (record { shown = shown.0; named = f }))) c k₁ λ shown h₂ k₂.
     bind_then (last_as name_filter_of shown.1) (λ f. Some (makes root.0 (record { shown = shown.0; named = f }))) c k₂ λ f h₃ k₃.
     let root_is = (node_reads o).sound bytes root.0 root.1 h₁ in
     let shown_is = show_reads.sound root.1 shown.0 shown.1 h₂ in
     let last = last_sound name_filter_of name_filter_reads shown.1 f h₃ in
     (root.0, record { shown = shown.0; named = f }, some_is k₃, (root_is.0, root.1, root_is.1, (shown_is.0, shown.1, shown_is.1, last, shown_is.2), root_is.2))
 
-pub cursor_complete : (o : Owner) (makes : Spelled → Filter → Command) (bytes : List ℕ) (root : Spelled) (f : Filter) → Spells (node o root ∷ filter_parts f) bytes → cursor_at o makes bytes ≡ Some (makes root f)
+pub cursor_complete : (o : Owner) (makes : Spelled → Filter → Command) (bytes : List ℕ) (root : Spelled) (f : Filter) →
+    Spells (node o root ∷ filter_parts f) bytes → cursor_at o makes bytes ≡ Some (makes root f)
 cursor_complete o makes bytes root f s =
     let e₁ : node_at o bytes ≡ Some (root, s.1) = rw (s.4) ((node_reads o).complete s.0 s.1 root s.2 (Spells-ends (filter_parts f) s.1 s.3)) in
     let t = s.3 in
-    let e₂ : next_as show_of s.1 ≡ Some (f.shown, t.1) = rw (t.4) (show_reads.complete t.0 t.1 f.shown t.2 (Spells-ends (perhaps IsNameFilter f.named) t.1 t.3)) in
+    let e₂ : next_as show_of s.1 ≡ Some (f.shown, t.1) =
+    rw (t.4) (show_reads.complete t.0 t.1 f.shown t.2 (Spells-ends (perhaps IsNameFilter f.named) t.1 t.3)) in
     let e₃ : last_as name_filter_of t.1 ≡ Some f.named = last_complete name_filter_of name_filter_reads t.1 f.named t.3 in
     rw (e₁, e₂, e₃) refl
 
@@ -147,13 +163,16 @@ cursor_complete o makes bytes root f s =
 abbrev pub listener_flags : Bool → Bool → Bool → List Part
 listener_flags capture once passive = flag capture (codes "capture") (flag once (codes "once") (flag passive (codes "passive") []))
 
-pub listen_end_sound : (n : Spelled) (event l : Word) (a : Action) (bytes : List ℕ) (c : Command) → listen_end n event l a bytes ≡ Some c → (capture : Bool) × (once : Bool) × (passive : Bool) ×
-    (listen n (record { event = event; label = l; action = a; capture = capture; once = once; passive = passive }) ≡ c) × Spells (listener_flags capture once passive) bytes
+pub listen_end_sound : (n : Spelled) (event l : Word) (a : Action) (bytes : List ℕ) (c : Command) → listen_end n event l a bytes ≡ Some c →
+    (capture : Bool) × (once : Bool) × (passive : Bool) ×
+    (listen n (record { event = event; label = l; action = a; capture = capture; once = once; passive = passive }) ≡ c) ×
+    Spells (listener_flags capture once passive) bytes
 listen_end_sound n event l a bytes c e =
     let capture = flag_at (codes "capture") bytes in
     let once = flag_at (codes "once") capture.1 in
     let passive = flag_at (codes "passive") once.1 in
-    let end = at_end_some (listen n (record { event = event; label = l; action = a; capture = capture.0; once = once.0; passive = passive.0 })) c passive.1 e in (
+    let end = at_end_some (listen n (record { event = event; label = l; action = a; capture = capture.0; once = once.0; passive = passive.0 })) c
+    passive.1 e in (
       capture.0,
       once.0,
       passive.0,
@@ -162,7 +181,8 @@ listen_end_sound n event l a bytes c e =
           (flag_sound (codes "once") capture.1 (flag passive.0 (codes "passive") []) (flag_sound (codes "passive") once.1 [] end.1)),
     )
 
-pub listen_end_complete : (n : Spelled) (event l : Word) (a : Action) (capture once passive : Bool) (bytes : List ℕ) → Spells (listener_flags capture once passive) bytes →
+pub listen_end_complete : (n : Spelled) (event l : Word) (a : Action) (capture once passive : Bool) (bytes : List ℕ) →
+    Spells (listener_flags capture once passive) bytes →
     listen_end n event l a bytes ≡ Some (listen n (record { event = event; label = l; action = a; capture = capture; once = once; passive = passive }))
 listen_end_complete n event l a capture once passive bytes s =
     let after_once = flag passive (codes "passive") [] in
@@ -170,14 +190,17 @@ listen_end_complete n event l a capture once passive bytes s =
     let is_once = word_by_test (codes "once") refl refl in
     let is_passive = word_by_test (codes "passive") refl refl in
     let f₁ = flag_complete (codes "capture") capture after_capture bytes (word_by_test (codes "capture") refl refl)
-    (λ q. avoids_flag (codes "capture") once (codes "once") after_once is_once refl (avoids_flag (codes "capture") passive (codes "passive") [] is_passive refl (avoids_nothing (codes "capture")))) s in
-    let f₂ = flag_complete (codes "once") once after_once f₁.0 is_once (λ q. avoids_flag (codes "once") passive (codes "passive") [] is_passive refl (avoids_nothing (codes "once"))) f₁.2 in
+    (λ q. avoids_flag (codes "capture") once (codes "once") after_once is_once refl
+    (avoids_flag (codes "capture") passive (codes "passive") [] is_passive refl (avoids_nothing (codes "capture")))) s in
+    let f₂ = flag_complete (codes "once") once after_once f₁.0 is_once
+    (λ q. avoids_flag (codes "once") passive (codes "passive") [] is_passive refl (avoids_nothing (codes "once"))) f₁.2 in
     let f₃ = flag_complete (codes "passive") passive [] f₂.0 is_passive (λ q. avoids_nothing (codes "passive")) f₂.2 in
     rw (f₁.1, f₂.1, f₃.1, f₃.2) refl
 
 pub listen_sound : (o : Owner) (bytes : List ℕ) (c : Command) → listen_at o bytes ≡ Some c → IsBehind keyword.Listen o bytes c
 listen_sound o bytes c e =
-    bind_then (node_at o bytes) (λ n. label_at n.1 >>= λ event. label_at event.1 >>= λ l. action_at l.1 >>= λ a. listen_end n.0 event.0 l.0 a.0 a.1) c e λ n h₁ k₁.
+    bind_then (node_at o bytes) (λ n. label_at n.1 >>= λ event. label_at event.1 >>= λ l. action_at l.1 >>= λ a. listen_end n.0 event.0 l.0 a.0
+    a.1) c e λ n h₁ k₁.
     bind_then (label_at n.1) (λ event. label_at event.1 >>= λ l. action_at l.1 >>= λ a. listen_end n.0 event.0 l.0 a.0 a.1) c k₁ λ event h₂ k₂.
     bind_then (label_at event.1) (λ l. action_at l.1 >>= λ a. listen_end n.0 event.0 l.0 a.0 a.1) c k₂ λ l h₃ k₃.
     bind_then (action_at l.1) (λ a. listen_end n.0 event.0 l.0 a.0 a.1) c k₃ λ a h₄ k₄.
@@ -197,7 +220,8 @@ listen_sound o bytes c e =
       ),
     )
 
-pub listen_complete : (o : Owner) (n : Spelled) (l : ListenerWords) (bytes : List ℕ) → Spells (node o n ∷ listener_parts l) bytes → listen_at o bytes ≡ Some (listen n l)
+pub listen_complete : (o : Owner) (n : Spelled) (l : ListenerWords) (bytes : List ℕ) → Spells (node o n ∷ listener_parts l) bytes →
+    listen_at o bytes ≡ Some (listen n l)
 listen_complete o n l bytes s =
     let e₁ : node_at o bytes ≡ Some (n, s.1) = rw (s.4) ((node_reads o).complete s.0 s.1 n s.2 (Spells-ends (listener_parts l) s.1 s.3)) in
     let t = s.3 in
@@ -205,10 +229,12 @@ listen_complete o n l bytes s =
     let u = t.3 in
     let e₃ : label_at t.1 ≡ Some (l.label, u.1) = rw (u.4) (label_reads.complete u.0 u.1 l.label u.2 (Spells-ends (drop 2 (listener_parts l)) u.1 u.3)) in
     let v = u.3 in
-    let e₄ : action_at u.1 ≡ Some (l.action, v.1) = rw (v.4) (action_reads.complete v.0 v.1 l.action v.2 (Spells-ends (listener_flags l.capture l.once l.passive) v.1 v.3)) in
+    let e₄ : action_at u.1 ≡ Some (l.action, v.1) =
+    rw (v.4) (action_reads.complete v.0 v.1 l.action v.2 (Spells-ends (listener_flags l.capture l.once l.passive) v.1 v.3)) in
     rw (e₁, e₂, e₃, e₄) (listen_end_complete n l.event l.label l.action l.capture l.once l.passive v.1 v.3)
 
-pub unlisten_end_sound : (n : Spelled) (event l : Word) (bytes : List ℕ) (c : Command) → unlisten_end n event l bytes ≡ Some c → (capture : Bool) × (unlisten n event l capture ≡ c) × Spells (flag capture (codes "capture") []) bytes
+pub unlisten_end_sound : (n : Spelled) (event l : Word) (bytes : List ℕ) (c : Command) → unlisten_end n event l bytes ≡ Some c →
+    (capture : Bool) × (unlisten n event l capture ≡ c) × Spells (flag capture (codes "capture") []) bytes
 unlisten_end_sound n event l bytes c e =
     let capture = flag_at (codes "capture") bytes in
     let end = at_end_some (unlisten n event l capture.0) c capture.1 e in
@@ -234,7 +260,8 @@ unlisten_sound o bytes c e =
       ),
     )
 
-pub unlisten_complete : (o : Owner) (n : Spelled) (event l : Word) (capture : Bool) (bytes : List ℕ) → Spells (node o n ∷ label event ∷ label l ∷ flag capture (codes "capture") []) bytes → unlisten_at o bytes ≡ Some (unlisten n event l capture)
+pub unlisten_complete : (o : Owner) (n : Spelled) (event l : Word) (capture : Bool) (bytes : List ℕ) →
+    Spells (node o n ∷ label event ∷ label l ∷ flag capture (codes "capture") []) bytes → unlisten_at o bytes ≡ Some (unlisten n event l capture)
 unlisten_complete o n event l capture bytes s =
     let flags = flag capture (codes "capture") [] in
     let e₁ : node_at o bytes ≡ Some (n, s.1) = rw (s.4) ((node_reads o).complete s.0 s.1 n s.2 (Spells-ends (label event ∷ label l ∷ flags) s.1 s.3)) in

@@ -1,5 +1,6 @@
 -- What is computed of a line is what the grammar says of it, and the grammar says one thing of each line.
-use Rattle.std.proofs.Common.{◌≡◌, ℕ, ◌+◌, ◌-◌, ◌<◌, ◌≤◌, Bool, true, false, ltb, eqb, List, [], ◌∷◌, ◌++◌, length, take, drop, Option, Some, None, refl, sym, ap, subst, ◌∙◌, append_assoc, arith, inl, inr}
+use Rattle.std.proofs.Common.{◌≡◌, ℕ, ◌+◌, ◌-◌, ◌<◌, ◌≤◌, Bool, true, false, ltb, eqb, List, [], ◌∷◌, ◌++◌, length, take, drop, Option, Some, None}
+use Rattle.std.proofs.Common.{refl, sym, ap, subst, ◌∙◌, append_assoc, arith, inl, inr}
 use Rattle.std.proofs.lemmas.Bool.{ltb-true, ltb-false, eqb-true, cases_lt}
 use Rattle.std.proofs.lemmas.Option.{some_pair_parts}
 use Rattle.std.proofs.lemmas.List.{length-append, length-take, take_all, take-append-drop}
@@ -20,7 +21,8 @@ use Rattle.dom_text.proofs.CommandLaws.{command_sound, command_complete}
 
 -- ---- the owner in front
 
-before_space_sound : (o p : Owner) (bytes rest : List ℕ) → before_space o bytes ≡ Some (p, rest) → (o ≡ p) × (bytes ≡ rest) × ((behind : List ℕ) × (rest ≡ 32 ∷ behind))
+before_space_sound : (o p : Owner) (bytes rest : List ℕ) → before_space o bytes ≡ Some (p, rest) → (o ≡ p) × (bytes ≡ rest) ×
+    ((behind : List ℕ) × (rest ≡ 32 ∷ behind))
 before_space_sound o p [] rest e = absurd cc
 before_space_sound o p (b ∷ bytes) rest e =
     let h = only_if_some (eqb b 32) (o, b ∷ bytes) (p, rest) e in
@@ -28,7 +30,8 @@ before_space_sound o p (b ∷ bytes) rest e =
     (same.0, same.1, (bytes, sym same.1 ∙ ap (λ (x : ℕ). x ∷ bytes) (eqb-true b 32 h.0)))
 
 -- an owner that is found owns the line
-pub owner_at_sound : (line : List ℕ) (o : Owner) (rest : List ℕ) → owner_at line ≡ Some (o, rest) → (name : List ℕ) × IsOwner o name × (line ≡ name ++ rest) × ((behind : List ℕ) × (rest ≡ 32 ∷ behind))
+pub owner_at_sound : (line : List ℕ) (o : Owner) (rest : List ℕ) → owner_at line ≡ Some (o, rest) → (name : List ℕ) × IsOwner o name ×
+    (line ≡ name ++ rest) × ((behind : List ℕ) × (rest ≡ 32 ∷ behind))
 owner_at_sound line o rest e =
     bind_then (word_at line) (λ found. owner_of found.0 >>= λ p. before_space p found.1) (o, rest) e λ found h₁ k₁.
     bind_then (owner_of found.0) (λ p. before_space p found.1) (o, rest) k₁ λ p h₂ k₂.
@@ -115,7 +118,8 @@ line_belongs line o c h =
     let b = said_begins o c h.said (command_complete o c h.said h.may_use h.spelled) in
     (h.name, b.0, h.owned, h.whole ∙ ap (λ (x : List ℕ). h.name ++ x) b.1)
 
-same_commands : (o p : Owner) (said said' : List ℕ) (c d : Command) → (o ≡ p) × (said ≡ said') → command_at o said ≡ Some c → command_at p said' ≡ Some d → command o c ≡ command p d
+same_commands : (o p : Owner) (said said' : List ℕ) (c d : Command) → (o ≡ p) × (said ≡ said') → command_at o said ≡ Some c →
+    command_at p said' ≡ Some d → command o c ≡ command p d
 same_commands o p said said' c d same e f =
     let g : command_at p said' ≡ Some c = rw (← same.0, ← same.1) e in
     let first = same.0 in

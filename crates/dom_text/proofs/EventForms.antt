@@ -20,10 +20,12 @@ use Rattle.dom_text.proofs.CommandForms.{IsBehind, attribute_filter_reads}
 abbrev pub event_flags : Bool → Bool → Bool → List Part → List Part
 event_flags bubbles cancelable composed behind = flag bubbles (codes "bubbles") (flag cancelable (codes "cancelable") (flag composed (codes "composed") behind))
 
-pub related_sound : (o : Owner) (bytes : List ℕ) (r : Option Spelled) → related_at o (flag_at (codes "related") bytes).0 (flag_at (codes "related") bytes).1 ≡ Some r → Spells (related_parts o r) bytes
+pub related_sound : (o : Owner) (bytes : List ℕ) (r : Option Spelled) →
+    related_at o (flag_at (codes "related") bytes).0 (flag_at (codes "related") bytes).1 ≡ Some r → Spells (related_parts o r) bytes
 related_sound o bytes r e = go (flag_at (codes "related") bytes) e (λ behind s. flag_sound (codes "related") bytes behind s)
   where
-    go : (f : Bool × List ℕ) → related_at o f.0 f.1 ≡ Some r → ((behind : List Part) → Spells behind f.1 → Spells (flag f.0 (codes "related") behind) bytes) → Spells (related_parts o r) bytes
+    go : (f : Bool × List ℕ) → related_at o f.0 f.1 ≡ Some r →
+        ((behind : List Part) → Spells behind f.1 → Spells (flag f.0 (codes "related") behind) bytes) → Spells (related_parts o r) bytes
     go (true, rest) k sound =
         let s = one_sound (node_reads o) Some rest r k in
         subst (λ (x : Option Spelled). Spells (related_parts o x) bytes) s.1 (sound (node o s.0 ∷ []) s.2)
@@ -31,7 +33,8 @@ related_sound o bytes r e = go (flag_at (codes "related") bytes) e (λ behind s.
         let end = at_end_some None r rest k in
         subst (λ (x : Option Spelled). Spells (related_parts o x) bytes) end.0 (sound [] end.1)
 
-pub related_complete : (o : Owner) (r : Option Spelled) (bytes : List ℕ) → Spells (related_parts o r) bytes → related_at o (flag_at (codes "related") bytes).0 (flag_at (codes "related") bytes).1 ≡ Some r
+pub related_complete : (o : Owner) (r : Option Spelled) (bytes : List ℕ) → Spells (related_parts o r) bytes →
+    related_at o (flag_at (codes "related") bytes).0 (flag_at (codes "related") bytes).1 ≡ Some r
 related_complete o None bytes s =
     let f = flag_complete (codes "related") false [] bytes (word_by_test (codes "related") refl refl) (λ q. avoids_nothing (codes "related")) s in
     rw (f.1, f.2) refl
@@ -44,14 +47,17 @@ pub avoids_related : (name : List ℕ) (o : Owner) (r : Option Spelled) → byte
 avoids_related name o None differs = avoids_nothing name
 avoids_related name o (Some n) differs = avoids_key name (codes "related") (node o n ∷ []) (word_by_test (codes "related") refl refl) differs
 
-pub dispatch_end_sound : (o : Owner) (n : Spelled) (event : Word) (bytes : List ℕ) (c : Command) → dispatch_end o n event bytes ≡ Some c → (bubbles : Bool) × (cancelable : Bool) × (composed : Bool) × (r : Option Spelled) ×
-    (dispatch n (record { event = event; bubbles = bubbles; cancelable = cancelable; composed = composed }) r ≡ c) × Spells (event_flags bubbles cancelable composed (related_parts o r)) bytes
+pub dispatch_end_sound : (o : Owner) (n : Spelled) (event : Word) (bytes : List ℕ) (c : Command) → dispatch_end o n event bytes ≡ Some c →
+    (bubbles : Bool) × (cancelable : Bool) × (composed : Bool) × (r : Option Spelled) ×
+    (dispatch n (record { event = event; bubbles = bubbles; cancelable = cancelable; composed = composed }) r ≡ c) ×
+    Spells (event_flags bubbles cancelable composed (related_parts o r)) bytes
 dispatch_end_sound o n event bytes c e =
     let bubbles = flag_at (codes "bubbles") bytes in
     let cancelable = flag_at (codes "cancelable") bubbles.1 in
     let composed = flag_at (codes "composed") cancelable.1 in
     let has_related = flag_at (codes "related") composed.1 in
-    bind_then (related_at o has_related.0 has_related.1) (λ r. Some (dispatch n (record { event = event; bubbles = bubbles.0; cancelable = cancelable.0; composed = composed.0 }) r)) c e λ r h k. (
+    bind_then (related_at o has_related.0 has_related.1)
+    (λ r. Some (dispatch n (record { event = event; bubbles = bubbles.0; cancelable = cancelable.0; composed = composed.0 }) r)) c e λ r h k. (
       bubbles.0,
       cancelable.0,
       composed.0,
@@ -62,7 +68,8 @@ dispatch_end_sound o n event bytes c e =
           (flag_sound (codes "composed") cancelable.1 (related_parts o r) (related_sound o composed.1 r h))),
     )
 
-pub dispatch_end_complete : (o : Owner) (n : Spelled) (event : Word) (bubbles cancelable composed : Bool) (r : Option Spelled) (bytes : List ℕ) → Spells (event_flags bubbles cancelable composed (related_parts o r)) bytes →
+pub dispatch_end_complete : (o : Owner) (n : Spelled) (event : Word) (bubbles cancelable composed : Bool) (r : Option Spelled) (bytes : List ℕ) →
+    Spells (event_flags bubbles cancelable composed (related_parts o r)) bytes →
     dispatch_end o n event bytes ≡ Some (dispatch n (record { event = event; bubbles = bubbles; cancelable = cancelable; composed = composed }) r)
 dispatch_end_complete o n event bubbles cancelable composed r bytes s =
     let after_composed = related_parts o r in
@@ -86,9 +93,11 @@ dispatch_sound o bytes c e =
     let n_is = (node_reads o).sound bytes n.0 n.1 h₁ in
     let event_is = label_reads.sound n.1 event.0 event.1 h₂ in
     let end = dispatch_end_sound o n.0 event.0 event.1 c k₂ in
-    subst (IsBehind keyword.Dispatch o bytes) end.4 (tt, (codes "dispatch", bytes, refl, (n_is.0, n.1, n_is.1, (event_is.0, event.1, event_is.1, end.5, event_is.2), n_is.2), refl))
+    subst (IsBehind keyword.Dispatch o bytes) end.4
+    (tt, (codes "dispatch", bytes, refl, (n_is.0, n.1, n_is.1, (event_is.0, event.1, event_is.1, end.5, event_is.2), n_is.2), refl))
 
-pub dispatch_complete : (o : Owner) (n : Spelled) (e : EventWords) (r : Option Spelled) (bytes : List ℕ) → Spells (node o n ∷ event_parts o e r) bytes → dispatch_at o bytes ≡ Some (dispatch n e r)
+pub dispatch_complete : (o : Owner) (n : Spelled) (e : EventWords) (r : Option Spelled) (bytes : List ℕ) →
+    Spells (node o n ∷ event_parts o e r) bytes → dispatch_at o bytes ≡ Some (dispatch n e r)
 dispatch_complete o n e r bytes s =
     let e₁ : node_at o bytes ≡ Some (n, s.1) = rw (s.4) ((node_reads o).complete s.0 s.1 n s.2 (Spells-ends (event_parts o e r) s.1 s.3)) in
     let t = s.3 in
@@ -101,7 +110,8 @@ avoids_attribute_filter name None differs = avoids_nothing name
 avoids_attribute_filter name (Some names) differs = avoids_word name (IsAttributeFilter names) [] λ text h.
     (attribute_filter_says.is_word text names h, λ e. differs (ap (λ (x : List ℕ). get_or x 0 0) (sym e ∙ h.2)))
 
-pub observe_end_sound : (k : ℕ) (n : Spelled) (bytes : List ℕ) (c : Command) → observe_end k n bytes ≡ Some c → (w : ObserveWords) × (observe k n w ≡ c) × Spells (observe_parts w) bytes
+pub observe_end_sound : (k : ℕ) (n : Spelled) (bytes : List ℕ) (c : Command) → observe_end k n bytes ≡ Some c → (w : ObserveWords) ×
+    (observe k n w ≡ c) × Spells (observe_parts w) bytes
 observe_end_sound k n bytes c e =
     let child_list = flag_at (codes "childList") bytes in
     let attributes = flag_at (codes "attributes") child_list.1 in
@@ -119,10 +129,20 @@ observe_end_sound k n bytes c e =
       filter = f;
     } in
     bind_then (last_as attribute_filter_of character_data_old_value.1) (λ f. Some (observe k n (words f))) c e λ f h same.
-    let s0_behind = flag attributes.0 (codes "attributes") (flag character_data.0 (codes "characterData") (flag subtree.0 (codes "subtree") (flag attribute_old_value.0 (codes "attributeOldValue") (flag character_data_old_value.0 (codes "characterDataOldValue") (perhaps IsAttributeFilter f))))) in
-    let s1_behind = flag character_data.0 (codes "characterData") (flag subtree.0 (codes "subtree") (flag attribute_old_value.0 (codes "attributeOldValue") (flag character_data_old_value.0 (codes "characterDataOldValue") (perhaps IsAttributeFilter f)))) in
-    let s2_behind = flag subtree.0 (codes "subtree") (flag attribute_old_value.0 (codes "attributeOldValue") (flag character_data_old_value.0 (codes "characterDataOldValue") (perhaps IsAttributeFilter f))) in
-    let s3_behind = flag attribute_old_value.0 (codes "attributeOldValue") (flag character_data_old_value.0 (codes "characterDataOldValue") (perhaps IsAttributeFilter f)) in
+    let s0_behind = flag attributes.0 (codes "attributes")
+    (flag character_data.0 (codes "characterData")
+    (flag subtree.0 (codes "subtree")
+    (flag attribute_old_value.0 (codes "attributeOldValue")
+    (flag character_data_old_value.0 (codes "characterDataOldValue") (perhaps IsAttributeFilter f))))) in
+    let s1_behind = flag character_data.0 (codes "characterData")
+    (flag subtree.0 (codes "subtree")
+    (flag attribute_old_value.0 (codes "attributeOldValue")
+    (flag character_data_old_value.0 (codes "characterDataOldValue") (perhaps IsAttributeFilter f)))) in
+    let s2_behind = flag subtree.0 (codes "subtree")
+    (flag attribute_old_value.0 (codes "attributeOldValue")
+    (flag character_data_old_value.0 (codes "characterDataOldValue") (perhaps IsAttributeFilter f))) in
+    let s3_behind = flag attribute_old_value.0 (codes "attributeOldValue")
+    (flag character_data_old_value.0 (codes "characterDataOldValue") (perhaps IsAttributeFilter f)) in
     let s4_behind = flag character_data_old_value.0 (codes "characterDataOldValue") (perhaps IsAttributeFilter f) in
     let s5_behind = perhaps IsAttributeFilter f in
     let s6 = last_sound attribute_filter_of attribute_filter_reads character_data_old_value.1 f h in
@@ -134,12 +154,23 @@ observe_end_sound k n bytes c e =
     let s0 = flag_sound (codes "childList") bytes s0_behind s1 in
     (words f, some_is same, s0)
 
-pub observe_end_complete : (k : ℕ) (n : Spelled) (w : ObserveWords) (bytes : List ℕ) → Spells (observe_parts w) bytes → observe_end k n bytes ≡ Some (observe k n w)
+pub observe_end_complete : (k : ℕ) (n : Spelled) (w : ObserveWords) (bytes : List ℕ) → Spells (observe_parts w) bytes →
+    observe_end k n bytes ≡ Some (observe k n w)
 observe_end_complete k n w bytes s =
-    let behind0 = flag w.attributes (codes "attributes") (flag w.character_data (codes "characterData") (flag w.subtree (codes "subtree") (flag w.attribute_old_value (codes "attributeOldValue") (flag w.character_data_old_value (codes "characterDataOldValue") (perhaps IsAttributeFilter w.filter))))) in
-    let behind1 = flag w.character_data (codes "characterData") (flag w.subtree (codes "subtree") (flag w.attribute_old_value (codes "attributeOldValue") (flag w.character_data_old_value (codes "characterDataOldValue") (perhaps IsAttributeFilter w.filter)))) in
-    let behind2 = flag w.subtree (codes "subtree") (flag w.attribute_old_value (codes "attributeOldValue") (flag w.character_data_old_value (codes "characterDataOldValue") (perhaps IsAttributeFilter w.filter))) in
-    let behind3 = flag w.attribute_old_value (codes "attributeOldValue") (flag w.character_data_old_value (codes "characterDataOldValue") (perhaps IsAttributeFilter w.filter)) in
+    let behind0 = flag w.attributes (codes "attributes")
+    (flag w.character_data (codes "characterData")
+    (flag w.subtree (codes "subtree")
+    (flag w.attribute_old_value (codes "attributeOldValue")
+    (flag w.character_data_old_value (codes "characterDataOldValue") (perhaps IsAttributeFilter w.filter))))) in
+    let behind1 = flag w.character_data (codes "characterData")
+    (flag w.subtree (codes "subtree")
+    (flag w.attribute_old_value (codes "attributeOldValue")
+    (flag w.character_data_old_value (codes "characterDataOldValue") (perhaps IsAttributeFilter w.filter)))) in
+    let behind2 = flag w.subtree (codes "subtree")
+    (flag w.attribute_old_value (codes "attributeOldValue")
+    (flag w.character_data_old_value (codes "characterDataOldValue") (perhaps IsAttributeFilter w.filter))) in
+    let behind3 = flag w.attribute_old_value (codes "attributeOldValue")
+    (flag w.character_data_old_value (codes "characterDataOldValue") (perhaps IsAttributeFilter w.filter)) in
     let behind4 = flag w.character_data_old_value (codes "characterDataOldValue") (perhaps IsAttributeFilter w.filter) in
     let behind5 = perhaps IsAttributeFilter w.filter in
     let is0 = word_by_test (codes "childList") refl refl in
@@ -149,15 +180,30 @@ observe_end_complete k n w bytes s =
     let is4 = word_by_test (codes "attributeOldValue") refl refl in
     let is5 = word_by_test (codes "characterDataOldValue") refl refl in
     let f0 = flag_complete (codes "childList") w.child_list behind0 bytes is0
-    (λ q. avoids_flag (codes "childList") w.attributes (codes "attributes") behind1 is1 refl (avoids_flag (codes "childList") w.character_data (codes "characterData") behind2 is2 refl (avoids_flag (codes "childList") w.subtree (codes "subtree") behind3 is3 refl (avoids_flag (codes "childList") w.attribute_old_value (codes "attributeOldValue") behind4 is4 refl (avoids_flag (codes "childList") w.character_data_old_value (codes "characterDataOldValue") behind5 is5 refl (avoids_attribute_filter (codes "childList") w.filter (λ e. omega arith))))))) s in
+    (λ q. avoids_flag (codes "childList") w.attributes (codes "attributes") behind1 is1 refl
+    (avoids_flag (codes "childList") w.character_data (codes "characterData") behind2 is2 refl
+    (avoids_flag (codes "childList") w.subtree (codes "subtree") behind3 is3 refl
+    (avoids_flag (codes "childList") w.attribute_old_value (codes "attributeOldValue") behind4 is4 refl
+    (avoids_flag (codes "childList") w.character_data_old_value (codes "characterDataOldValue") behind5 is5 refl
+    (avoids_attribute_filter (codes "childList") w.filter (λ e. omega arith))))))) s in
     let f1 = flag_complete (codes "attributes") w.attributes behind1 f0.0 is1
-    (λ q. avoids_flag (codes "attributes") w.character_data (codes "characterData") behind2 is2 refl (avoids_flag (codes "attributes") w.subtree (codes "subtree") behind3 is3 refl (avoids_flag (codes "attributes") w.attribute_old_value (codes "attributeOldValue") behind4 is4 refl (avoids_flag (codes "attributes") w.character_data_old_value (codes "characterDataOldValue") behind5 is5 refl (avoids_attribute_filter (codes "attributes") w.filter (λ e. omega arith)))))) f0.2 in
+    (λ q. avoids_flag (codes "attributes") w.character_data (codes "characterData") behind2 is2 refl
+    (avoids_flag (codes "attributes") w.subtree (codes "subtree") behind3 is3 refl
+    (avoids_flag (codes "attributes") w.attribute_old_value (codes "attributeOldValue") behind4 is4 refl
+    (avoids_flag (codes "attributes") w.character_data_old_value (codes "characterDataOldValue") behind5 is5 refl
+    (avoids_attribute_filter (codes "attributes") w.filter (λ e. omega arith)))))) f0.2 in
     let f2 = flag_complete (codes "characterData") w.character_data behind2 f1.0 is2
-    (λ q. avoids_flag (codes "characterData") w.subtree (codes "subtree") behind3 is3 refl (avoids_flag (codes "characterData") w.attribute_old_value (codes "attributeOldValue") behind4 is4 refl (avoids_flag (codes "characterData") w.character_data_old_value (codes "characterDataOldValue") behind5 is5 refl (avoids_attribute_filter (codes "characterData") w.filter (λ e. omega arith))))) f1.2 in
+    (λ q. avoids_flag (codes "characterData") w.subtree (codes "subtree") behind3 is3 refl
+    (avoids_flag (codes "characterData") w.attribute_old_value (codes "attributeOldValue") behind4 is4 refl
+    (avoids_flag (codes "characterData") w.character_data_old_value (codes "characterDataOldValue") behind5 is5 refl
+    (avoids_attribute_filter (codes "characterData") w.filter (λ e. omega arith))))) f1.2 in
     let f3 = flag_complete (codes "subtree") w.subtree behind3 f2.0 is3
-    (λ q. avoids_flag (codes "subtree") w.attribute_old_value (codes "attributeOldValue") behind4 is4 refl (avoids_flag (codes "subtree") w.character_data_old_value (codes "characterDataOldValue") behind5 is5 refl (avoids_attribute_filter (codes "subtree") w.filter (λ e. omega arith)))) f2.2 in
+    (λ q. avoids_flag (codes "subtree") w.attribute_old_value (codes "attributeOldValue") behind4 is4 refl
+    (avoids_flag (codes "subtree") w.character_data_old_value (codes "characterDataOldValue") behind5 is5 refl
+    (avoids_attribute_filter (codes "subtree") w.filter (λ e. omega arith)))) f2.2 in
     let f4 = flag_complete (codes "attributeOldValue") w.attribute_old_value behind4 f3.0 is4
-    (λ q. avoids_flag (codes "attributeOldValue") w.character_data_old_value (codes "characterDataOldValue") behind5 is5 refl (avoids_attribute_filter (codes "attributeOldValue") w.filter (λ e. omega arith))) f3.2 in
+    (λ q. avoids_flag (codes "attributeOldValue") w.character_data_old_value (codes "characterDataOldValue") behind5 is5 refl
+    (avoids_attribute_filter (codes "attributeOldValue") w.filter (λ e. omega arith))) f3.2 in
     let f5 = flag_complete (codes "characterDataOldValue") w.character_data_old_value behind5 f4.0 is5
     (λ q. avoids_attribute_filter (codes "characterDataOldValue") w.filter (λ e. omega arith)) f4.2 in
     let last = last_complete attribute_filter_of attribute_filter_reads f5.0 w.filter f5.2 in
@@ -170,9 +216,11 @@ observe_sound o bytes c e =
     let k_is = observer_reads.sound bytes k.0 k.1 h₁ in
     let n_is = (node_reads o).sound k.1 n.0 n.1 h₂ in
     let end = observe_end_sound k.0 n.0 n.1 c k₂ in
-    subst (IsBehind keyword.Observe o bytes) end.1 (tt, (codes "observe", bytes, refl, (k_is.0, k.1, k_is.1, (n_is.0, n.1, n_is.1, end.2, n_is.2), k_is.2), refl))
+    subst (IsBehind keyword.Observe o bytes) end.1
+    (tt, (codes "observe", bytes, refl, (k_is.0, k.1, k_is.1, (n_is.0, n.1, n_is.1, end.2, n_is.2), k_is.2), refl))
 
-pub observe_complete : (o : Owner) (k : ℕ) (n : Spelled) (w : ObserveWords) (bytes : List ℕ) → Spells (observed k ∷ node o n ∷ observe_parts w) bytes → observe_at o bytes ≡ Some (observe k n w)
+pub observe_complete : (o : Owner) (k : ℕ) (n : Spelled) (w : ObserveWords) (bytes : List ℕ) →
+    Spells (observed k ∷ node o n ∷ observe_parts w) bytes → observe_at o bytes ≡ Some (observe k n w)
 observe_complete o k n w bytes s =
     let e₁ : observer_number_at bytes ≡ Some (k, s.1) = rw (s.4) (observer_reads.complete s.0 s.1 k s.2 (Spells-ends (node o n ∷ observe_parts w) s.1 s.3)) in
     let t = s.3 in

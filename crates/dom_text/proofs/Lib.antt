@@ -1,17 +1,18 @@
-pub mod Examples
-pub mod TextExamples
+mod Examples
+mod RefusedExamples
+mod TextExamples
 pub mod LineLaws
 pub mod WordLaws
-pub mod PartLaws
-pub mod StringLaws
+mod PartLaws
+mod StringLaws
 pub mod NumberLaws
-pub mod NameLaws
-pub mod FlagLaws
-pub mod CommandParts
-pub mod CommandForms
-pub mod EventForms
-pub mod CommandLaws
+mod NameLaws
+mod FlagLaws
+mod CommandParts
+mod CommandForms
+mod EventForms
+mod CommandLaws
 pub mod DecodeLaws
 pub mod TextLaws
-pub mod PrintableLines
+mod PrintableLines
 pub mod OutputLaws

@@ -9,7 +9,8 @@ use Rattle.dom_text.specs.Text.{output_line, output_text}
 pub text_of_lines-append : (xs ys : List (List ℕ)) → text_of_lines (xs ++ ys) ≡ text_of_lines xs ++ text_of_lines ys
 text_of_lines-append [] ys = refl
 text_of_lines-append (x ∷ xs) ys =
-    ap (λ (t : List ℕ). (x ++ line_feed ∷ []) ++ t) (text_of_lines-append xs ys) ∙ sym (append_assoc (x ++ line_feed ∷ []) (text_of_lines xs) (text_of_lines ys))
+    ap (λ (t : List ℕ). (x ++ line_feed ∷ []) ++ t) (text_of_lines-append xs ys) ∙
+    sym (append_assoc (x ++ line_feed ∷ []) (text_of_lines xs) (text_of_lines ys))
 
 -- text of outputs, one after another
 pub output_text-append : (xs ys : List Output) → output_text (xs ++ ys) ≡ output_text xs ++ output_text ys

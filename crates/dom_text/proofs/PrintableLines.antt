@@ -9,10 +9,17 @@ use Rattle.dom_base.specs.declared.Owner.{Owner}
 use Rattle.dom_base.specs.declared.Move.{Move}
 use Rattle.dom_base.specs.declared.Action.{Action}
 use Rattle.dom_model.specs.Names.{Word}
-use Rattle.dom_model.specs.Command.{Spelled, Filter, ListenerWords, EventWords, ObserveWords, Command, new_element, new_text, new_comment, new_fragment, new_document, attach, append, insert, replace, remove, adopt, normalize, set_attribute, unset_attribute, set_data, replace_data, split, set_text, tree, attribute, parent, document_of, children, contains, connected, shadow_root, slot_of, assigned, range_new, range_start, range_end, range_collapse, range_drop, range_get, range_text, extract, delete, insert_node, iterator_new, walker_new, iterator_next, iterator_previous, iterator_at, walk, walker_at, walker_set, query, matches, listen, unlisten, dispatch, observer, observe, disconnect, take, micro, end_turn}
+use Rattle.dom_model.specs.Command.{Spelled, Filter, ListenerWords, EventWords, ObserveWords, Command, new_element, new_text, new_comment}
+use Rattle.dom_model.specs.Command.{new_fragment, new_document, attach, append, insert, replace, remove, adopt, normalize, set_attribute}
+use Rattle.dom_model.specs.Command.{unset_attribute, set_data, replace_data, split, set_text, tree, attribute, parent, document_of, children}
+use Rattle.dom_model.specs.Command.{contains, connected, shadow_root, slot_of, assigned, range_new, range_start, range_end, range_collapse}
+use Rattle.dom_model.specs.Command.{range_drop, range_get, range_text, extract, delete, insert_node, iterator_new, walker_new, iterator_next}
+use Rattle.dom_model.specs.Command.{iterator_previous, iterator_at, walk, walker_at, walker_set, query, matches, listen, unlisten, dispatch, observer}
+use Rattle.dom_model.specs.Command.{observe, disconnect, take, micro, end_turn}
 use Rattle.dom_text.specs.Words.{end_word, move_word, action_word}
 use Rattle.dom_text.specs.Tokens.{IsWord, IsItem, itself, quote, backslash, by_digits, AreItems, IsNameFilter, IsAttributeFilter}
-use Rattle.dom_text.specs.Grammar.{Part, key, word, label, string, number, node, range, iterator, walker, observed, flag, perhaps, filter_parts, listener_parts, related_parts, event_parts, observe_parts, parts, Spells, IsLine}
+use Rattle.dom_text.specs.Grammar.{Part, key, word, label, string, number, node, range, iterator, walker, observed, flag, perhaps, filter_parts}
+use Rattle.dom_text.specs.Grammar.{listener_parts, related_parts, event_parts, observe_parts, parts, Spells, IsLine}
 use Rattle.dom_text.proofs.WordLaws.{in_range_is, each_from, list_all_each}
 use Rattle.dom_text.proofs.NumberLaws.{each-append, number_says, numbered_says, node_says, owner_is_word}
 use Rattle.dom_text.proofs.NameLaws.{label_says, show_says, name_filter_says, attribute_filter_says}
@@ -90,7 +97,8 @@ printable_string units text h =
     let quoted : IsPrintable (34 ∷ []) = ((omega arith, omega arith), tt) in
     rw (h.2) ((omega arith, omega arith), each-append (IsInRange 0x20 0x7E) h.0 (34 ∷ []) (items_printable units h.0 h.1) quoted)
 
-printable_flag : (b : Bool) (name : List ℕ) (others : List Part) → list_all (is_in_range 0x20 0x7E) name ≡ true → PrintableParts others → PrintableParts (flag b name others)
+printable_flag : (b : Bool) (name : List ℕ) (others : List Part) → list_all (is_in_range 0x20 0x7E) name ≡ true → PrintableParts others →
+    PrintableParts (flag b name others)
 printable_flag true name others h rest = (printable_key name h, rest)
 printable_flag false name others h rest = rest
 
@@ -129,7 +137,8 @@ printable_names None = tt
 printable_names (Some names) = (λ text h. word_printable text (attribute_filter_says.is_word text names h), tt)
 
 printable_observe : (w : ObserveWords) → PrintableParts (observe_parts w)
-printable_observe w = printable_flag w.child_list (codes "childList") _ refl (printable_flag w.attributes (codes "attributes") _ refl (printable_flag w.character_data (codes "characterData") _ refl
+printable_observe w = printable_flag w.child_list (codes "childList") _ refl
+    (printable_flag w.attributes (codes "attributes") _ refl (printable_flag w.character_data (codes "characterData") _ refl
     (printable_flag w.subtree (codes "subtree") _ refl (printable_flag w.attribute_old_value (codes "attributeOldValue") _ refl
     (printable_flag w.character_data_old_value (codes "characterDataOldValue") _ refl (printable_names w.filter))))))
 
@@ -149,7 +158,10 @@ printable_parts o (normalize n) = (printable_key (codes "normalize") refl, (prin
 printable_parts o (set_attribute e name value) = (printable_key (codes "set") refl, (printable_node o e, (printable_word name, (printable_string value, tt))))
 printable_parts o (unset_attribute e name) = (printable_key (codes "unset") refl, (printable_node o e, (printable_word name, tt)))
 printable_parts o (set_data t data') = (printable_key (codes "data") refl, (printable_node o t, (printable_string data', tt)))
-printable_parts o (replace_data t offset count data') = (printable_key (codes "replace-data") refl, (printable_node o t, (printable_number offset, (printable_number count, (printable_string data', tt)))))
+printable_parts o (replace_data t offset count data') = (
+  printable_key (codes "replace-data") refl,
+  (printable_node o t, (printable_number offset, (printable_number count, (printable_string data', tt)))),
+)
 printable_parts o (split n offset) = (printable_key (codes "split") refl, (printable_node o n, (printable_number offset, tt)))
 printable_parts o (set_text n data') = (printable_key (codes "text") refl, (printable_node o n, (printable_string data', tt)))
 printable_parts o (tree n) = (printable_key (codes "tree") refl, (printable_node o n, tt))
@@ -163,7 +175,8 @@ printable_parts o (shadow_root e) = (printable_key (codes "shadow-root") refl, (
 printable_parts o (slot_of n) = (printable_key (codes "slot-of") refl, (printable_node o n, tt))
 printable_parts o (assigned e) = (printable_key (codes "assigned") refl, (printable_node o e, tt))
 printable_parts o range_new = (printable_key (codes "range-new") refl, tt)
-printable_parts o (range_start r n offset) = (printable_key (codes "range-start") refl, (printable_range r, (printable_node o n, (printable_number offset, tt))))
+printable_parts o (range_start r n offset) =
+    (printable_key (codes "range-start") refl, (printable_range r, (printable_node o n, (printable_number offset, tt))))
 printable_parts o (range_end r n offset) = (printable_key (codes "range-end") refl, (printable_range r, (printable_node o n, (printable_number offset, tt))))
 printable_parts o (range_collapse r to_start) = (printable_key (codes "range-collapse") refl, (printable_range r, (printable_end to_start, tt)))
 printable_parts o (range_drop r) = (printable_key (codes "range-drop") refl, (printable_range r, tt))
@@ -183,7 +196,10 @@ printable_parts o (walker_set w n) = (printable_key (codes "walk-set") refl, (pr
 printable_parts o (query n selector) = (printable_key (codes "query") refl, (printable_node o n, (printable_string selector, tt)))
 printable_parts o (matches e selector) = (printable_key (codes "matches") refl, (printable_node o e, (printable_string selector, tt)))
 printable_parts o (listen n l) = (printable_key (codes "listen") refl, (printable_node o n, printable_listener l))
-printable_parts o (unlisten n event l capture) = (printable_key (codes "unlisten") refl, (printable_node o n, (printable_label event, (printable_label l, printable_flag capture (codes "capture") [] refl tt))))
+printable_parts o (unlisten n event l capture) = (
+  printable_key (codes "unlisten") refl,
+  (printable_node o n, (printable_label event, (printable_label l, printable_flag capture (codes "capture") [] refl tt))),
+)
 printable_parts o (dispatch n e related) = (printable_key (codes "dispatch") refl, (printable_node o n, printable_event o e related))
 printable_parts o observer = (printable_key (codes "observer") refl, tt)
 printable_parts o (observe b n w) = (printable_key (codes "observe") refl, (printable_observed b, (printable_node o n, printable_observe w)))
@@ -200,4 +216,5 @@ spelled_printable (part ∷ others) text h s =
 -- A line that says a command has only bytes of text.
 pub IsLine-printable : (line : List ℕ) (o : Owner) (c : Command) → IsLine line o c → IsPrintable line
 IsLine-printable line o c h =
-    rw (h.whole) (each-append (IsInRange 0x20 0x7E) h.name h.said (word_printable h.name (owner_is_word h.name o h.owned)) (spelled_printable (parts o c) h.said (printable_parts o c) h.spelled))
+    rw (h.whole) (each-append (IsInRange 0x20 0x7E) h.name h.said (word_printable h.name (owner_is_word h.name o h.owned))
+    (spelled_printable (parts o c) h.said (printable_parts o c) h.spelled))

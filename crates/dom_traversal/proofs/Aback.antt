@@ -44,7 +44,8 @@ Aback-begin f filter_at top key s = record {
 
 -- what a step back answers
 pub record FollowsBack (f : NamedTrees) (filter_at : Filter) (top key : ℕ) (found : Option ℕ) : Type 0 where
-  pub value : StepsBehind f.trees filter_at (stop_above f.trees filter_at (name_at f.names top) (name_at f.names key)) (name_at f.names key) (option_map (name_at f.names) found)
+  pub value : StepsBehind f.trees filter_at (stop_above f.trees filter_at (name_at f.names top) (name_at f.names key)) (name_at f.names key)
+      (option_map (name_at f.names) found)
   pub below : ForSome found (StandsBelow f top)
   pub stop : ForSome found (λ j. SameStop f filter_at top j (stop_above f.trees filter_at (name_at f.names top) (name_at f.names key)))
   pub path : ForSome found (λ j. (above : List NodeName) × (ancestors f.trees (name_at f.names key) ≡ above ++ ancestors f.trees (name_at f.names j)))
@@ -56,11 +57,13 @@ module _ (f : NamedTrees) (once : StandOnce f) (only : StandAlone f) (filter_at 
   stop_at = ap (λ z. ahead_of f.trees z (name_at f.names at)) a.stop
 
   -- a sibling before is where a step back leads
-  pub back_found : (previous : Option ℕ) → option_map (name_at f.names) previous ≡ previous_sibling f.trees (name_at f.names at) → ForSome previous (λ j. j < length f.names) → is_some previous ≡ true → FollowsBack f filter_at top key previous
+  pub back_found : (previous : Option ℕ) → option_map (name_at f.names) previous ≡ previous_sibling f.trees (name_at f.names at) →
+      ForSome previous (λ j. j < length f.names) → is_some previous ≡ true → FollowsBack f filter_at top key previous
   back_found previous is node some =
       let b = IsBelow-key f once only top at a.below in
       let found = was_some previous some in
-      let named : (j : ℕ) → previous ≡ Some j → previous_sibling f.trees (name_at f.names at) ≡ Some (name_at f.names j) = λ j e. sym is ∙ ap (option_map (name_at f.names)) e in
+      let named : (j : ℕ) → previous ≡ Some j → previous_sibling f.trees (name_at f.names at) ≡ Some (name_at f.names j) =
+      λ j e. sym is ∙ ap (option_map (name_at f.names)) e in
       let steps : (j : ℕ) → previous ≡ Some j → ahead_of f.trees (stop_above f.trees filter_at (name_at f.names top) (name_at f.names key)) (name_at f.names at)
       ≡ up_to_tree f.trees (stop_above f.trees filter_at (name_at f.names top) (name_at f.names key)) (Some (name_at f.names j)) =
       λ j e. sym stop_at ∙ ((aback_previous f.trees filter_at (name_at f.names top) (name_at f.names at) (name_at f.names j) b (named j e)).0
@@ -68,21 +71,34 @@ module _ (f : NamedTrees) (once : StandOnce f) (only : StandAlone f) (filter_at 
       record {
         value = record {
           passed = a.passed;
-          split = a.split ∙ ap (λ xs. xs ++ a.passed) (steps found.0 found.1 ∙ ap (λ o. up_to_tree f.trees (stop_above f.trees filter_at (name_at f.names top) (name_at f.names key)) (option_map (name_at f.names) o)) (sym found.1));
+          split = a.split ∙ ap (λ xs. xs ++ a.passed)
+              (steps found.0 found.1 ∙ ap
+              (λ o. up_to_tree f.trees (stop_above f.trees filter_at (name_at f.names top) (name_at f.names key))
+              (option_map (name_at f.names) o)) (sym found.1));
           none_accepted = a.none_accepted;
         };
-        below = λ j e. StandsBelow-key f top j (node j e) (aback_previous f.trees filter_at (name_at f.names top) (name_at f.names at) (name_at f.names j) b (named j e)).1;
-        stop = λ j e. same_path (name_at f.names j) (aback_previous f.trees filter_at (name_at f.names top) (name_at f.names at) (name_at f.names j) b (named j e)).2 ∙ a.stop;
-        path = λ j e. (a.above, a.path ∙ ap (λ xs. a.above ++ xs) (sym (aback_previous f.trees filter_at (name_at f.names top) (name_at f.names at) (name_at f.names j) b (named j e)).2));
+        below = λ j e. StandsBelow-key f top j (node j e)
+            (aback_previous f.trees filter_at (name_at f.names top) (name_at f.names at) (name_at f.names j) b (named j e)).1;
+        stop = λ j e. same_path (name_at f.names j)
+            (aback_previous f.trees filter_at (name_at f.names top) (name_at f.names at) (name_at f.names j) b (named j e)).2 ∙ a.stop;
+        path = λ j e. (
+          a.above,
+          a.path ∙
+              ap (λ xs. a.above ++ xs) (sym
+              (aback_previous f.trees filter_at (name_at f.names top) (name_at f.names at) (name_at f.names j) b (named j e)).2),
+        );
       }
     where
-      same_path : (y : NodeName) → ancestors f.trees y ≡ ancestors f.trees (name_at f.names at) → stop_above f.trees filter_at (name_at f.names top) y ≡ stop_above f.trees filter_at (name_at f.names top) (name_at f.names at)
+      same_path : (y : NodeName) → ancestors f.trees y ≡ ancestors f.trees (name_at f.names at) →
+          stop_above f.trees filter_at (name_at f.names top) y ≡ stop_above f.trees filter_at (name_at f.names top) (name_at f.names at)
       same_path y e = ap (λ path. unwrap_or (find (is_stop f.trees filter_at (name_at f.names top)) path) (name_at f.names top)) e
 
-  module _ (p : ℕ) (up : Some (name_at f.names p) ≡ parent_of f.trees (name_at f.names at)) (previous : Option ℕ) (is : option_map (name_at f.names) previous ≡ previous_sibling f.trees (name_at f.names at)) (none_left : is_some previous ≡ false) where
+  module _ (p : ℕ) (up : Some (name_at f.names p) ≡ parent_of f.trees (name_at f.names at)) (previous : Option ℕ)
+      (is : option_map (name_at f.names) previous ≡ previous_sibling f.trees (name_at f.names at)) (none_left : is_some previous ≡ false) where
     leaves : ahead_of f.trees (stop_above f.trees filter_at (name_at f.names top) (name_at f.names at)) (name_at f.names at)
         ≡ ahead_of f.trees (stop_above f.trees filter_at (name_at f.names top) (name_at f.names at)) (name_at f.names p) ++ name_at f.names p ∷ []
-    leaves = aback_up f.trees filter_at (name_at f.names top) (name_at f.names at) (name_at f.names p) (IsBelow-key f once only top at a.below) (sym is ∙ ap (option_map (name_at f.names)) (was_none previous none_left)) (sym up)
+    leaves = aback_up f.trees filter_at (name_at f.names top) (name_at f.names at) (name_at f.names p) (IsBelow-key f once only top at a.below)
+        (sym is ∙ ap (option_map (name_at f.names)) (was_none previous none_left)) (sym up)
 
     pub back_up : p < length f.names → is_stop f.trees filter_at (name_at f.names top) (name_at f.names p) ≡ false → Aback f filter_at top key p
     back_up node e =
@@ -97,7 +113,9 @@ module _ (f : NamedTrees) (once : StandOnce f) (only : StandAlone f) (filter_at 
               a.split
               ∙ (ap (λ xs. xs ++ a.passed) (sym stop_at ∙ (leaves ∙ ap (λ z. ahead_of f.trees z (name_at f.names p) ++ name_at f.names p ∷ []) a.stop))
               ∙ append_assoc (ahead_of f.trees limit (name_at f.names p)) (name_at f.names p ∷ []) a.passed);
-          none_accepted = filter-no (is_accepted_but f.trees filter_at limit) (name_at f.names p) a.passed (and_left (accepts f.trees filter_at (name_at f.names p)) _ (or_parts (accepts f.trees filter_at (name_at f.names p)) _ e).0) ∙ a.none_accepted;
+          none_accepted = filter-no (is_accepted_but f.trees filter_at limit) (name_at f.names p) a.passed
+              (and_left (accepts f.trees filter_at (name_at f.names p)) _ (or_parts (accepts f.trees filter_at (name_at f.names p)) _ e).0) ∙
+              a.none_accepted;
           above = a.above ++ name_at f.names p ∷ [];
           path =
               a.path
@@ -110,17 +128,24 @@ module _ (f : NamedTrees) (once : StandOnce f) (only : StandAlone f) (filter_at 
         let limit = stop_above f.trees filter_at (name_at f.names top) (name_at f.names key) in
         let b = IsBelow-key f once only top at a.below in
         let here_stop = stop-here f.trees filter_at (name_at f.names top) (name_at f.names at) (name_at f.names p) b (sym up) e in
-        let b_stop = subst (λ z. IsBelow f.trees z (name_at f.names at)) here_stop (below-stop f.trees filter_at (name_at f.names top) (name_at f.names at) b) in
+        let b_stop = subst (λ z. IsBelow f.trees z (name_at f.names at)) here_stop
+        (below-stop f.trees filter_at (name_at f.names top) (name_at f.names at) b) in
         let nothing : ahead_of f.trees (name_at f.names p) (name_at f.names p) ≡ [] =
-        (top_places f.trees (name_at f.names p) (within-top f.trees (name_at f.names p) (name_at f.names at) (within-below f.trees (name_at f.names p) (name_at f.names at) b_stop))).0 in
+        (top_places f.trees (name_at f.names p)
+        (within-top f.trees (name_at f.names p) (name_at f.names at) (within-below f.trees (name_at f.names p) (name_at f.names at) b_stop))).0 in
         let same : name_at f.names p ≡ limit = sym here_stop ∙ a.stop in
         record {
           value = record {
             passed = name_at f.names p ∷ a.passed;
             split =
                 a.split
-                ∙ ap (λ xs. xs ++ a.passed) (sym stop_at ∙ (leaves ∙ (ap (λ z. ahead_of f.trees z (name_at f.names p) ++ name_at f.names p ∷ []) here_stop ∙ ap (λ xs. xs ++ name_at f.names p ∷ []) nothing)));
-            none_accepted = filter-no (is_accepted_but f.trees filter_at limit) (name_at f.names p) a.passed (and_right (accepts f.trees filter_at (name_at f.names p)) _ (ap not (name_eq-from (name_at f.names p) limit same))) ∙ a.none_accepted;
+                ∙ ap (λ xs. xs ++ a.passed)
+                (sym stop_at ∙ (leaves ∙
+                (ap (λ z. ahead_of f.trees z (name_at f.names p) ++ name_at f.names p ∷ []) here_stop ∙
+                ap (λ xs. xs ++ name_at f.names p ∷ []) nothing)));
+            none_accepted = filter-no (is_accepted_but f.trees filter_at limit) (name_at f.names p) a.passed
+                (and_right (accepts f.trees filter_at (name_at f.names p)) _ (ap not (name_eq-from (name_at f.names p) limit same))) ∙
+                a.none_accepted;
           };
           below = λ j h. absurd (none-some j h);
           stop = λ j h. absurd (none-some j h);

@@ -18,7 +18,8 @@ use Rattle.dom_traversal.proofs.Steps.{first_child, no_child}
 use Rattle.dom_traversal.proofs.Counts.{StandOnce, StandAlone, Once-forest, Has-forest}
 use Rattle.dom_traversal.proofs.Climbing.{TellApart, was_none, was_some}
 use Rattle.dom_traversal.proofs.Opening.{above-proper}
-use Rattle.dom_traversal.proofs.Stops.{IsBelow, within-below, root-below, below-stop, below-child, below-up, path_up, stop-above, aside_next, aside_ends, aside_up}
+use Rattle.dom_traversal.proofs.Stops.{IsBelow, within-below, root-below, below-stop, below-child, below-up, path_up, stop-above, aside_next}
+use Rattle.dom_traversal.proofs.Stops.{aside_ends, aside_up}
 
 -- a key that stands below another one, by a forest's word
 pub IsBelow-key : (f : NamedTrees) → StandOnce f → StandAlone f → (top k : ℕ) → StandsBelow f top k → IsBelow f.trees (name_at f.names top) (name_at f.names k)
@@ -36,53 +37,68 @@ SameStop f filter top k stop = stop_above f.trees filter (name_at f.names top) (
 pub record Follows (f : NamedTrees) (filter : Filter) (top k : ℕ) (found : Option ℕ) (looked_for : Option NodeName) : Type 0 where
   pub value : option_map (name_at f.names) found ≡ looked_for
   pub below : ForSome found (StandsBelow f top)
-  pub stop : ForSome found (λ j. stop_above f.trees filter (name_at f.names top) (name_at f.names j) ≡ stop_above f.trees filter (name_at f.names top) (name_at f.names k))
+  pub stop : ForSome found (λ j. stop_above f.trees filter (name_at f.names top) (name_at f.names j) ≡ stop_above f.trees filter
+      (name_at f.names top) (name_at f.names k))
 
 module _ (f : NamedTrees) (once : StandOnce f) (only : StandAlone f) (filter : Filter) (top k : ℕ) (s : StandsBelow f top k) where
   -- a sibling behind is where a step aside leads
-  pub follows_next : (next : Option ℕ) → option_map (name_at f.names) next ≡ next_sibling f.trees (name_at f.names k) → ForSome next (λ j. j < length f.names) → is_some next ≡ true
+  pub follows_next : (next : Option ℕ) → option_map (name_at f.names) next ≡ next_sibling f.trees (name_at f.names k) →
+      ForSome next (λ j. j < length f.names) → is_some next ≡ true
       → Follows f filter top k next (first_of (beyond f.trees (stop_above f.trees filter (name_at f.names top) (name_at f.names k)) (name_at f.names k)))
   follows_next next is node some =
       let b = IsBelow-key f once only top k s in
       let found = was_some next some in
-      let found_at : (j : ℕ) → next ≡ Some j → next_sibling f.trees (name_at f.names k) ≡ Some (name_at f.names j) = λ j e. sym is ∙ ap (option_map (name_at f.names)) e in
+      let found_at : (j : ℕ) → next ≡ Some j → next_sibling f.trees (name_at f.names k) ≡ Some (name_at f.names j) =
+      λ j e. sym is ∙ ap (option_map (name_at f.names)) e in
       record {
-        value = ap (option_map (name_at f.names)) found.1 ∙ sym (aside_next f.trees filter (name_at f.names top) (name_at f.names k) (name_at f.names found.0) b (found_at found.0 found.1)).0;
-        below = λ j e. StandsBelow-key f top j (node j e) (aside_next f.trees filter (name_at f.names top) (name_at f.names k) (name_at f.names j) b (found_at j e)).1;
+        value = ap (option_map (name_at f.names)) found.1 ∙
+            sym (aside_next f.trees filter (name_at f.names top) (name_at f.names k) (name_at f.names found.0) b (found_at found.0 found.1)).0;
+        below = λ j e. StandsBelow-key f top j (node j e)
+            (aside_next f.trees filter (name_at f.names top) (name_at f.names k) (name_at f.names j) b (found_at j e)).1;
         stop = λ j e. (aside_next f.trees filter (name_at f.names top) (name_at f.names k) (name_at f.names j) b (found_at j e)).2;
       }
 
   -- a first child is where a step onward leads
-  pub follows_child : accepts f.trees filter (name_at f.names k) ≡ false → (child : Option ℕ) → option_map (name_at f.names) child ≡ first_of (children_of f.trees (name_at f.names k)) → ForSome child (λ j. j < length f.names) → is_some child ≡ true
+  pub follows_child : accepts f.trees filter (name_at f.names k) ≡ false → (child : Option ℕ) →
+      option_map (name_at f.names) child ≡ first_of (children_of f.trees (name_at f.names k)) → ForSome child (λ j. j < length f.names) →
+      is_some child ≡ true
       → Follows f filter top k child (first_of (behind f.trees (stop_above f.trees filter (name_at f.names top) (name_at f.names k)) (name_at f.names k)))
   follows_child no_k child is node some =
       let b = IsBelow-key f once only top k s in
       let stop = stop_above f.trees filter (name_at f.names top) (name_at f.names k) in
       let w = within-below f.trees stop (name_at f.names k) (below-stop f.trees filter (name_at f.names top) (name_at f.names k) b) in
       let found = was_some child some in
-      let found_at : (j : ℕ) → child ≡ Some j → first_of (children_of f.trees (name_at f.names k)) ≡ Some (name_at f.names j) = λ j e. sym is ∙ ap (option_map (name_at f.names)) e in
+      let found_at : (j : ℕ) → child ≡ Some j → first_of (children_of f.trees (name_at f.names k)) ≡ Some (name_at f.names j) =
+      λ j e. sym is ∙ ap (option_map (name_at f.names)) e in
       let among : (j : ℕ) → child ≡ Some j → In (name_at f.names j) (children_of f.trees (name_at f.names k)) = λ j e.
-      let split = first_split (children_of f.trees (name_at f.names k)) (name_at f.names j) (found_at j e) in subst (In (name_at f.names j)) (sym split.1) (inl refl) in
+      let split = first_split (children_of f.trees (name_at f.names k)) (name_at f.names j) (found_at j e) in subst (In (name_at f.names j))
+      (sym split.1) (inl refl) in
       let first = first_child f.trees stop (name_at f.names k) (name_at f.names found.0) w (found_at found.0 found.1) in
       record {
         value =
             ap (option_map (name_at f.names)) found.1
-            ∙ sym (ap first_of (behind_is f.trees stop (name_at f.names k) w ∙ (first.1 ∙ ap (λ xs. xs ++ beyond f.trees stop (name_at f.names found.0)) (here f.trees stop (name_at f.names found.0) first.0))));
-        below = λ j e. StandsBelow-key f top j (node j e) (below-child f.trees filter (name_at f.names top) (name_at f.names k) (name_at f.names j) b no_k (among j e)).0;
+            ∙ sym (ap first_of (behind_is f.trees stop (name_at f.names k) w ∙
+            (first.1 ∙ ap (λ xs. xs ++ beyond f.trees stop (name_at f.names found.0)) (here f.trees stop (name_at f.names found.0) first.0))));
+        below = λ j e. StandsBelow-key f top j (node j e)
+            (below-child f.trees filter (name_at f.names top) (name_at f.names k) (name_at f.names j) b no_k (among j e)).0;
         stop = λ j e. (below-child f.trees filter (name_at f.names top) (name_at f.names k) (name_at f.names j) b no_k (among j e)).1;
       }
 
   -- a node without children has nothing but what is beyond it behind it
   pub behind_leaf : (child : Option ℕ) → option_map (name_at f.names) child ≡ first_of (children_of f.trees (name_at f.names k)) → is_some child ≡ false
-      → behind f.trees (stop_above f.trees filter (name_at f.names top) (name_at f.names k)) (name_at f.names k) ≡ beyond f.trees (stop_above f.trees filter (name_at f.names top) (name_at f.names k)) (name_at f.names k)
+      → behind f.trees (stop_above f.trees filter (name_at f.names top) (name_at f.names k)) (name_at f.names k) ≡ beyond f.trees
+      (stop_above f.trees filter (name_at f.names top) (name_at f.names k)) (name_at f.names k)
   behind_leaf child is none_left =
       let stop = stop_above f.trees filter (name_at f.names top) (name_at f.names k) in
-      let w = within-below f.trees stop (name_at f.names k) (below-stop f.trees filter (name_at f.names top) (name_at f.names k) (IsBelow-key f once only top k s)) in
-      behind_is f.trees stop (name_at f.names k) w ∙ ap (λ xs. xs ++ beyond f.trees stop (name_at f.names k)) (no_child f.trees (name_at f.names k) (sym is ∙ ap (option_map (name_at f.names)) (was_none child none_left)))
+      let w = within-below f.trees stop (name_at f.names k)
+      (below-stop f.trees filter (name_at f.names top) (name_at f.names k) (IsBelow-key f once only top k s)) in
+      behind_is f.trees stop (name_at f.names k) w ∙ ap (λ xs. xs ++ beyond f.trees stop (name_at f.names k))
+      (no_child f.trees (name_at f.names k) (sym is ∙ ap (option_map (name_at f.names)) (was_none child none_left)))
 
   -- a node below another one has a parent
   pub no_parent_below : (up : Option ℕ) → option_map (name_at f.names) up ≡ parent_of f.trees (name_at f.names k) → up ≡ None → ⊥
-  no_parent_below up is e = root-below f.trees (name_at f.names top) (name_at f.names k) (IsBelow-key f once only top k s) (sym is ∙ ap (option_map (name_at f.names)) e)
+  no_parent_below up is e = root-below f.trees (name_at f.names top) (name_at f.names k) (IsBelow-key f once only top k s)
+      (sym is ∙ ap (option_map (name_at f.names)) e)
 
 -- a step up below the stop
 pub record Rises (f : NamedTrees) (filter : Filter) (top k p : ℕ) : Type 0 where
@@ -103,16 +119,21 @@ module _ (f : NamedTrees) (once : StandOnce f) (only : StandAlone f) (filter : F
       }
 
   -- and, where no sibling is behind, the same nodes beyond
-  pub rises_beyond : (next : Option ℕ) → option_map (name_at f.names) next ≡ next_sibling f.trees (name_at f.names k) → is_some next ≡ false → is_stop f.trees filter (name_at f.names top) (name_at f.names p) ≡ false
-      → beyond f.trees (stop_above f.trees filter (name_at f.names top) (name_at f.names k)) (name_at f.names k) ≡ beyond f.trees (stop_above f.trees filter (name_at f.names top) (name_at f.names p)) (name_at f.names p)
+  pub rises_beyond : (next : Option ℕ) → option_map (name_at f.names) next ≡ next_sibling f.trees (name_at f.names k) → is_some next ≡ false →
+      is_stop f.trees filter (name_at f.names top) (name_at f.names p) ≡ false
+      → beyond f.trees (stop_above f.trees filter (name_at f.names top) (name_at f.names k)) (name_at f.names k) ≡ beyond f.trees
+      (stop_above f.trees filter (name_at f.names top) (name_at f.names p)) (name_at f.names p)
   rises_beyond next is none_left e =
-      aside_up f.trees filter (name_at f.names top) (name_at f.names k) (name_at f.names p) (IsBelow-key f once only top k s) (sym is ∙ ap (option_map (name_at f.names)) (was_none next none_left)) (sym up) e
+      aside_up f.trees filter (name_at f.names top) (name_at f.names k) (name_at f.names p) (IsBelow-key f once only top k s)
+      (sym is ∙ ap (option_map (name_at f.names)) (was_none next none_left)) (sym up) e
 
   -- where the parent is the stop and no sibling is behind, nothing is beyond
-  pub ends_beyond : (next : Option ℕ) → option_map (name_at f.names) next ≡ next_sibling f.trees (name_at f.names k) → is_some next ≡ false → is_stop f.trees filter (name_at f.names top) (name_at f.names p) ≡ true
+  pub ends_beyond : (next : Option ℕ) → option_map (name_at f.names) next ≡ next_sibling f.trees (name_at f.names k) → is_some next ≡ false →
+      is_stop f.trees filter (name_at f.names top) (name_at f.names p) ≡ true
       → beyond f.trees (stop_above f.trees filter (name_at f.names top) (name_at f.names k)) (name_at f.names k) ≡ []
   ends_beyond next is none_left e =
-      aside_ends f.trees filter (name_at f.names top) (name_at f.names k) (name_at f.names p) (IsBelow-key f once only top k s) (sym is ∙ ap (option_map (name_at f.names)) (was_none next none_left)) (sym up) e
+      aside_ends f.trees filter (name_at f.names top) (name_at f.names k) (name_at f.names p) (IsBelow-key f once only top k s)
+      (sym is ∙ ap (option_map (name_at f.names)) (was_none next none_left)) (sym up) e
 
 -- a node that stands in the tree of another one and is not that one stands below it
 pub StandsBelow-walker : (f : NamedTrees) → StandOnce f → StandAlone f → TellApart f → (root current : ℕ) → root < length f.names → current < length f.names
@@ -122,7 +143,8 @@ StandsBelow-walker f once only apart root current at_root at_current other above
     record {
       node = at_current;
       below = is_in-from (name_at f.names root) (ancestors f.trees (name_at f.names current))
-          (elim (subst (In (name_at f.names root)) (above-proper f.trees (name_at f.names current) at) (In-from (name_at f.names root) (inclusive_ancestors f.trees (name_at f.names current)) above)) [
+          (elim (subst (In (name_at f.names root)) (above-proper f.trees (name_at f.names current) at)
+          (In-from (name_at f.names root) (inclusive_ancestors f.trees (name_at f.names current)) above)) [
             | inl same ↦ absurd (both_ways (eqb current root) other (eq-eqb current root (apart current root at_current at_root (sym same))))
             | inr i ↦ i
           ]);
@@ -130,7 +152,9 @@ StandsBelow-walker f once only apart root current at_root at_current other above
 
 -- the same stop, for the name of a key
 pub stop-some : (f : NamedTrees) (filter : Filter) (top k : ℕ) (found : Option ℕ)
-    → ForSome found (λ j. stop_above f.trees filter (name_at f.names top) (name_at f.names j) ≡ stop_above f.trees filter (name_at f.names top) (name_at f.names k))
-    → (y : NodeName) → option_map (name_at f.names) found ≡ Some y → stop_above f.trees filter (name_at f.names top) y ≡ stop_above f.trees filter (name_at f.names top) (name_at f.names k)
+    → ForSome found (λ j. stop_above f.trees filter (name_at f.names top) (name_at f.names j) ≡ stop_above f.trees filter (name_at f.names top)
+    (name_at f.names k))
+    → (y : NodeName) → option_map (name_at f.names) found ≡ Some y →
+    stop_above f.trees filter (name_at f.names top) y ≡ stop_above f.trees filter (name_at f.names top) (name_at f.names k)
 stop-some f filter top k None same y e = absurd (none-some y e)
 stop-some f filter top k (Some j) same y e = ap (stop_above f.trees filter (name_at f.names top)) (sym (same_Some _ y e)) ∙ same j refl

@@ -1,5 +1,6 @@
 -- A search backward, from each node to the nodes before it, passing over what is below rejected nodes.
-use Rattle.std.proofs.Common.{◌≡◌, ◌⊎◌, inl, inr, ℕ, ◌<◌, ◌≤◌, true, false, not, ◌&&◌, List, [], ◌∷◌, ◌++◌, length, Option, Some, None, refl, sym, ap, subst, ◌∙◌, arith, length-append}
+use Rattle.std.proofs.Common.{◌≡◌, ◌⊎◌, inl, inr, ℕ, ◌<◌, ◌≤◌, true, false, not, ◌&&◌, List, [], ◌∷◌, ◌++◌, length, Option, Some, None, refl, sym, ap}
+use Rattle.std.proofs.Common.{subst, ◌∙◌, arith, length-append}
 use Rattle.std.specs.Prelude.{filter}
 use Rattle.std.specs.Option.{option_map, ForSome}
 use Rattle.std.specs.List.{list_all}
@@ -13,7 +14,8 @@ use Rattle.dom_base.specs.declared.Verdict.TheVariants.{Skip, Reject}
 use Rattle.dom_model.specs.Command.{Filter}
 use Rattle.dom_model.specs.Names.{name_eq, is_in, last_of}
 use Rattle.dom_model.specs.Traversal.{Walker, answer_at, accepts, rejects, is_reject, walker_nodes}
-use Rattle.dom_model.specs.Tree.{Trees, subtree, inclusive_ancestors, ancestors, parent_of, children_of, previous_sibling, is_inclusive_ancestor, inclusive_descendants}
+use Rattle.dom_model.specs.Tree.{Trees, subtree, inclusive_ancestors, ancestors, parent_of, children_of, previous_sibling, is_inclusive_ancestor}
+use Rattle.dom_model.specs.Tree.{inclusive_descendants}
 use Rattle.dom_tree.specs.Forest.{NamedTrees, name_at}
 use Rattle.dom_traversal.specs.Walkers.{KeyedWalker, walker_view, is_passable, entered_by, is_entered, ComesBack}
 use Rattle.dom_traversal.specs.Within.{ahead_of, up_to_node, up_to_tree, StandsIn}
@@ -21,7 +23,8 @@ use Rattle.dom_traversal.proofs.Lists.{In, In-left, In-right, In-parts, In-from,
 use Rattle.dom_traversal.proofs.Shapes.{Has, below-from_above}
 use Rattle.dom_traversal.proofs.Children.{parent-of_child, In-names}
 use Rattle.dom_traversal.proofs.Order.{IsWithin, stands_in, here, below, joined}
-use Rattle.dom_traversal.proofs.Steps.{last_child, no_last_child, child_places, previous_places, no_previous, within-parent, within-root, top_places, within-top}
+use Rattle.dom_traversal.proofs.Steps.{last_child, no_last_child, child_places, previous_places, no_previous, within-parent, within-root, top_places}
+use Rattle.dom_traversal.proofs.Steps.{within-top}
 use Rattle.dom_traversal.proofs.Counts.{StandOnce, StandAlone, Has-forest, above-within}
 use Rattle.dom_traversal.proofs.Searching.{IsWithin-key, IsWithin-itself, last-hit, last-miss}
 use Rattle.dom_traversal.proofs.Climbing.{none_left}
@@ -106,7 +109,8 @@ module _ (ts : Trees) (w : Walker) (x : NodeName) (r : Returns ts w x) (other : 
         comes = record {
           within = in_y;
           path = all-from (is_passable ts w) (ancestors ts y) (λ a i. by a (cases_Bool (rejects ts w.filter a)) (λ e.
-              all-at (is_passable ts w) (ancestors ts x) r.path a (subst (In a) same_path (In-from a (ancestors ts s) (path a (is_in-from a (ancestors ts y) i) e)))));
+              all-at (is_passable ts w) (ancestors ts x) r.path a
+              (subst (In a) same_path (In-from a (ancestors ts s) (path a (is_in-from a (ancestors ts y) i) e)))));
           apart = λ i. r.apart (subst (In w.current) (sym whole) (In-left w.current (ahead_of ts w.root y) (inclusive_descendants ts y) i));
         };
         value =
@@ -125,7 +129,8 @@ module _ (ts : Trees) (w : Walker) (x : NodeName) (r : Returns ts w x) (other : 
             );
       }
     where
-      by : (a : NodeName) → (rejects ts w.filter a ≡ true) ⊎ (rejects ts w.filter a ≡ false) → (rejects ts w.filter a ≡ true → is_passable ts w a ≡ true) → is_passable ts w a ≡ true
+      by : (a : NodeName) → (rejects ts w.filter a ≡ true) ⊎ (rejects ts w.filter a ≡ false) →
+          (rejects ts w.filter a ≡ true → is_passable ts w a ≡ true) → is_passable ts w a ≡ true
       by a (inl e) passed = passed e
       by a (inr e) passed = ap (λ b. not (b && not (is_inclusive_ancestor ts a w.current))) e
 
@@ -134,38 +139,49 @@ module _ (ts : Trees) (w : Walker) (x : NodeName) (r : Returns ts w x) (other : 
         where
           go : (o : Option NodeName) → parent_of ts x ≡ o → ancestors ts s ≡ ancestors ts x
           go None e = no_first (ancestors ts s) (same ∙ e) ∙ sym (no_first (ancestors ts x) e)
-          go (Some p) e = (proper-parent ts s p r.within.once (stands_in ts w.root s in_s) (same ∙ e)).0 ∙ sym (proper-parent ts x p r.within.once (stands_in ts w.root x r.within) e).0
+          go (Some p) e = (proper-parent ts s p r.within.once (stands_in ts w.root s in_s) (same ∙ e)).0 ∙
+              sym (proper-parent ts x p r.within.once (stands_in ts w.root x r.within) e).0
 
       cut : ahead_of ts w.root x ≡ ahead_of ts w.root y ++ inclusive_descendants ts y → (rejects ts w.filter y ≡ true) ⊎ (rejects ts w.filter y ≡ false)
           → filter (passing ts w) (inclusive_descendants ts y) ≡ filter (passing ts w) (y ∷ [])
       cut whole (inr e) = ap (filter (passing ts w)) (ends e)
       cut whole (inl e) =
-          let off : is_inclusive_ancestor ts y w.current ≡ false = is_in-not y (inclusive_ancestors ts w.current) (λ i. r.apart (subst (In w.current) (sym whole)
-          (In-right w.current (ahead_of ts w.root y) (inclusive_descendants ts y) (In-names (subtree ts y) w.current (below-from_above ts y w.current r.within.once at_current i))))) in
+          let off : is_inclusive_ancestor ts y w.current ≡ false =
+          is_in-not y (inclusive_ancestors ts w.current) (λ i. r.apart (subst (In w.current) (sym whole)
+          (In-right w.current (ahead_of ts w.root y) (inclusive_descendants ts y)
+          (In-names (subtree ts y) w.current (below-from_above ts y w.current r.within.once at_current i))))) in
           let shut : is_passable ts w y ≡ false = ap (λ b. not (b && not (is_inclusive_ancestor ts y w.current))) e ∙ ap (λ b. not (not b)) off in
           ap (filter (passing ts w)) (here ts w.root y in_y)
           ∙ (filter-append (passing ts w) (y ∷ []) (below ts y)
-          ∙ (ap (λ xs. filter (passing ts w) (y ∷ []) ++ xs) (filter-none (passing ts w) (below ts y) (hidden ts (accepts ts w.filter) (is_passable ts w) w.root y in_y shut))
+          ∙ (ap (λ xs. filter (passing ts w) (y ∷ []) ++ xs)
+          (filter-none (passing ts w) (below ts y) (hidden ts (accepts ts w.filter) (is_passable ts w) w.root y in_y shut))
           ∙ append-nil (filter (passing ts w) (y ∷ []))))
 
 -- it begins at the current node
 pub Returns-begin : (ts : Trees) (w : Walker) → IsWithin ts w.root w.current → Returns ts w w.current
 Returns-begin ts w at = record {
   within = at;
-  path = all-from (is_passable ts w) (ancestors ts w.current) (λ a i. passable-above ts w a (subst (In a) (sym (above-proper ts w.current (stands_in ts w.root w.current at))) (inr i)));
+  path = all-from (is_passable ts w) (ancestors ts w.current)
+      (λ a i. passable-above ts w a (subst (In a) (sym (above-proper ts w.current (stands_in ts w.root w.current at))) (inr i)));
   apart = not_before w.current (inclusive_descendants ts w.root);
 }
 
 -- ---- the same by keys
 
 -- a last child by its key
-pub descends-key : (f : NamedTrees) → StandOnce f → StandAlone f → (k last : ℕ) → k < length f.names → Some (name_at f.names last) ≡ last_of (children_of f.trees (name_at f.names k)) → Descends f.trees (name_at f.names k) (name_at f.names k) (name_at f.names last)
-descends-key f once only k last node is = descends f.trees (name_at f.names k) (name_at f.names k) (name_at f.names last) (IsWithin-itself f once only k node) (sym is)
+pub descends-key : (f : NamedTrees) → StandOnce f → StandAlone f → (k last : ℕ) → k < length f.names →
+    Some (name_at f.names last) ≡ last_of (children_of f.trees (name_at f.names k)) →
+    Descends f.trees (name_at f.names k) (name_at f.names k) (name_at f.names last)
+descends-key f once only k last node is =
+    descends f.trees (name_at f.names k) (name_at f.names k) (name_at f.names last) (IsWithin-itself f once only k node) (sym is)
 
 -- a node without children by its key
-pub alone-key : (f : NamedTrees) → StandOnce f → StandAlone f → (k : ℕ) (last : Option ℕ) → k < length f.names → option_map (name_at f.names) last ≡ last_of (children_of f.trees (name_at f.names k)) → ((j : ℕ) → last ≡ Some j → ⊥)
+pub alone-key : (f : NamedTrees) → StandOnce f → StandAlone f → (k : ℕ) (last : Option ℕ) → k < length f.names →
+    option_map (name_at f.names) last ≡ last_of (children_of f.trees (name_at f.names k)) → ((j : ℕ) → last ≡ Some j → ⊥)
     → inclusive_descendants f.trees (name_at f.names k) ≡ name_at f.names k ∷ []
-alone-key f once only k last node is empty = alone f.trees (name_at f.names k) (name_at f.names k) (IsWithin-itself f once only k node) (sym is ∙ ap (option_map (name_at f.names)) (none_left last empty))
+alone-key f once only k last node is empty =
+    alone f.trees (name_at f.names k) (name_at f.names k) (IsWithin-itself f once only k node)
+    (sym is ∙ ap (option_map (name_at f.names)) (none_left last empty))
 
 -- a node that is not rejected is entered on a way through accepted nodes
 entered-through : (ts : Trees) (filter : Filter) (x : NodeName) → rejects ts filter x ≡ not (is_entered ts filter true x)
@@ -177,7 +193,8 @@ entered-through ts filter x = by (answer_at ts filter x)
     by (Some Reject) = refl
 
 -- where a search backward is, by its key
-pub Returns-key : (f : NamedTrees) → StandOnce f → StandAlone f → (w : KeyedWalker) (k : ℕ) → ComesBack f w k → Returns f.trees (walker_view f.names w) (name_at f.names k)
+pub Returns-key : (f : NamedTrees) → StandOnce f → StandAlone f → (w : KeyedWalker) (k : ℕ) → ComesBack f w k →
+    Returns f.trees (walker_view f.names w) (name_at f.names k)
 Returns-key f once only w k c = record {
   within = IsWithin-key f once only w.root k c.stands;
   path = c.path;
@@ -185,7 +202,8 @@ Returns-key f once only w k c = record {
 }
 
 -- and the other way round
-pub ComesBack-key : (f : NamedTrees) (w : KeyedWalker) (k : ℕ) → k < length f.names → Returns f.trees (walker_view f.names w) (name_at f.names k) → ComesBack f w k
+pub ComesBack-key : (f : NamedTrees) (w : KeyedWalker) (k : ℕ) → k < length f.names →
+    Returns f.trees (walker_view f.names w) (name_at f.names k) → ComesBack f w k
 ComesBack-key f w k node r = record {
   stands = record { node = node; within = above-within f.trees (name_at f.names w.root) (name_at f.names k) r.within };
   path = r.path;
@@ -195,54 +213,78 @@ ComesBack-key f w k node r = record {
 -- what a step backward answers
 pub record StepsBack (f : NamedTrees) (w : KeyedWalker) (k : ℕ) (found : Option ℕ) : Type 0 where
   pub comes : ForSome found (ComesBack f w)
-  pub value : walker_nodes f.trees (walker_view f.names w) (up_to_node f.trees (name_at f.names w.root) (option_map (name_at f.names) found)) ≡ walker_nodes f.trees (walker_view f.names w) (ahead_of f.trees (name_at f.names w.root) (name_at f.names k))
-  pub shorter : length (up_to_node f.trees (name_at f.names w.root) (option_map (name_at f.names) found)) ≤ length (ahead_of f.trees (name_at f.names w.root) (name_at f.names k))
+  pub value : walker_nodes f.trees (walker_view f.names w) (up_to_node f.trees (name_at f.names w.root) (option_map (name_at f.names) found)) ≡
+      walker_nodes f.trees (walker_view f.names w) (ahead_of f.trees (name_at f.names w.root) (name_at f.names k))
+  pub shorter : length (up_to_node f.trees (name_at f.names w.root) (option_map (name_at f.names) found)) ≤ length
+      (ahead_of f.trees (name_at f.names w.root) (name_at f.names k))
 
 module _ (f : NamedTrees) (once : StandOnce f) (only : StandAlone f) (w : KeyedWalker) (k : ℕ) (c : ComesBack f w k) where
   -- at the root
   pub steps_root : name_at f.names k ≡ name_at f.names w.root → StepsBack f w k None
   steps_root same =
       let top = name_at f.names w.root in
-      let empty : ahead_of f.trees top (name_at f.names k) ≡ [] = ap (ahead_of f.trees top) same ∙ (top_places f.trees top (within-top f.trees top (name_at f.names k) (IsWithin-key f once only w.root k c.stands))).0 in
+      let empty : ahead_of f.trees top (name_at f.names k) ≡ [] =
+      ap (ahead_of f.trees top) same ∙
+      (top_places f.trees top (within-top f.trees top (name_at f.names k) (IsWithin-key f once only w.root k c.stands))).0 in
       record { comes = λ j e. absurd (none-some j e); value = ap (walker_nodes f.trees (walker_view f.names w)) (sym empty); shorter = omega arith }
 
   -- to the parent, where there is no sibling
-  pub steps_parent : (name_at f.names k ≡ name_at f.names w.root → ⊥) → (up : Option ℕ) → option_map (name_at f.names) up ≡ parent_of f.trees (name_at f.names k) → ForSome up (λ j. j < length f.names) → previous_sibling f.trees (name_at f.names k) ≡ None → StepsBack f w k up
-  steps_parent other None up_is node previous = absurd (within-root f.trees (name_at f.names w.root) (name_at f.names k) (IsWithin-key f once only w.root k c.stands) other (sym up_is))
+  pub steps_parent : (name_at f.names k ≡ name_at f.names w.root → ⊥) → (up : Option ℕ) →
+      option_map (name_at f.names) up ≡ parent_of f.trees (name_at f.names k) → ForSome up (λ j. j < length f.names) →
+      previous_sibling f.trees (name_at f.names k) ≡ None → StepsBack f w k up
+  steps_parent other None up_is node previous =
+      absurd (within-root f.trees (name_at f.names w.root) (name_at f.names k) (IsWithin-key f once only w.root k c.stands) other (sym up_is))
   steps_parent other (Some p) up_is node previous =
-      let to = returns_parent f.trees (walker_view f.names w) (name_at f.names k) (Returns-key f once only w k c) other (name_at f.names p) previous (sym up_is) in
+      let to = returns_parent f.trees (walker_view f.names w) (name_at f.names k) (Returns-key f once only w k c) other (name_at f.names p)
+      previous (sym up_is) in
       record { comes = λ j e. subst (ComesBack f w) (same_Some p j e) (ComesBack-key f w p (node p refl) to.comes); value = to.value; shorter = to.shorter }
 
   -- to the lowest node of the sibling's tree
-  pub steps_sibling : (name_at f.names k ≡ name_at f.names w.root → ⊥) → (s y : ℕ) → Some (name_at f.names s) ≡ previous_sibling f.trees (name_at f.names k) → w.current < length f.names → StandsIn f w.root y
+  pub steps_sibling : (name_at f.names k ≡ name_at f.names w.root → ⊥) → (s y : ℕ) →
+      Some (name_at f.names s) ≡ previous_sibling f.trees (name_at f.names k) → w.current < length f.names → StandsIn f w.root y
       → up_to_tree f.trees (name_at f.names w.root) (Some (name_at f.names y)) ≡ up_to_tree f.trees (name_at f.names w.root) (Some (name_at f.names s))
       → (is_entered f.trees w.filter true (name_at f.names y) ≡ true → inclusive_descendants f.trees (name_at f.names y) ≡ name_at f.names y ∷ [])
-      → (between : List NodeName) × (ancestors f.trees (name_at f.names y) ≡ between ++ ancestors f.trees (name_at f.names s)) × (list_all (is_entered f.trees w.filter true) between ≡ true)
+      → (between : List NodeName) × (ancestors f.trees (name_at f.names y) ≡ between ++ ancestors f.trees (name_at f.names s)) ×
+      (list_all (is_entered f.trees w.filter true) between ≡ true)
       → StepsBack f w k (Some y)
   steps_sibling other s y is at_current at_y tree ends path =
-      let to = returns_sibling f.trees (walker_view f.names w) (name_at f.names k) (Returns-key f once only w k c) other (name_at f.names s) (name_at f.names y) (sym is) (Has-forest f once w.current at_current) (IsWithin-key f once only w.root y at_y) tree
-      (λ e. ends (not-false _ (sym (entered-through f.trees w.filter (name_at f.names y)) ∙ e))) (λ a above yes_a. is_in-from a (ancestors f.trees (name_at f.names s)) (passed a yes_a (In-parts a path.0 (ancestors f.trees (name_at f.names s)) (subst (In a) path.1 (In-from a (ancestors f.trees (name_at f.names y)) above))))) in
+      let to = returns_sibling f.trees (walker_view f.names w) (name_at f.names k) (Returns-key f once only w k c) other (name_at f.names s)
+      (name_at f.names y) (sym is) (Has-forest f once w.current at_current) (IsWithin-key f once only w.root y at_y) tree
+      (λ e. ends (not-false _ (sym (entered-through f.trees w.filter (name_at f.names y)) ∙ e)))
+      (λ a above yes_a. is_in-from a (ancestors f.trees (name_at f.names s))
+      (passed a yes_a (In-parts a path.0 (ancestors f.trees (name_at f.names s))
+      (subst (In a) path.1 (In-from a (ancestors f.trees (name_at f.names y)) above))))) in
       record { comes = λ j e. subst (ComesBack f w) (same_Some y j e) (ComesBack-key f w y at_y.node to.comes); value = to.value; shorter = to.shorter }
     where
-      passed : (a : NodeName) → rejects f.trees w.filter a ≡ true → In a path.0 ⊎ In a (ancestors f.trees (name_at f.names s)) → In a (ancestors f.trees (name_at f.names s))
+      passed : (a : NodeName) → rejects f.trees w.filter a ≡ true → In a path.0 ⊎ In a (ancestors f.trees (name_at f.names s)) →
+          In a (ancestors f.trees (name_at f.names s))
       passed a yes_a (inr i) = i
-      passed a yes_a (inl i) = absurd (both_ways (rejects f.trees w.filter a) (entered-through f.trees w.filter a ∙ ap not (all-at (is_entered f.trees w.filter true) path.0 path.2 a i)) yes_a)
+      passed a yes_a (inl i) = absurd (both_ways (rejects f.trees w.filter a)
+          (entered-through f.trees w.filter a ∙ ap not (all-at (is_entered f.trees w.filter true) path.0 path.2 a i)) yes_a)
 
 -- the sibling stands in the tree of the root
-pub sibling-stands : (f : NamedTrees) → StandOnce f → StandAlone f → (root k s : ℕ) → StandsIn f root k → (name_at f.names k ≡ name_at f.names root → ⊥) → s < length f.names → Some (name_at f.names s) ≡ previous_sibling f.trees (name_at f.names k) → StandsIn f root s
+pub sibling-stands : (f : NamedTrees) → StandOnce f → StandAlone f → (root k s : ℕ) → StandsIn f root k →
+    (name_at f.names k ≡ name_at f.names root → ⊥) → s < length f.names →
+    Some (name_at f.names s) ≡ previous_sibling f.trees (name_at f.names k) → StandsIn f root s
 sibling-stands f once only root k s at other node is = record {
   node = node;
-  within = above-within f.trees (name_at f.names root) (name_at f.names s) (previous_places f.trees (name_at f.names root) (name_at f.names k) (name_at f.names s) (IsWithin-key f once only root k at) other (sym is)).0;
+  within = above-within f.trees (name_at f.names root) (name_at f.names s)
+      (previous_places f.trees (name_at f.names root) (name_at f.names k) (name_at f.names s) (IsWithin-key f once only root k at) other (sym is)).0;
 }
 
 -- ---- what a search backward finds
 
 -- an accepted node is the last one
-pub back-hit : (ts : Trees) (w : Walker) (x : NodeName) → accepts ts w.filter x ≡ true → list_all (is_passable ts w) (ancestors ts x) ≡ true → Some x ≡ last_of (walker_nodes ts w (up_to_node ts w.root (Some x)))
+pub back-hit : (ts : Trees) (w : Walker) (x : NodeName) → accepts ts w.filter x ≡ true → list_all (is_passable ts w) (ancestors ts x) ≡ true →
+    Some x ≡ last_of (walker_nodes ts w (up_to_node ts w.root (Some x)))
 back-hit ts w x yes_x path =
-    sym (ap last_of (walker_nodes-passing ts w (up_to_node ts w.root (Some x))) ∙ last-hit (passing ts w) (ahead_of ts w.root x) x (and_from (accepts ts w.filter x) _ yes_x path))
+    sym (ap last_of (walker_nodes-passing ts w (up_to_node ts w.root (Some x))) ∙ last-hit (passing ts w) (ahead_of ts w.root x) x
+    (and_from (accepts ts w.filter x) _ yes_x path))
 
 -- another one is passed
-pub back-miss : (ts : Trees) (w : Walker) (x : NodeName) → accepts ts w.filter x ≡ false → walker_nodes ts w (up_to_node ts w.root (Some x)) ≡ walker_nodes ts w (ahead_of ts w.root x)
+pub back-miss : (ts : Trees) (w : Walker) (x : NodeName) → accepts ts w.filter x ≡ false →
+    walker_nodes ts w (up_to_node ts w.root (Some x)) ≡ walker_nodes ts w (ahead_of ts w.root x)
 back-miss ts w x no_x =
-    walker_nodes-passing ts w (up_to_node ts w.root (Some x)) ∙ (last-miss (passing ts w) (ahead_of ts w.root x) x (and_left (accepts ts w.filter x) _ no_x) ∙ sym (walker_nodes-passing ts w (ahead_of ts w.root x)))
+    walker_nodes-passing ts w (up_to_node ts w.root (Some x)) ∙
+    (last-miss (passing ts w) (ahead_of ts w.root x) x (and_left (accepts ts w.filter x) _ no_x) ∙
+    sym (walker_nodes-passing ts w (ahead_of ts w.root x)))

@@ -30,8 +30,10 @@ module _ (ts : Trees) (w : Walker) (at : IsWithin ts w.current w.current) where
   in_tree : filter (is_candidate ts w w.current) (inclusive_descendants ts w.current) ≡ walker_children ts w
   in_tree =
       ap (filter (is_candidate ts w w.current)) (here ts w.current w.current at)
-      ∙ (filter-no (is_candidate ts w w.current) w.current (below ts w.current) (and_right (is_reached ts w w.current) _ (ap not (name_eq-from w.current w.current refl)))
-      ∙ (filter-same (is_candidate ts w w.current) (is_reached ts w) (below ts w.current) (λ y i. chosen y (name_eq-other y w.current (other-below ts w.current y (below-member ts w.current y at i))))
+      ∙ (filter-no (is_candidate ts w w.current) w.current (below ts w.current)
+      (and_right (is_reached ts w w.current) _ (ap not (name_eq-from w.current w.current refl)))
+      ∙ (filter-same (is_candidate ts w w.current) (is_reached ts w) (below ts w.current)
+      (λ y i. chosen y (name_eq-other y w.current (other-below ts w.current y (below-member ts w.current y at i))))
       ∙ sym (children-reached ts w at)))
     where
       and_true : (t : Bool) → (t && true) ≡ t
@@ -42,11 +44,14 @@ module _ (ts : Trees) (w : Walker) (at : IsWithin ts w.current w.current) where
       chosen y e = ap (λ t. is_reached ts w y && not t) e ∙ and_true (is_reached ts w y)
 
   -- where the last child stands
-  place_of_last : (c : NodeName) → last_of (children_of ts w.current) ≡ Some c → IsBelow ts w.current c × (ancestors ts c ≡ inclusive_ancestors ts w.current) × (stop_above ts w.filter w.current c ≡ w.current)
-  place_of_last c e = let split = last_split (children_of ts w.current) c e in place_of_child ts w at c (subst (In c) (sym split.1) (In-right c split.0 (c ∷ []) (inl refl)))
+  place_of_last : (c : NodeName) → last_of (children_of ts w.current) ≡ Some c → IsBelow ts w.current c ×
+      (ancestors ts c ≡ inclusive_ancestors ts w.current) × (stop_above ts w.filter w.current c ≡ w.current)
+  place_of_last c e = let split = last_split (children_of ts w.current) c e in place_of_child ts w at c
+      (subst (In c) (sym split.1) (In-right c split.0 (c ∷ []) (inl refl)))
 
   -- what the search from the last child looks through
-  pub last-zone : (o : Option NodeName) → last_of (children_of ts w.current) ≡ o → filter (is_candidate ts w (stop_of ts w.filter w.current o)) (up_to_tree ts (stop_of ts w.filter w.current o) o) ≡ walker_children ts w
+  pub last-zone : (o : Option NodeName) → last_of (children_of ts w.current) ≡ o →
+      filter (is_candidate ts w (stop_of ts w.filter w.current o)) (up_to_tree ts (stop_of ts w.filter w.current o) o) ≡ walker_children ts w
   last-zone None e = sym (children-reached ts w at ∙ ap (filter (is_reached ts w)) (no_last_child ts w.current e))
   last-zone (Some c) e =
       let last = last_child ts w.current w.current c at e in
@@ -54,7 +59,9 @@ module _ (ts : Trees) (w : Walker) (at : IsWithin ts w.current w.current) where
       ∙ (ap (filter (is_candidate ts w w.current)) (last.1 ∙ ap (λ xs. xs ++ inclusive_descendants ts w.current) (top_places ts w.current at).0) ∙ in_tree)
 
 -- so the search may begin at the last child
-pub Begins-last : (f : NamedTrees) (w : KeyedWalker) → IsWithin f.trees (name_at f.names w.current) (name_at f.names w.current) → (child : Option ℕ) → option_map (name_at f.names) child ≡ last_of (children_of f.trees (name_at f.names w.current)) → ForSome child (λ k. k < length f.names)
+pub Begins-last : (f : NamedTrees) (w : KeyedWalker) → IsWithin f.trees (name_at f.names w.current) (name_at f.names w.current) →
+    (child : Option ℕ) → option_map (name_at f.names) child ≡ last_of (children_of f.trees (name_at f.names w.current)) →
+    ForSome child (λ k. k < length f.names)
     → ForSome child (BeginsBackward f w w.current)
 Begins-last f w at child is node = λ k e.
     let v = walker_view f.names w in
@@ -68,14 +75,17 @@ Begins-last f w at child is node = λ k e.
 -- the last child is found
 pub Last-found : (ts : Trees) (w : Walker) → IsWithin ts w.root w.current → (o : Option NodeName) → o ≡ last_of (children_of ts w.current)
     → last_of (filter (is_candidate ts w (stop_of ts w.filter w.current o)) (up_to_tree ts (stop_of ts w.filter w.current o) o)) ≡ walker_move ts w moves.Last
-Last-found ts w at o is = ap last_of (last-zone ts w (within-itself ts w.root w.current at) o (sym is)) ∙ move-step ts w moves.Last (above-within ts w.root w.current at)
+Last-found ts w at o is = ap last_of (last-zone ts w (within-itself ts w.root w.current at) o (sym is)) ∙
+    move-step ts w moves.Last (above-within ts w.root w.current at)
 
 -- ---- the previous sibling
 
 -- the search may begin at the sibling before
 pub Begins-previous : (f : NamedTrees) (w : KeyedWalker) → IsBelow f.trees (name_at f.names w.root) (name_at f.names w.current) → (from : Option ℕ)
-    → StepsBehind f.trees w.filter (stop_above f.trees w.filter (name_at f.names w.root) (name_at f.names w.current)) (name_at f.names w.current) (option_map (name_at f.names) from) → ForSome from (StandsBelow f w.root)
-    → ForSome from (λ k. stop_above f.trees w.filter (name_at f.names w.root) (name_at f.names k) ≡ stop_above f.trees w.filter (name_at f.names w.root) (name_at f.names w.current))
+    → StepsBehind f.trees w.filter (stop_above f.trees w.filter (name_at f.names w.root) (name_at f.names w.current)) (name_at f.names w.current)
+    (option_map (name_at f.names) from) → ForSome from (StandsBelow f w.root)
+    → ForSome from (λ k. stop_above f.trees w.filter (name_at f.names w.root) (name_at f.names k) ≡ stop_above f.trees w.filter
+    (name_at f.names w.root) (name_at f.names w.current))
     → ForSome from (λ k. (above : List NodeName) × (ancestors f.trees (name_at f.names w.current) ≡ above ++ ancestors f.trees (name_at f.names k)))
     → ForSome from (BeginsBackward f w w.root)
 Begins-previous f w b from s below same path = λ k e.
@@ -85,21 +95,28 @@ Begins-previous f w b from s below same path = λ k e.
     record {
       below = below k e;
       path = all-from (is_opened f.trees v) (ancestors f.trees (name_at f.names k)) (λ a i.
-          opened-above f.trees v a (subst (In a) (sym (above-proper f.trees v.current b.stands)) (inr (subst (In a) (sym (path k e).1) (In-right a (path k e).0 (ancestors f.trees (name_at f.names k)) i)))));
-      apart = λ i. absurd (not_before v.current (inclusive_descendants f.trees stop) (subst (In v.current) (sym to.split) (In-left v.current (up_to_tree f.trees stop (Some (name_at f.names k))) to.passed
-          (subst (λ a. In v.current (up_to_tree f.trees a (Some (name_at f.names k)))) (same k e) (In-from v.current (up_to_tree f.trees (stop_above f.trees w.filter v.root (name_at f.names k)) (Some (name_at f.names k))) i)))));
+          opened-above f.trees v a (subst (In a) (sym (above-proper f.trees v.current b.stands))
+          (inr (subst (In a) (sym (path k e).1) (In-right a (path k e).0 (ancestors f.trees (name_at f.names k)) i)))));
+      apart = λ i. absurd (not_before v.current (inclusive_descendants f.trees stop)
+          (subst (In v.current) (sym to.split) (In-left v.current (up_to_tree f.trees stop (Some (name_at f.names k))) to.passed
+          (subst (λ a. In v.current (up_to_tree f.trees a (Some (name_at f.names k)))) (same k e)
+          (In-from v.current (up_to_tree f.trees (stop_above f.trees w.filter v.root (name_at f.names k)) (Some (name_at f.names k))) i)))));
     }
 
 -- the previous sibling is found
-pub PreviousSibling-found : (ts : Trees) (w : Walker) → IsBelow ts w.root w.current → (o : Option NodeName) → StepsBehind ts w.filter (sibling_top ts w) w.current o
+pub PreviousSibling-found : (ts : Trees) (w : Walker) → IsBelow ts w.root w.current → (o : Option NodeName) →
+    StepsBehind ts w.filter (sibling_top ts w) w.current o
     → ((y : NodeName) → o ≡ Some y → stop_above ts w.filter w.root y ≡ sibling_top ts w)
-    → last_of (filter (is_candidate ts w (stop_of ts w.filter w.root o)) (up_to_tree ts (stop_of ts w.filter w.root o) o)) ≡ walker_move ts w moves.PreviousSibling
+    → last_of (filter (is_candidate ts w (stop_of ts w.filter w.root o)) (up_to_tree ts (stop_of ts w.filter w.root o) o)) ≡ walker_move ts w
+    moves.PreviousSibling
 PreviousSibling-found ts w b o s same =
     ap last_of (zone o same ∙ (sym (steps-filter ts w (sibling_top ts w) w.current o s) ∙ sym (siblings-ahead ts w b)))
-    ∙ (not_root (name_eq-other w.current w.root (other-below ts w.root w.current b)) ∙ move-step ts w moves.PreviousSibling (above-within ts w.root w.current (within-below ts w.root w.current b)))
+    ∙ (not_root (name_eq-other w.current w.root (other-below ts w.root w.current b)) ∙
+    move-step ts w moves.PreviousSibling (above-within ts w.root w.current (within-below ts w.root w.current b)))
   where
     zone : (q : Option NodeName) → ((y : NodeName) → q ≡ Some y → stop_above ts w.filter w.root y ≡ sibling_top ts w)
-        → filter (is_candidate ts w (stop_of ts w.filter w.root q)) (up_to_tree ts (stop_of ts w.filter w.root q) q) ≡ filter (is_candidate ts w (sibling_top ts w)) (up_to_tree ts (sibling_top ts w) q)
+        → filter (is_candidate ts w (stop_of ts w.filter w.root q)) (up_to_tree ts (stop_of ts w.filter w.root q) q) ≡ filter
+        (is_candidate ts w (sibling_top ts w)) (up_to_tree ts (sibling_top ts w) q)
     zone None h = refl
     zone (Some y) h = ap (λ a. filter (is_candidate ts w a) (up_to_tree ts a (Some y))) (h y refl)
 

@@ -28,7 +28,8 @@ proper-split ts a y b =
     step = rw (name_eq-other a y (λ same. other-below ts a y b (sym same))) refl
 
 -- where all from a node upwards stands above the current node, opened nodes are opened ones between
-pub opened-between : (ts : Trees) (w : Walker) (a y : NodeName) → IsBelow ts a y → ((b : NodeName) → In b (inclusive_ancestors ts a) → In b (inclusive_ancestors ts w.current))
+pub opened-between : (ts : Trees) (w : Walker) (a y : NodeName) → IsBelow ts a y →
+    ((b : NodeName) → In b (inclusive_ancestors ts a) → In b (inclusive_ancestors ts w.current))
     → list_all (is_opened ts w) (ancestors ts y) ≡ list_all (is_opened ts w) (between ts a y)
 opened-between ts w a y b above = ap (list_all (is_opened ts w)) (proper-split ts a y b) ∙ cut (between ts a y)
   where
@@ -51,7 +52,8 @@ Single-above none x once h = absurd h
 Single-above (tree n c r) x once (inl e) = subst Single (sym (above-here n c r x e)) (λ i. i, tt)
 Single-above (tree n c r) x once (inr (inl h)) =
     subst Single (sym (above-below n c r x once h))
-    (Single-append (inclusive_ancestors c x) (n.name ∷ []) (Single-above c x once.3 h) (λ i. i, tt) (λ y i j. once.0 (subst (Has c) (elim j [ inl same ↦ same | inr k ↦ absurd k ]) (Has-above c y x once.3 h i))))
+    (Single-append (inclusive_ancestors c x) (n.name ∷ []) (Single-above c x once.3 h) (λ i. i, tt)
+    (λ y i j. once.0 (subst (Has c) (elim j [ inl same ↦ same | inr k ↦ absurd k ]) (Has-above c y x once.3 h i))))
 Single-above (tree n c r) x once (inr (inr h)) = subst Single (sym (above-beside n c r x once h)) (Single-above r x once.4 h)
 
 -- nor above it alone
@@ -72,7 +74,9 @@ list_all-same p q (x ∷ xs) h =
 between-below : (ts : Trees) (a y c : NodeName) → IsBelow ts a y → In c (between ts a y) → In c (inclusive_ancestors ts a) → ⊥
 between-below ts a y c b i j =
     let proper = above-proper ts y b.stands in
-    let at_c : Has ts c = Has-above ts c y b.once b.stands (subst (In c) (sym proper) (inr (subst (In c) (sym (proper-split ts a y b)) (In-left c (between ts a y) (inclusive_ancestors ts a) i)))) in
+    let at_c : Has ts c = Has-above ts c y b.once b.stands
+    (subst (In c) (sym proper) (inr
+    (subst (In c) (sym (proper-split ts a y b)) (In-left c (between ts a y) (inclusive_ancestors ts a) i)))) in
     Single-apart c (between ts a y) (inclusive_ancestors ts a) (subst Single (proper-split ts a y b) (Single-proper ts y b.once b.stands)) i j
 
 -- between the current node and one below it, opened is skipped
@@ -90,4 +94,5 @@ children-reached ts w at =
     ∙ filter-same _ (is_reached ts w) (below ts w.current) (λ y i.
     let b = below-member ts w.current y at i in
     ap (λ t. accepts ts w.filter y && t)
-    (list_all-same (skips ts w.filter) (is_opened ts w) (between ts w.current y) (λ c j. skips-opened ts w y c b j) ∙ sym (opened-between ts w w.current y b (λ c j. j))))
+    (list_all-same (skips ts w.filter) (is_opened ts w) (between ts w.current y) (λ c j. skips-opened ts w y c b j) ∙
+    sym (opened-between ts w w.current y b (λ c j. j))))

@@ -6,7 +6,8 @@ use Rattle.dom_base.specs.declared.NodeName.{NodeName}
 use Rattle.dom_model.specs.Names.{name_eq, first_of, last_of, items_before}
 use Rattle.dom_model.specs.Tree.{Trees, none, tree, inclusive_ancestors, is_inclusive_ancestor, inclusive_descendants}
 use Rattle.dom_traversal.specs.Within.{ahead_of, behind, beyond}
-use Rattle.dom_traversal.proofs.Lists.{In, In-left, In-right, In-parts, Single, Single-apart, same_or_not, name_eq-from, name_eq-other, before-split, no_last, last_split}
+use Rattle.dom_traversal.proofs.Lists.{In, In-left, In-right, In-parts, Single, Single-apart, same_or_not, name_eq-from, name_eq-other, before-split}
+use Rattle.dom_traversal.proofs.Lists.{no_last, last_split}
 use Rattle.dom_traversal.proofs.Shapes.{Has, Once, Has-above, above-here, above-below, above-beside}
 use Rattle.dom_traversal.proofs.Order.{IsWithin, all_single, here, below, splits, outside-test}
 
@@ -46,7 +47,8 @@ above-split (tree n c r) a x once (inr (inl h)) i =
             let off : In a path → ⊥ = λ k. once.0 (subst (Has c) same (Has-above c a x once.3 h k)) in
             whole
             ∙ (ap (λ xs. path ++ xs) (ap (λ y. y ∷ []) (sym same) ∙ sym (above-here n c r a (sym same)))
-            ∙ ap (λ xs. xs ++ inclusive_ancestors (tree n c r) a) (sym (ap (items_before name_eq a) (whole ∙ ap (λ y. path ++ y ∷ []) (sym same)) ∙ before-split a path [] off)))
+            ∙ ap (λ xs. xs ++ inclusive_ancestors (tree n c r) a)
+            (sym (ap (items_before name_eq a) (whole ∙ ap (λ y. path ++ y ∷ []) (sym same)) ∙ before-split a path [] off)))
         | inr k ↦ absurd k
       ]
     ]
@@ -69,7 +71,8 @@ not_both a b (x ∷ xs) i j = elim (same_or_not b x) [
   ]
 ]
   where
-    by : (b ≡ x → ⊥) → (a ≡ x → ⊥) → In a (x ∷ items_before name_eq b xs) → In b (x ∷ items_before name_eq a xs) → (In a (items_before name_eq b xs) → In b (items_before name_eq a xs) → ⊥) → ⊥
+    by : (b ≡ x → ⊥) → (a ≡ x → ⊥) → In a (x ∷ items_before name_eq b xs) → In b (x ∷ items_before name_eq a xs) →
+        (In a (items_before name_eq b xs) → In b (items_before name_eq a xs) → ⊥) → ⊥
     by other apart (inl e) q more = apart e
     by other apart (inr p) (inl e) more = other e
     by other apart (inr p) (inr q) more = more p q
@@ -88,8 +91,10 @@ above-chain ts a b x once h i j =
     ]
 
 -- what stands above a node above x stands above x
-pub above-along : (ts : Trees) (a b x : NodeName) → Once ts → Has ts x → In a (inclusive_ancestors ts b) → In b (inclusive_ancestors ts x) → In a (inclusive_ancestors ts x)
-above-along ts a b x once h i j = subst (In a) (sym (above-split ts b x once h j)) (In-right a (items_before name_eq b (inclusive_ancestors ts x)) (inclusive_ancestors ts b) i)
+pub above-along : (ts : Trees) (a b x : NodeName) → Once ts → Has ts x → In a (inclusive_ancestors ts b) → In b (inclusive_ancestors ts x) →
+    In a (inclusive_ancestors ts x)
+above-along ts a b x once h i j = subst (In a) (sym (above-split ts b x once h j))
+    (In-right a (items_before name_eq b (inclusive_ancestors ts x)) (inclusive_ancestors ts b) i)
 
 -- ---- what is before a node, and what is beyond it, is not below it
 
@@ -107,7 +112,8 @@ first-passes p (x ∷ xs) y e = elim (cases_Bool (p x)) [
 -- a node before x is not in the tree of x
 pub ahead-apart : (ts : Trees) (top x y : NodeName) → IsWithin ts top x → In y (ahead_of ts top x) → In y (inclusive_descendants ts x) → ⊥
 ahead-apart ts top x y w i j =
-    Single-apart y (ahead_of ts top x) (inclusive_descendants ts x ++ beyond ts top x) (subst Single (splits ts top x w) (all_single ts top x w)) i (In-left y (inclusive_descendants ts x) (beyond ts top x) j)
+    Single-apart y (ahead_of ts top x) (inclusive_descendants ts x ++ beyond ts top x) (subst Single (splits ts top x w) (all_single ts top x w))
+    i (In-left y (inclusive_descendants ts x) (beyond ts top x) j)
 
 -- the last node before x is not below x
 pub ahead-outside : (ts : Trees) (top x y : NodeName) → IsWithin ts top x → last_of (ahead_of ts top x) ≡ Some y → is_inclusive_ancestor ts x y ≡ false

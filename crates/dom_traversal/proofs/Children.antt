@@ -7,9 +7,11 @@ use Rattle.std.proofs.lemmas.List.Concat.{flat_map-cons}
 use Rattle.std.proofs.lemmas.Option.{same_Some, none-some}
 use Rattle.dom_base.specs.declared.NodeName.{NodeName}
 use Rattle.dom_model.specs.Names.{first_of}
-use Rattle.dom_model.specs.Tree.{Trees, none, tree, Node, nodes, names_of, roots, subtree, inclusive_ancestors, parent_of, trees_below, children_of, inclusive_descendants}
+use Rattle.dom_model.specs.Tree.{Trees, none, tree, Node, nodes, names_of, roots, subtree, inclusive_ancestors, parent_of, trees_below, children_of}
+use Rattle.dom_model.specs.Tree.{inclusive_descendants}
 use Rattle.dom_traversal.proofs.Lists.{In, In-left, In-right, In-parts, Single}
-use Rattle.dom_traversal.proofs.Shapes.{Has, Once, subtree-here, subtree-below, subtree-beside, subtree-present, subtree-within, Once-subtree, above-here, above-below, above-beside, above-present}
+use Rattle.dom_traversal.proofs.Shapes.{Has, Once, subtree-here, subtree-below, subtree-beside, subtree-present, subtree-within, Once-subtree}
+use Rattle.dom_traversal.proofs.Shapes.{above-here, above-below, above-beside, above-present}
 
 -- ---- roots are the nodes with nothing above them
 
@@ -46,8 +48,11 @@ pub parent-of_child : (ts : Trees) (p x : NodeName) → Once ts → Has ts p →
 parent-of_child none p x once h i = absurd h
 parent-of_child (tree n c r) p x once (inl e) i =
     let among : In x (names_of (roots c)) = subst (λ (us : Trees). In x (names_of (roots (trees_below us)))) (subtree-here n c r p e) i in
-    let below = Has-root c x among in
-    (ap (λ path. first_of (drop 1 path)) (above-below n c r x once below ∙ ap (λ path. path ++ n.name ∷ []) (above-of_root c x once.3 among)) ∙ ap Some e, inr (inl below))
+    let below = Has-root c x among in (
+      ap (λ path. first_of (drop 1 path)) (above-below n c r x once below ∙ ap (λ path. path ++ n.name ∷ []) (above-of_root c x once.3 among)) ∙
+          ap Some e,
+      inr (inl below),
+    )
 parent-of_child (tree n c r) p x once (inr (inl h)) i =
     let up = parent-of_child c p x once.3 h (subst (λ (us : Trees). In x (names_of (roots (trees_below us)))) (subtree-below n c r p once h) i) in
     let w = above-present c x up.1 in (
@@ -73,9 +78,11 @@ child-of_parent none x p once h e = absurd h
 child-of_parent (tree n c r) x p once (inl i) e = absurd (none-some p (rw (above-here n c r x i) at e))
 child-of_parent (tree n c r) x p once (inr (inl h)) e =
     let w = above-present c x h in
-    by (child-of_parent c x p once.3 h) w.0 w.1 (ap (λ path. first_of (drop 1 path)) (sym (above-below n c r x once h ∙ ap (λ path. path ++ n.name ∷ []) w.1)) ∙ e)
+    by (child-of_parent c x p once.3 h) w.0 w.1
+    (ap (λ path. first_of (drop 1 path)) (sym (above-below n c r x once h ∙ ap (λ path. path ++ n.name ∷ []) w.1)) ∙ e)
   where
-    by : (parent_of c x ≡ Some p → HasParent c x p) → (path : List NodeName) → inclusive_ancestors c x ≡ x ∷ path → first_of (path ++ n.name ∷ []) ≡ Some p → HasParent (tree n c r) x p
+    by : (parent_of c x ≡ Some p → HasParent c x p) → (path : List NodeName) → inclusive_ancestors c x ≡ x ∷ path →
+        first_of (path ++ n.name ∷ []) ≡ Some p → HasParent (tree n c r) x p
     by deeper [] is f =
         let same : n.name ≡ p = same_Some _ _ f in
         (inl same, subst (λ (us : Trees). In x (names_of (roots (trees_below us)))) (sym (subtree-here n c r p same)) (root-from_above c x once.3 h is))
@@ -120,7 +127,8 @@ pub Single-names : (ts : Trees) → Once ts → Single (names_of (nodes ts))
 Single-names none once = tt
 Single-names (tree n c r) once = subst Single (sym (names-tree n c r)) (
   λ i. elim (In-parts n.name (names_of (nodes c)) (names_of (nodes r)) i) [ inl j ↦ once.0 (Has-names c n.name j) | inr j ↦ once.1 (Has-names r n.name j) ],
-  Single-append (names_of (nodes c)) (names_of (nodes r)) (Single-names c once.3) (Single-names r once.4) (λ x i j. once.2 x (Has-names c x i) (Has-names r x j)),
+  Single-append (names_of (nodes c)) (names_of (nodes r)) (Single-names c once.3) (Single-names r once.4)
+      (λ x i j. once.2 x (Has-names c x i) (Has-names r x j)),
 )
 
 -- ---- the names below a node, child by child
@@ -140,27 +148,34 @@ names-roots : (d : Trees) → Once d → names_of (nodes d) ≡ flat_map (inclus
 names-roots none once = refl
 names-roots (tree n c r) once =
     let first : inclusive_descendants (tree n c r) n.name ≡ n.name ∷ names_of (nodes c) =
-    ap (λ (us : Trees). names_of (nodes us)) (subtree-here n c r n.name refl) ∙ (names-tree n c none ∙ ap (λ xs. n.name ∷ xs) (append-nil (names_of (nodes c)))) in
+    ap (λ (us : Trees). names_of (nodes us)) (subtree-here n c r n.name refl) ∙
+    (names-tree n c none ∙ ap (λ xs. n.name ∷ xs) (append-nil (names_of (nodes c)))) in
     let others : flat_map (inclusive_descendants (tree n c r)) (names_of (roots r)) ≡ flat_map (inclusive_descendants r) (names_of (roots r)) =
-    flat_map-same (inclusive_descendants (tree n c r)) (inclusive_descendants r) (names_of (roots r)) (λ y i. ap (λ (us : Trees). names_of (nodes us)) (subtree-beside n c r y once (Has-root r y i))) in
+    flat_map-same (inclusive_descendants (tree n c r)) (inclusive_descendants r) (names_of (roots r))
+    (λ y i. ap (λ (us : Trees). names_of (nodes us)) (subtree-beside n c r y once (Has-root r y i))) in
     names-tree n c r
     ∙ (ap (λ xs. n.name ∷ (names_of (nodes c) ++ xs)) (names-roots r once.4 ∙ sym others)
     ∙ (ap (λ xs. xs ++ flat_map (inclusive_descendants (tree n c r)) (names_of (roots r))) (sym first)
     ∙ sym (flat_map-cons (inclusive_descendants (tree n c r)) n.name (names_of (roots r)))))
 
 -- a node, and then the trees of its children
-pub descendants-children : (ts : Trees) (p : NodeName) → Once ts → Has ts p → inclusive_descendants ts p ≡ p ∷ flat_map (inclusive_descendants ts) (children_of ts p)
+pub descendants-children : (ts : Trees) (p : NodeName) → Once ts → Has ts p →
+    inclusive_descendants ts p ≡ p ∷ flat_map (inclusive_descendants ts) (children_of ts p)
 descendants-children ts p once h = by (subtree-present ts p h)
   where
-    by : (n : Node) × (c : Trees) × (subtree ts p ≡ tree n c none) × (n.name ≡ p) → inclusive_descendants ts p ≡ p ∷ flat_map (inclusive_descendants ts) (children_of ts p)
+    by : (n : Node) × (c : Trees) × (subtree ts p ≡ tree n c none) × (n.name ≡ p) →
+        inclusive_descendants ts p ≡ p ∷ flat_map (inclusive_descendants ts) (children_of ts p)
     by w =
         let inner : Once (tree w.0 w.1 none) = subst Once w.2 (Once-subtree ts p once h) in
         let here : inclusive_descendants ts p ≡ p ∷ names_of (nodes w.1) =
-        ap (λ (us : Trees). names_of (nodes us)) w.2 ∙ (names-tree w.0 w.1 none ∙ (ap (λ xs. w.0.name ∷ xs) (append-nil (names_of (nodes w.1))) ∙ ap (λ x. x ∷ names_of (nodes w.1)) w.3)) in
+        ap (λ (us : Trees). names_of (nodes us)) w.2 ∙
+        (names-tree w.0 w.1 none ∙ (ap (λ xs. w.0.name ∷ xs) (append-nil (names_of (nodes w.1))) ∙ ap (λ x. x ∷ names_of (nodes w.1)) w.3)) in
         let kids : children_of ts p ≡ names_of (roots w.1) = ap (λ (us : Trees). names_of (roots (trees_below us))) w.2 in
         let same : flat_map (inclusive_descendants w.1) (names_of (roots w.1)) ≡ flat_map (inclusive_descendants ts) (names_of (roots w.1)) =
         flat_map-same (inclusive_descendants w.1) (inclusive_descendants ts) (names_of (roots w.1)) (λ y i.
         let below = Has-root w.1 y i in
         ap (λ (us : Trees). names_of (nodes us))
-        (sym (subtree-below w.0 w.1 none y inner below) ∙ (ap (λ (us : Trees). subtree us y) (sym w.2) ∙ subtree-within ts p y once h (subst (λ (us : Trees). Has us y) (sym w.2) (inr (inl below)))))) in
+        (sym (subtree-below w.0 w.1 none y inner below) ∙
+        (ap (λ (us : Trees). subtree us y) (sym w.2) ∙
+        subtree-within ts p y once h (subst (λ (us : Trees). Has us y) (sym w.2) (inr (inl below)))))) in
         here ∙ ap (λ xs. p ∷ xs) (names-roots w.1 inner.3 ∙ (same ∙ ap (flat_map (inclusive_descendants ts)) (sym kids)))

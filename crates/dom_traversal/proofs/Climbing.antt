@@ -52,12 +52,18 @@ next_step f once only top k next s other is node some =
     )
 
 -- a step up, by itself
-pub parent_step : (f : NamedTrees) → StandOnce f → StandAlone f → (top k p : ℕ) → StandsIn f top k → (name_at f.names k ≡ name_at f.names top → ⊥) → Some (name_at f.names p) ≡ parent_of f.trees (name_at f.names k) → p < length f.names
+pub parent_step : (f : NamedTrees) → StandOnce f → StandAlone f → (top k p : ℕ) → StandsIn f top k →
+    (name_at f.names k ≡ name_at f.names top → ⊥) → Some (name_at f.names p) ≡ parent_of f.trees (name_at f.names k) → p < length f.names
     → StandsIn f top p × (length (inclusive_ancestors f.trees (name_at f.names p)) < length (inclusive_ancestors f.trees (name_at f.names k)))
 parent_step f once only top k p s other up node =
     let w = IsWithin-key f once only top k s in
-    let longer = (above-parent f.trees (name_at f.names k) (name_at f.names p) w.once (stands_in f.trees (name_at f.names top) (name_at f.names k) w) (sym up)).0 in (
-      record { node = node; within = above-within f.trees (name_at f.names top) (name_at f.names p) (within-parent f.trees (name_at f.names top) (name_at f.names k) (name_at f.names p) w other (sym up)) },
+    let longer = (above-parent f.trees (name_at f.names k) (name_at f.names p) w.once
+    (stands_in f.trees (name_at f.names top) (name_at f.names k) w) (sym up)).0 in (
+      record {
+        node = node;
+        within = above-within f.trees (name_at f.names top) (name_at f.names p)
+            (within-parent f.trees (name_at f.names top) (name_at f.names k) (name_at f.names p) w other (sym up));
+      },
       omega (arith, ap (length {A = NodeName}) longer),
     )
 
@@ -68,7 +74,8 @@ pub record Climbs (f : NamedTrees) (top k p : ℕ) : Type 0 where
   pub higher : length (inclusive_ancestors f.trees (name_at f.names p)) < length (inclusive_ancestors f.trees (name_at f.names k))
 
 -- the parent then has the same nodes beyond
-pub climb_step : (f : NamedTrees) → StandOnce f → StandAlone f → (top k p : ℕ) (next up : Option ℕ) → StandsIn f top k → (name_at f.names k ≡ name_at f.names top → ⊥)
+pub climb_step : (f : NamedTrees) → StandOnce f → StandAlone f → (top k p : ℕ) (next up : Option ℕ) → StandsIn f top k →
+    (name_at f.names k ≡ name_at f.names top → ⊥)
     → option_map (name_at f.names) next ≡ next_sibling f.trees (name_at f.names k) → is_some next ≡ false
     → option_map (name_at f.names) up ≡ parent_of f.trees (name_at f.names k) → up ≡ Some p → p < length f.names → Climbs f top k p
 climb_step f once only top k p next up s other next_is none_left up_is found node =
@@ -77,7 +84,8 @@ climb_step f once only top k p next up s other next_is none_left up_is found nod
     let step = parent_step f once only top k p s other parent node in
     record {
       stands = step.0;
-      beyond_is = no_next f.trees (name_at f.names top) (name_at f.names k) (name_at f.names p) w other (sym parent) (sym next_is ∙ ap (option_map (name_at f.names)) (was_none next none_left));
+      beyond_is = no_next f.trees (name_at f.names top) (name_at f.names k) (name_at f.names p) w other (sym parent)
+          (sym next_is ∙ ap (option_map (name_at f.names)) (was_none next none_left));
       higher = step.1;
     }
 
@@ -88,9 +96,11 @@ climb_ends f once only top k up s other up_is e =
     within-root f.trees (name_at f.names top) (name_at f.names k) (IsWithin-key f once only top k s) other (sym up_is ∙ ap (option_map (name_at f.names)) e)
 
 -- two keys that differ have names that differ
-pub other_name : (f : NamedTrees) → TellApart f → (j k : ℕ) → j < length f.names → k < length f.names → not (eqb j k) ≡ true → name_at f.names j ≡ name_at f.names k → ⊥
+pub other_name : (f : NamedTrees) → TellApart f → (j k : ℕ) → j < length f.names → k < length f.names → not (eqb j k) ≡ true →
+    name_at f.names j ≡ name_at f.names k → ⊥
 other_name f apart j k at_j at_k e same = both_ways _ (not-true _ e) (eq-eqb j k (apart j k at_j at_k same))
 
 -- the same by the test that they are equal
-pub other_key : (f : NamedTrees) → TellApart f → (j k : ℕ) → j < length f.names → k < length f.names → eqb j k ≡ false → name_at f.names j ≡ name_at f.names k → ⊥
+pub other_key : (f : NamedTrees) → TellApart f → (j k : ℕ) → j < length f.names → k < length f.names → eqb j k ≡ false →
+    name_at f.names j ≡ name_at f.names k → ⊥
 other_key f apart j k at_j at_k e = other_name f apart j k at_j at_k (ap not e)

@@ -31,7 +31,8 @@ times-none x = refl
 times-tree : (x : NodeName) (n : Node) (c r : Trees) → times x (tree n c r) ≡ one (name_eq n.name x) + (times x c + times x r)
 unfolding times
 times-tree x n c r =
-    sum_by-cons (λ (m : Node). one (name_eq m.name x)) n (nodes c ++ nodes r) ∙ ap (λ k. one (name_eq n.name x) + k) (sum_by-append (λ (m : Node). one (name_eq m.name x)) (nodes c) (nodes r))
+    sum_by-cons (λ (m : Node). one (name_eq m.name x)) n (nodes c ++ nodes r) ∙
+    ap (λ k. one (name_eq n.name x) + k) (sum_by-append (λ (m : Node). one (name_eq m.name x)) (nodes c) (nodes r))
 
 -- a name is counted at itself
 one-same : (x y : NodeName) → x ≡ y → one (name_eq x y) ≡ 1
@@ -96,7 +97,8 @@ Has-forest f once k node = elim (has_or_not f.trees (name_at f.names k)) [
 ]
 
 -- a node with an inclusive ancestor stands in that one's tree
-pub IsWithin-forest : (f : NamedTrees) → StandOnce f → StandAlone f → (top x : NodeName) → Has f.trees x → is_inclusive_ancestor f.trees top x ≡ true → IsWithin f.trees top x
+pub IsWithin-forest : (f : NamedTrees) → StandOnce f → StandAlone f → (top x : NodeName) → Has f.trees x →
+    is_inclusive_ancestor f.trees top x ≡ true → IsWithin f.trees top x
 IsWithin-forest f once only top x h above =
     let single = Once-forest f once only in
     let i = In-from top (inclusive_ancestors f.trees x) above in

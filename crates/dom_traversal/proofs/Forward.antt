@@ -17,12 +17,14 @@ use Rattle.dom_traversal.proofs.Searching.{behind-next, first-miss}
 use Rattle.dom_traversal.proofs.Opening.{reached, reached-shut, reached-hit, all-from, all-at, proper-parent, beyond-above, beyond_place}
 
 -- what is next behind a node has no other nodes above it than that node and those above it
-pub following-above : (ts : Trees) (top x y : NodeName) → IsWithin ts top x → first_of (behind ts top x) ≡ Some y → (a : NodeName) → In a (ancestors ts y) → In a (x ∷ ancestors ts x)
+pub following-above : (ts : Trees) (top x y : NodeName) → IsWithin ts top x → first_of (behind ts top x) ≡ Some y → (a : NodeName) →
+    In a (ancestors ts y) → In a (x ∷ ancestors ts x)
 following-above ts top x y w e = by (first_of (children_of ts x)) refl
   where
     by : (o : Option NodeName) → first_of (children_of ts x) ≡ o → (a : NodeName) → In a (ancestors ts y) → In a (x ∷ ancestors ts x)
     by None none_below a i =
-        let beyond_it : first_of (beyond ts top x) ≡ Some y = ap first_of (sym (behind_is ts top x w ∙ ap (λ xs. xs ++ beyond ts top x) (no_child ts x none_below))) ∙ e in
+        let beyond_it : first_of (beyond ts top x) ≡ Some y =
+        ap first_of (sym (behind_is ts top x w ∙ ap (λ xs. xs ++ beyond ts top x) (no_child ts x none_below))) ∙ e in
         inr (beyond-above ts (length (inclusive_ancestors ts x)) top x y (omega arith) w beyond_it a i)
     by (Some c) first a i =
         let child = first_child ts top x c w first in
@@ -37,7 +39,8 @@ pub zone_is : (ts : Trees) (top x : NodeName) → IsWithin ts top x → from_nod
 zone_is ts top x w = ap (λ xs. x ∷ xs) (behind_is ts top x w) ∙ ap (λ xs. xs ++ beyond ts top x) (sym (here ts top x w))
 
 -- what is beyond a node, from the first of it on
-pub beyond-zone : (ts : Trees) (top x : NodeName) → IsWithin ts top x → (o : Option NodeName) → first_of (beyond ts top x) ≡ o → beyond ts top x ≡ from_node ts top o
+pub beyond-zone : (ts : Trees) (top x : NodeName) → IsWithin ts top x → (o : Option NodeName) → first_of (beyond ts top x) ≡ o →
+    beyond ts top x ≡ from_node ts top o
 beyond-zone ts top x w None e = no_first (beyond ts top x) e
 beyond-zone ts top x w (Some y) e = let is = beyond_place ts top x y w e in is.1 ∙ sym (zone_is ts top y is.0)
 
@@ -62,7 +65,8 @@ module _ (ts : Trees) (accept clear : NodeName → Bool) (top c : NodeName) (tar
   Comes-end h = h.left
 
   -- a node that is skipped is entered
-  pub Comes-skip : (x : NodeName) (o : Option NodeName) → Comes ts accept clear top c target (Some x) → accept x ≡ false → clear x ≡ true → o ≡ first_of (behind ts top x) → Comes ts accept clear top c target o
+  pub Comes-skip : (x : NodeName) (o : Option NodeName) → Comes ts accept clear top c target (Some x) → accept x ≡ false → clear x ≡ true →
+      o ≡ first_of (behind ts top x) → Comes ts accept clear top c target o
   Comes-skip x o h no_x is_clear next =
       let w = h.within x refl in
       let zone : behind ts top x ≡ from_node ts top o = behind-next ts top x w o (sym next) in
@@ -84,13 +88,16 @@ module _ (ts : Trees) (accept clear : NodeName → Bool) (top c : NodeName) (tar
       h.apart (subst (In c) (sym (zone_is ts top x w)) (In-left c (inclusive_descendants ts x) (beyond ts top x) (In-names (subtree ts x) c below_x)))
 
   -- a node that is rejected is passed with its tree
-  pub Comes-reject : (x : NodeName) (o : Option NodeName) → Comes ts accept clear top c target (Some x) → accept x ≡ false → clear x ≡ false → o ≡ first_of (beyond ts top x) → Comes ts accept clear top c target o
+  pub Comes-reject : (x : NodeName) (o : Option NodeName) → Comes ts accept clear top c target (Some x) → accept x ≡ false → clear x ≡ false →
+      o ≡ first_of (beyond ts top x) → Comes ts accept clear top c target o
   Comes-reject x o h no_x shut next =
       let w = h.within x refl in
       let zone : beyond ts top x ≡ from_node ts top o = beyond-zone ts top x w o (sym next) in
       record {
         within = λ y e. (beyond_place ts top x y w (sym next ∙ e)).0;
-        path = λ y e. all-from clear (ancestors ts y) (λ a i. all-at clear (ancestors ts x) (h.path x refl) a (beyond-above ts (length (inclusive_ancestors ts x)) top x y (omega arith) w (sym next ∙ e) a i));
+        path = λ y e. all-from clear (ancestors ts y)
+            (λ a i. all-at clear (ancestors ts x) (h.path x refl) a
+            (beyond-above ts (length (inclusive_ancestors ts x)) top x y (omega arith) w (sym next ∙ e) a i));
         apart = λ i. h.apart (subst (In c) (sym (zone_is ts top x w)) (In-right c (inclusive_descendants ts x) (beyond ts top x) (subst (In c) (sym zone) i)));
         left =
             ap (λ xs. first_of (filter (reached ts accept clear) xs)) (sym zone)
@@ -99,13 +106,20 @@ module _ (ts : Trees) (accept clear : NodeName → Bool) (top c : NodeName) (tar
       }
 
 -- what is left to search is less
-pub shorter-skip : (ts : Trees) (top x : NodeName) (o : Option NodeName) → IsWithin ts top x → o ≡ first_of (behind ts top x) → length (from_node ts top o) < length (from_node ts top (Some x))
+pub shorter-skip : (ts : Trees) (top x : NodeName) (o : Option NodeName) → IsWithin ts top x → o ≡ first_of (behind ts top x) →
+    length (from_node ts top o) < length (from_node ts top (Some x))
 shorter-skip ts top x o w next = omega (arith, ap (length {A = NodeName}) (behind-next ts top x w o (sym next)))
 
 -- the same where a tree is passed
-pub shorter-reject : (ts : Trees) (top x : NodeName) (o : Option NodeName) → IsWithin ts top x → o ≡ first_of (beyond ts top x) → length (from_node ts top o) < length (from_node ts top (Some x))
+pub shorter-reject : (ts : Trees) (top x : NodeName) (o : Option NodeName) → IsWithin ts top x → o ≡ first_of (beyond ts top x) →
+    length (from_node ts top o) < length (from_node ts top (Some x))
 shorter-reject ts top x o w next =
-    omega (arith, ap (length {A = NodeName}) (beyond-zone ts top x w o (sym next)), ap (length {A = NodeName}) (behind_is ts top x w), length-append (below ts x) (beyond ts top x))
+    omega (
+      arith,
+      ap (length {A = NodeName}) (beyond-zone ts top x w o (sym next)),
+      ap (length {A = NodeName}) (behind_is ts top x w),
+      length-append (below ts x) (beyond ts top x),
+    )
 
 -- behind a node no node is that one
 pub not_behind : (ts : Trees) (top x : NodeName) → IsWithin ts top x → In x (behind ts top x) → ⊥

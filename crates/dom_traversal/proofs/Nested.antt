@@ -11,7 +11,8 @@ use Rattle.dom_model.specs.Traversal.{Walker, accepts, between, walker_siblings,
 use Rattle.dom_model.specs.Tree.{Trees, subtree, inclusive_ancestors, ancestors, is_inclusive_ancestor, inclusive_descendants}
 use Rattle.dom_traversal.specs.Walkers.{is_opened, is_reached, is_stop, is_candidate}
 use Rattle.dom_traversal.specs.Within.{ahead_of, behind, beyond}
-use Rattle.dom_traversal.proofs.Lists.{In, In-left, In-right, In-parts, In-from, before-in, after-in, not_before, Single, Single-right, Single-apart, same_or_not, is_in-from, is_in-not, name_eq-from, name_eq-other, filter-none, filter-same}
+use Rattle.dom_traversal.proofs.Lists.{In, In-left, In-right, In-parts, In-from, before-in, after-in, not_before, Single, Single-right, Single-apart}
+use Rattle.dom_traversal.proofs.Lists.{same_or_not, is_in-from, is_in-not, name_eq-from, name_eq-other, filter-none, filter-same}
 use Rattle.dom_traversal.proofs.Shapes.{Has, has_or_not, Has-above, above-absent, below-from_above}
 use Rattle.dom_traversal.proofs.Children.{In-names}
 use Rattle.dom_traversal.proofs.Order.{IsWithin, stands_in, all_single, here, below, splits, split_is, behind_is, inside-test, outside-test}
@@ -29,7 +30,9 @@ nested ts top a x at_a in_a at_x =
     let whole : inclusive_descendants ts top ≡ (ahead_of ts top a ++ ahead_of ts a x) ++ (tree ++ (beyond ts a x ++ beyond ts top a)) =
     splits ts top a at_a
     ∙ (ap (λ xs. ahead_of ts top a ++ (xs ++ beyond ts top a)) (splits ts a x in_a)
-    ∙ (ap (λ xs. ahead_of ts top a ++ xs) (append_assoc (ahead_of ts a x) (tree ++ beyond ts a x) (beyond ts top a) ∙ ap (λ xs. ahead_of ts a x ++ xs) (append_assoc tree (beyond ts a x) (beyond ts top a)))
+    ∙ (ap (λ xs. ahead_of ts top a ++ xs)
+    (append_assoc (ahead_of ts a x) (tree ++ beyond ts a x) (beyond ts top a) ∙
+    ap (λ xs. ahead_of ts a x ++ xs) (append_assoc tree (beyond ts a x) (beyond ts top a)))
     ∙ sym (append_assoc (ahead_of ts top a) (ahead_of ts a x) (tree ++ (beyond ts a x ++ beyond ts top a))))) in
     let is = split_is ts top x at_x (ahead_of ts top a ++ ahead_of ts a x) (beyond ts a x ++ beyond ts top a) whole in
     (is.0, is.2)
@@ -46,24 +49,31 @@ off-below ts a y w off = is_in-not a (ancestors ts y) (λ i. by (has_or_not ts y
 abbrev pub is_sibling : Trees → Walker → NodeName → Bool
 is_sibling ts w y =
     let top = sibling_top ts w in
-    accepts ts w.filter y && (not (is_inclusive_ancestor ts y w.current || is_inclusive_ancestor ts w.current y) && (is_in name_eq top (ancestors ts y) && list_all (is_opened ts w) (between ts top y)))
+    accepts ts w.filter y && (not (is_inclusive_ancestor ts y w.current || is_inclusive_ancestor ts w.current y) &&
+    (is_in name_eq top (ancestors ts y) && list_all (is_opened ts w) (between ts top y)))
 
 -- a node that is not below the stop is no sibling
 sibling-off : (ts : Trees) (w : Walker) (y : NodeName) → is_in name_eq (sibling_top ts w) (ancestors ts y) ≡ false → is_sibling ts w y ≡ false
-sibling-off ts w y e = and_right (accepts ts w.filter y) _ (and_right (not (is_inclusive_ancestor ts y w.current || is_inclusive_ancestor ts w.current y)) _ (and_left (is_in name_eq (sibling_top ts w) (ancestors ts y)) _ e))
+sibling-off ts w y e = and_right (accepts ts w.filter y) _
+    (and_right (not (is_inclusive_ancestor ts y w.current || is_inclusive_ancestor ts w.current y)) _
+    (and_left (is_in name_eq (sibling_top ts w) (ancestors ts y)) _ e))
 
 -- nor is one below the current node
 sibling-inside : (ts : Trees) (w : Walker) (y : NodeName) → is_inclusive_ancestor ts w.current y ≡ true → is_sibling ts w y ≡ false
 sibling-inside ts w y e =
-    and_right (accepts ts w.filter y) _ (and_left (not (is_inclusive_ancestor ts y w.current || is_inclusive_ancestor ts w.current y)) _ (ap not (or_right (is_inclusive_ancestor ts y w.current) _ e)))
+    and_right (accepts ts w.filter y) _ (and_left (not (is_inclusive_ancestor ts y w.current || is_inclusive_ancestor ts w.current y)) _
+    (ap not (or_right (is_inclusive_ancestor ts y w.current) _ e)))
 
 -- any other one is a sibling if it is reached
-sibling-reached : (ts : Trees) (w : Walker) (y : NodeName) → IsBelow ts (sibling_top ts w) y → IsBelow ts (sibling_top ts w) w.current → is_inclusive_ancestor ts y w.current ≡ false → is_inclusive_ancestor ts w.current y ≡ false
+sibling-reached : (ts : Trees) (w : Walker) (y : NodeName) → IsBelow ts (sibling_top ts w) y → IsBelow ts (sibling_top ts w) w.current →
+    is_inclusive_ancestor ts y w.current ≡ false → is_inclusive_ancestor ts w.current y ≡ false
     → is_sibling ts w y ≡ is_reached ts w y
 sibling-reached ts w y b c up down =
     let top = sibling_top ts w in
-    let all = opened-between ts w top y b (λ d i. above-along ts d top w.current c.once c.stands i (subst (In top) (sym (above-proper ts w.current c.stands)) (inr c.above))) in
-    ap (λ t. accepts ts w.filter y && (not (t || is_inclusive_ancestor ts w.current y) && (is_in name_eq top (ancestors ts y) && list_all (is_opened ts w) (between ts top y)))) up
+    let all = opened-between ts w top y b
+    (λ d i. above-along ts d top w.current c.once c.stands i (subst (In top) (sym (above-proper ts w.current c.stands)) (inr c.above))) in
+    ap (λ t. accepts ts w.filter y && (not (t || is_inclusive_ancestor ts w.current y) &&
+    (is_in name_eq top (ancestors ts y) && list_all (is_opened ts w) (between ts top y)))) up
     ∙ (ap (λ t. accepts ts w.filter y && (not t && (is_in name_eq top (ancestors ts y) && list_all (is_opened ts w) (between ts top y)))) down
     ∙ (ap (λ t. accepts ts w.filter y && (t && list_all (is_opened ts w) (between ts top y))) (is_in-from top (ancestors ts y) b.above)
     ∙ ap (λ t. accepts ts w.filter y && t) (sym all)))
@@ -87,9 +97,11 @@ pub behind-outside : (ts : Trees) (top x y : NodeName) → IsWithin ts top x →
 behind-outside ts top x y w i =
     let inside = within-member ts top x y w (after-in x y (inclusive_descendants ts top) i) in
     outside-test ts y x w.once (λ j. elim (subst (In x) (here ts top y inside) j) [
-      | inl same ↦ (Single-right (ahead_of ts top x) (x ∷ behind ts top x) (subst Single (ordered ts top x w) (all_single ts top x w))).0 (subst (λ z. In z (behind ts top x)) (sym same) i)
+      | inl same ↦ (Single-right (ahead_of ts top x) (x ∷ behind ts top x) (subst Single (ordered ts top x w) (all_single ts top x w))).0
+          (subst (λ z. In z (behind ts top x)) (sym same) i)
       | inr k ↦
-          not_both_behind x y (inclusive_descendants ts top) (all_single ts top x w) i (subst (In x) (sym (behind_is ts top y inside)) (In-left x (below ts y) (beyond ts top y) k))
+          not_both_behind x y (inclusive_descendants ts top) (all_single ts top x w) i
+          (subst (In x) (sym (behind_is ts top y inside)) (In-left x (below ts y) (beyond ts top y) k))
     ])
 
 -- a node of the tree of a other than a stands below a
@@ -114,32 +126,46 @@ module _ (ts : Trees) (w : Walker) (b : IsBelow ts w.root w.current) where
   in_root = within-below ts w.root w.current b
 
   -- the stop stands in the tree of the root, where it is a member of a list of accepted or top nodes above the current one
-  pub root-stop : IsWithin ts w.root (sibling_top ts w) → (ahead_of ts w.root w.current ≡ ahead_of ts w.root (sibling_top ts w) ++ ahead_of ts (sibling_top ts w) w.current)
+  pub root-stop : IsWithin ts w.root (sibling_top ts w) →
+      (ahead_of ts w.root w.current ≡ ahead_of ts w.root (sibling_top ts w) ++ ahead_of ts (sibling_top ts w) w.current)
       × (beyond ts w.root w.current ≡ beyond ts (sibling_top ts w) w.current ++ beyond ts w.root (sibling_top ts w))
   root-stop at = nested ts w.root (sibling_top ts w) w.current at in_top in_root
 
   -- among the nodes behind the current one
-  pub siblings-behind : IsWithin ts w.root (sibling_top ts w) → walker_siblings ts w (behind ts w.root w.current) ≡ filter (is_reached ts w) (beyond ts (sibling_top ts w) w.current)
+  pub siblings-behind : IsWithin ts w.root (sibling_top ts w) →
+      walker_siblings ts w (behind ts w.root w.current) ≡ filter (is_reached ts w) (beyond ts (sibling_top ts w) w.current)
   siblings-behind at =
       let stop = sibling_top ts w in
       let tree = inclusive_descendants ts w.current in
       let parts = splits ts stop w.current in_top in
       let single : Single (ahead_of ts stop w.current ++ (tree ++ beyond ts stop w.current)) = subst Single parts (all_single ts stop w.current in_top) in
-      let whole : behind ts w.root w.current ≡ below ts w.current ++ (beyond ts stop w.current ++ beyond ts w.root stop) = behind_is ts w.root w.current in_root ∙ ap (λ xs. below ts w.current ++ xs) (root-stop at).1 in
+      let whole : behind ts w.root w.current ≡ below ts w.current ++ (beyond ts stop w.current ++ beyond ts w.root stop) =
+      behind_is ts w.root w.current in_root ∙ ap (λ xs. below ts w.current ++ xs) (root-stop at).1 in
       ap (filter (is_sibling ts w)) whole
       ∙ (filter-append (is_sibling ts w) (below ts w.current) (beyond ts stop w.current ++ beyond ts w.root stop)
       ∙ (ap (λ xs. xs ++ filter (is_sibling ts w) (beyond ts stop w.current ++ beyond ts w.root stop))
-      (filter-none (is_sibling ts w) (below ts w.current) (λ y i. sibling-inside ts w y (inside-test ts w.current y b.once b.stands (subst (In y) (sym (here ts stop w.current in_top)) (inr i)))))
+      (filter-none (is_sibling ts w) (below ts w.current)
+      (λ y i. sibling-inside ts w y (inside-test ts w.current y b.once b.stands (subst (In y) (sym (here ts stop w.current in_top)) (inr i)))))
       ∙ (filter-append (is_sibling ts w) (beyond ts stop w.current) (beyond ts w.root stop)
-      ∙ (ap (λ xs. filter (is_sibling ts w) (beyond ts stop w.current) ++ xs) (filter-none (is_sibling ts w) (beyond ts w.root stop) (λ y i. sibling-off ts w y (off-below ts stop y itself
-      (λ j. Single-apart y (inclusive_descendants ts stop) (beyond ts w.root stop) (Single-right (ahead_of ts w.root stop) (inclusive_descendants ts stop ++ beyond ts w.root stop) (subst Single (splits ts w.root stop at) (all_single ts w.root stop at))) j i))))
+      ∙ (ap (λ xs. filter (is_sibling ts w) (beyond ts stop w.current) ++ xs)
+      (filter-none (is_sibling ts w) (beyond ts w.root stop) (λ y i. sibling-off ts w y (off-below ts stop y itself
+      (λ j. Single-apart y (inclusive_descendants ts stop) (beyond ts w.root stop)
+      (Single-right (ahead_of ts w.root stop) (inclusive_descendants ts stop ++ beyond ts w.root stop)
+      (subst Single (splits ts w.root stop at) (all_single ts w.root stop at))) j i))))
       ∙ (append-nil (filter (is_sibling ts w) (beyond ts stop w.current))
       ∙ filter-same (is_sibling ts w) (is_reached ts w) (beyond ts stop w.current) (λ y i.
-      let among : In y (inclusive_descendants ts stop) = subst (In y) (sym parts) (In-right y (ahead_of ts stop w.current) (tree ++ beyond ts stop w.current) (In-right y tree (beyond ts stop w.current) i)) in
-      let later : In y (behind ts stop w.current) = subst (In y) (sym (behind_is ts stop w.current in_top)) (In-right y (below ts w.current) (beyond ts stop w.current) i) in
-      let other : y ≡ stop → ⊥ = λ same. both_ways _ (behind-outside ts stop w.current y in_top later) (ap (λ z. is_inclusive_ancestor ts z w.current) same ∙ is_in-from stop (inclusive_ancestors ts w.current) (subst (In stop) (sym (above-proper ts w.current b.stands)) (inr top_below.above))) in
+      let among : In y (inclusive_descendants ts stop) =
+      subst (In y) (sym parts) (In-right y (ahead_of ts stop w.current) (tree ++ beyond ts stop w.current)
+      (In-right y tree (beyond ts stop w.current) i)) in
+      let later : In y (behind ts stop w.current) =
+      subst (In y) (sym (behind_is ts stop w.current in_top)) (In-right y (below ts w.current) (beyond ts stop w.current) i) in
+      let other : y ≡ stop → ⊥ = λ same. both_ways _ (behind-outside ts stop w.current y in_top later)
+      (ap (λ z. is_inclusive_ancestor ts z w.current) same ∙ is_in-from stop (inclusive_ancestors ts w.current)
+      (subst (In stop) (sym (above-proper ts w.current b.stands)) (inr top_below.above))) in
       sibling-reached ts w y (below-other ts stop y itself among other) top_below (behind-outside ts stop w.current y in_top later)
-      (outside-test ts w.current y b.once (λ j. Single-apart y tree (beyond ts stop w.current) (Single-right (ahead_of ts stop w.current) (tree ++ beyond ts stop w.current) single) j i))))))))
+      (outside-test ts w.current y b.once
+      (λ j. Single-apart y tree (beyond ts stop w.current)
+      (Single-right (ahead_of ts stop w.current) (tree ++ beyond ts stop w.current) single) j i))))))))
 
 -- what stands before the first member that passes a test does not pass it
 found-first : (p : NodeName → Bool) (xs : List NodeName) (d y : NodeName) → In y (items_before name_eq (unwrap_or (find p xs) d) xs) → p y ≡ false
@@ -156,7 +182,9 @@ found-first p (x ∷ xs) d y i = elim (cases_Bool (p x)) [
     nothing_before : (z : NodeName) (zs : List NodeName) → items_before name_eq z (z ∷ zs) ≡ []
     nothing_before z zs = rw (name_eq-from z z refl) refl
 
-    by : p x ≡ false → (unwrap_or (find p xs) d ≡ x) ⊎ (unwrap_or (find p xs) d ≡ x → ⊥) → In y (items_before name_eq (unwrap_or (find p xs) d) (x ∷ xs)) → (In y (items_before name_eq (unwrap_or (find p xs) d) xs) → p y ≡ false) → p y ≡ false
+    by : p x ≡ false → (unwrap_or (find p xs) d ≡ x) ⊎ (unwrap_or (find p xs) d ≡ x → ⊥) →
+        In y (items_before name_eq (unwrap_or (find p xs) d) (x ∷ xs)) →
+        (In y (items_before name_eq (unwrap_or (find p xs) d) xs) → p y ≡ false) → p y ≡ false
     by e (inl same) j more = absurd (rw (name_eq-from (unwrap_or (find p xs) d) x same) at j)
     by e (inr other) j more = elim (rw (name_eq-other (unwrap_or (find p xs) d) x other) at j) [ inl is ↦ ap p is ∙ e | inr k ↦ more k ]
 
@@ -192,10 +220,12 @@ module _ (ts : Trees) (w : Walker) (b : IsBelow ts w.root w.current) where
   of_stop = within-top ts (sibling_top ts w) w.current in_stop
 
   -- a node above the current one and below the stop is not accepted
-  above-unaccepted : (y : NodeName) → IsBelow ts (sibling_top ts w) y → (y ≡ w.current → ⊥) → In y (inclusive_ancestors ts w.current) → accepts ts w.filter y ≡ false
+  above-unaccepted : (y : NodeName) → IsBelow ts (sibling_top ts w) y → (y ≡ w.current → ⊥) → In y (inclusive_ancestors ts w.current) →
+      accepts ts w.filter y ≡ false
   above-unaccepted y below_y other i =
       let proper : In y (ancestors ts w.current) = elim (subst (In y) (above-proper ts w.current b.stands) i) [ inl same ↦ absurd (other same) | inr j ↦ j ] in
-      elim (In-parts y (between ts (sibling_top ts w) w.current) (inclusive_ancestors ts (sibling_top ts w)) (subst (In y) (proper-split ts (sibling_top ts w) w.current stop_below) proper)) [
+      elim (In-parts y (between ts (sibling_top ts w) w.current) (inclusive_ancestors ts (sibling_top ts w))
+      (subst (In y) (proper-split ts (sibling_top ts w) w.current stop_below) proper)) [
         | inl j ↦ (or_parts (accepts ts w.filter y) _ (before-stop ts w y j)).0
         | inr j ↦ absurd (not_around ts (sibling_top ts w) y below_y.once below_y.stands below_y.above j)
       ]
@@ -213,12 +243,14 @@ module _ (ts : Trees) (w : Walker) (b : IsBelow ts w.root w.current) where
       down : is_inclusive_ancestor ts w.current y ≡ false
       down = outside-test ts w.current y b.once (ahead-apart ts (sibling_top ts w) w.current y in_stop i)
 
-      apart : IsBelow ts (sibling_top ts w) y → (y ≡ sibling_top ts w → ⊥) → (is_inclusive_ancestor ts y w.current ≡ true) ⊎ (is_inclusive_ancestor ts y w.current ≡ false) → is_sibling ts w y ≡ is_candidate ts w (sibling_top ts w) y
+      apart : IsBelow ts (sibling_top ts w) y → (y ≡ sibling_top ts w → ⊥) → (is_inclusive_ancestor ts y w.current ≡ true) ⊎
+          (is_inclusive_ancestor ts y w.current ≡ false) → is_sibling ts w y ≡ is_candidate ts w (sibling_top ts w) y
       apart below_y not_stop (inl up) =
           let no_y = above-unaccepted y below_y other (In-from y (inclusive_ancestors ts w.current) up) in
           and_left (accepts ts w.filter y) _ no_y ∙ sym (and_left (is_reached ts w y) _ (and_left (accepts ts w.filter y) _ no_y))
       apart below_y not_stop (inr up) =
-          sibling-reached ts w y below_y stop_below up down ∙ sym (ap (λ t. is_reached ts w y && not t) (name_eq-other y (sibling_top ts w) not_stop) ∙ and_true (is_reached ts w y))
+          sibling-reached ts w y below_y stop_below up down ∙
+          sym (ap (λ t. is_reached ts w y && not t) (name_eq-other y (sibling_top ts w) not_stop) ∙ and_true (is_reached ts w y))
         where
           and_true : (t : Bool) → (t && true) ≡ t
           and_true true = refl
@@ -226,16 +258,21 @@ module _ (ts : Trees) (w : Walker) (b : IsBelow ts w.root w.current) where
 
       by : (y ≡ sibling_top ts w) ⊎ (y ≡ sibling_top ts w → ⊥) → is_sibling ts w y ≡ is_candidate ts w (sibling_top ts w) y
       by (inl same) =
-          sibling-off ts w y (is_in-not (sibling_top ts w) (ancestors ts y) (λ j. not_above_itself ts (sibling_top ts w) b.once (stands_in ts (sibling_top ts w) (sibling_top ts w) of_stop) (subst (λ z. In (sibling_top ts w) (ancestors ts z)) same j)))
+          sibling-off ts w y (is_in-not (sibling_top ts w) (ancestors ts y)
+          (λ j. not_above_itself ts (sibling_top ts w) b.once (stands_in ts (sibling_top ts w) (sibling_top ts w) of_stop)
+          (subst (λ z. In (sibling_top ts w) (ancestors ts z)) same j)))
           ∙ sym (and_right (is_reached ts w y) _ (ap not (name_eq-from y (sibling_top ts w) same)))
       by (inr not_stop) = apart (below-other ts (sibling_top ts w) y of_stop among not_stop) not_stop (cases_Bool (is_inclusive_ancestor ts y w.current))
 
   -- among the nodes before the current one
-  pub siblings-ahead : walker_siblings ts w (ahead_of ts w.root w.current) ≡ filter (is_candidate ts w (sibling_top ts w)) (ahead_of ts (sibling_top ts w) w.current)
+  pub siblings-ahead : walker_siblings ts w (ahead_of ts w.root w.current) ≡ filter (is_candidate ts w (sibling_top ts w))
+      (ahead_of ts (sibling_top ts w) w.current)
   siblings-ahead =
       let stop = sibling_top ts w in
       let at = stop-within ts w b in
       ap (filter (is_sibling ts w)) (root-stop ts w b at).0
       ∙ (filter-append (is_sibling ts w) (ahead_of ts w.root stop) (ahead_of ts stop w.current)
-      ∙ (ap (λ xs. xs ++ filter (is_sibling ts w) (ahead_of ts stop w.current)) (filter-none (is_sibling ts w) (ahead_of ts w.root stop) (λ y i. sibling-off ts w y (off-below ts stop y of_stop (ahead-apart ts w.root stop y at i))))
+      ∙ (ap (λ xs. xs ++ filter (is_sibling ts w) (ahead_of ts stop w.current))
+      (filter-none (is_sibling ts w) (ahead_of ts w.root stop)
+      (λ y i. sibling-off ts w y (off-below ts stop y of_stop (ahead-apart ts w.root stop y at i))))
       ∙ filter-same (is_sibling ts w) (is_candidate ts w stop) (ahead_of ts stop w.current) sibling-candidate))

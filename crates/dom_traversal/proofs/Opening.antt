@@ -1,5 +1,6 @@
 -- The nodes that are accepted and reached through open nodes alone, and what a node that is not open hides.
-use Rattle.std.proofs.Common.{◌≡◌, inl, inr, ℕ, ◌≤◌, zero, suc, Bool, true, false, not, ◌&&◌, List, [], ◌∷◌, ◌++◌, length, Option, Some, None, refl, sym, ap, subst, ◌∙◌, arith, length-append, append_assoc}
+use Rattle.std.proofs.Common.{◌≡◌, inl, inr, ℕ, ◌≤◌, zero, suc, Bool, true, false, not, ◌&&◌, List, [], ◌∷◌, ◌++◌, length, Option, Some, None, refl}
+use Rattle.std.proofs.Common.{sym, ap, subst, ◌∙◌, arith, length-append, append_assoc}
 use Rattle.std.specs.Prelude.{drop, filter}
 use Rattle.std.specs.List.{list_any, list_all}
 use Rattle.std.proofs.lemmas.Bool.{cases_Bool, and_left, and_right, and_from, and_parts, both_ways, false_from_ne_true}
@@ -85,26 +86,38 @@ module _ (ts : Trees) (accept clear : NodeName → Bool) (top x : NodeName) (w :
       let tree : In y (inclusive_descendants ts x) = subst (In y) (sym (here ts top x w)) (inr i) in
       let up = above-from_below ts x y w.once (stands_in ts top x w) (Has-names (subtree ts x) y tree) in
       let at : Has ts y = Has-subtree ts x y w.once (Has-names (subtree ts x) y tree) in
-      let apart : x ≡ y → ⊥ = λ same. (subst Single (here ts x x (within-itself)) (all_single ts x x within-itself)).0 (subst (λ z. In z (below ts x)) (sym same) i) in
-      and_right (accept y) _ (all-breaks clear (ancestors ts y) x (elim (subst (In x) (above-proper ts y at) up) [ inl same ↦ absurd (apart same) | inr j ↦ j ]) shut)
+      let apart : x ≡ y → ⊥ = λ same. (subst Single (here ts x x (within-itself)) (all_single ts x x within-itself)).0
+      (subst (λ z. In z (below ts x)) (sym same) i) in
+      and_right (accept y) _ (all-breaks clear (ancestors ts y) x
+      (elim (subst (In x) (above-proper ts y at) up) [ inl same ↦ absurd (apart same) | inr j ↦ j ]) shut)
     where
       within-itself : IsWithin ts x x
-      within-itself = record { once = w.once; top_stands = stands_in ts top x w; stands = below-from_above ts x x w.once (stands_in ts top x w) (subst (In x) (sym (above-proper ts x (stands_in ts top x w))) (inl refl)) }
+      within-itself = record {
+        once = w.once;
+        top_stands = stands_in ts top x w;
+        stands = below-from_above ts x x w.once (stands_in ts top x w) (subst (In x) (sym (above-proper ts x (stands_in ts top x w))) (inl refl));
+      }
 
   -- a node that is neither accepted nor open is passed with its tree
-  pub reached-shut : accept x ≡ false → clear x ≡ false → (zs : List NodeName) → filter (reached ts accept clear) (inclusive_descendants ts x ++ zs) ≡ filter (reached ts accept clear) zs
+  pub reached-shut : accept x ≡ false → clear x ≡ false → (zs : List NodeName) →
+      filter (reached ts accept clear) (inclusive_descendants ts x ++ zs) ≡ filter (reached ts accept clear) zs
   reached-shut no_x shut zs =
       ap (λ xs. filter (reached ts accept clear) (xs ++ zs)) (here ts top x w)
       ∙ (filter-no (reached ts accept clear) x (below ts x ++ zs) (and_left (accept x) _ no_x)
-      ∙ (filter-append (reached ts accept clear) (below ts x) zs ∙ ap (λ xs. xs ++ filter (reached ts accept clear) zs) (filter-none (reached ts accept clear) (below ts x) (hidden shut))))
+      ∙ (filter-append (reached ts accept clear) (below ts x) zs ∙ ap (λ xs. xs ++ filter (reached ts accept clear) zs)
+      (filter-none (reached ts accept clear) (below ts x) (hidden shut))))
 
   -- a node that is not accepted is passed
-  pub reached-miss : accept x ≡ false → (zs : List NodeName) → filter (reached ts accept clear) (inclusive_descendants ts x ++ zs) ≡ filter (reached ts accept clear) (below ts x ++ zs)
-  reached-miss no_x zs = ap (λ xs. filter (reached ts accept clear) (xs ++ zs)) (here ts top x w) ∙ filter-no (reached ts accept clear) x (below ts x ++ zs) (and_left (accept x) _ no_x)
+  pub reached-miss : accept x ≡ false → (zs : List NodeName) →
+      filter (reached ts accept clear) (inclusive_descendants ts x ++ zs) ≡ filter (reached ts accept clear) (below ts x ++ zs)
+  reached-miss no_x zs = ap (λ xs. filter (reached ts accept clear) (xs ++ zs)) (here ts top x w) ∙
+      filter-no (reached ts accept clear) x (below ts x ++ zs) (and_left (accept x) _ no_x)
 
   -- an accepted node is reached, if all above it is open
-  pub reached-hit : accept x ≡ true → list_all clear (ancestors ts x) ≡ true → (zs : List NodeName) → filter (reached ts accept clear) (inclusive_descendants ts x ++ zs) ≡ x ∷ filter (reached ts accept clear) (below ts x ++ zs)
-  reached-hit yes_x path zs = ap (λ xs. filter (reached ts accept clear) (xs ++ zs)) (here ts top x w) ∙ filter-yes (reached ts accept clear) x (below ts x ++ zs) (and_from (accept x) _ yes_x path)
+  pub reached-hit : accept x ≡ true → list_all clear (ancestors ts x) ≡ true → (zs : List NodeName) →
+      filter (reached ts accept clear) (inclusive_descendants ts x ++ zs) ≡ x ∷ filter (reached ts accept clear) (below ts x ++ zs)
+  reached-hit yes_x path zs = ap (λ xs. filter (reached ts accept clear) (xs ++ zs)) (here ts top x w) ∙
+      filter-yes (reached ts accept clear) x (below ts x ++ zs) (and_from (accept x) _ yes_x path)
 
   -- above a child of an open node all is open, if it is so above the node
   pub path-child : (c : NodeName) → In c (children_of ts x) → clear x ≡ true → list_all clear (ancestors ts x) ≡ true → list_all clear (ancestors ts c) ≡ true
@@ -122,7 +135,8 @@ beyond-above ts (suc d) top x y few w e = elim (same_or_not x top) [
 ]
   where
     by : (x ≡ top → ⊥) → (s : Option NodeName) → next_sibling ts x ≡ s → (o : Option NodeName) → parent_of ts x ≡ o
-        → ((p : NodeName) → IsWithin ts top p → length (inclusive_ancestors ts p) ≤ d → first_of (beyond ts top p) ≡ Some y → (a : NodeName) → In a (ancestors ts y) → In a (ancestors ts p))
+        → ((p : NodeName) → IsWithin ts top p → length (inclusive_ancestors ts p) ≤ d → first_of (beyond ts top p) ≡ Some y → (a : NodeName) →
+        In a (ancestors ts y) → In a (ancestors ts p))
         → (a : NodeName) → In a (ancestors ts y) → In a (ancestors ts x)
     by other s next None up more a i = absurd (within-root ts top x w other up)
     by other (Some s) next (Some p) up more a i =
@@ -134,15 +148,19 @@ beyond-above ts (suc d) top x y few w e = elim (same_or_not x top) [
     by other None next (Some p) up more a i =
         let above = within-parent ts top x p w other up in
         let mine = proper-parent ts x p w.once (stands_in ts top x w) up in
-        let less : length (inclusive_ancestors ts p) ≤ d = omega (arith, few, ap (length {A = NodeName}) (above-parent ts x p w.once (stands_in ts top x w) up).0) in
+        let less : length (inclusive_ancestors ts p) ≤ d =
+        omega (arith, few, ap (length {A = NodeName}) (above-parent ts x p w.once (stands_in ts top x w) up).0) in
         subst (In a) (sym mine.0) (inr (more p above less (ap first_of (sym (no_next ts top x p w other up next)) ∙ e) a i))
 
 -- it is a member of the tree of top, and behind it comes the rest
-pub beyond_place : (ts : Trees) (top x y : NodeName) → IsWithin ts top x → first_of (beyond ts top x) ≡ Some y → IsWithin ts top y × (beyond ts top x ≡ inclusive_descendants ts y ++ beyond ts top y)
+pub beyond_place : (ts : Trees) (top x y : NodeName) → IsWithin ts top x → first_of (beyond ts top x) ≡ Some y → IsWithin ts top y ×
+    (beyond ts top x ≡ inclusive_descendants ts y ++ beyond ts top y)
 beyond_place ts top x y w e =
     let s = first_split (beyond ts top x) y e in
     let tree = inclusive_descendants ts x in
-    let among : In y (inclusive_descendants ts top) = subst (In y) (sym (splits ts top x w)) (In-right y (ahead_of ts top x) (tree ++ beyond ts top x) (In-right y tree (beyond ts top x) (subst (In y) (sym s.1) (inl refl)))) in
+    let among : In y (inclusive_descendants ts top) =
+    subst (In y) (sym (splits ts top x w))
+    (In-right y (ahead_of ts top x) (tree ++ beyond ts top x) (In-right y tree (beyond ts top x) (subst (In y) (sym s.1) (inl refl)))) in
     let inside = within-member ts top x y w among in
     let front = ahead_of ts top x ++ tree in
     let whole : inclusive_descendants ts top ≡ front ++ y ∷ s.0 =

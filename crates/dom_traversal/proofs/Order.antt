@@ -9,7 +9,8 @@ use Rattle.dom_model.specs.Names.{name_eq, items_before, items_after}
 use Rattle.dom_model.specs.Tree.{Trees, none, tree, nodes, names_of, subtree, inclusive_ancestors, children_of, inclusive_descendants, is_inclusive_ancestor}
 use Rattle.dom_traversal.specs.Within.{ahead_of, behind, beyond}
 use Rattle.dom_traversal.proofs.Lists.{In, Single, Single-right, Single-apart, is_in-from, is_in-not, before-split, after-split, filter-none, filter-all}
-use Rattle.dom_traversal.proofs.Shapes.{Has, Once, has_or_not, subtree-here, subtree-below, subtree-beside, subtree-within, Once-subtree, Has-subtree, above-absent, above-from_below, below-from_above}
+use Rattle.dom_traversal.proofs.Shapes.{Has, Once, has_or_not, subtree-here, subtree-below, subtree-beside, subtree-within, Once-subtree, Has-subtree}
+use Rattle.dom_traversal.proofs.Shapes.{above-absent, above-from_below, below-from_above}
 use Rattle.dom_traversal.proofs.Children.{names-tree, In-names, Has-names, Single-names, descendants-children}
 
 -- the tree of x stands in the list of all nodes
@@ -101,7 +102,8 @@ module _ (ts : Trees) (top x : NodeName) (w : IsWithin ts top x) where
         after,
         ap (filter test) after
             ∙ (filter-append test (below ts x) back
-            ∙ (ap (λ xs. xs ++ filter test back) (filter-none test (below ts x) (λ y i. ap not (inside-test ts x y w.once stands_in (subst (In y) (sym here) (inr i)))))
+            ∙ (ap (λ xs. xs ++ filter test back)
+            (filter-none test (below ts x) (λ y i. ap not (inside-test ts x y w.once stands_in (subst (In y) (sym here) (inr i)))))
             ∙ filter-all test back (λ y i. ap not (outside-test ts x y w.once (λ j. Single-apart y (x ∷ below ts x) back rest (subst (In y) here j) i))))),
       )
 
@@ -109,7 +111,8 @@ module _ (ts : Trees) (top x : NodeName) (w : IsWithin ts top x) where
   pub splits : inclusive_descendants ts top ≡ ahead_of ts top x ++ (inclusive_descendants ts x ++ beyond ts top x)
   splits =
       let s = split-names (subtree ts top) x (Once-subtree ts top w.once w.top_stands) w.stands in
-      let same : inclusive_descendants (subtree ts top) x ≡ inclusive_descendants ts x = ap (λ (us : Trees). names_of (nodes us)) (subtree-within ts top x w.once w.top_stands w.stands) in
+      let same : inclusive_descendants (subtree ts top) x ≡ inclusive_descendants ts x =
+      ap (λ (us : Trees). names_of (nodes us)) (subtree-within ts top x w.once w.top_stands w.stands) in
       let e : inclusive_descendants ts top ≡ s.0 ++ (inclusive_descendants ts x ++ s.1) = s.2 ∙ ap (λ xs. s.0 ++ (xs ++ s.1)) same in
       let is = split_is s.0 s.1 e in
       e ∙ (ap (λ xs. xs ++ (inclusive_descendants ts x ++ s.1)) (sym is.0) ∙ ap (λ xs. ahead_of ts top x ++ (inclusive_descendants ts x ++ xs)) (sym is.2))

@@ -28,7 +28,8 @@ find-none p (x ∷ xs) h = rw (h x (inl refl)) (find-none p xs (λ a i. h a (inr
 -- above the root none is found
 pub above-root_none : (ts : Trees) (w : Walker) → IsWithin ts w.root w.root → find (is_parent ts w) (ancestors ts w.root) ≡ None
 above-root_none ts w at =
-    find-none (is_parent ts w) (ancestors ts w.root) (λ a i. and_right (accepts ts w.filter a) _ (is_in-not w.root (inclusive_ancestors ts a) (not_around ts a w.root at.once at.top_stands i)))
+    find-none (is_parent ts w) (ancestors ts w.root)
+    (λ a i. and_right (accepts ts w.filter a) _ (is_in-not w.root (inclusive_ancestors ts a) (not_around ts a w.root at.once at.top_stands i)))
 
 module _ (ts : Trees) (w : Walker) (x p : NodeName) (at : IsWithin ts w.root x) (other : x ≡ w.root → ⊥) (up : parent_of ts x ≡ Some p) where
   -- above x stands first its parent
@@ -48,7 +49,8 @@ module _ (ts : Trees) (w : Walker) (x p : NodeName) (at : IsWithin ts w.root x) 
 
   -- from another one the search goes on
   pub above-miss : accepts ts w.filter p ≡ false → above_from ts w x ≡ above_from ts w p
-  above-miss e = rw (name_eq-other x w.root other) (ap (find (is_parent ts w)) path_above ∙ (later (and_left (accepts ts w.filter p) _ e) ∙ sym (from_parent (same_or_not p w.root))))
+  above-miss e = rw (name_eq-other x w.root other)
+      (ap (find (is_parent ts w)) path_above ∙ (later (and_left (accepts ts w.filter p) _ e) ∙ sym (from_parent (same_or_not p w.root))))
     where
       later : is_parent ts w p ≡ false → find (is_parent ts w) (p ∷ ancestors ts p) ≡ find (is_parent ts w) (ancestors ts p)
       later no_p = rw no_p refl
@@ -60,7 +62,8 @@ module _ (ts : Trees) (w : Walker) (x p : NodeName) (at : IsWithin ts w.root x) 
       not_root no_p = rw no_p refl
 
       from_parent : (p ≡ w.root) ⊎ (p ≡ w.root → ⊥) → above_from ts w p ≡ find (is_parent ts w) (ancestors ts p)
-      from_parent (inl same) = at_root (name_eq-from p w.root same) ∙ sym (ap (λ z. find (is_parent ts w) (ancestors ts z)) same ∙ above-root_none ts w (within-top ts w.root x at))
+      from_parent (inl same) = at_root (name_eq-from p w.root same) ∙
+          sym (ap (λ z. find (is_parent ts w) (ancestors ts z)) same ∙ above-root_none ts w (within-top ts w.root x at))
       from_parent (inr apart) = not_root (name_eq-other p w.root apart)
 
 -- from the root none is found

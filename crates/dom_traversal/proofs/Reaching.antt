@@ -26,7 +26,8 @@ pub opened-skip : (ts : Trees) (w : Walker) (x : NodeName) → Some Skip ≡ ans
 opened-skip ts w x e = or_left (skips ts w.filter x) _ (ap is_skip (sym e))
 
 -- a rejected one is not, but for those above the current node
-pub opened-reject : (ts : Trees) (w : Walker) (x : NodeName) → Some Reject ≡ answer_at ts w.filter x → is_inclusive_ancestor ts x w.current ≡ false → is_opened ts w x ≡ false
+pub opened-reject : (ts : Trees) (w : Walker) (x : NodeName) → Some Reject ≡ answer_at ts w.filter x →
+    is_inclusive_ancestor ts x w.current ≡ false → is_opened ts w x ≡ false
 opened-reject ts w x e off = ap (λ o. is_skip o || is_inclusive_ancestor ts x w.current) (sym e) ∙ off
 
 -- a node above the current one is
@@ -51,7 +52,8 @@ pub record Reaches (f : NamedTrees) (w : KeyedWalker) (top : ℕ) (from at : Opt
   pub comes : ComesAside f w top from (option_map (name_at f.names) at)
 
 -- where it begins
-pub Reaches-begin : (f : NamedTrees) → StandOnce f → StandAlone f → (w : KeyedWalker) (top : ℕ) → w.current < length f.names → (from : Option ℕ) → ForSome from (BeginsForward f w top) → Reaches f w top from from
+pub Reaches-begin : (f : NamedTrees) → StandOnce f → StandAlone f → (w : KeyedWalker) (top : ℕ) → w.current < length f.names → (from : Option ℕ) →
+    ForSome from (BeginsForward f w top) → Reaches f w top from from
 Reaches-begin f once only w top at_current None begins = record {
   below = λ k e. absurd cc;
   stop = λ k e. absurd cc;
@@ -61,7 +63,8 @@ Reaches-begin f once only w top at_current None begins = record {
 Reaches-begin f once only w top at_current (Some j) begins =
     let b = begins j refl in
     let stop = stop_above f.trees w.filter (name_at f.names top) (name_at f.names j) in
-    let inside = within-below f.trees stop (name_at f.names j) (below-stop f.trees w.filter (name_at f.names top) (name_at f.names j) (IsBelow-key f once only top j b.below)) in
+    let inside = within-below f.trees stop (name_at f.names j)
+    (below-stop f.trees w.filter (name_at f.names top) (name_at f.names j) (IsBelow-key f once only top j b.below)) in
     record {
       below = λ k e. subst (StandsBelow f top) (same_Some j k e) b.below;
       stop = λ k e. ap (λ i. stop_above f.trees w.filter (name_at f.names top) (name_at f.names i)) (sym (same_Some j k e));
@@ -81,48 +84,67 @@ module _ (f : NamedTrees) (w : KeyedWalker) (top : ℕ) (from at : Option ℕ) (
 
   -- an accepted node is the one that is looked for
   pub Reaches-hit : accepts f.trees w.filter (name_at f.names k) ≡ true
-      → Some (name_at f.names k) ≡ first_of (filter (is_reached f.trees (walker_view f.names w)) (from_node f.trees (stop_from f w top from) (option_map (name_at f.names) from)))
-  Reaches-hit yes_k = Comes-hit f.trees (accepts f.trees w.filter) (is_opened f.trees (walker_view f.names w)) (stop_from f w top from) (name_at f.names w.current) _ (name_at f.names k) here_at yes_k
+      → Some (name_at f.names k) ≡ first_of
+      (filter (is_reached f.trees (walker_view f.names w)) (from_node f.trees (stop_from f w top from) (option_map (name_at f.names) from)))
+  Reaches-hit yes_k = Comes-hit f.trees (accepts f.trees w.filter) (is_opened f.trees (walker_view f.names w)) (stop_from f w top from)
+      (name_at f.names w.current) _ (name_at f.names k) here_at yes_k
 
   -- a skipped node is entered
-  pub Reaches-skip : (next : Option ℕ) → ForSome next (StandsBelow f top) → ForSome next (λ j. SameStop f w.filter top j (stop_above f.trees w.filter (name_at f.names top) (name_at f.names k)))
+  pub Reaches-skip : (next : Option ℕ) → ForSome next (StandsBelow f top) →
+      ForSome next (λ j. SameStop f w.filter top j (stop_above f.trees w.filter (name_at f.names top) (name_at f.names k)))
       → Some Skip ≡ answer_at f.trees w.filter (name_at f.names k)
-      → option_map (name_at f.names) next ≡ first_of (behind f.trees (stop_above f.trees w.filter (name_at f.names top) (name_at f.names k)) (name_at f.names k)) → Reaches f w top from next
+      → option_map (name_at f.names) next ≡ first_of
+      (behind f.trees (stop_above f.trees w.filter (name_at f.names top) (name_at f.names k)) (name_at f.names k)) → Reaches f w top from next
   Reaches-skip next below stop answer value = record {
     below = below;
     stop = λ j e. stop j e ∙ r.stop k is;
     around = λ j e. r.around k is;
     comes =
         let v = walker_view f.names w in
-        Comes-skip f.trees (accepts f.trees w.filter) (is_opened f.trees v) (stop_from f w top from) (name_at f.names w.current) _ (name_at f.names k) (option_map (name_at f.names) next) here_at (accepts-some f.trees v (name_at f.names k) Skip answer)
+        Comes-skip f.trees (accepts f.trees w.filter) (is_opened f.trees v) (stop_from f w top from) (name_at f.names w.current) _
+        (name_at f.names k) (option_map (name_at f.names) next) here_at (accepts-some f.trees v (name_at f.names k) Skip answer)
         (opened-skip f.trees v (name_at f.names k) answer) (value ∙ ap (λ a. first_of (behind f.trees a (name_at f.names k))) (r.stop k is));
   }
 
   -- a rejected one is passed with its tree
-  pub Reaches-reject : (next : Option ℕ) → ForSome next (StandsBelow f top) → ForSome next (λ j. SameStop f w.filter top j (stop_above f.trees w.filter (name_at f.names top) (name_at f.names k)))
+  pub Reaches-reject : (next : Option ℕ) → ForSome next (StandsBelow f top) →
+      ForSome next (λ j. SameStop f w.filter top j (stop_above f.trees w.filter (name_at f.names top) (name_at f.names k)))
       → Some Reject ≡ answer_at f.trees w.filter (name_at f.names k)
-      → option_map (name_at f.names) next ≡ first_of (beyond f.trees (stop_above f.trees w.filter (name_at f.names top) (name_at f.names k)) (name_at f.names k)) → Reaches f w top from next
+      → option_map (name_at f.names) next ≡ first_of
+      (beyond f.trees (stop_above f.trees w.filter (name_at f.names top) (name_at f.names k)) (name_at f.names k)) → Reaches f w top from next
   Reaches-reject next below stop answer value = record {
     below = below;
     stop = λ j e. stop j e ∙ r.stop k is;
     around = λ j e. r.around k is;
     comes =
         let v = walker_view f.names w in
-        let off = false_from_ne_true _ (Comes-apart f.trees (accepts f.trees w.filter) (is_opened f.trees v) (stop_from f w top from) (name_at f.names w.current) _ (name_at f.names k) here_at (r.around k is)) in
-        Comes-reject f.trees (accepts f.trees w.filter) (is_opened f.trees v) (stop_from f w top from) (name_at f.names w.current) _ (name_at f.names k) (option_map (name_at f.names) next) here_at (accepts-some f.trees v (name_at f.names k) Reject answer)
+        let off = false_from_ne_true _ (Comes-apart f.trees (accepts f.trees w.filter) (is_opened f.trees v) (stop_from f w top from)
+        (name_at f.names w.current) _ (name_at f.names k) here_at (r.around k is)) in
+        Comes-reject f.trees (accepts f.trees w.filter) (is_opened f.trees v) (stop_from f w top from) (name_at f.names w.current) _
+        (name_at f.names k) (option_map (name_at f.names) next) here_at (accepts-some f.trees v (name_at f.names k) Reject answer)
         (opened-reject f.trees v (name_at f.names k) answer off) (value ∙ ap (λ a. first_of (beyond f.trees a (name_at f.names k))) (r.stop k is));
   }
 
   -- what is left to search is less
-  pub Reaches-shorter-skip : (next : Option ℕ) → option_map (name_at f.names) next ≡ first_of (behind f.trees (stop_above f.trees w.filter (name_at f.names top) (name_at f.names k)) (name_at f.names k))
-      → length (from_node f.trees (stop_from f w top from) (option_map (name_at f.names) next)) < length (from_node f.trees (stop_from f w top from) (option_map (name_at f.names) at))
+  pub Reaches-shorter-skip : (next : Option ℕ) →
+      option_map (name_at f.names) next ≡ first_of
+      (behind f.trees (stop_above f.trees w.filter (name_at f.names top) (name_at f.names k)) (name_at f.names k))
+      → length (from_node f.trees (stop_from f w top from) (option_map (name_at f.names) next)) < length
+      (from_node f.trees (stop_from f w top from) (option_map (name_at f.names) at))
   Reaches-shorter-skip next value =
-      subst (λ (o : Option NodeName). length (from_node f.trees (stop_from f w top from) (option_map (name_at f.names) next)) < length (from_node f.trees (stop_from f w top from) o)) (sym (ap (option_map (name_at f.names)) is))
-      (shorter-skip f.trees (stop_from f w top from) (name_at f.names k) (option_map (name_at f.names) next) (here_at.within (name_at f.names k) refl) (value ∙ ap (λ a. first_of (behind f.trees a (name_at f.names k))) (r.stop k is)))
+      subst (λ (o : Option NodeName). length (from_node f.trees (stop_from f w top from) (option_map (name_at f.names) next)) < length
+      (from_node f.trees (stop_from f w top from) o)) (sym (ap (option_map (name_at f.names)) is))
+      (shorter-skip f.trees (stop_from f w top from) (name_at f.names k) (option_map (name_at f.names) next)
+      (here_at.within (name_at f.names k) refl) (value ∙ ap (λ a. first_of (behind f.trees a (name_at f.names k))) (r.stop k is)))
 
   -- the same where a tree is passed
-  pub Reaches-shorter-reject : (next : Option ℕ) → option_map (name_at f.names) next ≡ first_of (beyond f.trees (stop_above f.trees w.filter (name_at f.names top) (name_at f.names k)) (name_at f.names k))
-      → length (from_node f.trees (stop_from f w top from) (option_map (name_at f.names) next)) < length (from_node f.trees (stop_from f w top from) (option_map (name_at f.names) at))
+  pub Reaches-shorter-reject : (next : Option ℕ) →
+      option_map (name_at f.names) next ≡ first_of
+      (beyond f.trees (stop_above f.trees w.filter (name_at f.names top) (name_at f.names k)) (name_at f.names k))
+      → length (from_node f.trees (stop_from f w top from) (option_map (name_at f.names) next)) < length
+      (from_node f.trees (stop_from f w top from) (option_map (name_at f.names) at))
   Reaches-shorter-reject next value =
-      subst (λ (o : Option NodeName). length (from_node f.trees (stop_from f w top from) (option_map (name_at f.names) next)) < length (from_node f.trees (stop_from f w top from) o)) (sym (ap (option_map (name_at f.names)) is))
-      (shorter-reject f.trees (stop_from f w top from) (name_at f.names k) (option_map (name_at f.names) next) (here_at.within (name_at f.names k) refl) (value ∙ ap (λ a. first_of (beyond f.trees a (name_at f.names k))) (r.stop k is)))
+      subst (λ (o : Option NodeName). length (from_node f.trees (stop_from f w top from) (option_map (name_at f.names) next)) < length
+      (from_node f.trees (stop_from f w top from) o)) (sym (ap (option_map (name_at f.names)) is))
+      (shorter-reject f.trees (stop_from f w top from) (name_at f.names k) (option_map (name_at f.names) next)
+      (here_at.within (name_at f.names k) refl) (value ∙ ap (λ a. first_of (beyond f.trees a (name_at f.names k))) (r.stop k is)))

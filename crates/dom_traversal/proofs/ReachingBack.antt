@@ -1,5 +1,6 @@
 -- A search backward among the nodes in the place of siblings or of children.
-use Rattle.std.proofs.Common.{◌≡◌, ◌⊎◌, inl, inr, ℕ, ◌<◌, Bool, true, false, not, List, [], ◌∷◌, ◌++◌, length, Option, Some, None, refl, sym, ap, subst, ◌∙◌, arith, length-append}
+use Rattle.std.proofs.Common.{◌≡◌, ◌⊎◌, inl, inr, ℕ, ◌<◌, Bool, true, false, not, List, [], ◌∷◌, ◌++◌, length, Option, Some, None, refl, sym, ap}
+use Rattle.std.proofs.Common.{subst, ◌∙◌, arith, length-append}
 use Rattle.std.specs.Prelude.{filter, find, unwrap_or, is_none}
 use Rattle.std.specs.Option.{option_map, ForSome}
 use Rattle.std.specs.List.{list_all}
@@ -15,9 +16,11 @@ use Rattle.dom_model.specs.Names.{name_eq, last_of}
 use Rattle.dom_model.specs.Traversal.{Walker, answer_at, accepts, skips, is_skip}
 use Rattle.dom_model.specs.Tree.{Trees, subtree, inclusive_ancestors, ancestors, is_inclusive_ancestor, inclusive_descendants}
 use Rattle.dom_tree.specs.Forest.{NamedTrees, name_at}
-use Rattle.dom_traversal.specs.Walkers.{KeyedWalker, walker_view, is_opened, is_reached, is_candidate, is_accepted_but, is_entered, entered_by, is_stop, stop_above, StepsBehind, BeginsBackward}
+use Rattle.dom_traversal.specs.Walkers.{KeyedWalker, walker_view, is_opened, is_reached, is_candidate, is_accepted_but, is_entered, entered_by}
+use Rattle.dom_traversal.specs.Walkers.{is_stop, stop_above, StepsBehind, BeginsBackward}
 use Rattle.dom_traversal.specs.Within.{ahead_of, up_to_tree, StandsBelow}
-use Rattle.dom_traversal.proofs.Lists.{In, In-left, In-right, In-parts, Single, Single-apart, is_in-from, is_in-not, last_of-end, name_eq-other, filter-none, filter-no}
+use Rattle.dom_traversal.proofs.Lists.{In, In-left, In-right, In-parts, Single, Single-apart, is_in-from, is_in-not, last_of-end, name_eq-other}
+use Rattle.dom_traversal.proofs.Lists.{filter-none, filter-no}
 use Rattle.dom_traversal.proofs.Shapes.{Has, below-from_above}
 use Rattle.dom_traversal.proofs.Children.{In-names}
 use Rattle.dom_traversal.proofs.Order.{IsWithin, here, below}
@@ -83,7 +86,8 @@ filter-less p q (x ∷ xs) h e = elim (cases_Bool (q x)) [
     nonempty : (zs : List NodeName) → x ∷ zs ≡ [] → ⊥
     nonempty zs same = cc
 
-module _ (ts : Trees) (w : Walker) (top stop x y : NodeName) (n : Nears ts w top stop x) (l : IsLowest ts w.filter x y) (tree : up_to_tree ts stop (Some y) ≡ up_to_tree ts stop (Some x)) where
+module _ (ts : Trees) (w : Walker) (top stop x y : NodeName) (n : Nears ts w top stop x) (l : IsLowest ts w.filter x y)
+    (tree : up_to_tree ts stop (Some y) ≡ up_to_tree ts stop (Some x)) where
   -- the lowest node stands below the top
   low_below : IsBelow ts top y
   low_below = record { once = n.below.once; stands = l.stands; above = subst (In top) (sym l.path) (In-right top l.between (ancestors ts x) n.below.above) }
@@ -91,8 +95,10 @@ module _ (ts : Trees) (w : Walker) (top stop x y : NodeName) (n : Nears ts w top
   -- and has the same stop
   low_stop : stop_above ts w.filter top y ≡ stop
   low_stop = ap (λ o. unwrap_or o top) (ap (find (is_stop ts w.filter top)) l.path ∙ find-later (is_stop ts w.filter top) l.between (ancestors ts x) (λ a i.
-      or_from (accepts ts w.filter a) (name_eq a top) (skips-accepts ts w.filter a (sym (entered-skips ts w.filter a) ∙ all-at (is_entered ts w.filter false) l.between l.skipped a i))
-      (name_eq-other a top (λ same. Single-apart a l.between (ancestors ts x) (subst Single l.path (Single-proper ts y n.below.once l.stands)) i (subst (λ z. In z (ancestors ts x)) (sym same) n.below.above))))) ∙ n.stop_is
+      or_from (accepts ts w.filter a) (name_eq a top)
+      (skips-accepts ts w.filter a (sym (entered-skips ts w.filter a) ∙ all-at (is_entered ts w.filter false) l.between l.skipped a i))
+      (name_eq-other a top (λ same. Single-apart a l.between (ancestors ts x) (subst Single l.path (Single-proper ts y n.below.once l.stands)) i
+      (subst (λ z. In z (ancestors ts x)) (sym same) n.below.above))))) ∙ n.stop_is
 
   -- so the search may go on there
   pub low_nears : Nears ts w top stop y
@@ -108,11 +114,13 @@ module _ (ts : Trees) (w : Walker) (top stop x y : NodeName) (n : Nears ts w top
       by a (inr i) = all-at (is_opened ts w) (ancestors ts x) n.path a i
 
 -- before a node the last one is found where a step back leads
-pub steps-filter : (ts : Trees) (w : Walker) (stop y : NodeName) (o : Option NodeName) → StepsBehind ts w.filter stop y o → filter (is_candidate ts w stop) (ahead_of ts stop y) ≡ filter (is_candidate ts w stop) (up_to_tree ts stop o)
+pub steps-filter : (ts : Trees) (w : Walker) (stop y : NodeName) (o : Option NodeName) → StepsBehind ts w.filter stop y o →
+    filter (is_candidate ts w stop) (ahead_of ts stop y) ≡ filter (is_candidate ts w stop) (up_to_tree ts stop o)
 steps-filter ts w stop y o s =
     ap (filter (is_candidate ts w stop)) s.split
     ∙ (filter-append (is_candidate ts w stop) (up_to_tree ts stop o) s.passed
-    ∙ (ap (λ xs. filter (is_candidate ts w stop) (up_to_tree ts stop o) ++ xs) (filter-less (is_accepted_but ts w.filter stop) (is_candidate ts w stop) s.passed accepted s.none_accepted)
+    ∙ (ap (λ xs. filter (is_candidate ts w stop) (up_to_tree ts stop o) ++ xs)
+    (filter-less (is_accepted_but ts w.filter stop) (is_candidate ts w stop) s.passed accepted s.none_accepted)
     ∙ append-nil (filter (is_candidate ts w stop) (up_to_tree ts stop o))))
   where
     accepted : (a : NodeName) → is_candidate ts w stop a ≡ true → is_accepted_but ts w.filter stop a ≡ true
@@ -138,15 +146,19 @@ module _ (ts : Trees) (w : Walker) (top stop y : NodeName) (at_current : Has ts 
 
   -- below a node that is not skipped is no candidate
   hidden_below : skips ts w.filter y ≡ false → filter (is_candidate ts w stop) (below ts y) ≡ []
-  hidden_below no_skip = filter-none (is_candidate ts w stop) (below ts y) (λ z i. and_left (is_reached ts w z) _ (hidden ts (accepts ts w.filter) (is_opened ts w) stop y in_stop (or_from (skips ts w.filter y) _ no_skip off_current) z i))
+  hidden_below no_skip = filter-none (is_candidate ts w stop) (below ts y)
+      (λ z i. and_left (is_reached ts w z) _
+      (hidden ts (accepts ts w.filter) (is_opened ts w) stop y in_stop (or_from (skips ts w.filter y) _ no_skip off_current) z i))
 
   -- an accepted node is the last one
   pub nears-hit : accepts ts w.filter y ≡ true → Some y ≡ last_of (filter (is_candidate ts w stop) (up_to_tree ts stop (Some y)))
   nears-hit yes_y =
       let test = is_candidate ts w stop in
-      let chosen : test y ≡ true = and_from (is_reached ts w y) _ (and_from (accepts ts w.filter y) _ yes_y n.path) (ap not (name_eq-other y stop (other-below ts stop y below_stop))) in
+      let chosen : test y ≡ true = and_from (is_reached ts w y) _ (and_from (accepts ts w.filter y) _ yes_y n.path)
+      (ap not (name_eq-other y stop (other-below ts stop y below_stop))) in
       sym (ap last_of (filter-append test (ahead_of ts stop y) (inclusive_descendants ts y)
-      ∙ ap (λ xs. filter test (ahead_of ts stop y) ++ xs) (ap (filter test) (here ts stop y in_stop) ∙ (kept chosen ∙ ap (λ xs. y ∷ xs) (hidden_below (accepts-skips ts w.filter y yes_y)))))
+      ∙ ap (λ xs. filter test (ahead_of ts stop y) ++ xs)
+      (ap (filter test) (here ts stop y in_stop) ∙ (kept chosen ∙ ap (λ xs. y ∷ xs) (hidden_below (accepts-skips ts w.filter y yes_y)))))
       ∙ last_of-end (filter test (ahead_of ts stop y)) y)
     where
       kept : is_candidate ts w stop y ≡ true → filter (is_candidate ts w stop) (y ∷ below ts y) ≡ y ∷ filter (is_candidate ts w stop) (below ts y)
@@ -157,7 +169,8 @@ module _ (ts : Trees) (w : Walker) (top stop y : NodeName) (at_current : Has ts 
       → filter (is_candidate ts w stop) (up_to_tree ts stop (Some y)) ≡ filter (is_candidate ts w stop) (ahead_of ts stop y)
   nears-miss no_y ends =
       filter-append (is_candidate ts w stop) (ahead_of ts stop y) (inclusive_descendants ts y)
-      ∙ (ap (λ xs. filter (is_candidate ts w stop) (ahead_of ts stop y) ++ xs) (by (cases_Bool (skips ts w.filter y))) ∙ append-nil (filter (is_candidate ts w stop) (ahead_of ts stop y)))
+      ∙ (ap (λ xs. filter (is_candidate ts w stop) (ahead_of ts stop y) ++ xs) (by (cases_Bool (skips ts w.filter y))) ∙
+      append-nil (filter (is_candidate ts w stop) (ahead_of ts stop y)))
     where
       unchosen : is_candidate ts w stop y ≡ false
       unchosen = and_left (is_reached ts w y) _ (and_left (accepts ts w.filter y) _ no_y)
@@ -167,12 +180,15 @@ module _ (ts : Trees) (w : Walker) (top stop y : NodeName) (at_current : Has ts 
       by (inr e) = ap (filter (is_candidate ts w stop)) (here ts stop y in_stop) ∙ (filter-no (is_candidate ts w stop) y (below ts y) unchosen ∙ hidden_below e)
 
   -- where a step back leads the search goes on
-  pub nears-to : (z : NodeName) → StepsBehind ts w.filter stop y (Some z) → IsBelow ts top z → stop_above ts w.filter top z ≡ stop → (above : List NodeName) → ancestors ts y ≡ above ++ ancestors ts z → Nears ts w top stop z
+  pub nears-to : (z : NodeName) → StepsBehind ts w.filter stop y (Some z) → IsBelow ts top z → stop_above ts w.filter top z ≡ stop →
+      (above : List NodeName) → ancestors ts y ≡ above ++ ancestors ts z → Nears ts w top stop z
   nears-to z s below_z stop_z above path = record {
     below = below_z;
     stop_is = stop_z;
-    path = all-from (is_opened ts w) (ancestors ts z) (λ a i. all-at (is_opened ts w) (ancestors ts y) n.path a (subst (In a) (sym path) (In-right a above (ancestors ts z) i)));
-    apart = λ i. n.apart (In-left w.current (ahead_of ts stop y) (inclusive_descendants ts y) (subst (In w.current) (sym s.split) (In-left w.current (up_to_tree ts stop (Some z)) s.passed i)));
+    path = all-from (is_opened ts w) (ancestors ts z)
+        (λ a i. all-at (is_opened ts w) (ancestors ts y) n.path a (subst (In a) (sym path) (In-right a above (ancestors ts z) i)));
+    apart = λ i. n.apart (In-left w.current (ahead_of ts stop y) (inclusive_descendants ts y)
+        (subst (In w.current) (sym s.split) (In-left w.current (up_to_tree ts stop (Some z)) s.passed i)));
   }
 
   -- and less is left
@@ -192,42 +208,52 @@ module _ (ts : Trees) (w : Walker) (top stop y : NodeName) (at_current : Has ts 
 pub record ReachesBack (f : NamedTrees) (w : KeyedWalker) (top : ℕ) (from at : Option ℕ) : Type 0 where
   pub node : ForSome at (λ k. k < length f.names)
   pub nears : ForSome at (λ k. Nears f.trees (walker_view f.names w) (name_at f.names top) (stop_from f w top from) (name_at f.names k))
-  pub left : last_of (filter (is_candidate f.trees (walker_view f.names w) (stop_from f w top from)) (up_to_tree f.trees (stop_from f w top from) (option_map (name_at f.names) at)))
-      ≡ last_of (filter (is_candidate f.trees (walker_view f.names w) (stop_from f w top from)) (up_to_tree f.trees (stop_from f w top from) (option_map (name_at f.names) from)))
+  pub left : last_of (filter (is_candidate f.trees (walker_view f.names w) (stop_from f w top from))
+      (up_to_tree f.trees (stop_from f w top from) (option_map (name_at f.names) at)))
+      ≡ last_of (filter (is_candidate f.trees (walker_view f.names w) (stop_from f w top from))
+      (up_to_tree f.trees (stop_from f w top from) (option_map (name_at f.names) from)))
 
 -- where it begins
-pub ReachesBack-begin : (f : NamedTrees) → StandOnce f → StandAlone f → (w : KeyedWalker) (top : ℕ) (from : Option ℕ) → ForSome from (BeginsBackward f w top) → ReachesBack f w top from from
+pub ReachesBack-begin : (f : NamedTrees) → StandOnce f → StandAlone f → (w : KeyedWalker) (top : ℕ) (from : Option ℕ) →
+    ForSome from (BeginsBackward f w top) → ReachesBack f w top from from
 ReachesBack-begin f once only w top None begins = record { node = λ k e. absurd (none-some k e); nears = λ k e. absurd (none-some k e); left = refl }
 ReachesBack-begin f once only w top (Some j) begins =
     let b = begins j refl in
     record {
       node = λ k e. (begins k e).below.node;
-      nears = λ k e. subst (λ i. Nears f.trees (walker_view f.names w) (name_at f.names top) (stop_above f.trees w.filter (name_at f.names top) (name_at f.names j)) (name_at f.names i)) (same_Some j k e) record {
-        below = IsBelow-key f once only top j b.below;
-        stop_is = refl;
-        path = b.path;
-        apart = λ i. b.apart (is_in-from (name_at f.names w.current) (up_to_tree f.trees (stop_above f.trees w.filter (name_at f.names top) (name_at f.names j)) (Some (name_at f.names j))) i);
-      };
+      nears = λ k e. subst (λ i. Nears f.trees (walker_view f.names w) (name_at f.names top)
+          (stop_above f.trees w.filter (name_at f.names top) (name_at f.names j)) (name_at f.names i)) (same_Some j k e) record {
+            below = IsBelow-key f once only top j b.below;
+            stop_is = refl;
+            path = b.path;
+            apart = λ i. b.apart (is_in-from (name_at f.names w.current)
+                (up_to_tree f.trees (stop_above f.trees w.filter (name_at f.names top) (name_at f.names j)) (Some (name_at f.names j))) i);
+          };
       left = refl;
     }
 
 -- what `lowest` says of a key
 pub record LowestKey (f : NamedTrees) (filter_at : Filter) (k low : ℕ) : Type 0 where
   pub node : low < length f.names
-  pub tree : (top : NodeName) → is_inclusive_ancestor f.trees top (name_at f.names k) ≡ true → up_to_tree f.trees top (Some (name_at f.names low)) ≡ up_to_tree f.trees top (Some (name_at f.names k))
+  pub tree : (top : NodeName) → is_inclusive_ancestor f.trees top (name_at f.names k) ≡ true →
+      up_to_tree f.trees top (Some (name_at f.names low)) ≡ up_to_tree f.trees top (Some (name_at f.names k))
   pub ends : is_entered f.trees filter_at false (name_at f.names low) ≡ true → inclusive_descendants f.trees (name_at f.names low) ≡ name_at f.names low ∷ []
-  pub path : (between : List NodeName) × (ancestors f.trees (name_at f.names low) ≡ between ++ ancestors f.trees (name_at f.names k)) × (list_all (is_entered f.trees filter_at false) between ≡ true)
+  pub path : (between : List NodeName) × (ancestors f.trees (name_at f.names low) ≡ between ++ ancestors f.trees (name_at f.names k)) ×
+      (list_all (is_entered f.trees filter_at false) between ≡ true)
 
-module _ (f : NamedTrees) (once : StandOnce f) (only : StandAlone f) (w : KeyedWalker) (top : ℕ) (at_current : w.current < length f.names) (from at : Option ℕ) (k : ℕ) (is : at ≡ Some k) (r : ReachesBack f w top from at) (low : ℕ) (l : LowestKey f w.filter k low) where
+module _ (f : NamedTrees) (once : StandOnce f) (only : StandAlone f) (w : KeyedWalker) (top : ℕ) (at_current : w.current < length f.names)
+    (from at : Option ℕ) (k : ℕ) (is : at ≡ Some k) (r : ReachesBack f w top from at) (low : ℕ) (l : LowestKey f w.filter k low) where
   -- up to the lowest node's tree stand the same nodes
   same_tree : up_to_tree f.trees (stop_from f w top from) (Some (name_at f.names low)) ≡ up_to_tree f.trees (stop_from f w top from) (Some (name_at f.names k))
   same_tree =
       let n = r.nears k is in
       let b = subst (λ z. IsBelow f.trees z (name_at f.names k)) n.stop_is (below-stop f.trees w.filter (name_at f.names top) (name_at f.names k) n.below) in
-      l.tree (stop_from f w top from) (above-within f.trees (stop_from f w top from) (name_at f.names k) (within-below f.trees (stop_from f w top from) (name_at f.names k) b))
+      l.tree (stop_from f w top from) (above-within f.trees (stop_from f w top from) (name_at f.names k)
+      (within-below f.trees (stop_from f w top from) (name_at f.names k) b))
 
   -- and as many
-  at_low : up_to_tree f.trees (stop_from f w top from) (Some (name_at f.names low)) ≡ up_to_tree f.trees (stop_from f w top from) (option_map (name_at f.names) at)
+  at_low : up_to_tree f.trees (stop_from f w top from) (Some (name_at f.names low)) ≡ up_to_tree f.trees (stop_from f w top from)
+      (option_map (name_at f.names) at)
   at_low = same_tree ∙ ap (λ o. up_to_tree f.trees (stop_from f w top from) (option_map (name_at f.names) o)) (sym is)
 
   -- the search has come to the lowest node
@@ -242,23 +268,30 @@ module _ (f : NamedTrees) (once : StandOnce f) (only : StandAlone f) (w : KeyedW
 
   -- an accepted node is the one that is looked for
   pub ReachesBack-hit : accepts f.trees w.filter (name_at f.names low) ≡ true
-      → Some (name_at f.names low) ≡ last_of (filter (is_candidate f.trees (walker_view f.names w) (stop_from f w top from)) (up_to_tree f.trees (stop_from f w top from) (option_map (name_at f.names) from)))
+      → Some (name_at f.names low) ≡ last_of
+      (filter (is_candidate f.trees (walker_view f.names w) (stop_from f w top from))
+      (up_to_tree f.trees (stop_from f w top from) (option_map (name_at f.names) from)))
   ReachesBack-hit yes_low =
-      nears-hit f.trees (walker_view f.names w) (name_at f.names top) (stop_from f w top from) (name_at f.names low) (Has-forest f once w.current at_current) nears_low yes_low
+      nears-hit f.trees (walker_view f.names w) (name_at f.names top) (stop_from f w top from) (name_at f.names low)
+      (Has-forest f once w.current at_current) nears_low yes_low
       ∙ (ap (λ xs. last_of (filter (is_candidate f.trees (walker_view f.names w) (stop_from f w top from)) xs)) at_low ∙ r.left)
 
-  module _ (to : Option ℕ) (s : StepsBehind f.trees w.filter (stop_above f.trees w.filter (name_at f.names top) (name_at f.names low)) (name_at f.names low) (option_map (name_at f.names) to)) where
+  module _ (to : Option ℕ) (s : StepsBehind f.trees w.filter (stop_above f.trees w.filter (name_at f.names top) (name_at f.names low))
+      (name_at f.names low) (option_map (name_at f.names) to)) where
     steps : StepsBehind f.trees w.filter (stop_from f w top from) (name_at f.names low) (option_map (name_at f.names) to)
     steps = subst (λ z. StepsBehind f.trees w.filter z (name_at f.names low) (option_map (name_at f.names) to)) nears_low.stop_is s
 
-    pub ReachesBack-shorter : length (up_to_tree f.trees (stop_from f w top from) (option_map (name_at f.names) to)) < length (up_to_tree f.trees (stop_from f w top from) (option_map (name_at f.names) at))
+    pub ReachesBack-shorter : length (up_to_tree f.trees (stop_from f w top from) (option_map (name_at f.names) to)) < length
+        (up_to_tree f.trees (stop_from f w top from) (option_map (name_at f.names) at))
     ReachesBack-shorter =
         subst (λ xs. length (up_to_tree f.trees (stop_from f w top from) (option_map (name_at f.names) to)) < length xs) at_low
-        (nears-shorter f.trees (walker_view f.names w) (name_at f.names top) (stop_from f w top from) (name_at f.names low) (Has-forest f once w.current at_current) nears_low (option_map (name_at f.names) to) steps)
+        (nears-shorter f.trees (walker_view f.names w) (name_at f.names top) (stop_from f w top from) (name_at f.names low)
+        (Has-forest f once w.current at_current) nears_low (option_map (name_at f.names) to) steps)
 
     pub ReachesBack-step : accepts f.trees w.filter (name_at f.names low) ≡ false → ForSome to (StandsBelow f top)
         → ForSome to (λ j. SameStop f w.filter top j (stop_above f.trees w.filter (name_at f.names top) (name_at f.names low)))
-        → ForSome to (λ j. (above : List NodeName) × (ancestors f.trees (name_at f.names low) ≡ above ++ ancestors f.trees (name_at f.names j))) → ReachesBack f w top from to
+        → ForSome to (λ j. (above : List NodeName) × (ancestors f.trees (name_at f.names low) ≡ above ++ ancestors f.trees (name_at f.names j))) →
+        ReachesBack f w top from to
     ReachesBack-step no_low below_to stop_to path_to =
         let v = walker_view f.names w in
         let stop = stop_from f w top from in
@@ -266,7 +299,8 @@ module _ (f : NamedTrees) (once : StandOnce f) (only : StandAlone f) (w : KeyedW
         record {
           node = λ j e. (below_to j e).node;
           nears = λ j e.
-              nears-to f.trees v (name_at f.names top) stop (name_at f.names low) here_current nears_low (name_at f.names j) (subst (λ o. StepsBehind f.trees w.filter stop (name_at f.names low) (option_map (name_at f.names) o)) e steps)
+              nears-to f.trees v (name_at f.names top) stop (name_at f.names low) here_current nears_low (name_at f.names j)
+              (subst (λ o. StepsBehind f.trees w.filter stop (name_at f.names low) (option_map (name_at f.names) o)) e steps)
               (IsBelow-key f once only top j (below_to j e)) (stop_to j e ∙ nears_low.stop_is) (path_to j e).0 (path_to j e).1;
           left =
               ap last_of (sym (nears-miss f.trees v (name_at f.names top) stop (name_at f.names low) here_current nears_low no_low l.ends

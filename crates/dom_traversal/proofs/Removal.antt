@@ -7,7 +7,9 @@ use Rattle.dom_model.specs.Names.{name_eq, name_before}
 use Rattle.dom_model.specs.Tree.{Trees, none, tree, Node, subtree, on_top, inclusive_ancestors, is_inclusive_ancestor}
 use Rattle.dom_model.specs.TreeChanges.{without, put_root, taken_out}
 use Rattle.dom_traversal.proofs.Lists.{In, In-from, is_in-from, same_or_not, name_eq-from, name_eq-other}
-use Rattle.dom_traversal.proofs.Shapes.{Has, Once, IsTreeOf, has_or_not, subtree-here, subtree-below, subtree-beside, subtree-absent, subtree-present, subtree-within, Has-subtree, Once-subtree, above-here, above-beside, above-absent, above-present, above-from_below, below-from_above}
+use Rattle.dom_traversal.proofs.Shapes.{Has, Once, IsTreeOf, has_or_not, subtree-here, subtree-below, subtree-beside, subtree-absent, subtree-present}
+use Rattle.dom_traversal.proofs.Shapes.{subtree-within, Has-subtree, Once-subtree, above-here, above-beside, above-absent, above-present}
+use Rattle.dom_traversal.proofs.Shapes.{above-from_below, below-from_above}
 use Rattle.dom_traversal.proofs.Order.{IsWithin, stands_in}
 
 -- what is left stood there before
@@ -80,7 +82,8 @@ no-subtree : (ts : Trees) (x y : NodeName) → (Has ts x → ⊥) → Has (subtr
 no-subtree ts x y off h = subst (λ (us : Trees). Has us y) (subtree-absent ts x off) h
 
 -- above a node that is not in the tree that goes stands what stood there
-pub above-without : (ts : Trees) (x y : NodeName) → Once ts → Has ts y → (Has (subtree ts x) y → ⊥) → inclusive_ancestors (without x ts) y ≡ inclusive_ancestors ts y
+pub above-without : (ts : Trees) (x y : NodeName) → Once ts → Has ts y → (Has (subtree ts x) y → ⊥) →
+    inclusive_ancestors (without x ts) y ≡ inclusive_ancestors ts y
 above-without none x y once h off = refl
 above-without (tree n c r) x y once (inl g) off = elim (same_or_not n.name x) [
   | inl e ↦ absurd (off (subst (λ (us : Trees). Has us y) (sym (subtree-here n c r x e)) (inl g)))
@@ -90,31 +93,37 @@ above-without (tree n c r) x y once (inr (inl g)) off = elim (same_or_not n.name
   | inl e ↦ absurd (off (subst (λ (us : Trees). Has us y) (sym (subtree-here n c r x e)) (inr (inl g))))
   | inr other ↦
       rw (name_eq-other n.name x other)
-      (by (above-without c x y once.3 g (λ i. elim (has_or_not c x) [ inl at ↦ off (subst (λ (us : Trees). Has us y) (sym (subtree-below n c r x once at)) i) | inr away ↦ no-subtree c x y away i ])))
+      (by (above-without c x y once.3 g (λ i. elim (has_or_not c x)
+      [ inl at ↦ off (subst (λ (us : Trees). Has us y) (sym (subtree-below n c r x once at)) i) | inr away ↦ no-subtree c x y away i ])))
 ]
   where
-    by : inclusive_ancestors (without x c) y ≡ inclusive_ancestors c y → inclusive_ancestors (tree n (without x c) (without x r)) y ≡ inclusive_ancestors (tree n c r) y
+    by : inclusive_ancestors (without x c) y ≡ inclusive_ancestors c y →
+        inclusive_ancestors (tree n (without x c) (without x r)) y ≡ inclusive_ancestors (tree n c r) y
     by same =
         let w = above-present c y g in
         rw (name_eq-other n.name y (λ e. once.0 (subst (Has c) (sym e) g)))
-        (ap (λ path. on_top path n.name (inclusive_ancestors (without x r) y)) (same ∙ w.1) ∙ sym (ap (λ path. on_top path n.name (inclusive_ancestors r y)) w.1))
+        (ap (λ path. on_top path n.name (inclusive_ancestors (without x r) y)) (same ∙ w.1) ∙
+        sym (ap (λ path. on_top path n.name (inclusive_ancestors r y)) w.1))
 above-without (tree n c r) x y once (inr (inr g)) off = elim (same_or_not n.name x) [
   | inl e ↦
       rw (name_eq-from n.name x e)
       (above-without r x y once.4 g (λ i. no-subtree r x y (λ at. once.1 (subst (Has r) (sym e) at)) i) ∙ sym (above-beside n c r y once g))
   | inr other ↦
       rw (name_eq-other n.name x other)
-      (by (above-without r x y once.4 g (λ i. elim (has_or_not r x) [ inl at ↦ off (subst (λ (us : Trees). Has us y) (sym (subtree-beside n c r x once at)) i) | inr away ↦ no-subtree r x y away i ])))
+      (by (above-without r x y once.4 g (λ i. elim (has_or_not r x)
+      [ inl at ↦ off (subst (λ (us : Trees). Has us y) (sym (subtree-beside n c r x once at)) i) | inr away ↦ no-subtree r x y away i ])))
 ]
   where
-    by : inclusive_ancestors (without x r) y ≡ inclusive_ancestors r y → inclusive_ancestors (tree n (without x c) (without x r)) y ≡ inclusive_ancestors (tree n c r) y
+    by : inclusive_ancestors (without x r) y ≡ inclusive_ancestors r y →
+        inclusive_ancestors (tree n (without x c) (without x r)) y ≡ inclusive_ancestors (tree n c r) y
     by same =
         rw (name_eq-other n.name y (λ e. once.1 (subst (Has r) (sym e) g)))
         (ap (λ path. on_top path n.name (inclusive_ancestors (without x r) y)) (above-absent (without x c) y (λ i. once.2 y (Has-without c x y i) g))
         ∙ (same ∙ sym (ap (λ path. on_top path n.name (inclusive_ancestors r y)) (above-absent c y (λ i. once.2 y i g)))))
 
 -- a tree among the roots: above a node of the others
-pub above-put_others : (x : NodeName) (m : Node) (d ts : Trees) (y : NodeName) → (Has (tree m d none) y → ⊥) → inclusive_ancestors (put_root x (tree m d none) ts) y ≡ inclusive_ancestors ts y
+pub above-put_others : (x : NodeName) (m : Node) (d ts : Trees) (y : NodeName) → (Has (tree m d none) y → ⊥) →
+    inclusive_ancestors (put_root x (tree m d none) ts) y ≡ inclusive_ancestors ts y
 above-put_others x m d none y off = above-absent (tree m d none) y off
 above-put_others x m d (tree n c r) y off = elim (cases_Bool (name_before x n.name)) [
   | inl e ↦ rw e (first (name_eq-other m.name y (λ same. off (inl same))) (above-absent d y (λ i. off (inr (inl i)))))
@@ -122,14 +131,17 @@ above-put_others x m d (tree n c r) y off = elim (cases_Bool (name_before x n.na
 ]
   where
     first : name_eq m.name y ≡ false → inclusive_ancestors d y ≡ [] → inclusive_ancestors (tree m d (tree n c r)) y ≡ inclusive_ancestors (tree n c r) y
-    first no_m empty = ap (λ b. if b then y ∷ [] else on_top (inclusive_ancestors d y) m.name (inclusive_ancestors (tree n c r) y)) no_m ∙ ap (λ path. on_top path m.name (inclusive_ancestors (tree n c r) y)) empty
+    first no_m empty = ap (λ b. if b then y ∷ [] else on_top (inclusive_ancestors d y) m.name (inclusive_ancestors (tree n c r) y)) no_m ∙
+        ap (λ path. on_top path m.name (inclusive_ancestors (tree n c r) y)) empty
 
 -- and above a node of its own
-above-put_own : (x : NodeName) (m : Node) (d ts : Trees) (y : NodeName) → Has (tree m d none) y → (Has ts y → ⊥) → inclusive_ancestors (put_root x (tree m d none) ts) y ≡ inclusive_ancestors (tree m d none) y
+above-put_own : (x : NodeName) (m : Node) (d ts : Trees) (y : NodeName) → Has (tree m d none) y → (Has ts y → ⊥) →
+    inclusive_ancestors (put_root x (tree m d none) ts) y ≡ inclusive_ancestors (tree m d none) y
 above-put_own x m d none y h off = refl
 above-put_own x m d (tree n c r) y h off = elim (cases_Bool (name_before x n.name)) [
   | inl e ↦ rw e (first (same_or_not m.name y) h)
-  | inr e ↦ rw e (later (name_eq-other n.name y (λ same. off (inl same))) (above-absent c y (λ i. off (inr (inl i)))) ∙ above-put_own x m d r y h (λ i. off (inr (inr i))))
+  | inr e ↦ rw e (later (name_eq-other n.name y (λ same. off (inl same))) (above-absent c y (λ i. off (inr (inl i)))) ∙
+      above-put_own x m d r y h (λ i. off (inr (inr i))))
 ]
   where
     first : (m.name ≡ y) ⊎ (m.name ≡ y → ⊥) → Has (tree m d none) y → inclusive_ancestors (tree m d (tree n c r)) y ≡ inclusive_ancestors (tree m d none) y
@@ -137,16 +149,19 @@ above-put_own x m d (tree n c r) y h off = elim (cases_Bool (name_before x n.nam
     first (inr other) (inl same) = absurd (other same)
     first (inr other) (inr (inl i)) =
         let w = above-present d y i in
-        rw (name_eq-other m.name y other) (ap (λ path. on_top path m.name (inclusive_ancestors (tree n c r) y)) w.1 ∙ sym (ap (λ path. on_top path m.name []) w.1))
+        rw (name_eq-other m.name y other)
+        (ap (λ path. on_top path m.name (inclusive_ancestors (tree n c r) y)) w.1 ∙ sym (ap (λ path. on_top path m.name []) w.1))
     first (inr other) (inr (inr i)) = absurd i
 
-    later : name_eq n.name y ≡ false → inclusive_ancestors c y ≡ [] → inclusive_ancestors (tree n c (put_root x (tree m d none) r)) y ≡ inclusive_ancestors (put_root x (tree m d none) r) y
+    later : name_eq n.name y ≡ false → inclusive_ancestors c y ≡ [] →
+        inclusive_ancestors (tree n c (put_root x (tree m d none) r)) y ≡ inclusive_ancestors (put_root x (tree m d none) r) y
     later no_n empty =
         ap (λ b. if b then y ∷ [] else on_top (inclusive_ancestors c y) n.name (inclusive_ancestors (put_root x (tree m d none) r) y)) no_n
         ∙ ap (λ path. on_top path n.name (inclusive_ancestors (put_root x (tree m d none) r) y)) empty
 
 -- a node stays in another one's tree, unless it goes with the tree that is taken out and the other does not
-pub stays : (ts : Trees) (x top y : NodeName) → Has ts x → IsWithin ts top y → (is_inclusive_ancestor ts x top ≡ false → is_inclusive_ancestor ts x y ≡ false) → is_inclusive_ancestor (taken_out x ts) top y ≡ true
+pub stays : (ts : Trees) (x top y : NodeName) → Has ts x → IsWithin ts top y →
+    (is_inclusive_ancestor ts x top ≡ false → is_inclusive_ancestor ts x y ≡ false) → is_inclusive_ancestor (taken_out x ts) top y ≡ true
 stays ts x top y at_x w left = by (subtree-present ts x at_x) (has_or_not (subtree ts x) y)
   where
     above : In top (inclusive_ancestors ts y)
@@ -157,12 +172,17 @@ stays ts x top y at_x w left = by (subtree-present ts x at_x) (has_or_not (subtr
         let above_y : is_inclusive_ancestor ts x y ≡ true = is_in-from x (inclusive_ancestors ts y) (above-from_below ts x y w.once at_x i) in
         let above_top : is_inclusive_ancestor ts x top ≡ true = true_from_ne_false _ (λ e. both_ways _ (left e) above_y) in
         let at_top = below-from_above ts x top w.once w.top_stands (In-from x (inclusive_ancestors ts top) above_top) in
-        above-from_below (subtree ts x) top y (Once-subtree ts x w.once at_x) at_top (subst (λ (us : Trees). Has us y) (sym (subtree-within ts x top w.once at_x at_top)) w.stands)
+        above-from_below (subtree ts x) top y (Once-subtree ts x w.once at_x) at_top
+        (subst (λ (us : Trees). Has us y) (sym (subtree-within ts x top w.once at_x at_top)) w.stands)
 
     by : IsTreeOf x (subtree ts x) → Has (subtree ts x) y ⊎ (Has (subtree ts x) y → ⊥) → is_inclusive_ancestor (taken_out x ts) top y ≡ true
     by t (inl i) =
-        is_in-from top (inclusive_ancestors (taken_out x ts) y) (subst (In top) (sym (ap (λ (us : Trees). inclusive_ancestors (put_root x us (without x ts)) y) t.2
-        ∙ (above-put_own x t.0 t.1 (without x ts) y (subst (λ (us : Trees). Has us y) t.2 i) (λ g. without-apart ts x y w.once g i) ∙ ap (λ (us : Trees). inclusive_ancestors us y) (sym t.2)))) (inner i))
+        is_in-from top (inclusive_ancestors (taken_out x ts) y)
+        (subst (In top) (sym (ap (λ (us : Trees). inclusive_ancestors (put_root x us (without x ts)) y) t.2
+        ∙ (above-put_own x t.0 t.1 (without x ts) y (subst (λ (us : Trees). Has us y) t.2 i) (λ g. without-apart ts x y w.once g i) ∙
+        ap (λ (us : Trees). inclusive_ancestors us y) (sym t.2)))) (inner i))
     by t (inr off) =
-        is_in-from top (inclusive_ancestors (taken_out x ts) y) (subst (In top) (sym (ap (λ (us : Trees). inclusive_ancestors (put_root x us (without x ts)) y) t.2
-        ∙ (above-put_others x t.0 t.1 (without x ts) y (λ i. off (subst (λ (us : Trees). Has us y) (sym t.2) i)) ∙ above-without ts x y w.once (stands_in ts top y w) off))) above)
+        is_in-from top (inclusive_ancestors (taken_out x ts) y)
+        (subst (In top) (sym (ap (λ (us : Trees). inclusive_ancestors (put_root x us (without x ts)) y) t.2
+        ∙ (above-put_others x t.0 t.1 (without x ts) y (λ i. off (subst (λ (us : Trees). Has us y) (sym t.2) i)) ∙
+        above-without ts x y w.once (stands_in ts top y w) off))) above)

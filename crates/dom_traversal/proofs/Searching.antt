@@ -1,5 +1,6 @@
 -- Steps along tree order by keys, and what they leave to search.
-use Rattle.std.proofs.Common.{◌≡◌, inl, ℕ, ◌<◌, Bool, true, false, List, [], ◌∷◌, ◌++◌, length, Option, Some, None, refl, sym, ap, subst, ◌∙◌, arith, suc, length-append}
+use Rattle.std.proofs.Common.{◌≡◌, inl, ℕ, ◌<◌, Bool, true, false, List, [], ◌∷◌, ◌++◌, length, Option, Some, None, refl, sym, ap, subst, ◌∙◌, arith}
+use Rattle.std.proofs.Common.{suc, length-append}
 use Rattle.std.specs.Prelude.{filter}
 use Rattle.std.specs.Option.{option_map, ForSome}
 use Rattle.std.proofs.lemmas.List.{append-nil}
@@ -25,21 +26,32 @@ IsWithin-itself f once only k node =
     let at = Has-forest f once k node in
     let w = above-present f.trees (name_at f.names k) at in
     let single = Once-forest f once only in
-    record { once = single; top_stands = at; stands = below-from_above f.trees (name_at f.names k) (name_at f.names k) single at (subst (In (name_at f.names k)) (sym w.1) (inl refl)) }
+    record {
+      once = single;
+      top_stands = at;
+      stands = below-from_above f.trees (name_at f.names k) (name_at f.names k) single at (subst (In (name_at f.names k)) (sym w.1) (inl refl));
+    }
 
 -- and the other way round, for the node of a key that was found
-pub StandsIn-found : (f : NamedTrees) (top : ℕ) (found : Option ℕ) (name : Option NodeName) → option_map (name_at f.names) found ≡ name → ForSome found (λ k. k < length f.names)
+pub StandsIn-found : (f : NamedTrees) (top : ℕ) (found : Option ℕ) (name : Option NodeName) → option_map (name_at f.names) found ≡ name →
+    ForSome found (λ k. k < length f.names)
     → ((y : NodeName) → name ≡ Some y → IsWithin f.trees (name_at f.names top) y) → ForSome found (StandsIn f top)
 StandsIn-found f top found name is node inside =
-    λ k e. record { node = node k e; within = above-within f.trees (name_at f.names top) (name_at f.names k) (inside (name_at f.names k) (sym is ∙ ap (option_map (name_at f.names)) e)) }
+    λ k e. record {
+      node = node k e;
+      within = above-within f.trees (name_at f.names top) (name_at f.names k)
+          (inside (name_at f.names k) (sym is ∙ ap (option_map (name_at f.names)) e));
+    }
 
 -- behind a node stands the next one, with all behind that one
-pub behind-next : (ts : Trees) (top x : NodeName) → IsWithin ts top x → (o : Option NodeName) → first_of (behind ts top x) ≡ o → behind ts top x ≡ from_node ts top o
+pub behind-next : (ts : Trees) (top x : NodeName) → IsWithin ts top x → (o : Option NodeName) → first_of (behind ts top x) ≡ o →
+    behind ts top x ≡ from_node ts top o
 behind-next ts top x w None e = no_first (behind ts top x) e
 behind-next ts top x w (Some y) e = (following_place ts top x y w e).1
 
 -- before a node stands the previous one, with all before that one
-pub ahead-previous : (ts : Trees) (top x : NodeName) → IsWithin ts top x → (o : Option NodeName) → last_of (ahead_of ts top x) ≡ o → ahead_of ts top x ≡ up_to_node ts top o
+pub ahead-previous : (ts : Trees) (top x : NodeName) → IsWithin ts top x → (o : Option NodeName) → last_of (ahead_of ts top x) ≡ o →
+    ahead_of ts top x ≡ up_to_node ts top o
 ahead-previous ts top x w None e = no_last (ahead_of ts top x) e
 ahead-previous ts top x w (Some y) e = (preceding_place ts top x y w e).1
 
@@ -64,7 +76,8 @@ last-miss p xs x e = filter-append p xs (x ∷ []) ∙ (ap (λ ys. filter p xs +
 -- to the node behind
 pub following_step : (f : NamedTrees) → StandOnce f → StandAlone f → (top k : ℕ) (next : Option ℕ) → StandsIn f top k
     → option_map (name_at f.names) next ≡ first_of (behind f.trees (name_at f.names top) (name_at f.names k)) → ForSome next (λ j. j < length f.names)
-    → (behind f.trees (name_at f.names top) (name_at f.names k) ≡ from_node f.trees (name_at f.names top) (option_map (name_at f.names) next)) × ForSome next (StandsIn f top)
+    → (behind f.trees (name_at f.names top) (name_at f.names k) ≡ from_node f.trees (name_at f.names top) (option_map (name_at f.names) next)) ×
+    ForSome next (StandsIn f top)
 following_step f once only top k next s is node =
     let w = IsWithin-key f once only top k s in (
       behind-next f.trees (name_at f.names top) (name_at f.names k) w (option_map (name_at f.names) next) (sym is),
@@ -74,7 +87,8 @@ following_step f once only top k next s is node =
 -- to the node before, in a search backward
 pub preceding_step : (f : NamedTrees) → StandOnce f → StandAlone f → (top k : ℕ) (prev : Option ℕ) → StandsIn f top k
     → option_map (name_at f.names) prev ≡ last_of (ahead_of f.trees (name_at f.names top) (name_at f.names k)) → ForSome prev (λ j. j < length f.names)
-    → (ahead_of f.trees (name_at f.names top) (name_at f.names k) ≡ up_to_node f.trees (name_at f.names top) (option_map (name_at f.names) prev)) × ForSome prev (StandsIn f top)
+    → (ahead_of f.trees (name_at f.names top) (name_at f.names k) ≡ up_to_node f.trees (name_at f.names top) (option_map (name_at f.names) prev))
+    × ForSome prev (StandsIn f top)
 preceding_step f once only top k prev s is node =
     let w = IsWithin-key f once only top k s in (
       ahead-previous f.trees (name_at f.names top) (name_at f.names k) w (option_map (name_at f.names) prev) (sym is),
@@ -84,16 +98,19 @@ preceding_step f once only top k prev s is node =
 -- what is left to search is less
 pub length-behind : (f : NamedTrees) (top k : ℕ) (at next : Option ℕ) → at ≡ Some k
     → behind f.trees (name_at f.names top) (name_at f.names k) ≡ from_node f.trees (name_at f.names top) (option_map (name_at f.names) next)
-    → length (from_node f.trees (name_at f.names top) (option_map (name_at f.names) next)) < length (from_node f.trees (name_at f.names top) (option_map (name_at f.names) at))
+    → length (from_node f.trees (name_at f.names top) (option_map (name_at f.names) next)) < length
+    (from_node f.trees (name_at f.names top) (option_map (name_at f.names) at))
 length-behind f top k at next is e =
-    let longer : length (from_node f.trees (name_at f.names top) (option_map (name_at f.names) at)) ≡ suc (length (behind f.trees (name_at f.names top) (name_at f.names k))) =
+    let longer : length (from_node f.trees (name_at f.names top) (option_map (name_at f.names) at)) ≡ suc
+    (length (behind f.trees (name_at f.names top) (name_at f.names k))) =
     ap (λ o. length (from_node f.trees (name_at f.names top) (option_map (name_at f.names) o))) is in
     omega (arith, longer, ap (length {A = NodeName}) e)
 
 -- the same backward
 pub length-ahead : (f : NamedTrees) (top k : ℕ) (at prev : Option ℕ) → at ≡ Some k
     → ahead_of f.trees (name_at f.names top) (name_at f.names k) ≡ up_to_node f.trees (name_at f.names top) (option_map (name_at f.names) prev)
-    → length (up_to_node f.trees (name_at f.names top) (option_map (name_at f.names) prev)) < length (up_to_node f.trees (name_at f.names top) (option_map (name_at f.names) at))
+    → length (up_to_node f.trees (name_at f.names top) (option_map (name_at f.names) prev)) < length
+    (up_to_node f.trees (name_at f.names top) (option_map (name_at f.names) at))
 length-ahead f top k at prev is e =
     let front = ahead_of f.trees (name_at f.names top) (name_at f.names k) in
     let longer : length (up_to_node f.trees (name_at f.names top) (option_map (name_at f.names) at)) ≡ length (front ++ name_at f.names k ∷ []) =
@@ -103,14 +120,17 @@ length-ahead f top k at prev is e =
 -- a node that the filter does not accept is passed
 pub left-behind : (f : NamedTrees) (p : NodeName → Bool) (top k : ℕ) (at next : Option ℕ) → at ≡ Some k → p (name_at f.names k) ≡ false
     → behind f.trees (name_at f.names top) (name_at f.names k) ≡ from_node f.trees (name_at f.names top) (option_map (name_at f.names) next)
-    → first_of (filter p (from_node f.trees (name_at f.names top) (option_map (name_at f.names) next))) ≡ first_of (filter p (from_node f.trees (name_at f.names top) (option_map (name_at f.names) at)))
+    → first_of (filter p (from_node f.trees (name_at f.names top) (option_map (name_at f.names) next))) ≡ first_of
+    (filter p (from_node f.trees (name_at f.names top) (option_map (name_at f.names) at)))
 left-behind f p top k at next is passed e =
-    sym (ap (λ o. first_of (filter p (from_node f.trees (name_at f.names top) (option_map (name_at f.names) o)))) is ∙ first-miss p (name_at f.names k) _ _ passed e)
+    sym (ap (λ o. first_of (filter p (from_node f.trees (name_at f.names top) (option_map (name_at f.names) o)))) is ∙
+    first-miss p (name_at f.names k) _ _ passed e)
 
 -- the same backward
 pub left-ahead : (f : NamedTrees) (p : NodeName → Bool) (top k : ℕ) (at prev : Option ℕ) → at ≡ Some k → p (name_at f.names k) ≡ false
     → ahead_of f.trees (name_at f.names top) (name_at f.names k) ≡ up_to_node f.trees (name_at f.names top) (option_map (name_at f.names) prev)
-    → last_of (filter p (up_to_node f.trees (name_at f.names top) (option_map (name_at f.names) prev))) ≡ last_of (filter p (up_to_node f.trees (name_at f.names top) (option_map (name_at f.names) at)))
+    → last_of (filter p (up_to_node f.trees (name_at f.names top) (option_map (name_at f.names) prev))) ≡ last_of
+    (filter p (up_to_node f.trees (name_at f.names top) (option_map (name_at f.names) at)))
 left-ahead f p top k at prev is passed e =
     sym (ap (λ o. last_of (filter p (up_to_node f.trees (name_at f.names top) (option_map (name_at f.names) o)))) is
     ∙ ap last_of (last-miss p (ahead_of f.trees (name_at f.names top) (name_at f.names k)) (name_at f.names k) passed ∙ ap (filter p) e))

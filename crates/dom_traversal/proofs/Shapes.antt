@@ -61,9 +61,11 @@ subtree-present (tree n c r) x h = elim (same_or_not n.name x) [
   | inr other ↦ rw (name_eq-other n.name x other) (by other (has_or_not c x) (subtree-present c x) (subtree-present r x))
 ]
   where
-    by : (n.name ≡ x → ⊥) → Has c x ⊎ (Has c x → ⊥) → (Has c x → IsTreeOf x (subtree c x)) → (Has r x → IsTreeOf x (subtree r x)) → IsTreeOf x (or_else (subtree c x) (subtree r x))
+    by : (n.name ≡ x → ⊥) → Has c x ⊎ (Has c x → ⊥) → (Has c x → IsTreeOf x (subtree c x)) → (Has r x → IsTreeOf x (subtree r x)) →
+        IsTreeOf x (or_else (subtree c x) (subtree r x))
     by other (inl i) in_c in_r = let w = in_c i in (w.0, w.1, ap (λ (us : Trees). or_else us (subtree r x)) w.2, w.3)
-    by other (inr off) in_c in_r = rw (subtree-absent c x off) (in_r (elim h [ inl e ↦ absurd (other e) | inr g ↦ elim g [ inl i ↦ absurd (off i) | inr j ↦ j ] ]))
+    by other (inr off) in_c in_r = rw (subtree-absent c x off)
+        (in_r (elim h [ inl e ↦ absurd (other e) | inr g ↦ elim g [ inl i ↦ absurd (off i) | inr j ↦ j ] ]))
 
 -- that of the first root
 pub subtree-here : (n : Node) (c r : Trees) (x : NodeName) → n.name ≡ x → subtree (tree n c r) x ≡ tree n c none
@@ -151,14 +153,16 @@ above-present (tree n c r) x h = elim (same_or_not n.name x) [
     by : (n.name ≡ x → ⊥) → Has c x ⊎ (Has c x → ⊥) → (Has c x → BeginsWith x (inclusive_ancestors c x)) → (Has r x → BeginsWith x (inclusive_ancestors r x))
         → BeginsWith x (on_top (inclusive_ancestors c x) n.name (inclusive_ancestors r x))
     by other (inl i) in_c in_r = let w = in_c i in (w.0 ++ n.name ∷ [], ap (λ path. on_top path n.name (inclusive_ancestors r x)) w.1)
-    by other (inr off) in_c in_r = rw (above-absent c x off) (in_r (elim h [ inl e ↦ absurd (other e) | inr g ↦ elim g [ inl i ↦ absurd (off i) | inr j ↦ j ] ]))
+    by other (inr off) in_c in_r = rw (above-absent c x off)
+        (in_r (elim h [ inl e ↦ absurd (other e) | inr g ↦ elim g [ inl i ↦ absurd (off i) | inr j ↦ j ] ]))
 
 -- those of the first root
 pub above-here : (n : Node) (c r : Trees) (x : NodeName) → n.name ≡ x → inclusive_ancestors (tree n c r) x ≡ x ∷ []
 above-here n c r x e = rw (name_eq-from n.name x e) refl
 
 -- those of a node below it
-pub above-below : (n : Node) (c r : Trees) (x : NodeName) → Once (tree n c r) → Has c x → inclusive_ancestors (tree n c r) x ≡ inclusive_ancestors c x ++ n.name ∷ []
+pub above-below : (n : Node) (c r : Trees) (x : NodeName) → Once (tree n c r) → Has c x →
+    inclusive_ancestors (tree n c r) x ≡ inclusive_ancestors c x ++ n.name ∷ []
 above-below n c r x once h =
     let w = above-present c x h in
     rw (off_first n c r x once h) (ap (λ path. on_top path n.name (inclusive_ancestors r x)) w.1 ∙ sym (ap (λ path. path ++ n.name ∷ []) w.1))
@@ -213,7 +217,8 @@ below-from_above (tree n c r) a x once (inr (inr h)) i =
 -- ---- parents
 
 -- above a child stands its parent with all above that one
-pub above-parent : (ts : Trees) (x p : NodeName) → Once ts → Has ts x → parent_of ts x ≡ Some p → (inclusive_ancestors ts x ≡ x ∷ inclusive_ancestors ts p) × Has ts p
+pub above-parent : (ts : Trees) (x p : NodeName) → Once ts → Has ts x → parent_of ts x ≡ Some p →
+    (inclusive_ancestors ts x ≡ x ∷ inclusive_ancestors ts p) × Has ts p
 above-parent none x p once h e = absurd h
 above-parent (tree n c r) x p once (inl i) e = absurd (none-some p (rw (above-here n c r x i) at e))
 above-parent (tree n c r) x p once (inr (inl h)) e =
@@ -222,7 +227,8 @@ above-parent (tree n c r) x p once (inr (inl h)) e =
     by (above-parent c x p once.3 h) w.0 w.1 whole (ap (λ path. first_of (drop 1 path)) (sym whole) ∙ e)
   where
     by : (parent_of c x ≡ Some p → (inclusive_ancestors c x ≡ x ∷ inclusive_ancestors c p) × Has c p)
-        → (path : List NodeName) → inclusive_ancestors c x ≡ x ∷ path → inclusive_ancestors (tree n c r) x ≡ x ∷ (path ++ n.name ∷ []) → first_of (path ++ n.name ∷ []) ≡ Some p
+        → (path : List NodeName) → inclusive_ancestors c x ≡ x ∷ path → inclusive_ancestors (tree n c r) x ≡ x ∷ (path ++ n.name ∷ []) →
+        first_of (path ++ n.name ∷ []) ≡ Some p
         → (inclusive_ancestors (tree n c r) x ≡ x ∷ inclusive_ancestors (tree n c r) p) × Has (tree n c r) p
     by deeper [] is whole f =
         let same : n.name ≡ p = same_Some _ _ f in

@@ -8,7 +8,8 @@ use Rattle.dom_base.specs.declared.NodeName.{NodeName}
 use Rattle.dom_model.specs.Names.{name_eq, first_of, last_of, items_before, items_after}
 use Rattle.dom_model.specs.Tree.{Trees, subtree, inclusive_ancestors, parent_of, children_of, inclusive_descendants, next_sibling, previous_sibling, siblings}
 use Rattle.dom_traversal.specs.Within.{ahead_of, behind, beyond}
-use Rattle.dom_traversal.proofs.Lists.{In, In-left, In-right, Single, Single-apart, no_first, no_last, first_split, last_split, split_at, before-split, after-split, before-in, after-in}
+use Rattle.dom_traversal.proofs.Lists.{In, In-left, In-right, Single, Single-apart, no_first, no_last, first_split, last_split, split_at}
+use Rattle.dom_traversal.proofs.Lists.{before-split, after-split, before-in, after-in}
 use Rattle.dom_traversal.proofs.Shapes.{above-present, above-parent, above-root, above-from_below, below-from_above}
 use Rattle.dom_traversal.proofs.Children.{In-names, Has-names, parent-of_child, child-of_parent}
 use Rattle.dom_traversal.proofs.Order.{IsWithin, joined, below, stands_in, all_single, here, split_is, splits}
@@ -24,7 +25,11 @@ pub within-child : (ts : Trees) (top p x : NodeName) → IsWithin ts top p → I
 within-child ts top p x w i =
     let up = parent-of_child ts p x w.once (stands_in ts top p w) i in
     let is = (above-parent ts x p w.once up.1 up.0).0 in
-    record { once = w.once; top_stands = w.top_stands; stands = below-from_above ts top x w.once up.1 (subst (In top) (sym is) (inr (above_within ts top p w))) }
+    record {
+      once = w.once;
+      top_stands = w.top_stands;
+      stands = below-from_above ts top x w.once up.1 (subst (In top) (sym is) (inr (above_within ts top p w)));
+    }
 
 -- and the parent, but for that of the top
 pub within-parent : (ts : Trees) (top x p : NodeName) → IsWithin ts top x → (x ≡ top → ⊥) → parent_of ts x ≡ Some p → IsWithin ts top p
@@ -33,18 +38,24 @@ within-parent ts top x p w other e =
     record {
       once = w.once;
       top_stands = w.top_stands;
-      stands = below-from_above ts top p w.once up.1 (elim (subst (In top) up.0 (above_within ts top x w)) [ inl same ↦ absurd (other (sym same)) | inr i ↦ i ]);
+      stands = below-from_above ts top p w.once up.1
+          (elim (subst (In top) up.0 (above_within ts top x w)) [ inl same ↦ absurd (other (sym same)) | inr i ↦ i ]);
     }
 
 -- only the top may have no parent
 pub within-root : (ts : Trees) (top x : NodeName) → IsWithin ts top x → (x ≡ top → ⊥) → parent_of ts x ≡ None → ⊥
-within-root ts top x w other e = elim (subst (In top) (above-root ts x (stands_in ts top x w) e) (above_within ts top x w)) [ inl same ↦ other (sym same) | inr i ↦ i ]
+within-root ts top x w other e = elim (subst (In top) (above-root ts x (stands_in ts top x w) e) (above_within ts top x w))
+    [ inl same ↦ other (sym same) | inr i ↦ i ]
 
 -- each node stands in its own tree
 pub within-itself : (ts : Trees) (top x : NodeName) → IsWithin ts top x → IsWithin ts x x
 within-itself ts top x w =
     let begins = above-present ts x (stands_in ts top x w) in
-    record { once = w.once; top_stands = stands_in ts top x w; stands = below-from_above ts x x w.once (stands_in ts top x w) (subst (In x) (sym begins.1) (inl refl)) }
+    record {
+      once = w.once;
+      top_stands = stands_in ts top x w;
+      stands = below-from_above ts x x w.once (stands_in ts top x w) (subst (In x) (sym begins.1) (inl refl));
+    }
 
 -- the top stands in its own tree
 pub within-top : (ts : Trees) (top x : NodeName) → IsWithin ts top x → IsWithin ts top top
@@ -62,8 +73,10 @@ child_places ts top p x before after w e =
     let inside = within-child ts top p x w among in
     let tree = inclusive_descendants ts x in
     let parts : below ts p ≡ joined ts before ++ (tree ++ joined ts after) =
-    ap (joined ts) e ∙ (flat_map-append (inclusive_descendants ts) before (x ∷ after) ∙ ap (λ xs. joined ts before ++ xs) (flat_map-cons (inclusive_descendants ts) x after)) in
-    let regroup : (a b c d : List NodeName) → (a ++ (b ++ c)) ++ d ≡ a ++ (b ++ (c ++ d)) = λ a b c d. append_assoc a (b ++ c) d ∙ ap (λ xs. a ++ xs) (append_assoc b c d) in
+    ap (joined ts) e ∙ (flat_map-append (inclusive_descendants ts) before (x ∷ after) ∙
+    ap (λ xs. joined ts before ++ xs) (flat_map-cons (inclusive_descendants ts) x after)) in
+    let regroup : (a b c d : List NodeName) → (a ++ (b ++ c)) ++ d ≡ a ++ (b ++ (c ++ d)) =
+    λ a b c d. append_assoc a (b ++ c) d ∙ ap (λ xs. a ++ xs) (append_assoc b c d) in
     let whole : inclusive_descendants ts top ≡ (ahead_of ts top p ++ p ∷ joined ts before) ++ (tree ++ (joined ts after ++ beyond ts top p)) =
     splits ts top p w
     ∙ (ap (λ xs. ahead_of ts top p ++ (xs ++ beyond ts top p)) (here ts top p w ∙ ap (λ xs. p ∷ xs) parts)
@@ -107,15 +120,18 @@ no_child ts x e = ap (joined ts) (no_first (children_of ts x) e)
 
 -- the tree of a last child ends as its parent's does
 pub last_child : (ts : Trees) (top x c : NodeName) → IsWithin ts top x → last_of (children_of ts x) ≡ Some c
-    → IsWithin ts top c × (ahead_of ts top c ++ inclusive_descendants ts c ≡ ahead_of ts top x ++ inclusive_descendants ts x) × (beyond ts top c ≡ beyond ts top x)
+    → IsWithin ts top c × (ahead_of ts top c ++ inclusive_descendants ts c ≡ ahead_of ts top x ++ inclusive_descendants ts x) ×
+    (beyond ts top c ≡ beyond ts top x)
 last_child ts top x c w e =
     let s = last_split (children_of ts x) c e in
     let is = child_places ts top x c s.0 [] w s.1 in
     let tree = inclusive_descendants ts c in
     let parts : below ts x ≡ joined ts s.0 ++ tree =
-    ap (joined ts) s.1 ∙ (flat_map-append (inclusive_descendants ts) s.0 (c ∷ []) ∙ ap (λ xs. joined ts s.0 ++ xs) (flat_map-cons (inclusive_descendants ts) c [] ∙ append-nil tree)) in (
+    ap (joined ts) s.1 ∙ (flat_map-append (inclusive_descendants ts) s.0 (c ∷ []) ∙
+    ap (λ xs. joined ts s.0 ++ xs) (flat_map-cons (inclusive_descendants ts) c [] ∙ append-nil tree)) in (
       is.0,
-      ap (λ xs. xs ++ tree) is.1 ∙ (append_assoc (ahead_of ts top x) (x ∷ joined ts s.0) tree ∙ ap (λ xs. ahead_of ts top x ++ xs) (ap (λ xs. x ∷ xs) (sym parts) ∙ sym (here ts top x w))),
+      ap (λ xs. xs ++ tree) is.1 ∙ (append_assoc (ahead_of ts top x) (x ∷ joined ts s.0) tree ∙
+          ap (λ xs. ahead_of ts top x ++ xs) (ap (λ xs. x ∷ xs) (sym parts) ∙ sym (here ts top x w))),
       is.2,
     )
 
@@ -130,7 +146,8 @@ pub next_places : (ts : Trees) (top x s : NodeName) → IsWithin ts top x → (x
     → IsWithin ts top s × (beyond ts top x ≡ inclusive_descendants ts s ++ beyond ts top s) × (parent_of ts s ≡ parent_of ts x)
 next_places ts top x s w other e = by (parent_of ts x) refl
   where
-    by : (o : Option NodeName) → parent_of ts x ≡ o → IsWithin ts top s × (beyond ts top x ≡ inclusive_descendants ts s ++ beyond ts top s) × (parent_of ts s ≡ parent_of ts x)
+    by : (o : Option NodeName) → parent_of ts x ≡ o → IsWithin ts top s × (beyond ts top x ≡ inclusive_descendants ts s ++ beyond ts top s) ×
+        (parent_of ts s ≡ parent_of ts x)
     by None up = absurd (within-root ts top x w other up)
     by (Some p) up =
         let above = within-parent ts top x p w other up in
@@ -138,8 +155,11 @@ next_places ts top x s w other e = by (parent_of ts x) refl
         let front = items_before name_eq x (siblings ts x) in
         let back = first_split (items_after name_eq x (siblings ts x)) s e in
         let mine = child_places ts top p x front (items_after name_eq x (siblings ts x)) above split in
-        let its = child_places ts top p s (front ++ x ∷ []) back.0 above (split ∙ (ap (λ xs. front ++ x ∷ xs) back.1 ∙ sym (append_assoc front (x ∷ []) (s ∷ back.0)))) in
-        let among : In s (children_of ts p) = subst (In s) (sym split) (In-right s front (x ∷ items_after name_eq x (siblings ts x)) (inr (subst (In s) (sym back.1) (inl refl)))) in (
+        let its = child_places ts top p s (front ++ x ∷ []) back.0 above
+        (split ∙ (ap (λ xs. front ++ x ∷ xs) back.1 ∙ sym (append_assoc front (x ∷ []) (s ∷ back.0)))) in
+        let among : In s (children_of ts p) =
+        subst (In s) (sym split)
+        (In-right s front (x ∷ items_after name_eq x (siblings ts x)) (inr (subst (In s) (sym back.1) (inl refl)))) in (
           its.0,
           mine.2
               ∙ (ap (λ xs. xs ++ beyond ts top p) (ap (joined ts) back.1 ∙ flat_map-cons (inclusive_descendants ts) s back.0)
@@ -148,10 +168,12 @@ next_places ts top x s w other e = by (parent_of ts x) refl
         )
 
 -- without one what is beyond its parent
-pub no_next : (ts : Trees) (top x p : NodeName) → IsWithin ts top x → (x ≡ top → ⊥) → parent_of ts x ≡ Some p → next_sibling ts x ≡ None → beyond ts top x ≡ beyond ts top p
+pub no_next : (ts : Trees) (top x p : NodeName) → IsWithin ts top x → (x ≡ top → ⊥) → parent_of ts x ≡ Some p → next_sibling ts x ≡ None →
+    beyond ts top x ≡ beyond ts top p
 no_next ts top x p w other up e =
     let above = within-parent ts top x p w other up in
-    let mine = child_places ts top p x (items_before name_eq x (siblings ts x)) (items_after name_eq x (siblings ts x)) above (siblings-split ts top x p w up) in
+    let mine = child_places ts top p x (items_before name_eq x (siblings ts x)) (items_after name_eq x (siblings ts x)) above
+    (siblings-split ts top x p w up) in
     mine.2 ∙ ap (λ xs. joined ts xs ++ beyond ts top p) (no_first (items_after name_eq x (siblings ts x)) e)
 
 -- before a node comes last the tree of its previous sibling
@@ -159,7 +181,8 @@ pub previous_places : (ts : Trees) (top x s : NodeName) → IsWithin ts top x �
     → IsWithin ts top s × (ahead_of ts top x ≡ ahead_of ts top s ++ inclusive_descendants ts s) × (parent_of ts s ≡ parent_of ts x)
 previous_places ts top x s w other e = by (parent_of ts x) refl
   where
-    by : (o : Option NodeName) → parent_of ts x ≡ o → IsWithin ts top s × (ahead_of ts top x ≡ ahead_of ts top s ++ inclusive_descendants ts s) × (parent_of ts s ≡ parent_of ts x)
+    by : (o : Option NodeName) → parent_of ts x ≡ o → IsWithin ts top s × (ahead_of ts top x ≡ ahead_of ts top s ++ inclusive_descendants ts s) ×
+        (parent_of ts s ≡ parent_of ts x)
     by None up = absurd (within-root ts top x w other up)
     by (Some p) up =
         let above = within-parent ts top x p w other up in
@@ -169,19 +192,27 @@ previous_places ts top x s w other e = by (parent_of ts x) refl
         let mine = child_places ts top p x (items_before name_eq x (siblings ts x)) back above split in
         let its = child_places ts top p s front.0 (x ∷ back) above (split ∙ (ap (λ xs. xs ++ x ∷ back) front.1 ∙ append_assoc front.0 (s ∷ []) (x ∷ back))) in
         let tree = inclusive_descendants ts s in
-        let among : In s (children_of ts p) = subst (In s) (sym split) (In-left s (items_before name_eq x (siblings ts x)) (x ∷ back) (subst (In s) (sym front.1) (In-right s front.0 (s ∷ []) (inl refl)))) in (
+        let among : In s (children_of ts p) =
+        subst (In s) (sym split)
+        (In-left s (items_before name_eq x (siblings ts x)) (x ∷ back)
+        (subst (In s) (sym front.1) (In-right s front.0 (s ∷ []) (inl refl)))) in (
           its.0,
           mine.1
-              ∙ (ap (λ xs. ahead_of ts top p ++ p ∷ xs) (ap (joined ts) front.1 ∙ (flat_map-append (inclusive_descendants ts) front.0 (s ∷ []) ∙ ap (λ xs. joined ts front.0 ++ xs) (flat_map-cons (inclusive_descendants ts) s [] ∙ append-nil tree)))
+              ∙ (ap (λ xs. ahead_of ts top p ++ p ∷ xs)
+              (ap (joined ts) front.1 ∙
+              (flat_map-append (inclusive_descendants ts) front.0 (s ∷ []) ∙
+              ap (λ xs. joined ts front.0 ++ xs) (flat_map-cons (inclusive_descendants ts) s [] ∙ append-nil tree)))
               ∙ (sym (append_assoc (ahead_of ts top p) (p ∷ joined ts front.0) tree) ∙ ap (λ xs. xs ++ tree) (sym its.1))),
           (parent-of_child ts p s w.once (stands_in ts top p above) among).0 ∙ sym up,
         )
 
 -- without one its parent
-pub no_previous : (ts : Trees) (top x p : NodeName) → IsWithin ts top x → (x ≡ top → ⊥) → parent_of ts x ≡ Some p → previous_sibling ts x ≡ None → ahead_of ts top x ≡ ahead_of ts top p ++ p ∷ []
+pub no_previous : (ts : Trees) (top x p : NodeName) → IsWithin ts top x → (x ≡ top → ⊥) → parent_of ts x ≡ Some p → previous_sibling ts x ≡ None →
+    ahead_of ts top x ≡ ahead_of ts top p ++ p ∷ []
 no_previous ts top x p w other up e =
     let above = within-parent ts top x p w other up in
-    let mine = child_places ts top p x (items_before name_eq x (siblings ts x)) (items_after name_eq x (siblings ts x)) above (siblings-split ts top x p w up) in
+    let mine = child_places ts top p x (items_before name_eq x (siblings ts x)) (items_after name_eq x (siblings ts x)) above
+    (siblings-split ts top x p w up) in
     mine.1 ∙ ap (λ xs. ahead_of ts top p ++ p ∷ joined ts xs) (no_last (items_before name_eq x (siblings ts x)) e)
 
 -- ---- along the whole order
@@ -195,20 +226,24 @@ pub ordered : (ts : Trees) (top x : NodeName) → IsWithin ts top x → inclusiv
 ordered ts top x w = split_at x (inclusive_descendants ts top) (In-names (subtree ts top) x w.stands)
 
 -- behind a node comes the next one, with all behind that one
-pub following_place : (ts : Trees) (top x y : NodeName) → IsWithin ts top x → first_of (behind ts top x) ≡ Some y → IsWithin ts top y × (behind ts top x ≡ y ∷ behind ts top y)
+pub following_place : (ts : Trees) (top x y : NodeName) → IsWithin ts top x → first_of (behind ts top x) ≡ Some y → IsWithin ts top y ×
+    (behind ts top x ≡ y ∷ behind ts top y)
 following_place ts top x y w e =
     let s = first_split (behind ts top x) y e in
     let inside = within-member ts top x y w (after-in x y (inclusive_descendants ts top) (subst (In y) (sym s.1) (inl refl))) in
     let front = ahead_of ts top x ++ x ∷ [] in
-    let whole : inclusive_descendants ts top ≡ front ++ y ∷ s.0 = ordered ts top x w ∙ (ap (λ xs. ahead_of ts top x ++ x ∷ xs) s.1 ∙ sym (append_assoc (ahead_of ts top x) (x ∷ []) (y ∷ s.0))) in
+    let whole : inclusive_descendants ts top ≡ front ++ y ∷ s.0 =
+    ordered ts top x w ∙ (ap (λ xs. ahead_of ts top x ++ x ∷ xs) s.1 ∙ sym (append_assoc (ahead_of ts top x) (x ∷ []) (y ∷ s.0))) in
     let apart : In y front → ⊥ = λ i. Single-apart y front (y ∷ s.0) (subst Single whole (all_single ts top x w)) i (inl refl) in
     (inside, s.1 ∙ ap (λ xs. y ∷ xs) (sym (ap (items_after name_eq y) whole ∙ after-split y front s.0 apart)))
 
 -- before a node comes the previous one, with all before that one
-pub preceding_place : (ts : Trees) (top x y : NodeName) → IsWithin ts top x → last_of (ahead_of ts top x) ≡ Some y → IsWithin ts top y × (ahead_of ts top x ≡ ahead_of ts top y ++ y ∷ [])
+pub preceding_place : (ts : Trees) (top x y : NodeName) → IsWithin ts top x → last_of (ahead_of ts top x) ≡ Some y → IsWithin ts top y ×
+    (ahead_of ts top x ≡ ahead_of ts top y ++ y ∷ [])
 preceding_place ts top x y w e =
     let s = last_split (ahead_of ts top x) y e in
     let inside = within-member ts top x y w (before-in x y (inclusive_descendants ts top) (subst (In y) (sym s.1) (In-right y s.0 (y ∷ []) (inl refl)))) in
-    let whole : inclusive_descendants ts top ≡ s.0 ++ y ∷ (x ∷ behind ts top x) = ordered ts top x w ∙ (ap (λ xs. xs ++ x ∷ behind ts top x) s.1 ∙ append_assoc s.0 (y ∷ []) (x ∷ behind ts top x)) in
+    let whole : inclusive_descendants ts top ≡ s.0 ++ y ∷ (x ∷ behind ts top x) =
+    ordered ts top x w ∙ (ap (λ xs. xs ++ x ∷ behind ts top x) s.1 ∙ append_assoc s.0 (y ∷ []) (x ∷ behind ts top x)) in
     let apart : In y s.0 → ⊥ = λ i. Single-apart y s.0 (y ∷ (x ∷ behind ts top x)) (subst Single whole (all_single ts top x w)) i (inl refl) in
     (inside, s.1 ∙ ap (λ xs. xs ++ y ∷ []) (sym (ap (items_before name_eq y) whole ∙ before-split y s.0 (x ∷ behind ts top x) apart)))

@@ -35,7 +35,11 @@ other-below ts top x b same = not_above_itself ts x b.once b.stands (subst (λ (
 -- and the other way round
 pub below-within : (ts : Trees) (top x : NodeName) → IsWithin ts top x → In top (inclusive_ancestors ts x) → (x ≡ top → ⊥) → IsBelow ts top x
 below-within ts top x w i other =
-    record { once = w.once; stands = stands_in ts top x w; above = elim (subst (In top) (above-proper ts x (stands_in ts top x w)) i) [ inl same ↦ absurd (other (sym same)) | inr j ↦ j ] }
+    record {
+      once = w.once;
+      stands = stands_in ts top x w;
+      above = elim (subst (In top) (above-proper ts x (stands_in ts top x w)) i) [ inl same ↦ absurd (other (sym same)) | inr j ↦ j ];
+    }
 
 -- it has a parent
 pub root-below : (ts : Trees) (top x : NodeName) → IsBelow ts top x → parent_of ts x ≡ None → ⊥
@@ -85,11 +89,13 @@ below-stop ts f top x b = record {
 }
 
 -- siblings have the same nodes above them
-pub sibling-path : (ts : Trees) (x s p : NodeName) → Once ts → Has ts x → Has ts s → parent_of ts x ≡ Some p → parent_of ts s ≡ parent_of ts x → ancestors ts s ≡ ancestors ts x
+pub sibling-path : (ts : Trees) (x s p : NodeName) → Once ts → Has ts x → Has ts s → parent_of ts x ≡ Some p → parent_of ts s ≡ parent_of ts x →
+    ancestors ts s ≡ ancestors ts x
 sibling-path ts x s p once at_x at_s up same = (proper-parent ts s p once at_s (same ∙ up)).0 ∙ sym (proper-parent ts x p once at_x up).0
 
 -- a sibling stands below top too
-pub below-sibling : (ts : Trees) (top x s : NodeName) → IsBelow ts top x → Has ts s → parent_of ts s ≡ parent_of ts x → IsBelow ts top s × (ancestors ts s ≡ ancestors ts x)
+pub below-sibling : (ts : Trees) (top x s : NodeName) → IsBelow ts top x → Has ts s → parent_of ts s ≡ parent_of ts x → IsBelow ts top s ×
+    (ancestors ts s ≡ ancestors ts x)
 below-sibling ts top x s b at_s same = by (parent_of ts x) refl
   where
     by : (o : Option NodeName) → parent_of ts x ≡ o → IsBelow ts top s × (ancestors ts s ≡ ancestors ts x)
@@ -99,7 +105,8 @@ below-sibling ts top x s b at_s same = by (parent_of ts x) refl
         (record { once = b.once; stands = at_s; above = subst (In top) (sym path) b.above }, path)
 
 -- a child of a node that is no stop has the same stop
-pub below-child : (ts : Trees) (f : Filter) (top x c : NodeName) → IsBelow ts top x → accepts ts f x ≡ false → In c (children_of ts x) → IsBelow ts top c × (stop_above ts f top c ≡ stop_above ts f top x)
+pub below-child : (ts : Trees) (f : Filter) (top x c : NodeName) → IsBelow ts top x → accepts ts f x ≡ false → In c (children_of ts x) →
+    IsBelow ts top c × (stop_above ts f top c ≡ stop_above ts f top x)
 below-child ts f top x c b no_x i =
     let up = parent-of_child ts x c b.once b.stands i in
     let path = (proper-parent ts c x b.once up.1 up.0).0 in
@@ -122,14 +129,17 @@ aside_next ts f top x s b next =
     )
 
 -- at the stop nothing is beyond
-pub aside_ends : (ts : Trees) (f : Filter) (top x p : NodeName) → IsBelow ts top x → next_sibling ts x ≡ None → parent_of ts x ≡ Some p → is_stop ts f top p ≡ true → beyond ts (stop_above ts f top x) x ≡ []
+pub aside_ends : (ts : Trees) (f : Filter) (top x p : NodeName) → IsBelow ts top x → next_sibling ts x ≡ None → parent_of ts x ≡ Some p →
+    is_stop ts f top p ≡ true → beyond ts (stop_above ts f top x) x ≡ []
 aside_ends ts f top x p b next up e =
     let b_stop = subst (λ (a : NodeName). IsBelow ts a x) (stop-here ts f top x p b up e) (below-stop ts f top x b) in
     let w = within-below ts p x b_stop in
-    ap (λ a. beyond ts a x) (stop-here ts f top x p b up e) ∙ (no_next ts p x p w (other-below ts p x b_stop) up next ∙ (top_places ts p (within-top ts p x w)).1)
+    ap (λ a. beyond ts a x) (stop-here ts f top x p b up e) ∙
+    (no_next ts p x p w (other-below ts p x b_stop) up next ∙ (top_places ts p (within-top ts p x w)).1)
 
 -- below it what is beyond the parent
-pub aside_up : (ts : Trees) (f : Filter) (top x p : NodeName) → IsBelow ts top x → next_sibling ts x ≡ None → parent_of ts x ≡ Some p → is_stop ts f top p ≡ false
+pub aside_up : (ts : Trees) (f : Filter) (top x p : NodeName) → IsBelow ts top x → next_sibling ts x ≡ None → parent_of ts x ≡ Some p →
+    is_stop ts f top p ≡ false
     → beyond ts (stop_above ts f top x) x ≡ beyond ts (stop_above ts f top p) p
 aside_up ts f top x p b next up e =
     let stop = stop_above ts f top x in
@@ -140,7 +150,8 @@ aside_up ts f top x p b next up e =
 
 -- before a node comes last the tree of its previous sibling
 pub aback_previous : (ts : Trees) (f : Filter) (top x s : NodeName) → IsBelow ts top x → previous_sibling ts x ≡ Some s
-    → (ahead_of ts (stop_above ts f top x) x ≡ ahead_of ts (stop_above ts f top x) s ++ inclusive_descendants ts s) × IsBelow ts top s × (ancestors ts s ≡ ancestors ts x)
+    → (ahead_of ts (stop_above ts f top x) x ≡ ahead_of ts (stop_above ts f top x) s ++ inclusive_descendants ts s) × IsBelow ts top s ×
+    (ancestors ts s ≡ ancestors ts x)
 aback_previous ts f top x s b previous =
     let stop = stop_above ts f top x in
     let b_stop = below-stop ts f top x b in

@@ -32,7 +32,8 @@ iterator_at i before (Some k) = record i { reference = k; before = before }
 -- its reference is not in a node's tree, unless its root is
 abbrev pub HasLeft : NamedTrees → KeyedIterator → ℕ → Type 0
 HasLeft f i node =
-    is_inclusive_ancestor f.trees (name_at f.names node) (name_at f.names i.root) ≡ false → is_inclusive_ancestor f.trees (name_at f.names node) (name_at f.names i.reference) ≡ false
+    is_inclusive_ancestor f.trees (name_at f.names node) (name_at f.names i.root) ≡ false →
+    is_inclusive_ancestor f.trees (name_at f.names node) (name_at f.names i.reference) ≡ false
 
 -- the same nodes with the tree of one of them taken out
 abbrev pub with_taken_out : NamedTrees → ℕ → NamedTrees

@@ -83,7 +83,8 @@ pub record BeginsForward (f : NamedTrees) (w : KeyedWalker) (top key : ℕ) : Ty
   pub below : StandsBelow f top key
   pub path : list_all (is_opened f.trees (walker_view f.names w)) (ancestors f.trees (name_at f.names key)) ≡ true
   pub around : is_inclusive_ancestor f.trees (stop_above f.trees w.filter (name_at f.names top) (name_at f.names key)) (name_at f.names w.current) ≡ true
-  pub apart : is_in name_eq (name_at f.names w.current) (from_node f.trees (stop_above f.trees w.filter (name_at f.names top) (name_at f.names key)) (Some (name_at f.names key))) ≡ false
+  pub apart : is_in name_eq (name_at f.names w.current)
+      (from_node f.trees (stop_above f.trees w.filter (name_at f.names top) (name_at f.names key)) (Some (name_at f.names key))) ≡ false
 
 -- a search backward has come behind the nodes before a key's node, with that node still to be looked at: all above it may
 -- be passed, and the current node is not before it
@@ -97,7 +98,8 @@ pub record ComesBack (f : NamedTrees) (w : KeyedWalker) (key : ℕ) : Type 0 whe
 pub record BeginsBackward (f : NamedTrees) (w : KeyedWalker) (top key : ℕ) : Type 0 where
   pub below : StandsBelow f top key
   pub path : list_all (is_opened f.trees (walker_view f.names w)) (ancestors f.trees (name_at f.names key)) ≡ true
-  pub apart : is_in name_eq (name_at f.names w.current) (up_to_tree f.trees (stop_above f.trees w.filter (name_at f.names top) (name_at f.names key)) (Some (name_at f.names key))) ≡ true
+  pub apart : is_in name_eq (name_at f.names w.current)
+      (up_to_tree f.trees (stop_above f.trees w.filter (name_at f.names top) (name_at f.names key)) (Some (name_at f.names key))) ≡ true
       → name_at f.names w.current ≡ stop_above f.trees w.filter (name_at f.names top) (name_at f.names key)
 
 -- whether a node other than the stop is accepted and reached

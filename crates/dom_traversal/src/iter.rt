@@ -39,7 +39,8 @@ impl Iter {
     pub fn new(root: Key, filter: Filter) -> Self
         ensures value { result ≡ record { root = root; reference = root; before = true; filter = filter_of filter } }
         // The last condition is what a forest's `nodes_stand_once` says of its nodes.
-        ensures begins { (f : NamedTrees) → root < length f.names → count_by (λ n. name_eq n.name (name_at f.names root)) (nodes f.trees) ≡ 1 → IsIteratorOf f result }
+        ensures begins { (f : NamedTrees) → root < length f.names → count_by (λ n. name_eq n.name (name_at f.names root)) (nodes f.trees) ≡ 1 →
+            IsIteratorOf f result }
     {
         Iter {
             root,
@@ -94,7 +95,8 @@ impl Iter {
     pub fn on_remove(&mut self, forest: &Forest, node: Key)
         requires node_is_node { node < length forest.now.names }
         requires iterator { IsIteratorOf forest.now self.old }
-        ensures value { iterator_view forest.now.names self.new ≡ adjusted_iterator forest.now.trees (name_at forest.now.names node) (iterator_view forest.now.names self.old) }
+        ensures value { iterator_view forest.now.names self.new ≡ adjusted_iterator forest.now.trees (name_at forest.now.names node)
+            (iterator_view forest.now.names self.old) }
         ensures root { self.new.root ≡ self.old.root }
         ensures kept { IsIteratorOf forest.now self.new }
         ensures left { HasLeft forest.now self.new node }
@@ -120,7 +122,8 @@ impl Iter {
     /// The first node behind the iterator.
     fn ahead(&self, forest: &Forest) -> Option<Key>
         requires { IsIteratorOf forest.now self.now }
-        ensures value { from_node forest.now.trees (name_at forest.now.names self.now.root) (option_map (name_at forest.now.names) result) ≡ nodes_ahead forest.now.trees (iterator_view forest.now.names self.now) }
+        ensures value { from_node forest.now.trees (name_at forest.now.names self.now.root)
+            (option_map (name_at forest.now.names) result) ≡ nodes_ahead forest.now.trees (iterator_view forest.now.names self.now) }
         ensures stands { ForSome result (StandsIn forest.now self.now.root) }
     {
         forest.nodes_stand_once();
@@ -133,7 +136,8 @@ impl Iter {
     /// The last node before the iterator.
     fn passed(&self, forest: &Forest) -> Option<Key>
         requires { IsIteratorOf forest.now self.now }
-        ensures value { up_to_node forest.now.trees (name_at forest.now.names self.now.root) (option_map (name_at forest.now.names) result) ≡ nodes_passed forest.now.trees (iterator_view forest.now.names self.now) }
+        ensures value { up_to_node forest.now.trees (name_at forest.now.names self.now.root)
+            (option_map (name_at forest.now.names) result) ≡ nodes_passed forest.now.trees (iterator_view forest.now.names self.now) }
         ensures stands { ForSome result (StandsIn forest.now self.now.root) }
     {
         forest.nodes_stand_once();
@@ -147,7 +151,8 @@ impl Iter {
 /// Holds of every forest: an iterator whose reference has left a node's tree stays one of the forest when that tree is
 /// taken out.
 pub fn iterators_stay(forest: &Forest)
-    ensures { (i : KeyedIterator) (node : ℕ) → node < length forest.now.names → IsIteratorOf forest.now i → HasLeft forest.now i node → IsIteratorOf (with_taken_out forest.now node) i }
+    ensures { (i : KeyedIterator) (node : ℕ) → node < length forest.now.names → IsIteratorOf forest.now i → HasLeft forest.now i node →
+        IsIteratorOf (with_taken_out forest.now node) i }
 {
     forest.nodes_stand_once();
 }

@@ -21,7 +21,9 @@ impl Filter {
     pub(crate) fn first_from(&self, forest: &Forest, from: Option<Key>, top: Key) -> Option<Key>
         requires top_is_node { top < length forest.now.names }
         requires from_stands { ForSome from (StandsIn forest.now top) }
-        ensures value { option_map (name_at forest.now.names) result ≡ first_of (filter (accepts forest.now.trees (filter_of self.now)) (from_node forest.now.trees (name_at forest.now.names top) (option_map (name_at forest.now.names) from))) }
+        ensures value { option_map (name_at forest.now.names) result ≡ first_of
+            (filter (accepts forest.now.trees (filter_of self.now))
+            (from_node forest.now.trees (name_at forest.now.names top) (option_map (name_at forest.now.names) from))) }
         ensures stands { ForSome result (StandsIn forest.now top) }
     {
         forest.nodes_stand_once();
@@ -39,7 +41,9 @@ impl Filter {
     pub(crate) fn last_up_to(&self, forest: &Forest, to: Option<Key>, top: Key) -> Option<Key>
         requires top_is_node { top < length forest.now.names }
         requires to_stands { ForSome to (StandsIn forest.now top) }
-        ensures value { option_map (name_at forest.now.names) result ≡ last_of (filter (accepts forest.now.trees (filter_of self.now)) (up_to_node forest.now.trees (name_at forest.now.names top) (option_map (name_at forest.now.names) to))) }
+        ensures value { option_map (name_at forest.now.names) result ≡ last_of
+            (filter (accepts forest.now.trees (filter_of self.now))
+            (up_to_node forest.now.trees (name_at forest.now.names top) (option_map (name_at forest.now.names) to))) }
         ensures stands { ForSome result (StandsIn forest.now top) }
     {
         forest.nodes_stand_once();
@@ -58,10 +62,16 @@ impl Filter {
     pub(crate) fn lowest(&self, forest: &Forest, key: Key, through: bool) -> Key
         requires { key < length forest.now.names }
         ensures node { result < length forest.now.names }
-        ensures within { (top : Name) → is_inclusive_ancestor forest.now.trees top (name_at forest.now.names key) ≡ true → is_inclusive_ancestor forest.now.trees top (name_at forest.now.names result) ≡ true }
-        ensures tree { (top : Name) → is_inclusive_ancestor forest.now.trees top (name_at forest.now.names key) ≡ true → up_to_tree forest.now.trees top (Some (name_at forest.now.names result)) ≡ up_to_tree forest.now.trees top (Some (name_at forest.now.names key)) }
-        ensures ends { is_entered forest.now.trees (filter_of self.now) through (name_at forest.now.names result) ≡ true → inclusive_descendants forest.now.trees (name_at forest.now.names result) ≡ name_at forest.now.names result ∷ [] }
-        ensures path { (between : List Name) × (ancestors forest.now.trees (name_at forest.now.names result) ≡ between ++ ancestors forest.now.trees (name_at forest.now.names key)) × (list_all (is_entered forest.now.trees (filter_of self.now) through) between ≡ true) }
+        ensures within { (top : Name) → is_inclusive_ancestor forest.now.trees top (name_at forest.now.names key) ≡ true →
+            is_inclusive_ancestor forest.now.trees top (name_at forest.now.names result) ≡ true }
+        ensures tree { (top : Name) → is_inclusive_ancestor forest.now.trees top (name_at forest.now.names key) ≡ true →
+            up_to_tree forest.now.trees top (Some (name_at forest.now.names result)) ≡ up_to_tree forest.now.trees top
+            (Some (name_at forest.now.names key)) }
+        ensures ends { is_entered forest.now.trees (filter_of self.now) through (name_at forest.now.names result) ≡ true →
+            inclusive_descendants forest.now.trees (name_at forest.now.names result) ≡ name_at forest.now.names result ∷ [] }
+        ensures path { (between : List Name) ×
+            (ancestors forest.now.trees (name_at forest.now.names result) ≡ between ++ ancestors forest.now.trees (name_at forest.now.names key))
+            × (list_all (is_entered forest.now.trees (filter_of self.now) through) between ≡ true) }
     {
         forest.nodes_stand_once();
         let mut at = key;
@@ -91,7 +101,8 @@ impl Filter {
 pub(crate) fn beyond(forest: &Forest, key: Key, top: Key) -> Option<Key>
     requires top_is_node { top < length forest.now.names }
     requires stands { StandsIn forest.now top key }
-    ensures value { option_map (name_at forest.now.names) result ≡ first_of (beyond forest.now.trees (name_at forest.now.names top) (name_at forest.now.names key)) }
+    ensures value { option_map (name_at forest.now.names) result ≡ first_of
+        (beyond forest.now.trees (name_at forest.now.names top) (name_at forest.now.names key)) }
     ensures stands { ForSome result (StandsIn forest.now top) }
 {
     forest.nodes_stand_once();

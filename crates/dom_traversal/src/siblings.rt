@@ -21,9 +21,13 @@ impl Filter {
     pub(crate) fn aside(&self, forest: &Forest, key: Key, top: Key) -> Option<Key>
         requires top_is_node { top < length forest.now.names }
         requires below { StandsBelow forest.now top key }
-        ensures value { option_map (name_at forest.now.names) result ≡ first_of (beyond forest.now.trees (stop_above forest.now.trees (filter_of self.now) (name_at forest.now.names top) (name_at forest.now.names key)) (name_at forest.now.names key)) }
+        ensures value { option_map (name_at forest.now.names) result ≡ first_of
+            (beyond forest.now.trees (stop_above forest.now.trees (filter_of self.now) (name_at forest.now.names top)
+            (name_at forest.now.names key)) (name_at forest.now.names key)) }
         ensures below { ForSome result (StandsBelow forest.now top) }
-        ensures stop { ForSome result (λ k. stop_above forest.now.trees (filter_of self.now) (name_at forest.now.names top) (name_at forest.now.names k) ≡ stop_above forest.now.trees (filter_of self.now) (name_at forest.now.names top) (name_at forest.now.names key)) }
+        ensures stop { ForSome result (λ k. stop_above forest.now.trees (filter_of self.now) (name_at forest.now.names top)
+            (name_at forest.now.names k) ≡ stop_above forest.now.trees (filter_of self.now) (name_at forest.now.names top)
+            (name_at forest.now.names key)) }
     {
         forest.nodes_stand_once();
         let mut at = key;
@@ -45,9 +49,13 @@ impl Filter {
         requires top_is_node { top < length forest.now.names }
         requires below { StandsBelow forest.now top key }
         requires skipped { accepts forest.now.trees (filter_of self.now) (name_at forest.now.names key) ≡ false }
-        ensures value { option_map (name_at forest.now.names) result ≡ first_of (behind forest.now.trees (stop_above forest.now.trees (filter_of self.now) (name_at forest.now.names top) (name_at forest.now.names key)) (name_at forest.now.names key)) }
+        ensures value { option_map (name_at forest.now.names) result ≡ first_of
+            (behind forest.now.trees (stop_above forest.now.trees (filter_of self.now) (name_at forest.now.names top)
+            (name_at forest.now.names key)) (name_at forest.now.names key)) }
         ensures below { ForSome result (StandsBelow forest.now top) }
-        ensures stop { ForSome result (λ k. stop_above forest.now.trees (filter_of self.now) (name_at forest.now.names top) (name_at forest.now.names k) ≡ stop_above forest.now.trees (filter_of self.now) (name_at forest.now.names top) (name_at forest.now.names key)) }
+        ensures stop { ForSome result (λ k. stop_above forest.now.trees (filter_of self.now) (name_at forest.now.names top)
+            (name_at forest.now.names k) ≡ stop_above forest.now.trees (filter_of self.now) (name_at forest.now.names top)
+            (name_at forest.now.names key)) }
     {
         forest.nodes_stand_once();
         let child = forest.first(key);
@@ -62,10 +70,15 @@ impl Filter {
     pub(crate) fn aback(&self, forest: &Forest, key: Key, top: Key) -> Option<Key>
         requires top_is_node { top < length forest.now.names }
         requires below { StandsBelow forest.now top key }
-        ensures value { StepsBehind forest.now.trees (filter_of self.now) (stop_above forest.now.trees (filter_of self.now) (name_at forest.now.names top) (name_at forest.now.names key)) (name_at forest.now.names key) (option_map (name_at forest.now.names) result) }
+        ensures value { StepsBehind forest.now.trees (filter_of self.now)
+            (stop_above forest.now.trees (filter_of self.now) (name_at forest.now.names top) (name_at forest.now.names key))
+            (name_at forest.now.names key) (option_map (name_at forest.now.names) result) }
         ensures below { ForSome result (StandsBelow forest.now top) }
-        ensures stop { ForSome result (λ k. stop_above forest.now.trees (filter_of self.now) (name_at forest.now.names top) (name_at forest.now.names k) ≡ stop_above forest.now.trees (filter_of self.now) (name_at forest.now.names top) (name_at forest.now.names key)) }
-        ensures path { ForSome result (λ k. (above : List Name) × (ancestors forest.now.trees (name_at forest.now.names key) ≡ above ++ ancestors forest.now.trees (name_at forest.now.names k))) }
+        ensures stop { ForSome result (λ k. stop_above forest.now.trees (filter_of self.now) (name_at forest.now.names top)
+            (name_at forest.now.names k) ≡ stop_above forest.now.trees (filter_of self.now) (name_at forest.now.names top)
+            (name_at forest.now.names key)) }
+        ensures path { ForSome result (λ k. (above : List Name) ×
+            (ancestors forest.now.trees (name_at forest.now.names key) ≡ above ++ ancestors forest.now.trees (name_at forest.now.names k))) }
     {
         forest.nodes_stand_once();
         let mut at = key;

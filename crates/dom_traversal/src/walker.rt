@@ -152,7 +152,10 @@ impl Walker {
         requires walker { IsWalkerOf forest.now self.now }
         requires top_is_node { top < length forest.now.names }
         requires begins { ForSome from (BeginsForward forest.now self.now top) }
-        ensures value { option_map (name_at forest.now.names) result ≡ first_of (filter (is_reached forest.now.trees (walker_view forest.now.names self.now)) (from_node forest.now.trees (stop_of forest.now.trees self.now.filter (name_at forest.now.names top) (option_map (name_at forest.now.names) from)) (option_map (name_at forest.now.names) from))) }
+        ensures value { option_map (name_at forest.now.names) result ≡ first_of
+            (filter (is_reached forest.now.trees (walker_view forest.now.names self.now))
+            (from_node forest.now.trees (stop_of forest.now.trees self.now.filter (name_at forest.now.names top)
+            (option_map (name_at forest.now.names) from)) (option_map (name_at forest.now.names) from))) }
         ensures node { ForSome result (λ k. k < length forest.now.names) }
     {
         forest.nodes_stand_once();
@@ -203,9 +206,14 @@ impl Walker {
     fn back(&self, forest: &Forest, key: Key) -> Option<Key>
         requires walker { IsWalkerOf forest.now self.now }
         requires comes { ComesBack forest.now self.now key }
-        ensures value { walker_nodes forest.now.trees (walker_view forest.now.names self.now) (up_to_node forest.now.trees (name_at forest.now.names self.now.root) (option_map (name_at forest.now.names) result)) ≡ walker_nodes forest.now.trees (walker_view forest.now.names self.now) (ahead_of forest.now.trees (name_at forest.now.names self.now.root) (name_at forest.now.names key)) }
+        ensures value { walker_nodes forest.now.trees (walker_view forest.now.names self.now)
+            (up_to_node forest.now.trees (name_at forest.now.names self.now.root) (option_map (name_at forest.now.names) result)) ≡ walker_nodes
+            forest.now.trees (walker_view forest.now.names self.now)
+            (ahead_of forest.now.trees (name_at forest.now.names self.now.root) (name_at forest.now.names key)) }
         ensures comes { ForSome result (ComesBack forest.now self.now) }
-        ensures shorter { length (up_to_node forest.now.trees (name_at forest.now.names self.now.root) (option_map (name_at forest.now.names) result)) ≤ length (ahead_of forest.now.trees (name_at forest.now.names self.now.root) (name_at forest.now.names key)) }
+        ensures shorter { length (up_to_node forest.now.trees (name_at forest.now.names self.now.root)
+            (option_map (name_at forest.now.names) result)) ≤ length
+            (ahead_of forest.now.trees (name_at forest.now.names self.now.root) (name_at forest.now.names key)) }
     {
         forest.nodes_stand_once();
         if key == self.root {
@@ -264,7 +272,8 @@ impl Walker {
     /// Goes to the previous sibling, where skipped nodes give way to their children (DOM Standard, previousSibling).
     pub fn previous_sibling(&mut self, forest: &Forest) -> Option<Key>
         requires { IsWalkerOf forest.now self.old }
-        ensures value { option_map (name_at forest.now.names) result ≡ walker_move forest.now.trees (walker_view forest.now.names self.old) moves.PreviousSibling }
+        ensures value { option_map (name_at forest.now.names) result ≡ walker_move forest.now.trees (walker_view forest.now.names self.old)
+            moves.PreviousSibling }
         ensures state { self.new ≡ walker_at self.old result }
         ensures kept { IsWalkerOf forest.now self.new }
     {
@@ -289,7 +298,8 @@ impl Walker {
     /// Where `previous_sibling` goes.
     fn previous_sibling_node(&self, forest: &Forest) -> Option<Key>
         requires { IsWalkerOf forest.now self.now }
-        ensures value { option_map (name_at forest.now.names) result ≡ walker_move forest.now.trees (walker_view forest.now.names self.now) moves.PreviousSibling }
+        ensures value { option_map (name_at forest.now.names) result ≡ walker_move forest.now.trees (walker_view forest.now.names self.now)
+            moves.PreviousSibling }
         ensures node { ForSome result (λ k. k < length forest.now.names) }
     {
         forest.nodes_stand_once();
@@ -306,7 +316,12 @@ impl Walker {
         requires walker { IsWalkerOf forest.now self.now }
         requires top_is_node { top < length forest.now.names }
         requires begins { ForSome from (BeginsBackward forest.now self.now top) }
-        ensures value { option_map (name_at forest.now.names) result ≡ last_of (filter (is_candidate forest.now.trees (walker_view forest.now.names self.now) (stop_of forest.now.trees self.now.filter (name_at forest.now.names top) (option_map (name_at forest.now.names) from))) (up_to_tree forest.now.trees (stop_of forest.now.trees self.now.filter (name_at forest.now.names top) (option_map (name_at forest.now.names) from)) (option_map (name_at forest.now.names) from))) }
+        ensures value { option_map (name_at forest.now.names) result ≡ last_of
+            (filter (is_candidate forest.now.trees (walker_view forest.now.names self.now)
+            (stop_of forest.now.trees self.now.filter (name_at forest.now.names top) (option_map (name_at forest.now.names) from)))
+            (up_to_tree forest.now.trees
+            (stop_of forest.now.trees self.now.filter (name_at forest.now.names top) (option_map (name_at forest.now.names) from))
+            (option_map (name_at forest.now.names) from))) }
         ensures node { ForSome result (λ k. k < length forest.now.names) }
     {
         forest.nodes_stand_once();

@@ -1,5 +1,6 @@
 -- What a new node does to a `Forest`.
-use Rattle.std.proofs.Common.{◌≡◌, ◌⊎◌, inl, inr, ℕ, zero, suc, ◌+◌, ◌^◌, ◌<◌, ◌≤◌, true, false, cond, List, [], ◌∷◌, ◌++◌, length, Some, None, refl, sym, ap, subst, ◌∙◌, arith, zero-add}
+use Rattle.std.proofs.Common.{◌≡◌, ◌⊎◌, inl, inr, ℕ, zero, suc, ◌+◌, ◌^◌, ◌<◌, ◌≤◌, true, false, cond, List, [], ◌∷◌, ◌++◌, length, Some, None, refl}
+use Rattle.std.proofs.Common.{sym, ap, subst, ◌∙◌, arith, zero-add}
 use Rattle.std.specs.Prelude.{slice_get}
 use Rattle.std.specs.Option.{option_map}
 use Rattle.std.proofs.lemmas.Bool.{cases_Bool}
@@ -24,7 +25,8 @@ use Rattle.dom_tree.proofs.Changes.{IsWhole, slice_get-pushed, slice_get-push, t
 use Rattle.dom_tree.proofs.Kept.{IsWhole-kept}
 
 -- keys that are the same
-pub IsKept-keys : (ps : List Stored) (lists : List (List ℕ)) (keys more : Owner → List ℕ) → IsKept ps lists keys → ((o : Owner) → more o ≡ keys o) → IsKept ps lists more
+pub IsKept-keys : (ps : List Stored) (lists : List (List ℕ)) (keys more : Owner → List ℕ) → IsKept ps lists keys →
+    ((o : Owner) → more o ≡ keys o) → IsKept ps lists more
 IsKept-keys ps lists keys more kept same = record {
   paired = kept.paired;
   forest = kept.forest;
@@ -52,7 +54,8 @@ stored_names-push ps s = map-append (λ t. t.name) ps (s ∷ [])
 
 -- how many names an owner has, with one more
 count_of-push : (o : Owner) (names : List NodeName) (x : NodeName) → count_of o (names ++ x ∷ []) ≡ count_of o names + cond (owner_eq x.owner o) 1 0
-count_of-push o names x = sum_by-append (λ y. cond (owner_eq y.owner o) 1 0) names (x ∷ []) ∙ ap (λ n. count_of o names + n) (zero-add (cond (owner_eq x.owner o) 1 0))
+count_of-push o names x = sum_by-append (λ y. cond (owner_eq y.owner o) 1 0) names (x ∷ []) ∙
+    ap (λ n. count_of o names + n) (zero-add (cond (owner_eq x.owner o) 1 0))
 
 -- which are no fewer
 count_of-more : (o : Owner) (names : List NodeName) (x : NodeName) → count_of o names ≤ count_of o (names ++ x ∷ [])
@@ -95,18 +98,21 @@ module _ (ps : List Stored) (lists : List (List ℕ)) (keys more : Owner → Lis
     where
       found_at : (x : NodeName) (k : ℕ) → slice_get (more x.owner) x.number ≡ Some k → slice_get (stored_names ps ++ s.name ∷ []) k ≡ Some x
       found_at x k e = elim (cases_Bool (owner_eq o x.owner)) [
-        | inl h ↦ found_here x k (owner_eq-true o x.owner h) (push_cases (keys x.owner) (length ps) k x.number (ap (λ ks. slice_get ks x.number) (sym (pushed_here x.owner h)) ∙ e))
+        | inl h ↦ found_here x k (owner_eq-true o x.owner h)
+            (push_cases (keys x.owner) (length ps) k x.number (ap (λ ks. slice_get ks x.number) (sym (pushed_here x.owner h)) ∙ e))
         | inr h ↦ slice_get-push (stored_names ps) s.name x k (adds.kept.found x k (ap (λ ks. slice_get ks x.number) (sym (pushed_elsewhere x.owner h)) ∙ e))
       ]
         where
-          found_here : (x : NodeName) (k : ℕ) → o ≡ x.owner → (slice_get (keys x.owner) x.number ≡ Some k) ⊎ ((x.number ≡ length (keys x.owner)) × (length ps ≡ k)) → slice_get (stored_names ps ++ s.name ∷ []) k ≡ Some x
+          found_here : (x : NodeName) (k : ℕ) → o ≡ x.owner → (slice_get (keys x.owner) x.number ≡ Some k) ⊎
+              ((x.number ≡ length (keys x.owner)) × (length ps ≡ k)) → slice_get (stored_names ps ++ s.name ∷ []) k ≡ Some x
           found_here x k owner (inl at) = slice_get-push (stored_names ps) s.name x k (adds.kept.found x k at)
           found_here x k owner (inr at) =
               let number : x.number ≡ count_of o (stored_names ps) = at.0 ∙ (adds.kept.counted x.owner ∙ ap (λ p. count_of p (stored_names ps)) (sym owner)) in
               let is : x ≡ s.name = same_parts x (next_name o (stored_names ps)) (sym owner) number ∙ sym adds.name_is in
               ap (slice_get (stored_names ps ++ s.name ∷ [])) (sym (names_long ∙ at.1)) ∙ (slice_get-pushed (stored_names ps) s.name ∙ ap Some (sym is))
 
-      kept_at : (x : NodeName) (k : ℕ) → (slice_get (stored_names ps) k ≡ Some x) ⊎ ((k ≡ length (stored_names ps)) × (s.name ≡ x)) → slice_get (more x.owner) x.number ≡ Some k
+      kept_at : (x : NodeName) (k : ℕ) → (slice_get (stored_names ps) k ≡ Some x) ⊎ ((k ≡ length (stored_names ps)) × (s.name ≡ x)) →
+          slice_get (more x.owner) x.number ≡ Some k
       kept_at x k (inl at) = elim (cases_Bool (owner_eq o x.owner)) [
         | inl h ↦ ap (λ ks. slice_get ks x.number) (pushed_here x.owner h) ∙ slice_get-push (keys x.owner) (length ps) k x.number (adds.kept.kept x k at)
         | inr h ↦ ap (λ ks. slice_get ks x.number) (pushed_elsewhere x.owner h) ∙ adds.kept.kept x k at
@@ -114,7 +120,8 @@ module _ (ps : List Stored) (lists : List (List ℕ)) (keys more : Owner → Lis
       kept_at x k (inr at) =
           let is : x ≡ next_name o (stored_names ps) = sym at.1 ∙ adds.name_is in
           let owner : x.owner ≡ o = ap (λ (y : NodeName). y.owner) is in
-          let number : x.number ≡ length (keys x.owner) = ap (λ (y : NodeName). y.number) is ∙ (ap (λ p. count_of p (stored_names ps)) (sym owner) ∙ sym (adds.kept.counted x.owner)) in
+          let number : x.number ≡ length (keys x.owner) =
+          ap (λ (y : NodeName). y.number) is ∙ (ap (λ p. count_of p (stored_names ps)) (sym owner) ∙ sym (adds.kept.counted x.owner)) in
           ap (λ ks. slice_get ks x.number) (pushed_here x.owner (ap (owner_eq o) owner ∙ owner_eq-same o))
           ∙ (ap (slice_get (keys x.owner ++ length ps ∷ [])) number ∙ (slice_get-pushed (keys x.owner) (length ps) ∙ ap Some (sym (at.0 ∙ names_long))))
 
@@ -139,10 +146,12 @@ module _ (ps : List Stored) (lists : List (List ℕ)) (keys more : Owner → Lis
           elim (cases_Bool (owner_eq o p)) [
             | inl h ↦
                 let is : count_of o (stored_names ps) ≡ count_of p (stored_names ps) = ap (λ q. count_of q (stored_names ps)) (owner_eq-true o p h) in
-                let more_of_p : count_of p (stored_names ps ++ s.name ∷ []) ≡ count_of p (stored_names ps) + 1 = pushed ∙ ap (λ b. count_of p (stored_names ps) + cond b 1 0) h in
+                let more_of_p : count_of p (stored_names ps ++ s.name ∷ []) ≡ count_of p (stored_names ps) + 1 =
+                pushed ∙ ap (λ b. count_of p (stored_names ps) + cond b 1 0) h in
                 omega (arith, is, more_of_p, adds.free, adds.kept.limited p)
             | inr h ↦
-                let more_of_p : count_of p (stored_names ps ++ s.name ∷ []) ≡ count_of p (stored_names ps) + 0 = pushed ∙ ap (λ b. count_of p (stored_names ps) + cond b 1 0) h in
+                let more_of_p : count_of p (stored_names ps ++ s.name ∷ []) ≡ count_of p (stored_names ps) + 0 =
+                pushed ∙ ap (λ b. count_of p (stored_names ps) + cond b 1 0) h in
                 omega (arith, more_of_p, adds.kept.limited p)
           ]
 
@@ -151,14 +160,24 @@ module _ (ps : List Stored) (lists : List (List ℕ)) (keys more : Owner → Lis
       documents_at t k d (inr at) e = omega (arith, adds.document d (ap (λ (u : Stored). u.node.document) at.1 ∙ e), length_push ps s)
 
   -- a document is named as before
-  node_from-push : (x : NodeName) (d : NodeData) → ((k : ℕ) → d.document ≡ Some k → k < length ps) → node_from (stored_names ps ++ s.name ∷ []) x d ≡ node_from (stored_names ps) x d
-  node_from-push x d within = ap (λ o. record { name = x; kind = d.kind; element = (node_from (stored_names ps) x d).element; attributes = (node_from (stored_names ps) x d).attributes; text = d.text.items; document = o }) (by (cases_Option d.document))
+  node_from-push : (x : NodeName) (d : NodeData) → ((k : ℕ) → d.document ≡ Some k → k < length ps) →
+      node_from (stored_names ps ++ s.name ∷ []) x d ≡ node_from (stored_names ps) x d
+  node_from-push x d within = ap (λ o. record {
+    name = x;
+    kind = d.kind;
+    element = (node_from (stored_names ps) x d).element;
+    attributes = (node_from (stored_names ps) x d).attributes;
+    text = d.text.items;
+    document = o;
+  }) (by (cases_Option d.document))
     where
-      by : (d.document ≡ None) ⊎ ((k : ℕ) × (d.document ≡ Some k)) → option_map (name_at (stored_names ps ++ s.name ∷ [])) d.document ≡ option_map (name_at (stored_names ps)) d.document
+      by : (d.document ≡ None) ⊎ ((k : ℕ) × (d.document ≡ Some k)) →
+          option_map (name_at (stored_names ps ++ s.name ∷ [])) d.document ≡ option_map (name_at (stored_names ps)) d.document
       by (inl e) = rw e
       by (inr w) = rw w.1 (ap Some (get_or_append_left (stored_names ps) (s.name ∷ []) _ w.0 (omega (arith, within w.0 w.1, names_long))))
 
-  nodes_with-push : (qs : List Stored) → ((t : Stored) (k d : ℕ) → slice_get qs k ≡ Some t → t.node.document ≡ Some d → d < length ps) → nodes_with (stored_names ps ++ s.name ∷ []) qs ≡ nodes_with (stored_names ps) qs
+  nodes_with-push : (qs : List Stored) → ((t : Stored) (k d : ℕ) → slice_get qs k ≡ Some t → t.node.document ≡ Some d → d < length ps) →
+      nodes_with (stored_names ps ++ s.name ∷ []) qs ≡ nodes_with (stored_names ps) qs
   nodes_with-push [] within = refl
   nodes_with-push (t ∷ qs) within =
       let here = node_from-push t.name t.node (λ d e. within t 0 d refl e) in
@@ -173,7 +192,8 @@ module _ (ps : List Stored) (lists : List (List ℕ)) (keys more : Owner → Lis
       ∙ ap (λ n. nodes_of ps ++ n ∷ []) (node_from-push s.name s.node adds.document ∙ ap (λ x. node_from (stored_names ps) x s.node) adds.name_is)))
 
   pub trees_of-add : (after : Nodes Stored) → IsSound after → after ≡ record { payloads = ps ++ s ∷ []; children = lists ++ [] ∷ [] }
-      → trees_of (nodes_of after.payloads) after.children ≡ with_node (node_from (stored_names ps) (next_name o (stored_names ps)) s.node) (trees_of (nodes_of ps) lists)
+      → trees_of (nodes_of after.payloads) after.children ≡ with_node (node_from (stored_names ps) (next_name o (stored_names ps)) s.node)
+      (trees_of (nodes_of ps) lists)
   trees_of-add after sound e =
       ap (λ a. trees_of (nodes_of a.payloads) a.children) e
       ∙ (ap (λ ns. trees_of ns (lists ++ [] ∷ [])) nodes_of-push
@@ -187,7 +207,8 @@ module _ (ps : List Stored) (lists : List (List ℕ)) (keys more : Owner → Lis
 
 -- how the code gives what a node that is added asks
 pub adds_from : (ps : List Stored) (lists : List (List ℕ)) (keys roomy more : Owner → List ℕ) (o : Owner) (number key : ℕ) (d : NodeData)
-    → IsKept ps lists keys → number ≡ length (keys o) → (number ≡ 1000000 → ⊥) → ((k : ℕ) → d.document ≡ Some k → k < length ps) → key ≡ length ps → key < 2 ^ 64
+    → IsKept ps lists keys → number ≡ length (keys o) → (number ≡ 1000000 → ⊥) → ((k : ℕ) → d.document ≡ Some k → k < length ps) →
+    key ≡ length ps → key < 2 ^ 64
     → ((p : Owner) → roomy p ≡ keys p) → ((p : Owner) → more p ≡ cond (owner_eq o p) (roomy p ++ key ∷ []) (roomy p))
     → Adds ps lists keys more o (record { name = record { owner = o; number = number }; node = d })
 adds_from ps lists keys roomy more o number key d kept is free document new small held pushed =

@@ -31,7 +31,8 @@ module _ {K V : Type 0} (text_of : K → List ℕ) (items_of : V → List ℕ) w
   abbrev pub attributes_in : List (K × V) → List Attribute
   attributes_in es = map (λ e. record { name = text_of e.0; value = items_of e.1 }) es
 
-  pub lookup-attributes : (a : List ℕ) (es : List (K × V)) → option_map items_of (lookup (λ k. bytes_eq a (text_of k)) es) ≡ option_map (λ b. b.value) (find (λ b. text_eq a b.name) (attributes_in es))
+  pub lookup-attributes : (a : List ℕ) (es : List (K × V)) →
+      option_map items_of (lookup (λ k. bytes_eq a (text_of k)) es) ≡ option_map (λ b. b.value) (find (λ b. text_eq a b.name) (attributes_in es))
   lookup-attributes a [] = refl
   lookup-attributes a (e ∷ es) =
       let here = text_test a (text_of e.0) in
@@ -40,7 +41,8 @@ module _ {K V : Type 0} (text_of : K → List ℕ) (items_of : V → List ℕ) w
         | inr h ↦ rw (here, h) (lookup-attributes a es)
       ]
 
-  pub insert-attributes : (eq : K → K → Bool) → ((x y : K) → eq x y ≡ bytes_eq (text_of x) (text_of y)) → (k : K) (v : V) (es : List (K × V)) → attributes_in (insert_entry eq es k v) ≡ attributes_with (text_of k) (items_of v) (attributes_in es)
+  pub insert-attributes : (eq : K → K → Bool) → ((x y : K) → eq x y ≡ bytes_eq (text_of x) (text_of y)) → (k : K) (v : V) (es : List (K × V)) →
+      attributes_in (insert_entry eq es k v) ≡ attributes_with (text_of k) (items_of v) (attributes_in es)
   insert-attributes eq same k v [] = refl
   insert-attributes eq same k v (e ∷ es) =
       let here = same k e.0 ∙ text_test (text_of k) (text_of e.0) in
@@ -49,7 +51,8 @@ module _ {K V : Type 0} (text_of : K → List ℕ) (items_of : V → List ℕ) w
         | inr h ↦ rw (here, h) (ap (λ bs. record { name = text_of e.0; value = items_of e.1 } ∷ bs) (insert-attributes eq same k v es))
       ]
 
-  pub remove-attributes : (a : List ℕ) (es : List (K × V)) → attributes_in (remove_entry (λ k. bytes_eq a (text_of k)) es) ≡ attributes_without a (attributes_in es)
+  pub remove-attributes : (a : List ℕ) (es : List (K × V)) →
+      attributes_in (remove_entry (λ k. bytes_eq a (text_of k)) es) ≡ attributes_without a (attributes_in es)
   remove-attributes a [] = refl
   remove-attributes a (e ∷ es) =
       let here = text_test a (text_of e.0) in
@@ -73,6 +76,7 @@ change_node-same x (tree n c r) =
 
 -- a node stored anew that is seen as before
 pub set_same : {f : NamedTrees} {ps : List Stored} {lists : List (List ℕ)} {keys : Owner → List ℕ} → seen ps lists ≡ f → IsKept ps lists keys
-    → (x : ℕ) (s t : Stored) → slice_get ps x ≡ Some s → t.name ≡ s.name → node_from f.names t.name t.node ≡ node_from f.names s.name s.node → seen (set ps x t) lists ≡ f
+    → (x : ℕ) (s t : Stored) → slice_get ps x ≡ Some s → t.name ≡ s.name → node_from f.names t.name t.node ≡ node_from f.names s.name s.node →
+    seen (set ps x t) lists ≡ f
 set_same {f = f} {ps = ps} {lists = lists} {keys = keys} is kept x s t at same seen_same =
     set_done is kept x s t (λ n. n) at same (λ y. refl) seen_same ∙ ap (λ ts. record f { trees = ts }) (change_node-same (name_at f.names x) f.trees)

@@ -1,5 +1,6 @@
 -- Tree order among the keys for which trees stand, backward.
-use Rattle.std.proofs.Common.{◌≡◌, ◌⊎◌, inl, inr, ℕ, ◌-◌, ◌<◌, true, false, cond, eqb, List, [], ◌∷◌, ◌++◌, length, Option, Some, None, refl, sym, ap, subst, ◌∙◌, arith, true≢false}
+use Rattle.std.proofs.Common.{◌≡◌, ◌⊎◌, inl, inr, ℕ, ◌-◌, ◌<◌, true, false, cond, eqb, List, [], ◌∷◌, ◌++◌, length, Option, Some, None, refl, sym, ap}
+use Rattle.std.proofs.Common.{subst, ◌∙◌, arith, true≢false}
 use Rattle.std.specs.Option.{option_map, option_map_or, option_and_then}
 use Rattle.std.proofs.lemmas.Bool.{eq-eqb, ne_eqb, eqb-true, both_ways, or_cases, or_left, or_right, cases_Bool, false_from_ne_true}
 use Rattle.std.proofs.lemmas.Bool.Decides.{eqb_tells}
@@ -7,8 +8,10 @@ use Rattle.std.proofs.lemmas.Option.{none-some, same_Some}
 use Rattle.dom_base.specs.declared.Owner.{Owner}
 use Rattle.dom_model.specs.Names.{name_eq, last_of, items_before}
 use Rattle.dom_model.specs.Tree.{Trees, none, tree, Node, inclusive_descendants}
-use Rattle.node_arena.specs.Nodes.{children_of, contains, parent_of, ancestors_of, IsForest, IsOnce, last_from, last_of as last_key, prev_from, prev_in, prev_of}
-use Rattle.node_arena.proofs.Lists.{contains-append, contains-prev_in, contains-last_of, IsOnce-append_left, IsOnce-append_right, IsOnce-apart, last_from-append, prev_from-append}
+use Rattle.node_arena.specs.Nodes.{children_of, contains, parent_of, ancestors_of, IsForest, IsOnce, last_from, last_of as last_key, prev_from}
+use Rattle.node_arena.specs.Nodes.{prev_in, prev_of}
+use Rattle.node_arena.proofs.Lists.{contains-append, contains-prev_in, contains-last_of, IsOnce-append_left, IsOnce-append_right, IsOnce-apart}
+use Rattle.node_arena.proofs.Lists.{last_from-append, prev_from-append}
 use Rattle.node_arena.proofs.Forests.{contains-parent, ancestors_of-child, length-ancestors_of}
 use Rattle.dom_tree.specs.declared.data.Stored.{Stored}
 use Rattle.dom_tree.specs.Rows.{trees_of}
@@ -18,14 +21,17 @@ use Rattle.dom_tree.proofs.Changes.{IsWhole, subtree_here}
 use Rattle.dom_tree.proofs.Reading.{last_or-items_before}
 use Rattle.dom_tree.proofs.Kept.{seen, IsWhole-kept, name_at-same, names_option, within}
 use Rattle.dom_tree.proofs.Walks.{no_prev}
-use Rattle.dom_tree.proofs.Order.{in_trees, root-in_trees, child-in_trees, tree_at, keys_at, keys_at-once, keys_at-inside, keys_at-named, keys_at-told, still_below, has_above}
+use Rattle.dom_tree.proofs.Order.{in_trees, root-in_trees, child-in_trees}
+use Rattle.dom_tree.proofs.OrderWithin.{tree_at, keys_at, keys_at-once, keys_at-inside, keys_at-named}
+use Rattle.dom_tree.proofs.OrderWithin.{keys_at-told, still_below, has_above}
 
 -- the last of the nodes below a node and with it
 abbrev pub last_below : List (List ℕ) → Trees → List ℕ → ℕ → Option ℕ
 last_below lists none ks x = None
 last_below lists (tree n c r) [] x = None
 last_below lists (tree n c r) (k ∷ ks) x =
-    cond (eqb k x) (last_from (Some k) (in_trees lists c (children_of lists k))) (cond (contains (in_trees lists c (children_of lists k)) x) (last_below lists c (children_of lists k) x) (last_below lists r ks x))
+    cond (eqb k x) (last_from (Some k) (in_trees lists c (children_of lists k)))
+    (cond (contains (in_trees lists c (children_of lists k)) x) (last_below lists c (children_of lists k) x) (last_below lists r ks x))
 
 -- where keys stand once, a node below the first is not the first, and one after that is not below it
 module _ (k : ℕ) (below rest : List ℕ) (once : (contains (below ++ rest) k ≡ false) × IsOnce (below ++ rest)) where
@@ -43,8 +49,10 @@ no_keys nodes lists none s = refl
 no_keys nodes lists (tree n c r) s = absurd s
 
 -- the last of a row is the last below its last root
-last-in_trees : (nodes : List Node) (lists : List (List ℕ)) (y : ℕ) (ts : Trees) (ks : List ℕ) (b : Option ℕ) → Stands nodes lists ts ks → IsOnce (in_trees lists ts ks) → last_from b ks ≡ Some y
-    → ((b ≡ Some y) × (in_trees lists ts ks ≡ [])) ⊎ ((contains ks y ≡ true) × ((before : Option ℕ) → last_from before (in_trees lists ts ks) ≡ last_below lists ts ks y))
+last-in_trees : (nodes : List Node) (lists : List (List ℕ)) (y : ℕ) (ts : Trees) (ks : List ℕ) (b : Option ℕ) → Stands nodes lists ts ks →
+    IsOnce (in_trees lists ts ks) → last_from b ks ≡ Some y
+    → ((b ≡ Some y) × (in_trees lists ts ks ≡ [])) ⊎
+    ((contains ks y ≡ true) × ((before : Option ℕ) → last_from before (in_trees lists ts ks) ≡ last_below lists ts ks y))
 last-in_trees nodes lists y none [] b s once e = inl (e, refl)
 last-in_trees nodes lists y none (k ∷ ks) b s once e = absurd s
 last-in_trees nodes lists y (tree n c r) [] b s once e = absurd s
@@ -54,14 +62,23 @@ last-in_trees nodes lists y (tree n c r) (k ∷ ks) b s once e =
     elim (last-in_trees nodes lists y r ks (Some k) s.2 (IsOnce-append_right below rest once.1) e) [
       | inl h ↦
           let same : k ≡ y = same_Some k y h.0 in
-          inr (or_left (eqb k y) _ (eq-eqb k y same), λ before. last_from-append (Some k) below rest ∙ (ap (last_from (last_from (Some k) below)) h.1 ∙ rw (eq-eqb k y same) refl))
+          inr (
+            or_left (eqb k y) _ (eq-eqb k y same),
+            λ before. last_from-append (Some k) below rest ∙
+                (ap (last_from (last_from (Some k) below)) h.1 ∙ rw (eq-eqb k y same) refl),
+          )
       | inr h ↦
           let there : contains rest y ≡ true = root-in_trees nodes lists y r ks s.2 h.0 in
-          inr (or_right (eqb k y) _ h.0, λ before. last_from-append (Some k) below rest ∙ (h.1 (last_from (Some k) below) ∙ rw (off_right k below rest once y there, off_below k below rest once y there) refl))
+          inr (
+            or_right (eqb k y) _ h.0,
+            λ before. last_from-append (Some k) below rest ∙
+                (h.1 (last_from (Some k) below) ∙ rw (off_right k below rest once y there, off_below k below rest once y there) refl),
+          )
     ]
 
 -- a node without children is the last below it
-last_below-leaf : (nodes : List Node) (lists : List (List ℕ)) (x : ℕ) → last_key (children_of lists x) ≡ None → (ts : Trees) (ks : List ℕ) → Stands nodes lists ts ks → contains (in_trees lists ts ks) x ≡ true → last_below lists ts ks x ≡ Some x
+last_below-leaf : (nodes : List Node) (lists : List (List ℕ)) (x : ℕ) → last_key (children_of lists x) ≡ None → (ts : Trees) (ks : List ℕ) →
+    Stands nodes lists ts ks → contains (in_trees lists ts ks) x ≡ true → last_below lists ts ks x ≡ Some x
 last_below-leaf nodes lists x leaf none ks s found = absurd (true≢false (sym found))
 last_below-leaf nodes lists x leaf (tree n c r) [] s found = absurd s
 last_below-leaf nodes lists x leaf (tree n c r) (k ∷ ks) s found =
@@ -86,7 +103,8 @@ last_below-leaf nodes lists x leaf (tree n c r) (k ∷ ks) s found =
     here same (j ∷ js) is ts' s' = absurd (last_some j js (ap last_key (sym is ∙ ap (children_of lists) same) ∙ leaf))
 
 -- and of another one the last below its last child
-last_below-child : (nodes : List Node) (lists : List (List ℕ)) (x y : ℕ) → last_key (children_of lists x) ≡ Some y → (ts : Trees) (ks : List ℕ) → Stands nodes lists ts ks → IsOnce (in_trees lists ts ks) → contains (in_trees lists ts ks) x ≡ true
+last_below-child : (nodes : List Node) (lists : List (List ℕ)) (x y : ℕ) → last_key (children_of lists x) ≡ Some y → (ts : Trees) (ks : List ℕ) →
+    Stands nodes lists ts ks → IsOnce (in_trees lists ts ks) → contains (in_trees lists ts ks) x ≡ true
     → last_below lists ts ks x ≡ last_below lists ts ks y
 last_below-child nodes lists x y last none ks s once found = absurd (true≢false (sym found))
 last_below-child nodes lists x y last (tree n c r) [] s once found = absurd s
@@ -104,17 +122,27 @@ last_below-child nodes lists x y last (tree n c r) (k ∷ ks) s once found =
           ]
       | inr e ↦ elim (or_cases (contains below x) _ (sym (contains-append below rest x) ∙ e)) [
         | inl i ↦
-            let there : contains below y ≡ true = child-in_trees nodes lists x y (contains-last_of (children_of lists x) y last) c (children_of lists k) s.1 i in
-            rw (off_left k below rest once x i, i, off_left k below rest once y there, there) (last_below-child nodes lists x y last c (children_of lists k) s.1 (IsOnce-append_left below rest once.1) i)
+            let there : contains below y ≡ true =
+            child-in_trees nodes lists x y (contains-last_of (children_of lists x) y last) c (children_of lists k) s.1 i in
+            rw (off_left k below rest once x i, i, off_left k below rest once y there, there)
+            (last_below-child nodes lists x y last c (children_of lists k) s.1 (IsOnce-append_left below rest once.1) i)
         | inr i ↦
             let there : contains rest y ≡ true = child-in_trees nodes lists x y (contains-last_of (children_of lists x) y last) r ks s.2 i in
-            rw (off_right k below rest once x i, off_below k below rest once x i, off_right k below rest once y there, off_below k below rest once y there) (last_below-child nodes lists x y last r ks s.2 (IsOnce-append_right below rest once.1) i)
+            rw (
+              off_right k below rest once x i,
+              off_below k below rest once x i,
+              off_right k below rest once y there,
+              off_below k below rest once
+                  y there,
+            ) (last_below-child nodes lists x y last r ks s.2 (IsOnce-append_right below rest once.1) i)
       ]
     ]
 
 -- just before a root of a row stands the last below the root before it
-prev-root : (nodes : List Node) (lists : List (List ℕ)) (x y : ℕ) (ts : Trees) (ks : List ℕ) (b before : Option ℕ) → Stands nodes lists ts ks → IsOnce (in_trees lists ts ks) → contains ks x ≡ true → prev_from b ks x ≡ Some y
-    → ((b ≡ Some y) × (prev_from before (in_trees lists ts ks) x ≡ before)) ⊎ ((contains ks y ≡ true) × (prev_from before (in_trees lists ts ks) x ≡ last_below lists ts ks y))
+prev-root : (nodes : List Node) (lists : List (List ℕ)) (x y : ℕ) (ts : Trees) (ks : List ℕ) (b before : Option ℕ) → Stands nodes lists ts ks →
+    IsOnce (in_trees lists ts ks) → contains ks x ≡ true → prev_from b ks x ≡ Some y
+    → ((b ≡ Some y) × (prev_from before (in_trees lists ts ks) x ≡ before)) ⊎
+    ((contains ks y ≡ true) × (prev_from before (in_trees lists ts ks) x ≡ last_below lists ts ks y))
 prev-root nodes lists x y none [] b before s once found e = absurd (true≢false (sym found))
 prev-root nodes lists x y none (k ∷ ks) b before s once found e = absurd s
 prev-root nodes lists x y (tree n c r) [] b before s once found e = absurd s
@@ -126,7 +154,8 @@ prev-root nodes lists x y (tree n c r) (k ∷ ks) b before s once found e =
       | inr h ↦
           let in_rest : contains ks x ≡ true = rw h at found in
           let there : contains rest x ≡ true = root-in_trees nodes lists x r ks s.2 in_rest in
-          let prev : prev_from before (k ∷ (below ++ rest)) x ≡ prev_from (last_from (Some k) below) rest x = rw (h, prev_from-append (Some k) below rest x, off_below k below rest once x there) refl in
+          let prev : prev_from before (k ∷ (below ++ rest)) x ≡ prev_from (last_from (Some k) below) rest x =
+          rw (h, prev_from-append (Some k) below rest x, off_below k below rest once x there) refl in
           elim (prev-root nodes lists x y r ks (Some k) (last_from (Some k) below) s.2 (IsOnce-append_right below rest once.1) in_rest (rw h at e)) [
             | inl i ↦
                 let same : eqb k y ≡ true = eq-eqb k y (same_Some k y i.0) in
@@ -138,7 +167,8 @@ prev-root nodes lists x y (tree n c r) (k ∷ ks) b before s once found e =
     ]
 
 -- and before the first what stands before the row
-prev-first : (lists : List (List ℕ)) (x : ℕ) (ts : Trees) (ks : List ℕ) (before : Option ℕ) (nodes : List Node) → Stands nodes lists ts ks → contains ks x ≡ true → prev_in ks x ≡ None → prev_from before (in_trees lists ts ks) x ≡ before
+prev-first : (lists : List (List ℕ)) (x : ℕ) (ts : Trees) (ks : List ℕ) (before : Option ℕ) (nodes : List Node) → Stands nodes lists ts ks →
+    contains ks x ≡ true → prev_in ks x ≡ None → prev_from before (in_trees lists ts ks) x ≡ before
 prev-first lists x none [] before nodes s found e = absurd (true≢false (sym found))
 prev-first lists x none (k ∷ ks) before nodes s found e = absurd s
 prev-first lists x (tree n c r) [] before nodes s found e = absurd s
@@ -148,7 +178,9 @@ prev-first lists x (tree n c r) (k ∷ ks) before nodes s found e = elim (cases_
 ]
 
 -- just before a child stands the last below the child before it, and before the first one its parent
-prev-child : (nodes : List Node) (lists : List (List ℕ)) (p x : ℕ) (o : Option ℕ) → contains (children_of lists p) x ≡ true → prev_in (children_of lists p) x ≡ o → (ts : Trees) (ks : List ℕ) (before : Option ℕ) → Stands nodes lists ts ks → IsOnce (in_trees lists ts ks) → contains (in_trees lists ts ks) p ≡ true
+prev-child : (nodes : List Node) (lists : List (List ℕ)) (p x : ℕ) (o : Option ℕ) → contains (children_of lists p) x ≡ true →
+    prev_in (children_of lists p) x ≡ o → (ts : Trees) (ks : List ℕ) (before : Option ℕ) → Stands nodes lists ts ks →
+    IsOnce (in_trees lists ts ks) → contains (in_trees lists ts ks) p ≡ true
     → prev_from before (in_trees lists ts ks) x ≡ option_map_or (last_below lists ts ks) o (Some p)
 prev-child nodes lists p x o child e none ks before s once found = absurd (true≢false (sym found))
 prev-child nodes lists p x o child e (tree n c r) [] before s once found = absurd s
@@ -173,19 +205,22 @@ prev-child nodes lists p x o child e (tree n c r) (k ∷ ks) before s once found
     rest : List ℕ
     rest = in_trees lists r ks
 
-    left : (o' : Option ℕ) → prev_in (children_of lists p) x ≡ o' → contains below p ≡ true → option_map_or (last_below lists c (children_of lists k)) o' (Some p) ≡ option_map_or (last_below lists (tree n c r) (k ∷ ks)) o' (Some p)
+    left : (o' : Option ℕ) → prev_in (children_of lists p) x ≡ o' → contains below p ≡ true →
+        option_map_or (last_below lists c (children_of lists k)) o' (Some p) ≡ option_map_or (last_below lists (tree n c r) (k ∷ ks)) o' (Some p)
     left None e' i = refl
     left (Some y) e' i =
         let there : contains below y ≡ true = child-in_trees nodes lists p y (contains-prev_in (children_of lists p) x y e') c (children_of lists k) s.1 i in
         rw (off_left k below rest once y there, there) refl
 
-    right : (o' : Option ℕ) → prev_in (children_of lists p) x ≡ o' → contains rest p ≡ true → option_map_or (last_below lists r ks) o' (Some p) ≡ option_map_or (last_below lists (tree n c r) (k ∷ ks)) o' (Some p)
+    right : (o' : Option ℕ) → prev_in (children_of lists p) x ≡ o' → contains rest p ≡ true →
+        option_map_or (last_below lists r ks) o' (Some p) ≡ option_map_or (last_below lists (tree n c r) (k ∷ ks)) o' (Some p)
     right None e' i = refl
     right (Some y) e' i =
         let there : contains rest y ≡ true = child-in_trees nodes lists p y (contains-prev_in (children_of lists p) x y e') r ks s.2 i in
         rw (off_right k below rest once y there, off_below k below rest once y there) refl
 
-    by : k ≡ p → contains (children_of lists k) x ≡ true → (o' : Option ℕ) → prev_in (children_of lists k) x ≡ o' → prev_from (Some k) below x ≡ option_map_or (last_below lists (tree n c r) (k ∷ ks)) o' (Some p)
+    by : k ≡ p → contains (children_of lists k) x ≡ true → (o' : Option ℕ) → prev_in (children_of lists k) x ≡ o' →
+        prev_from (Some k) below x ≡ option_map_or (last_below lists (tree n c r) (k ∷ ks)) o' (Some p)
     by same among None e' = prev-first lists x c (children_of lists k) (Some k) nodes s.1 among e' ∙ ap Some same
     by same among (Some y) e' = elim (prev-root nodes lists x y c (children_of lists k) None (Some k) s.1 (IsOnce-append_left below rest once.1) among e') [
       | inl i ↦ absurd (none-some y i.0)
@@ -194,35 +229,44 @@ prev-child nodes lists p x o child e (tree n c r) (k ∷ ks) before s once found
           i.1 ∙ rw (off_left k below rest once y there, there) refl
     ]
 
-    here : k ≡ p → (o' : Option ℕ) → prev_in (children_of lists p) x ≡ o' → prev_from before (k ∷ (below ++ rest)) x ≡ option_map_or (last_below lists (tree n c r) (k ∷ ks)) o' (Some p)
+    here : k ≡ p → (o' : Option ℕ) → prev_in (children_of lists p) x ≡ o' →
+        prev_from before (k ∷ (below ++ rest)) x ≡ option_map_or (last_below lists (tree n c r) (k ∷ ks)) o' (Some p)
     here same o' e' =
         let among : contains (children_of lists k) x ≡ true = ap (λ j. contains (children_of lists j) x) same ∙ child in
         let there : contains below x ≡ true = root-in_trees nodes lists x c (children_of lists k) s.1 among in
-        rw (off_left k below rest once x there, prev_from-append (Some k) below rest x, there) (by same among o' (ap (λ j. prev_in (children_of lists j) x) same ∙ e'))
+        rw (off_left k below rest once x there, prev_from-append (Some k) below rest x, there)
+        (by same among o' (ap (λ j. prev_in (children_of lists j) x) same ∙ e'))
 
 -- ---- within the tree of a node
 
 pub last_in : List Node → List (List ℕ) → ℕ → ℕ → Option ℕ
 last_in nodes lists top x = last_below lists (tree_at nodes lists top) (top ∷ []) x
 
-pub last_in-leaf : (nodes : List Node) (lists : List (List ℕ)) → IsWhole nodes lists → (top x : ℕ) → top < length lists → contains (x ∷ ancestors_of lists x) top ≡ true → None ≡ last_key (children_of lists x) → last_in nodes lists top x ≡ Some x
+pub last_in-leaf : (nodes : List Node) (lists : List (List ℕ)) → IsWhole nodes lists → (top x : ℕ) → top < length lists →
+    contains (x ∷ ancestors_of lists x) top ≡ true → None ≡ last_key (children_of lists x) → last_in nodes lists top x ≡ Some x
 unfolding last_in keys_at
 last_in-leaf nodes lists whole top x node above leaf =
-    last_below-leaf nodes lists x (sym leaf) (tree_at nodes lists top) (top ∷ []) (subtree_here nodes lists whole top node) (keys_at-inside nodes lists whole top x node above)
+    last_below-leaf nodes lists x (sym leaf) (tree_at nodes lists top) (top ∷ []) (subtree_here nodes lists whole top node)
+    (keys_at-inside nodes lists whole top x node above)
 
-pub last_in-child : (nodes : List Node) (lists : List (List ℕ)) → IsWhole nodes lists → (top x y : ℕ) → top < length lists → contains (x ∷ ancestors_of lists x) top ≡ true → Some y ≡ last_key (children_of lists x) → last_in nodes lists top x ≡ last_in nodes lists top y
+pub last_in-child : (nodes : List Node) (lists : List (List ℕ)) → IsWhole nodes lists → (top x y : ℕ) → top < length lists →
+    contains (x ∷ ancestors_of lists x) top ≡ true → Some y ≡ last_key (children_of lists x) → last_in nodes lists top x ≡ last_in nodes lists top y
 unfolding last_in keys_at
 last_in-child nodes lists whole top x y node above last =
-    last_below-child nodes lists x y (sym last) (tree_at nodes lists top) (top ∷ []) (subtree_here nodes lists whole top node) (keys_at-once nodes lists whole top node) (keys_at-inside nodes lists whole top x node above)
+    last_below-child nodes lists x y (sym last) (tree_at nodes lists top) (top ∷ []) (subtree_here nodes lists whole top node)
+    (keys_at-once nodes lists whole top node) (keys_at-inside nodes lists whole top x node above)
 
 -- the last child stands below what the node stands below, and deeper
-pub child_below : (lists : List (List ℕ)) → IsForest lists → (top x y : ℕ) → contains (x ∷ ancestors_of lists x) top ≡ true → parent_of lists y ≡ Some x → contains (y ∷ ancestors_of lists y) top ≡ true
+pub child_below : (lists : List (List ℕ)) → IsForest lists → (top x y : ℕ) → contains (x ∷ ancestors_of lists x) top ≡ true →
+    parent_of lists y ≡ Some x → contains (y ∷ ancestors_of lists y) top ≡ true
 child_below lists forest top x y above e = or_right (eqb y top) _ (ap (λ ys. contains ys top) (ancestors_of-child lists forest y x e) ∙ above)
 
-pub deeper : (lists : List (List ℕ)) → IsForest lists → (x y : ℕ) → y < length lists → parent_of lists y ≡ Some x → length lists - length (ancestors_of lists y) < length lists - length (ancestors_of lists x)
+pub deeper : (lists : List (List ℕ)) → IsForest lists → (x y : ℕ) → y < length lists → parent_of lists y ≡ Some x →
+    length lists - length (ancestors_of lists y) < length lists - length (ancestors_of lists x)
 deeper lists forest x y node e = omega (arith, length-ancestors_of lists forest y node, ap (length {A = ℕ}) (ancestors_of-child lists forest y x e))
 
-prev-alone : (lists : List (List ℕ)) (top : ℕ) (ts : Trees) (nodes : List Node) → Stands nodes lists ts (top ∷ []) → prev_from None (in_trees lists ts (top ∷ [])) top ≡ None
+prev-alone : (lists : List (List ℕ)) (top : ℕ) (ts : Trees) (nodes : List Node) → Stands nodes lists ts (top ∷ []) →
+    prev_from None (in_trees lists ts (top ∷ [])) top ≡ None
 prev-alone lists top none nodes s = absurd s
 prev-alone lists top (tree n c r) nodes s = rw (eq-eqb top top refl) refl
 
@@ -234,35 +278,45 @@ pub before_in-top : (nodes : List Node) (lists : List (List ℕ)) → IsWhole no
 unfolding before_in
 before_in-top nodes lists whole top node = prev-alone lists top (tree_at nodes lists top) nodes (subtree_here nodes lists whole top node)
 
-pub before_in-root : (nodes : List Node) (lists : List (List ℕ)) → IsWhole nodes lists → (top x : ℕ) → top < length lists → contains (x ∷ ancestors_of lists x) top ≡ true → parent_of lists x ≡ None → before_in nodes lists top x ≡ None
+pub before_in-root : (nodes : List Node) (lists : List (List ℕ)) → IsWhole nodes lists → (top x : ℕ) → top < length lists →
+    contains (x ∷ ancestors_of lists x) top ≡ true → parent_of lists x ≡ None → before_in nodes lists top x ≡ None
 before_in-root nodes lists whole top x node above e = elim (eqb_tells x top) [
   | inl h ↦ ap (before_in nodes lists top) h.1 ∙ before_in-top nodes lists whole top node
   | inr h ↦ absurd (has_above lists top x h.1 above e)
 ]
 
-pub before_in-child : (nodes : List Node) (lists : List (List ℕ)) → IsWhole nodes lists → (top x p : ℕ) (o : Option ℕ) → top < length lists → (x ≡ top → ⊥) → contains (x ∷ ancestors_of lists x) top ≡ true → parent_of lists x ≡ Some p → o ≡ prev_of lists x
+pub before_in-child : (nodes : List Node) (lists : List (List ℕ)) → IsWhole nodes lists → (top x p : ℕ) (o : Option ℕ) → top < length lists →
+    (x ≡ top → ⊥) → contains (x ∷ ancestors_of lists x) top ≡ true → parent_of lists x ≡ Some p → o ≡ prev_of lists x
     → before_in nodes lists top x ≡ option_map_or (last_in nodes lists top) o (Some p)
 unfolding before_in last_in keys_at
 before_in-child nodes lists whole top x p o node other above e is =
-    prev-child nodes lists p x o (contains-parent lists x p e) (sym (is ∙ ap (option_and_then (λ q. prev_in (children_of lists q) x)) e)) (tree_at nodes lists top) (top ∷ []) None (subtree_here nodes lists whole top node) (keys_at-once nodes lists whole top node)
+    prev-child nodes lists p x o (contains-parent lists x p e) (sym (is ∙ ap (option_and_then (λ q. prev_in (children_of lists q) x)) e))
+    (tree_at nodes lists top) (top ∷ []) None (subtree_here nodes lists whole top node) (keys_at-once nodes lists whole top node)
     (keys_at-inside nodes lists whole top p node (still_below lists whole.forest top x p other above e))
 
-preceding-at : (nodes : List Node) (lists : List (List ℕ)) → IsWhole nodes lists → (top x : ℕ) → top < length lists → x < length lists → contains (x ∷ ancestors_of lists x) top ≡ true
-    → last_of (items_before name_eq (name_of_key nodes x) (inclusive_descendants (trees_of nodes lists) (name_of_key nodes top))) ≡ option_map (name_of_key nodes) (before_in nodes lists top x)
+preceding-at : (nodes : List Node) (lists : List (List ℕ)) → IsWhole nodes lists → (top x : ℕ) → top < length lists → x < length lists →
+    contains (x ∷ ancestors_of lists x) top ≡ true
+    → last_of (items_before name_eq (name_of_key nodes x) (inclusive_descendants (trees_of nodes lists) (name_of_key nodes top))) ≡ option_map
+    (name_of_key nodes) (before_in nodes lists top x)
 unfolding before_in keys_at
 preceding-at nodes lists whole top x node at_x above =
     ap (λ ys. last_of (items_before name_eq (name_of_key nodes x) ys)) (keys_at-named nodes lists whole top node)
-    ∙ last_or-items_before (name_of_key nodes) x None (in_trees lists (tree_at nodes lists top) (top ∷ [])) (keys_at-told nodes lists whole top x node at_x) (keys_at-inside nodes lists whole top x node above)
+    ∙ last_or-items_before (name_of_key nodes) x None (in_trees lists (tree_at nodes lists top) (top ∷ []))
+    (keys_at-told nodes lists whole top x node at_x) (keys_at-inside nodes lists whole top x node above)
 
 pub shows_preceding : {f : NamedTrees} {ps : List Stored} {lists : List (List ℕ)} {keys : Owner → List ℕ} → seen ps lists ≡ f → IsKept ps lists keys
-    → (top x : ℕ) (r : Option ℕ) → top < length f.names → x < length f.names → contains (x ∷ ancestors_of lists x) top ≡ true → r ≡ before_in (nodes_of ps) lists top x
+    → (top x : ℕ) (r : Option ℕ) → top < length f.names → x < length f.names → contains (x ∷ ancestors_of lists x) top ≡ true →
+    r ≡ before_in (nodes_of ps) lists top x
     → option_map (name_at f.names) r ≡ last_of (items_before name_eq (name_at f.names x) (inclusive_descendants f.trees (name_at f.names top)))
 shows_preceding {f = f} {ps = ps} {lists = lists} {keys = keys} is kept top x r at_top at_x above result =
     let inside_top = within is kept top at_top in
     let inside_x = within is kept x at_x in
     let paired = kept.paired in
-    subst (λ (g : NamedTrees). option_map (name_at g.names) r ≡ last_of (items_before name_eq (name_at g.names x) (inclusive_descendants g.trees (name_at g.names top)))) is
+    subst (λ (g : NamedTrees). option_map (name_at g.names) r ≡ last_of
+    (items_before name_eq (name_at g.names x) (inclusive_descendants g.trees (name_at g.names top)))) is
     (names_option ps r ∙ (ap (option_map (name_of_key (nodes_of ps))) result
     ∙ (sym (preceding-at (nodes_of ps) lists (IsWhole-kept kept) top x (omega arith) (omega arith) above)
-    ∙ (ap (λ y. last_of (items_before name_eq y (inclusive_descendants (trees_of (nodes_of ps) lists) (name_of_key (nodes_of ps) top)))) (sym (name_at-same (stored_names ps) ps x))
-    ∙ ap (λ y. last_of (items_before name_eq (name_at (stored_names ps) x) (inclusive_descendants (trees_of (nodes_of ps) lists) y))) (sym (name_at-same (stored_names ps) ps top))))))
+    ∙ (ap (λ y. last_of (items_before name_eq y (inclusive_descendants (trees_of (nodes_of ps) lists) (name_of_key (nodes_of ps) top))))
+    (sym (name_at-same (stored_names ps) ps x))
+    ∙ ap (λ y. last_of (items_before name_eq (name_at (stored_names ps) x) (inclusive_descendants (trees_of (nodes_of ps) lists) y)))
+    (sym (name_at-same (stored_names ps) ps top))))))

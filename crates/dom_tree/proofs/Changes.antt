@@ -1,5 +1,6 @@
 -- What the changes of an arena do to the trees that it stands for.
-use Rattle.std.proofs.Common.{◌≡◌, ◌≢◌, inl, inr, ℕ, zero, suc, ◌<◌, ◌≤◌, Bool, true, false, not, ◌&&◌, ◌||◌, eqb, List, [], ◌∷◌, ◌++◌, map, length, set, Option, Some, None, is_none, refl, sym, ap, subst, ◌∙◌, arith, true≢false}
+use Rattle.std.proofs.Common.{◌≡◌, ◌≢◌, inl, inr, ℕ, zero, suc, ◌<◌, ◌≤◌, Bool, true, false, not, ◌&&◌, ◌||◌, eqb, List, [], ◌∷◌, ◌++◌, map, length}
+use Rattle.std.proofs.Common.{set, Option, Some, None, is_none, refl, sym, ap, subst, ◌∙◌, arith, true≢false}
 use Rattle.std.specs.Prelude.{slice_get, filter}
 use Rattle.std.specs.List.{range_with_len}
 use Rattle.std.specs.Option.{option_map}
@@ -10,13 +11,18 @@ use Rattle.std.proofs.lemmas.Option.{slice_get-get_or, slice_get_within, get_or_
 use Rattle.dom_base.specs.declared.NodeName.{NodeName}
 use Rattle.dom_model.specs.Tree.{Trees, none, tree, Node, subtree}
 use Rattle.dom_model.specs.TreeChanges.{without, put_root, map_nodes, placed, taken_out, with_node}
-use Rattle.node_arena.specs.Nodes.{children_of, contains, parent_of, ancestors_of, IsForest, without as without_key, put_before as put_key_before, insert_before}
-use Rattle.node_arena.proofs.Forests.{cases_Option, contains-no_parent, parent_of_same, parent_of_none, parent_of_is, ancestors_of-child, ancestors_of-root, children_of-push, children_of-pushed, parent_of-pushed, children_of-without, IsForest-without, IsForest-push}
+use Rattle.node_arena.specs.Nodes.{children_of, contains, parent_of, ancestors_of, IsForest, without as without_key, put_before as put_key_before}
+use Rattle.node_arena.specs.Nodes.{insert_before}
+use Rattle.node_arena.proofs.Forests.{cases_Option, contains-no_parent, parent_of_same, parent_of_none, parent_of_is, ancestors_of-child}
+use Rattle.node_arena.proofs.Forests.{ancestors_of-root, children_of-push, children_of-pushed, parent_of-pushed, children_of-without}
+use Rattle.node_arena.proofs.Forests.{IsForest-without, IsForest-push}
 use Rattle.node_arena.proofs.Lists.{contains-append, contains-head, without-absent, contains-without_same, contains-without_other}
 use Rattle.dom_tree.specs.Rows.{node_at, put_key, is_root, root_keys, trees_of}
-use Rattle.dom_tree.proofs.Rows.{Stands, Stands-one, Stands-trees_on, Stands-kept, Stands-map_nodes, Stands-without, Stands-put_below, Stands-put_root, IsNamed, name_of_key}
+use Rattle.dom_tree.proofs.Rows.{Stands, Stands-one, Stands-trees_on, Stands-kept, Stands-map_nodes, Stands-without, Stands-put_below}
+use Rattle.dom_tree.proofs.Rows.{Stands-put_root, IsNamed, name_of_key}
 use Rattle.dom_tree.proofs.Reach.{reaches, reaches-all, Stands-subtree}
-use Rattle.dom_tree.proofs.Roots.{or_turned, passing, contains-passing, passing-within, passing-same, passing-more, without-passing, passing-push, passing_range, in_order-same}
+use Rattle.dom_tree.proofs.Roots.{or_turned, passing, contains-passing, passing-within, passing-same, passing-more, without-passing, passing-push}
+use Rattle.dom_tree.proofs.Roots.{passing_range, in_order-same}
 
 -- each node has a name of its own and a list, and the lists make a forest
 pub record IsWhole (nodes : List Node) (lists : List (List ℕ)) : Type 0 where
@@ -30,14 +36,16 @@ Stands-trees_of nodes lists whole =
     Stands-trees_on nodes lists whole.forest whole.paired (root_keys nodes lists) (λ k found. (passing-within nodes (is_root lists) (length lists) k found).0)
 
 -- and are the only ones that do
-pub trees_of_is : (nodes : List Node) (lists : List (List ℕ)) → IsWhole nodes lists → (ts : Trees) → Stands nodes lists ts (root_keys nodes lists) → trees_of nodes lists ≡ ts
+pub trees_of_is : (nodes : List Node) (lists : List (List ℕ)) → IsWhole nodes lists → (ts : Trees) →
+    Stands nodes lists ts (root_keys nodes lists) → trees_of nodes lists ≡ ts
 trees_of_is nodes lists whole ts s = Stands-one nodes lists (trees_of nodes lists) ts (root_keys nodes lists) (Stands-trees_of nodes lists whole) s
 
 pub is_root-none : (lists : List (List ℕ)) (k : ℕ) → parent_of lists k ≡ None → is_root lists k ≡ true
 is_root-none lists k e = ap is_none e
 
 -- each node is reached
-pub reached : (nodes : List Node) (lists : List (List ℕ)) → IsWhole nodes lists → (x : ℕ) → x < length lists → reaches (trees_of nodes lists) (name_of_key nodes x) ≡ true
+pub reached : (nodes : List Node) (lists : List (List ℕ)) → IsWhole nodes lists → (x : ℕ) → x < length lists →
+    reaches (trees_of nodes lists) (name_of_key nodes x) ≡ true
 reached nodes lists whole x node =
     reaches-all nodes lists whole.named whole.forest whole.paired (trees_of nodes lists) (root_keys nodes lists) (Stands-trees_of nodes lists whole)
     (λ k within e. contains-passing nodes (is_root lists) (length lists) k within (is_root-none lists k e)) x node
@@ -45,9 +53,11 @@ reached nodes lists whole x node =
 pub node_here : (nodes : List Node) (lists : List (List ℕ)) → IsWhole nodes lists → (x : ℕ) → x < length lists → slice_get nodes x ≡ Some (node_at nodes x)
 node_here nodes lists whole x node = slice_get-get_or nodes x _ (let paired = whole.paired in omega arith)
 
-pub subtree_here : (nodes : List Node) (lists : List (List ℕ)) → IsWhole nodes lists → (x : ℕ) → x < length lists → Stands nodes lists (subtree (trees_of nodes lists) (name_of_key nodes x)) (x ∷ [])
+pub subtree_here : (nodes : List Node) (lists : List (List ℕ)) → IsWhole nodes lists → (x : ℕ) → x < length lists →
+    Stands nodes lists (subtree (trees_of nodes lists) (name_of_key nodes x)) (x ∷ [])
 subtree_here nodes lists whole x node =
-    Stands-subtree nodes lists whole.named x (node_at nodes x) (node_here nodes lists whole x node) (trees_of nodes lists) (root_keys nodes lists) (Stands-trees_of nodes lists whole) (reached nodes lists whole x node)
+    Stands-subtree nodes lists whole.named x (node_at nodes x) (node_here nodes lists whole x node) (trees_of nodes lists) (root_keys nodes lists)
+    (Stands-trees_of nodes lists whole) (reached nodes lists whole x node)
 
 -- ---- the nodes above a node
 
@@ -57,7 +67,8 @@ parent_above lists forest x k child =
     let up = ancestors_of-child lists forest x k (parent_of_is lists forest.one_list k x child) in
     or_right (eqb x k) _ (ap (λ ys. contains ys k) up ∙ contains-head k (ancestors_of lists k))
 
-above_within : (lists : List (List ℕ)) → IsForest lists → (d x j k : ℕ) → length (ancestors_of lists x) ≤ d → contains (children_of lists k) j ≡ true → contains (x ∷ ancestors_of lists x) j ≡ true → contains (x ∷ ancestors_of lists x) k ≡ true
+above_within : (lists : List (List ℕ)) → IsForest lists → (d x j k : ℕ) → length (ancestors_of lists x) ≤ d →
+    contains (children_of lists k) j ≡ true → contains (x ∷ ancestors_of lists x) j ≡ true → contains (x ∷ ancestors_of lists x) k ≡ true
 above_within lists forest zero x j k deep child found = elim (or_cases (eqb x j) _ found) [
   | inl h ↦ parent_above lists forest x k (ap (contains (children_of lists k)) (eqb-true x j h) ∙ child)
   | inr h ↦ elim (cases_Option (parent_of lists x)) [
@@ -76,7 +87,8 @@ above_within lists forest (suc d) x j k deep child found = elim (or_cases (eqb x
   ]
 ]
 
-pub above_up : (lists : List (List ℕ)) → IsForest lists → (x j k : ℕ) → contains (children_of lists k) j ≡ true → contains (x ∷ ancestors_of lists x) j ≡ true → contains (x ∷ ancestors_of lists x) k ≡ true
+pub above_up : (lists : List (List ℕ)) → IsForest lists → (x j k : ℕ) → contains (children_of lists k) j ≡ true →
+    contains (x ∷ ancestors_of lists x) j ≡ true → contains (x ∷ ancestors_of lists x) k ≡ true
 above_up lists forest x j k child found = above_within lists forest (length (ancestors_of lists x)) x j k (omega arith) child found
 
 -- ---- a node linked into a list
@@ -112,8 +124,12 @@ pub record LinkAsked (nodes : List Node) (lists : List (List ℕ)) (p c : ℕ) (
   pub after : IsForest (linked lists p c before)
 
 pub trees_of-linked : (nodes : List Node) (lists : List (List ℕ)) (p c : ℕ) (before : Option ℕ) → LinkAsked nodes lists p c before
-    → trees_of nodes (linked lists p c before) ≡ placed (name_of_key nodes c) (name_of_key nodes p) (option_map (name_of_key nodes) before) (trees_of nodes lists)
-trees_of-linked nodes lists p c before asked = trees_of_is nodes changed whole_after _ (subst (λ (ks : List ℕ). Stands nodes changed (placed (name_of_key nodes c) (name_of_key nodes p) (option_map (name_of_key nodes) before) ts) ks) (sym same_roots) placed_stands)
+    → trees_of nodes (linked lists p c before) ≡ placed (name_of_key nodes c) (name_of_key nodes p) (option_map (name_of_key nodes) before)
+    (trees_of nodes lists)
+trees_of-linked nodes lists p c before asked =
+    trees_of_is nodes changed whole_after _
+    (subst (λ (ks : List ℕ). Stands nodes changed (placed (name_of_key nodes c) (name_of_key nodes p) (option_map (name_of_key nodes) before) ts)
+    ks) (sym same_roots) placed_stands)
   where
     whole : IsWhole nodes lists
     whole = asked.whole
@@ -152,34 +168,42 @@ trees_of-linked nodes lists p c before asked = trees_of_is nodes changed whole_a
           | inr h ↦ absurd (true≢false (sym h))
         ]) (subtree_here nodes lists whole c asked.child_node)
 
-    placed_stands : Stands nodes changed (placed (name_of_key nodes c) (name_of_key nodes p) (option_map (name_of_key nodes) before) ts) (without_key c (root_keys nodes lists))
+    placed_stands : Stands nodes changed (placed (name_of_key nodes c) (name_of_key nodes p) (option_map (name_of_key nodes) before) ts)
+        (without_key c (root_keys nodes lists))
     placed_stands = Stands-put_below nodes (map (without_key c) lists) changed whole.named (subtree ts (name_of_key nodes c)) c new before
         (λ b e. omega (arith, asked.before_node b e, whole.paired))
         p (node_at nodes p) (node_here nodes lists whole p asked.parent_node)
         (here ∙ ap (λ ks. insert_before ks c before) (sym (fewer p)))
         (λ k other. there k other ∙ sym (fewer k))
         (without (name_of_key nodes c) ts) (without_key c (root_keys nodes lists))
-        (Stands-without nodes lists whole.named c (node_at nodes c) (node_here nodes lists whole c asked.child_node) ts (root_keys nodes lists) (Stands-trees_of nodes lists whole))
+        (Stands-without nodes lists whole.named c (node_at nodes c) (node_here nodes lists whole c asked.child_node) ts (root_keys nodes lists)
+        (Stands-trees_of nodes lists whole))
 
     holders : (k : ℕ) → k ≢ c → (q : ℕ) → contains (children_of lists q) k ≡ contains (children_of changed q) k
     holders k other q = elim (eqb_tells q p) [
       | inl h ↦
-          ap (λ j. contains (children_of lists j) k) h.1 ∙ (sym (contains-insert_before (children_of lists p) c before k ∙ ap (λ b. b || contains (children_of lists p) k) (ne_eqb c k (λ e. other (sym e)))) ∙ (ap (λ ks. contains ks k) (sym here) ∙ ap (λ j. contains (children_of changed j) k) (sym h.1)))
+          ap (λ j. contains (children_of lists j) k) h.1 ∙
+          (sym (contains-insert_before (children_of lists p) c before k ∙ ap (λ b. b || contains (children_of lists p) k)
+          (ne_eqb c k (λ e. other (sym e)))) ∙ (ap (λ ks. contains ks k) (sym here) ∙ ap (λ j. contains (children_of changed j) k) (sym h.1)))
       | inr h ↦ ap (λ ks. contains ks k) (sym (there q h.1))
     ]
 
     has_parent : parent_of changed c ≡ Some p
-    has_parent = parent_of_is changed asked.after.one_list p c (ap (λ ks. contains ks c) here ∙ (contains-insert_before (children_of lists p) c before c ∙ or_left (eqb c c) _ (eq-eqb c c refl)))
+    has_parent = parent_of_is changed asked.after.one_list p c
+        (ap (λ ks. contains ks c) here ∙ (contains-insert_before (children_of lists p) c before c ∙ or_left (eqb c c) _ (eq-eqb c c refl)))
 
     same_roots : root_keys nodes changed ≡ without_key c (root_keys nodes lists)
     same_roots = ap (passing nodes (is_root changed)) as_long
-        ∙ sym (without-passing nodes whole.named (is_root lists) (is_root changed) (length lists) c whole.paired asked.child_node (ap is_none has_parent) (λ k other. ap is_none (parent_of_same lists changed k (holders k other))))
+        ∙ sym (without-passing nodes whole.named (is_root lists) (is_root changed) (length lists) c whole.paired asked.child_node
+        (ap is_none has_parent) (λ k other. ap is_none (parent_of_same lists changed k (holders k other))))
 
 -- ---- a node taken out of its list
 
 pub trees_of-unlinked : (nodes : List Node) (lists : List (List ℕ)) (c : ℕ) → IsWhole nodes lists → c < length lists
     → trees_of nodes (map (without_key c) lists) ≡ taken_out (name_of_key nodes c) (trees_of nodes lists)
-trees_of-unlinked nodes lists c whole node = trees_of_is nodes changed whole_after _ (subst (λ (ks : List ℕ). Stands nodes changed (taken_out (name_of_key nodes c) ts) ks) (sym same_roots) taken)
+trees_of-unlinked nodes lists c whole node =
+    trees_of_is nodes changed whole_after _
+    (subst (λ (ks : List ℕ). Stands nodes changed (taken_out (name_of_key nodes c) ts) ks) (sym same_roots) taken)
   where
     changed : List (List ℕ)
     changed = map (without_key c) lists
@@ -198,13 +222,16 @@ trees_of-unlinked nodes lists c whole node = trees_of_is nodes changed whole_aft
 
     -- the node is no child of what is below it
     apart : (k : ℕ) → contains (k ∷ ancestors_of lists k) c ≡ true → contains (children_of lists k) c ≡ false
-    apart k under = false_from_ne_true _ (λ child. both_ways _ (whole.forest.acyclic c) (ap (λ ys. contains ys c) (ancestors_of-child lists whole.forest c k (parent_of_is lists whole.forest.one_list k c child)) ∙ under))
+    apart k under = false_from_ne_true _
+        (λ child. both_ways _ (whole.forest.acyclic c)
+        (ap (λ ys. contains ys c) (ancestors_of-child lists whole.forest c k (parent_of_is lists whole.forest.one_list k c child)) ∙ under))
 
     alone : Stands nodes changed (subtree ts (name_of_key nodes c)) (c ∷ [])
     alone = Stands-kept nodes nodes lists changed (λ k. contains (k ∷ ancestors_of lists k) c ≡ true)
         (λ k n under at. at)
         (λ k under. children_of-without lists c k ∙ without-absent c (children_of lists k) (apart k under))
-        (λ k j under child. or_right (eqb j c) _ (ap (λ ys. contains ys c) (ancestors_of-child lists whole.forest j k (parent_of_is lists whole.forest.one_list k j child)) ∙ under))
+        (λ k j under child. or_right (eqb j c) _
+        (ap (λ ys. contains ys c) (ancestors_of-child lists whole.forest j k (parent_of_is lists whole.forest.one_list k j child)) ∙ under))
         (subtree ts (name_of_key nodes c)) (c ∷ []) (λ k found. elim (or_cases (eqb c k) false found) [
           | inl h ↦ or_left (eqb k c) _ (eq-eqb k c (sym (eqb-true c k h)))
           | inr h ↦ absurd (true≢false (sym h))
@@ -212,7 +239,8 @@ trees_of-unlinked nodes lists c whole node = trees_of_is nodes changed whole_aft
 
     taken : Stands nodes changed (taken_out (name_of_key nodes c) ts) (put_key nodes c (without_key c (root_keys nodes lists)))
     taken = Stands-put_root nodes changed (subtree ts (name_of_key nodes c)) c alone (without (name_of_key nodes c) ts) (without_key c (root_keys nodes lists))
-        (Stands-without nodes lists whole.named c (node_at nodes c) (node_here nodes lists whole c node) ts (root_keys nodes lists) (Stands-trees_of nodes lists whole))
+        (Stands-without nodes lists whole.named c (node_at nodes c) (node_here nodes lists whole c node) ts (root_keys nodes lists)
+        (Stands-trees_of nodes lists whole))
 
     holders : (k : ℕ) → k ≢ c → (q : ℕ) → contains (children_of changed q) k ≡ contains (children_of lists q) k
     holders k other q = ap (λ ks. contains ks k) (children_of-without lists c q) ∙ contains-without_other c (children_of lists q) k (λ e. other (sym e))
@@ -235,7 +263,8 @@ trees_of-unlinked nodes lists c whole node = trees_of_is nodes changed whole_aft
 
     same_roots : root_keys nodes changed ≡ put_key nodes c (without_key c (root_keys nodes lists))
     same_roots = ap (passing nodes (is_root changed)) as_long
-        ∙ (passing-more nodes whole.named other_root (is_root changed) (length lists) c whole.paired node not_here (ap is_none no_parent) (λ k other. ap is_none (parent_of_same changed lists k (holders k other)) ∙ elsewhere k other)
+        ∙ (passing-more nodes whole.named other_root (is_root changed) (length lists) c whole.paired node not_here (ap is_none no_parent)
+        (λ k other. ap is_none (parent_of_same changed lists k (holders k other)) ∙ elsewhere k other)
         ∙ ap (put_key nodes c) (sym (without-passing nodes whole.named (is_root lists) other_root (length lists) c whole.paired node not_here elsewhere)))
 
 -- ---- a node more
@@ -251,7 +280,8 @@ slice_get-push (z ∷ xs) x y (suc k) e = slice_get-push xs x y k e
 
 pub trees_of-push : (nodes : List Node) (lists : List (List ℕ)) (m : Node) → IsWhole nodes lists → IsNamed (nodes ++ m ∷ [])
     → trees_of (nodes ++ m ∷ []) (lists ++ [] ∷ []) ≡ with_node m (trees_of nodes lists)
-trees_of-push nodes lists m whole named = trees_of_is more changed whole_after _ (subst (λ (ks : List ℕ). Stands more changed (with_node m ts) ks) (sym same_roots) added)
+trees_of-push nodes lists m whole named =
+    trees_of_is more changed whole_after _ (subst (λ (ks : List ℕ). Stands more changed (with_node m ts) ks) (sym same_roots) added)
   where
     more : List Node
     more = nodes ++ m ∷ []
@@ -303,14 +333,17 @@ trees_of-push nodes lists m whole named = trees_of_is more changed whole_after _
     same_roots : root_keys more changed ≡ put_key more n (root_keys nodes lists)
     same_roots = ap (passing more (is_root changed)) as_long
         ∙ (passing-push more (is_root changed) n named nodes_long (ap is_none (parent_of-pushed lists whole.forest))
-        ∙ ap (put_key more n) (passing-same more (is_root changed) (is_root lists) n root_same ∙ in_order-same more nodes (filter (is_root lists) (range_with_len 0 n)) (λ k found. name_same k (passing_range (is_root lists) n k found))))
+        ∙ ap (put_key more n) (passing-same more (is_root changed) (is_root lists) n root_same ∙
+        in_order-same more nodes (filter (is_root lists) (range_with_len 0 n))
+        (λ k found. name_same k (passing_range (is_root lists) n k found))))
 
 -- ---- nodes with other contents
 
 pub trees_of-map : (nodes others : List Node) (lists : List (List ℕ)) (f : Node → Node) → IsWhole nodes lists → length others ≡ length nodes
     → ((y : Node) → (f y).name ≡ y.name) → ((k : ℕ) (y : Node) → slice_get nodes k ≡ Some y → slice_get others k ≡ Some (f y))
     → trees_of others lists ≡ map_nodes f (trees_of nodes lists)
-trees_of-map nodes others lists f whole as_long keeps each = trees_of_is others lists whole_after _ (subst (λ (ks : List ℕ). Stands others lists (map_nodes f ts) ks) (sym same_roots) mapped)
+trees_of-map nodes others lists f whole as_long keeps each =
+    trees_of_is others lists whole_after _ (subst (λ (ks : List ℕ). Stands others lists (map_nodes f ts) ks) (sym same_roots) mapped)
   where
     ts : Trees
     ts = trees_of nodes lists

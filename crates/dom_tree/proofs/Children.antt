@@ -1,5 +1,6 @@
 -- Walks over the children of a node.
-use Rattle.std.proofs.Common.{◌≡◌, ◌≢◌, ◌⊎◌, inl, inr, ℕ, suc, ◌+◌, ◌<◌, Bool, true, false, not, cond, ◌&&◌, ◌||◌, eqb, List, [], ◌∷◌, map, length, Option, Some, None, refl, sym, ap, subst, ◌∙◌, arith, true≢false}
+use Rattle.std.proofs.Common.{◌≡◌, ◌≢◌, ◌⊎◌, inl, inr, ℕ, suc, ◌+◌, ◌<◌, Bool, true, false, not, cond, ◌&&◌, ◌||◌, eqb, List, [], ◌∷◌, map, length}
+use Rattle.std.proofs.Common.{Option, Some, None, refl, sym, ap, subst, ◌∙◌, arith, true≢false}
 use Rattle.std.specs.Prelude.{slice_get}
 use Rattle.std.specs.List.{list_any}
 use Rattle.node_arena.specs.contracts.key.KeyPartialEq.TheImpl as KeyImpl
@@ -64,9 +65,11 @@ rest_of-step (x ∷ xs) k once found = elim (cases_Bool (eqb x k)) [
         rw apart refl
 
 -- the children from one on are that one and those from the next on
-pub rest_of-next : (lists : List (List ℕ)) → IsForest lists → (p k : ℕ) (r : Option ℕ) → contains (children_of lists p) k ≡ true → r ≡ next_of lists k → rest_of (children_of lists p) (Some k) ≡ k ∷ rest_of (children_of lists p) r
+pub rest_of-next : (lists : List (List ℕ)) → IsForest lists → (p k : ℕ) (r : Option ℕ) → contains (children_of lists p) k ≡ true →
+    r ≡ next_of lists k → rest_of (children_of lists p) (Some k) ≡ k ∷ rest_of (children_of lists p) r
 rest_of-next lists forest p k r child is =
-    let e : r ≡ next_in (children_of lists p) k = is ∙ ap (option_and_then (λ q. next_in (children_of lists q) k)) (parent_of_is lists forest.one_list p k child) in
+    let e : r ≡ next_in (children_of lists p) k =
+    is ∙ ap (option_and_then (λ q. next_in (children_of lists q) k)) (parent_of_is lists forest.one_list p k child) in
     rest_of-step (children_of lists p) k (forest.once p) child ∙ ap (λ o. k ∷ rest_of (children_of lists p) o) (sym e)
 
 -- what is counted of a list of keys
@@ -113,7 +116,8 @@ pub any_of-cons : (p : ℕ → Bool) (k : ℕ) (ks : List ℕ) → any_of p (k �
 unfolding any_of
 any_of-cons p k ks = refl
 
-element_count-map : (nodes : List Node) (apart : Option ℕ) (ks : List ℕ) → element_count (without_given (option_map (name_of_key nodes) apart) (map (node_at nodes) ks)) ≡ tally (is_counted nodes apart) ks
+element_count-map : (nodes : List Node) (apart : Option ℕ) (ks : List ℕ) →
+    element_count (without_given (option_map (name_of_key nodes) apart) (map (node_at nodes) ks)) ≡ tally (is_counted nodes apart) ks
 unfolding tally is_counted
 element_count-map nodes apart [] = refl
 element_count-map nodes apart (k ∷ ks) =
@@ -121,7 +125,9 @@ element_count-map nodes apart (k ∷ ks) =
     let others : List Node = without_given (option_map (name_of_key nodes) apart) (map (node_at nodes) ks) in
     elim (cases_Bool (is_given (option_map (name_of_key nodes) apart) (name_of_key nodes k))) [
       | inl h ↦ rw h (rest ∙ dropped (is_element (node_at nodes k).kind) (tally (is_counted nodes apart) ks))
-      | inr h ↦ rw h ((sum_by-append (λ (n : Node). cond (is_element n.kind) 1 0) (node_at nodes k ∷ []) others ∙ ap (λ n. (0 + cond (is_element (node_at nodes k).kind) 1 0) + n) rest) ∙ kept (is_element (node_at nodes k).kind) (tally (is_counted nodes apart) ks))
+      | inr h ↦ rw h ((sum_by-append (λ (n : Node). cond (is_element n.kind) 1 0) (node_at nodes k ∷ []) others ∙
+          ap (λ n. (0 + cond (is_element (node_at nodes k).kind) 1 0) + n) rest) ∙ kept (is_element (node_at nodes k).kind)
+          (tally (is_counted nodes apart) ks))
     ]
   where
     dropped : (b : Bool) (n : ℕ) → n ≡ cond (b && false) 1 0 + n
@@ -137,19 +143,26 @@ unfolding any_of is_text_key
 has_text-map nodes [] = refl
 has_text-map nodes (k ∷ ks) = ap (λ b. is_text (node_at nodes k).kind || b) (has_text-map nodes ks)
 
-pub child_nodes-at : (nodes : List Node) (lists : List (List ℕ)) → IsWhole nodes lists → (x : ℕ) → x < length lists → child_nodes (trees_of nodes lists) (name_of_key nodes x) ≡ map (node_at nodes) (children_of lists x)
+pub child_nodes-at : (nodes : List Node) (lists : List (List ℕ)) → IsWhole nodes lists → (x : ℕ) → x < length lists →
+    child_nodes (trees_of nodes lists) (name_of_key nodes x) ≡ map (node_at nodes) (children_of lists x)
 child_nodes-at nodes lists whole x node =
-    roots-Stands nodes lists (trees_below (subtree (trees_of nodes lists) (name_of_key nodes x))) (children_of lists x) (trees_below-Stands nodes lists (subtree (trees_of nodes lists) (name_of_key nodes x)) x (subtree_here nodes lists whole x node))
+    roots-Stands nodes lists (trees_below (subtree (trees_of nodes lists) (name_of_key nodes x))) (children_of lists x)
+    (trees_below-Stands nodes lists (subtree (trees_of nodes lists) (name_of_key nodes x)) x (subtree_here nodes lists whole x node))
 
 pub shows_element_count : {f : NamedTrees} {ps : List Stored} {lists : List (List ℕ)} {keys : Owner → List ℕ} → seen ps lists ≡ f → IsKept ps lists keys
-    → (x : ℕ) (apart : Option ℕ) → x < length f.names → tally (is_counted (nodes_of ps) apart) (children_of lists x) ≡ element_count (without_given (option_map (name_at f.names) apart) (child_nodes f.trees (name_at f.names x)))
+    → (x : ℕ) (apart : Option ℕ) → x < length f.names →
+    tally (is_counted (nodes_of ps) apart) (children_of lists x) ≡ element_count
+    (without_given (option_map (name_at f.names) apart) (child_nodes f.trees (name_at f.names x)))
 shows_element_count {f = f} {ps = ps} {lists = lists} {keys = keys} is kept x apart node =
     let inside = within is kept x node in
-    subst (λ (g : NamedTrees). tally (is_counted (nodes_of ps) apart) (children_of lists x) ≡ element_count (without_given (option_map (name_at g.names) apart) (child_nodes g.trees (name_at g.names x)))) is
+    subst (λ (g : NamedTrees). tally (is_counted (nodes_of ps) apart) (children_of lists x) ≡ element_count
+    (without_given (option_map (name_at g.names) apart) (child_nodes g.trees (name_at g.names x)))) is
     (sym (element_count-map (nodes_of ps) apart (children_of lists x))
-    ∙ (ap (λ ns. element_count (without_given (option_map (name_of_key (nodes_of ps)) apart) ns)) (sym (child_nodes-at (nodes_of ps) lists (IsWhole-kept kept) x (omega (arith, kept.paired))))
+    ∙ (ap (λ ns. element_count (without_given (option_map (name_of_key (nodes_of ps)) apart) ns))
+    (sym (child_nodes-at (nodes_of ps) lists (IsWhole-kept kept) x (omega (arith, kept.paired))))
     ∙ (ap (λ o. element_count (without_given o (child_nodes (trees_of (nodes_of ps) lists) (name_of_key (nodes_of ps) x)))) (sym (names_option ps apart))
-    ∙ ap (λ y. element_count (without_given (option_map (name_at (stored_names ps)) apart) (child_nodes (trees_of (nodes_of ps) lists) y))) (sym (name_at-same (stored_names ps) ps x)))))
+    ∙ ap (λ y. element_count (without_given (option_map (name_at (stored_names ps)) apart) (child_nodes (trees_of (nodes_of ps) lists) y)))
+    (sym (name_at-same (stored_names ps) ps x)))))
 
 pub shows_has_text : {f : NamedTrees} {ps : List Stored} {lists : List (List ℕ)} {keys : Owner → List ℕ} → seen ps lists ≡ f → IsKept ps lists keys
     → (x : ℕ) → x < length f.names → any_of (is_text_key (nodes_of ps)) (children_of lists x) ≡ has_text (child_nodes f.trees (name_at f.names x))
@@ -162,13 +175,18 @@ shows_has_text {f = f} {ps = ps} {lists = lists} {keys = keys} is kept x node =
 
 -- the tests, as a caller sees them
 pub shows_counted : {f : NamedTrees} {ps : List Stored} {lists : List (List ℕ)} {keys : Owner → List ℕ} → seen ps lists ≡ f → IsKept ps lists keys
-    → (k : ℕ) (apart : Option ℕ) → k < length f.names → (is_element (kind_of f.trees (name_at f.names k)) && not (is_given (option_map (name_at f.names) apart) (name_at f.names k))) ≡ is_counted (nodes_of ps) apart k
+    → (k : ℕ) (apart : Option ℕ) → k < length f.names →
+    (is_element (kind_of f.trees (name_at f.names k)) && not (is_given (option_map (name_at f.names) apart) (name_at f.names k))) ≡ is_counted
+    (nodes_of ps) apart k
 unfolding is_counted
 shows_counted {f = f} {ps = ps} {lists = lists} {keys = keys} is kept k apart node =
     let inside = within is kept k node in
-    subst (λ (g : NamedTrees). (is_element (kind_of g.trees (name_at g.names k)) && not (is_given (option_map (name_at g.names) apart) (name_at g.names k))) ≡ is_counted (nodes_of ps) apart k) is
-    (ap (λ y. is_element (kind_of (trees_of (nodes_of ps) lists) y) && not (is_given (option_map (name_at (stored_names ps)) apart) y)) (name_at-same (stored_names ps) ps k)
-    ∙ (ap (λ (n : Node). is_element n.kind && not (is_given (option_map (name_at (stored_names ps)) apart) (name_of_key (nodes_of ps) k))) (node_in-at (nodes_of ps) lists (IsWhole-kept kept) k (omega (arith, kept.paired)))
+    subst (λ (g : NamedTrees). (is_element (kind_of g.trees (name_at g.names k)) &&
+    not (is_given (option_map (name_at g.names) apart) (name_at g.names k))) ≡ is_counted (nodes_of ps) apart k) is
+    (ap (λ y. is_element (kind_of (trees_of (nodes_of ps) lists) y) && not (is_given (option_map (name_at (stored_names ps)) apart) y))
+    (name_at-same (stored_names ps) ps k)
+    ∙ (ap (λ (n : Node). is_element n.kind && not (is_given (option_map (name_at (stored_names ps)) apart) (name_of_key (nodes_of ps) k)))
+    (node_in-at (nodes_of ps) lists (IsWhole-kept kept) k (omega (arith, kept.paired)))
     ∙ ap (λ o. is_element (node_at (nodes_of ps) k).kind && not (is_given o (name_of_key (nodes_of ps) k))) (names_option ps apart)))
 
 pub is_text_key-stored : (ps : List Stored) (k : ℕ) (s : Stored) → slice_get ps k ≡ Some s → is_text_key (nodes_of ps) k ≡ is_text s.node.kind
@@ -198,15 +216,21 @@ pub is_counted-split : {f : NamedTrees} {ps : List Stored} {lists : List (List �
 unfolding is_counted
 is_counted-split {f = f} {ps = ps} {lists = lists} {keys = keys} is kept k apart node inside =
     let here = within is kept k node in
-    subst (λ (g : NamedTrees). is_counted (nodes_of ps) apart k ≡ (is_element (kind_of g.trees (name_at g.names k)) && not (option_map_or (λ j. eqb k j) apart false))) is
+    subst (λ (g : NamedTrees). is_counted (nodes_of ps) apart
+    k ≡ (is_element (kind_of g.trees (name_at g.names k)) && not (option_map_or (λ j. eqb k j) apart false))) is
     (by apart (λ j e. let below = within is kept j (inside j e) in omega (arith, kept.paired))
-    ∙ ap (λ (n : Node). is_element n.kind && not (option_map_or (λ j. eqb k j) apart false)) (sym (ap (node_in (trees_of (nodes_of ps) lists)) (name_at-same (stored_names ps) ps k) ∙ node_in-at (nodes_of ps) lists (IsWhole-kept kept) k (omega (arith, kept.paired)))))
+    ∙ ap (λ (n : Node). is_element n.kind && not (option_map_or (λ j. eqb k j) apart false))
+    (sym (ap (node_in (trees_of (nodes_of ps) lists)) (name_at-same (stored_names ps) ps k) ∙
+    node_in-at (nodes_of ps) lists (IsWhole-kept kept) k (omega (arith, kept.paired)))))
   where
-    by : (o : Option ℕ) → ((j : ℕ) → o ≡ Some j → j < length lists) → (is_element (node_at (nodes_of ps) k).kind && not (is_given (option_map (name_of_key (nodes_of ps)) o) (name_of_key (nodes_of ps) k))) ≡ (is_element (node_at (nodes_of ps) k).kind && not (option_map_or (λ j. eqb k j) o false))
+    by : (o : Option ℕ) → ((j : ℕ) → o ≡ Some j → j < length lists) →
+        (is_element (node_at (nodes_of ps) k).kind && not (is_given (option_map (name_of_key (nodes_of ps)) o) (name_of_key (nodes_of ps) k))) ≡
+        (is_element (node_at (nodes_of ps) k).kind && not (option_map_or (λ j. eqb k j) o false))
     by None inside' = refl
     by (Some j) inside' =
         let here = within is kept k node in
-        ap (λ b. is_element (node_at (nodes_of ps) k).kind && not b) (name_of_key-eq (nodes_of ps) lists (IsWhole-kept kept) k j (omega (arith, kept.paired)) (inside' j refl))
+        ap (λ b. is_element (node_at (nodes_of ps) k).kind && not b)
+        (name_of_key-eq (nodes_of ps) lists (IsWhole-kept kept) k j (omega (arith, kept.paired)) (inside' j refl))
 
 -- whether the one set apart is this one, as the code tests it
 pub apart_test : (o : Option ℕ) (k : ℕ) → option_eq KeyImpl.ghosts.eq o (Some k) ≡ option_map_or (λ j. eqb k j) o false

@@ -1,5 +1,6 @@
 -- The invariant of a `Forest`.
-use Rattle.std.proofs.Common.{◌≡◌, ◌≢◌, ◌⊎◌, inl, inr, true≢false, ℕ, zero, suc, ◌<◌, ◌≤◌, true, false, ◌||◌, eqb, List, [], ◌∷◌, map, length, Option, Some, None, refl, sym, ap, subst, ◌∙◌, arith}
+use Rattle.std.proofs.Common.{◌≡◌, ◌≢◌, ◌⊎◌, inl, inr, true≢false, ℕ, zero, suc, ◌<◌, ◌≤◌, true, false, ◌||◌, eqb, List, [], ◌∷◌, map, length, Option}
+use Rattle.std.proofs.Common.{Some, None, refl, sym, ap, subst, ◌∙◌, arith}
 use Rattle.std.specs.Prelude.{slice_get}
 use Rattle.std.specs.Option.{option_map, ForSome}
 use Rattle.std.proofs.lemmas.List.{length-map}
@@ -22,7 +23,8 @@ use Rattle.dom_tree.proofs.Changes.{IsWhole, node_here, linked, LinkAsked, trees
 use Rattle.dom_tree.proofs.Reading.{node_in-at, parent_in-at, inclusive_ancestors-at, name_of_key-eq}
 
 -- the names in the trees are those in the list
-pub slice_get-names : (names : List NodeName) (ps : List Stored) (k : ℕ) (m : Node) → slice_get (nodes_with names ps) k ≡ Some m → slice_get (stored_names ps) k ≡ Some m.name
+pub slice_get-names : (names : List NodeName) (ps : List Stored) (k : ℕ) (m : Node) → slice_get (nodes_with names ps) k ≡ Some m →
+    slice_get (stored_names ps) k ≡ Some m.name
 slice_get-names names [] k m e = absurd (none-some m e)
 slice_get-names names (s ∷ ps) zero m e = ap (option_map (λ n. n.name)) e
 slice_get-names names (s ∷ ps) (suc k) m e = slice_get-names names ps k m e
@@ -36,7 +38,8 @@ pub IsWhole-kept : {ps : List Stored} {lists : List (List ℕ)} {keys : Owner �
 IsWhole-kept {ps = ps} {keys = keys} kept = record {
   named = record {
     distinct = λ j k m n at_j at_k e.
-        same_Some j k (sym (kept.kept m.name j (slice_get-names (stored_names ps) ps j m at_j)) ∙ (ap (λ (x : NodeName). slice_get (keys x.owner) x.number) e ∙ kept.kept n.name k (slice_get-names (stored_names ps) ps k n at_k)));
+        same_Some j k (sym (kept.kept m.name j (slice_get-names (stored_names ps) ps j m at_j)) ∙
+        (ap (λ (x : NodeName). slice_get (keys x.owner) x.number) e ∙ kept.kept n.name k (slice_get-names (stored_names ps) ps k n at_k)));
   };
   forest = kept.forest;
   paired = length-map ps _ ∙ kept.paired;
@@ -57,7 +60,8 @@ names_option ps (Some k) = ap Some (name_at-same (stored_names ps) ps k)
 -- a read that leads from a node to another one shows the same in the lists and in the trees
 pub shows : {f : NamedTrees} {ps : List Stored} {lists : List (List ℕ)} {keys : Owner → List ℕ} → seen ps lists ≡ f → IsKept ps lists keys
     → (read : Trees → NodeName → Option NodeName) (key_read : List (List ℕ) → ℕ → Option ℕ)
-    → ((nodes : List Node) (lists : List (List ℕ)) → IsWhole nodes lists → (x : ℕ) → x < length lists → read (trees_of nodes lists) (name_of_key nodes x) ≡ option_map (name_of_key nodes) (key_read lists x))
+    → ((nodes : List Node) (lists : List (List ℕ)) → IsWhole nodes lists → (x : ℕ) → x < length lists →
+    read (trees_of nodes lists) (name_of_key nodes x) ≡ option_map (name_of_key nodes) (key_read lists x))
     → (x : ℕ) (r : Option ℕ) → x < length f.names → r ≡ key_read lists x → option_map (name_at f.names) r ≡ read f.trees (name_at f.names x)
 shows {f = f} {ps = ps} {lists = lists} {keys = keys} is kept read key_read agree x r node result =
     subst (λ (g : NamedTrees). option_map (name_at g.names) r ≡ read g.trees (name_at g.names x)) is
@@ -70,18 +74,21 @@ shows {f = f} {ps = ps} {lists = lists} {keys = keys} is kept read key_read agre
         omega (arith, kept.paired)
 
 -- a key below the number of names is that of a node
-pub within : {f : NamedTrees} {ps : List Stored} {lists : List (List ℕ)} {keys : Owner → List ℕ} → seen ps lists ≡ f → IsKept ps lists keys → (x : ℕ) → x < length f.names → x < length ps
+pub within : {f : NamedTrees} {ps : List Stored} {lists : List (List ℕ)} {keys : Owner → List ℕ} → seen ps lists ≡ f → IsKept ps lists keys →
+    (x : ℕ) → x < length f.names → x < length ps
 within {f = f} {ps = ps} is kept x node =
     let as_long : length f.names ≡ length ps = ap (λ (g : NamedTrees). length g.names) (sym is) ∙ length-map ps (λ s. s.name) in
     omega arith
 
-pub within_names : {f : NamedTrees} {ps : List Stored} {lists : List (List ℕ)} {keys : Owner → List ℕ} → seen ps lists ≡ f → IsKept ps lists keys → (x : ℕ) → x < length ps → x < length f.names
+pub within_names : {f : NamedTrees} {ps : List Stored} {lists : List (List ℕ)} {keys : Owner → List ℕ} → seen ps lists ≡ f →
+    IsKept ps lists keys → (x : ℕ) → x < length ps → x < length f.names
 within_names {f = f} {ps = ps} is kept x node =
     let as_long : length f.names ≡ length ps = ap (λ (g : NamedTrees). length g.names) (sym is) ∙ length-map ps (λ s. s.name) in
     omega arith
 
 -- what is stored of a node is its node in the trees
-pub node_at-stored : (names : List NodeName) (ps : List Stored) (x : ℕ) (s : Stored) → slice_get ps x ≡ Some s → node_at (nodes_with names ps) x ≡ node_from names s.name s.node
+pub node_at-stored : (names : List NodeName) (ps : List Stored) (x : ℕ) (s : Stored) → slice_get ps x ≡ Some s →
+    node_at (nodes_with names ps) x ≡ node_from names s.name s.node
 node_at-stored names [] x s e = absurd (none-some s e)
 node_at-stored names (t ∷ ps) zero s e = ap (λ (u : Stored). node_from names u.name u.node) (same_Some t s e)
 node_at-stored names (t ∷ ps) (suc x) s e = node_at-stored names ps x s e
@@ -100,7 +107,8 @@ shows_node {f = f} {ps = ps} {lists = lists} {keys = keys} is kept x s node at =
         omega (arith, kept.paired)
 
 -- other lists, with the same nodes
-pub IsKept-lists : (a : Nodes Stored) (lists : List (List ℕ)) (keys : Owner → List ℕ) → IsKept a.payloads lists keys → IsSound a → IsKept a.payloads a.children keys
+pub IsKept-lists : (a : Nodes Stored) (lists : List (List ℕ)) (keys : Owner → List ℕ) → IsKept a.payloads lists keys → IsSound a →
+    IsKept a.payloads a.children keys
 IsKept-lists a lists keys kept sound = record {
   paired = sound.paired;
   forest = sound.forest;
@@ -114,7 +122,8 @@ IsKept-lists a lists keys kept sound = record {
 
 -- ---- the nodes above a node, in the lists and in the trees
 
-ancestors_nodes : (lists : List (List ℕ)) → IsForest lists → (d x a : ℕ) → length (ancestors_of lists x) ≤ d → contains (ancestors_of lists x) a ≡ true → a < length lists
+ancestors_nodes : (lists : List (List ℕ)) → IsForest lists → (d x a : ℕ) → length (ancestors_of lists x) ≤ d →
+    contains (ancestors_of lists x) a ≡ true → a < length lists
 ancestors_nodes lists forest zero x a deep found = elim (cases_Option (parent_of lists x)) [
   | inl e ↦ absurd (true≢false (sym (ap (λ ys. contains ys a) (sym (ancestors_of-root lists x e)) ∙ found)))
   | inr w ↦ absurd (omega (arith, ap (length {A = ℕ}) (ancestors_of-child lists forest x w.0 w.1)))
@@ -130,7 +139,8 @@ ancestors_nodes lists forest (suc d) x a deep found = elim (cases_Option (parent
       ]
 ]
 
-is_in-keys : (nodes : List Node) (lists : List (List ℕ)) → IsWhole nodes lists → (a : ℕ) → a < length lists → (ks : List ℕ) → ((k : ℕ) → contains ks k ≡ true → k < length lists) → is_in name_eq (name_of_key nodes a) (map (name_of_key nodes) ks) ≡ contains ks a
+is_in-keys : (nodes : List Node) (lists : List (List ℕ)) → IsWhole nodes lists → (a : ℕ) → a < length lists → (ks : List ℕ) →
+    ((k : ℕ) → contains ks k ≡ true → k < length lists) → is_in name_eq (name_of_key nodes a) (map (name_of_key nodes) ks) ≡ contains ks a
 is_in-keys nodes lists whole a node [] each = refl
 is_in-keys nodes lists whole a node (k ∷ ks) each =
     let here = name_of_key-eq nodes lists whole a k node (each k (contains-head k ks)) ∙ turned (eqb_tells a k) in
@@ -142,7 +152,8 @@ is_in-keys nodes lists whole a node (k ∷ ks) each =
     turned (inr h) = h.0 ∙ sym (ne_eqb k a (λ e. h.1 (sym e)))
 
 -- one node is another or above it, in the trees where in the lists
-pub above-at : (nodes : List Node) (lists : List (List ℕ)) → IsWhole nodes lists → (a x : ℕ) → a < length lists → x < length lists → is_inclusive_ancestor (trees_of nodes lists) (name_of_key nodes a) (name_of_key nodes x) ≡ contains (x ∷ ancestors_of lists x) a
+pub above-at : (nodes : List Node) (lists : List (List ℕ)) → IsWhole nodes lists → (a x : ℕ) → a < length lists → x < length lists →
+    is_inclusive_ancestor (trees_of nodes lists) (name_of_key nodes a) (name_of_key nodes x) ≡ contains (x ∷ ancestors_of lists x) a
 above-at nodes lists whole a x at_a at_x =
     ap (is_in name_eq (name_of_key nodes a)) (inclusive_ancestors-at nodes lists whole x at_x)
     ∙ is_in-keys nodes lists whole a at_a (x ∷ ancestors_of lists x) (λ k found. elim (or_cases (eqb x k) _ found) [
@@ -167,10 +178,13 @@ pub record LinkMeant (lists : List (List ℕ)) (parent child : ℕ) (before : Op
   pub not_above : contains (parent ∷ ancestors_of lists parent) child ≡ false
   pub before_is_child : (b : ℕ) → before ≡ Some b → contains (children_of lists parent) b ≡ true
 
-pub link_meant : (ps : List Stored) (lists : List (List ℕ)) (keys : Owner → List ℕ) → IsKept ps lists keys → (p c : ℕ) (before : Option ℕ) → LinkShown (seen ps lists) p c before → LinkMeant lists p c before
+pub link_meant : (ps : List Stored) (lists : List (List ℕ)) (keys : Owner → List ℕ) → IsKept ps lists keys → (p c : ℕ) (before : Option ℕ) →
+    LinkShown (seen ps lists) p c before → LinkMeant lists p c before
 link_meant ps lists keys kept p c before shown = record {
   unlinked = by (cases_Option (parent_of lists c));
-  not_above = sym (above-at nodes lists whole c p child_within parent_within_lists) ∙ (ap (λ y. is_inclusive_ancestor ts y (name_of_key nodes p)) (sym (name_at-same names ps c)) ∙ (ap (is_inclusive_ancestor ts (name_at names c)) (sym (name_at-same names ps p)) ∙ shown.not_above));
+  not_above = sym (above-at nodes lists whole c p child_within parent_within_lists) ∙
+      (ap (λ y. is_inclusive_ancestor ts y (name_of_key nodes p)) (sym (name_at-same names ps c)) ∙
+      (ap (is_inclusive_ancestor ts (name_at names c)) (sym (name_at-same names ps p)) ∙ shown.not_above));
   before_is_child = λ b e. child_of b e (cases_Option (parent_of lists b));
 }
   where
@@ -211,14 +225,17 @@ link_meant ps lists keys kept p c before shown = record {
         let child = contains-parent lists b w.0 w.1 in
         let q_within = parent_within lists w.0 b child in
         let same : name_of_key nodes w.0 ≡ name_of_key nodes p =
-        same_Some _ _ (sym (parent_shown b within ∙ ap (option_map (name_of_key nodes)) w.1) ∙ (shown.before_is_child b e ∙ ap Some (name_at-same names ps p))) in
-        let is : w.0 ≡ p = whole.named.distinct w.0 p (node_at nodes w.0) (node_at nodes p) (node_here nodes lists whole w.0 q_within) (node_here nodes lists whole p parent_within_lists) same in
+        same_Some _ _ (sym (parent_shown b within ∙ ap (option_map (name_of_key nodes)) w.1) ∙
+        (shown.before_is_child b e ∙ ap Some (name_at-same names ps p))) in
+        let is : w.0 ≡ p = whole.named.distinct w.0 p (node_at nodes w.0) (node_at nodes p) (node_here nodes lists whole w.0 q_within)
+        (node_here nodes lists whole p parent_within_lists) same in
         subst (λ (j : ℕ). contains (children_of lists j) b ≡ true) is child
 
 abbrev pub with_linked : NamedTrees → ℕ → ℕ → Option ℕ → NamedTrees
 with_linked f p c before = record f { trees = placed (name_at f.names c) (name_at f.names p) (option_map (name_at f.names) before) f.trees }
 
-pub seen-linked : (ps : List Stored) (lists : List (List ℕ)) (keys : Owner → List ℕ) → IsKept ps lists keys → (p c : ℕ) (before : Option ℕ) → LinkShown (seen ps lists) p c before
+pub seen-linked : (ps : List Stored) (lists : List (List ℕ)) (keys : Owner → List ℕ) → IsKept ps lists keys → (p c : ℕ) (before : Option ℕ) →
+    LinkShown (seen ps lists) p c before
     → IsForest (linked lists p c before) → seen ps (linked lists p c before) ≡ with_linked (seen ps lists) p c before
 seen-linked ps lists keys kept p c before shown after =
     ap (λ ts. record { names = names; trees = ts }) (trees_of-linked nodes lists p c before asked
@@ -266,22 +283,27 @@ seen-unlinked ps lists keys kept c node =
 
 -- ---- the answers
 
-pub kept_with : (old new : Nodes Stored) (keys : Owner → List ℕ) → IsKept old.payloads old.children keys → new.payloads ≡ old.payloads → IsSound new → IsKept new.payloads new.children keys
+pub kept_with : (old new : Nodes Stored) (keys : Owner → List ℕ) → IsKept old.payloads old.children keys → new.payloads ≡ old.payloads →
+    IsSound new → IsKept new.payloads new.children keys
 kept_with old new keys kept same sound =
     IsKept-lists new old.children keys (subst (λ (ps : List Stored). IsKept ps old.children keys) (sym same) kept) sound
 
-pub link_asked : (f : NamedTrees) (a : Nodes Stored) (keys : Owner → List ℕ) → seen a.payloads a.children ≡ f → IsKept a.payloads a.children keys → (p c : ℕ) (before : Option ℕ) → LinkShown f p c before → LinkMeant a.children p c before
+pub link_asked : (f : NamedTrees) (a : Nodes Stored) (keys : Owner → List ℕ) → seen a.payloads a.children ≡ f →
+    IsKept a.payloads a.children keys → (p c : ℕ) (before : Option ℕ) → LinkShown f p c before → LinkMeant a.children p c before
 link_asked f a keys is kept p c before shown =
     link_meant a.payloads a.children keys kept p c before (subst (λ (g : NamedTrees). LinkShown g p c before) (sym is) shown)
 
-pub link_done : (f : NamedTrees) (a b : Nodes Stored) (keys : Owner → List ℕ) → seen a.payloads a.children ≡ f → IsKept a.payloads a.children keys → (p c : ℕ) (before : Option ℕ) → LinkShown f p c before
+pub link_done : (f : NamedTrees) (a b : Nodes Stored) (keys : Owner → List ℕ) → seen a.payloads a.children ≡ f →
+    IsKept a.payloads a.children keys → (p c : ℕ) (before : Option ℕ) → LinkShown f p c before
     → b ≡ record a { children = linked a.children p c before } → IsSound b → seen b.payloads b.children ≡ with_linked f p c before
 link_done f a b keys is kept p c before shown e sound =
     ap (λ d. seen d.payloads d.children) e
-    ∙ (seen-linked a.payloads a.children keys kept p c before (subst (λ (g : NamedTrees). LinkShown g p c before) (sym is) shown) (subst (λ (d : Nodes Stored). IsForest d.children) e sound.forest)
+    ∙ (seen-linked a.payloads a.children keys kept p c before (subst (λ (g : NamedTrees). LinkShown g p c before) (sym is) shown)
+    (subst (λ (d : Nodes Stored). IsForest d.children) e sound.forest)
     ∙ ap (λ g. with_linked g p c before) is)
 
-pub unlink_done : (f : NamedTrees) (a b : Nodes Stored) (keys : Owner → List ℕ) → seen a.payloads a.children ≡ f → IsKept a.payloads a.children keys → (c : ℕ) → c < length f.names
+pub unlink_done : (f : NamedTrees) (a b : Nodes Stored) (keys : Owner → List ℕ) → seen a.payloads a.children ≡ f →
+    IsKept a.payloads a.children keys → (c : ℕ) → c < length f.names
     → b ≡ record a { children = map (without c) a.children } → seen b.payloads b.children ≡ with_unlinked f c
 unlink_done f a b keys is kept c node e =
     ap (λ d. seen d.payloads d.children) e

@@ -1,22 +1,24 @@
 pub mod Names
-pub mod Rows
+mod Rows
 pub mod Reach
-pub mod Roots
+mod Roots
 pub mod Changes
-pub mod Reading
-pub mod Kept
-pub mod Adding
-pub mod Setting
-pub mod Walks
-pub mod Children
-pub mod Placing
+mod Reading
+mod Kept
+mod Adding
+mod Setting
+mod Walks
+mod Children
+mod Placing
 pub mod Attributes
 pub mod Once
-pub mod Within
-pub mod Order
-pub mod Backward
+mod Within
+mod Order
+mod OrderWithin
+mod Backward
 pub mod Owned
-pub mod OwnChanges
-pub mod EachNode
-pub mod Ordered
-pub mod OwnNames
+mod OwnChanges
+pub mod OwnPlacings
+mod EachNode
+mod Ordered
+mod OwnNames

@@ -1,5 +1,6 @@
 -- Each node stands once in the trees, and no others stand there.
-use Rattle.std.proofs.Common.{◌≡◌, inl, inr, ℕ, zero, suc, ◌+◌, ◌<◌, ◌≤◌, Bool, true, false, ◌||◌, cond, eqb, List, [], ◌∷◌, ◌++◌, length, Option, Some, None, refl, sym, ap, subst, ◌∙◌, arith, true≢false}
+use Rattle.std.proofs.Common.{◌≡◌, inl, inr, ℕ, zero, suc, ◌+◌, ◌<◌, ◌≤◌, Bool, true, false, ◌||◌, cond, eqb, List, [], ◌∷◌, ◌++◌, length, Option}
+use Rattle.std.proofs.Common.{Some, None, refl, sym, ap, subst, ◌∙◌, arith, true≢false}
 use Rattle.std.specs.Prelude.{slice_get, filter, is_none, is_some}
 use Rattle.std.specs.List.{range_with_len, count_by}
 use Rattle.std.proofs.lemmas.Bool.{eqb-true, or_cases, or_parts, cases_Bool, false_from_ne_true}
@@ -107,12 +108,14 @@ times-root : (nodes : List Node) (lists : List (List ℕ)) (x : ℕ) → x < len
 times-root nodes lists x node e =
     let found = contains-passing nodes (is_root lists) (length lists) x node (is_root-none lists x e) in
     times-in_order nodes x (filter (is_root lists) (range_with_len 0 (length lists)))
-    ∙ times-once x (filter (is_root lists) (range_with_len 0 (length lists))) (IsOnce-filter (is_root lists) (range_with_len 0 (length lists)) (IsOnce-range 0 (length lists)))
+    ∙ times-once x (filter (is_root lists) (range_with_len 0 (length lists)))
+    (IsOnce-filter (is_root lists) (range_with_len 0 (length lists)) (IsOnce-range 0 (length lists)))
     (sym (contains-in_order nodes (filter (is_root lists) (range_with_len 0 (length lists))) x) ∙ found)
 
 times-child : (nodes : List Node) (lists : List (List ℕ)) (x p : ℕ) → parent_of lists x ≡ Some p → times x (root_keys nodes lists) ≡ 0
 times-child nodes lists x p e =
-    times-absent x (root_keys nodes lists) (false_from_ne_true _ (λ found. true≢false (sym ((passing-within nodes (is_root lists) (length lists) x found).1) ∙ ap is_none e)))
+    times-absent x (root_keys nodes lists)
+    (false_from_ne_true _ (λ found. true≢false (sym ((passing-within nodes (is_root lists) (length lists) x found).1) ∙ ap is_none e)))
 
 -- how often a name stands in trees
 pub times_in : Trees → NodeName → ℕ
@@ -125,10 +128,16 @@ times_in-none x = refl
 pub times_in-tree : (n : Node) (c r : Trees) (x : NodeName) → times_in (tree n c r) x ≡ one (name_eq n.name x) + (times_in c x + times_in r x)
 unfolding times_in
 times_in-tree n c r x =
-    omega (arith, count-cons (λ (m : Node). name_eq m.name x) n (nodes_in c ++ nodes_in r), count-append (λ (m : Node). name_eq m.name x) (nodes_in c) (nodes_in r))
+    omega (
+      arith,
+      count-cons (λ (m : Node). name_eq m.name x) n (nodes_in c ++ nodes_in r),
+      count-append (λ (m : Node). name_eq m.name x)
+          (nodes_in c) (nodes_in r),
+    )
 
 -- a node with a parent stands in trees as often as its parent does, besides where it is a root
-times_in-child : (nodes : List Node) (lists : List (List ℕ)) → IsNamed nodes → IsForest lists → (p x : ℕ) (q m : Node) → slice_get nodes p ≡ Some q → slice_get nodes x ≡ Some m
+times_in-child : (nodes : List Node) (lists : List (List ℕ)) → IsNamed nodes → IsForest lists → (p x : ℕ) (q m : Node) →
+    slice_get nodes p ≡ Some q → slice_get nodes x ≡ Some m
     → contains (children_of lists p) x ≡ true → (ts : Trees) (ks : List ℕ) → Stands nodes lists ts ks → times_in ts m.name ≡ times x ks + times_in ts q.name
 times_in-child nodes lists named forest p x q m at_p at_x child none [] s = omega (arith, times_in-none m.name, times_in-none q.name, times-nil x)
 times_in-child nodes lists named forest p x q m at_p at_x child none (k ∷ ks) s = absurd s
@@ -159,9 +168,11 @@ times_in-root nodes lists named x m at root (tree n c r) (k ∷ ks) s =
     let among = times-absent x (children_of lists k) (contains-no_parent lists x root k) in
     omega (arith, below, rest, tells, among, times_in-tree n c r m.name, times-cons x k ks)
 
-once-root : (nodes : List Node) (lists : List (List ℕ)) → IsWhole nodes lists → (x : ℕ) → x < length lists → parent_of lists x ≡ None → times_in (trees_of nodes lists) (name_of_key nodes x) ≡ 1
+once-root : (nodes : List Node) (lists : List (List ℕ)) → IsWhole nodes lists → (x : ℕ) → x < length lists → parent_of lists x ≡ None →
+    times_in (trees_of nodes lists) (name_of_key nodes x) ≡ 1
 once-root nodes lists whole x node e =
-    times_in-root nodes lists whole.named x (node_at nodes x) (node_here nodes lists whole x node) e (trees_of nodes lists) (root_keys nodes lists) (Stands-trees_of nodes lists whole)
+    times_in-root nodes lists whole.named x (node_at nodes x) (node_here nodes lists whole x node) e (trees_of nodes lists)
+    (root_keys nodes lists) (Stands-trees_of nodes lists whole)
     ∙ times-root nodes lists x node e
 
 once-child : (nodes : List Node) (lists : List (List ℕ)) → IsWhole nodes lists → (x p : ℕ) → x < length lists → parent_of lists x ≡ Some p
@@ -169,10 +180,12 @@ once-child : (nodes : List Node) (lists : List (List ℕ)) → IsWhole nodes lis
 once-child nodes lists whole x p node e above =
     let child = contains-parent lists x p e in
     let inside = parent_within lists p x child in
-    let more = times_in-child nodes lists whole.named whole.forest p x (node_at nodes p) (node_at nodes x) (node_here nodes lists whole p inside) (node_here nodes lists whole x node) child (trees_of nodes lists) (root_keys nodes lists) (Stands-trees_of nodes lists whole) in
+    let more = times_in-child nodes lists whole.named whole.forest p x (node_at nodes p) (node_at nodes x) (node_here nodes lists whole p inside)
+    (node_here nodes lists whole x node) child (trees_of nodes lists) (root_keys nodes lists) (Stands-trees_of nodes lists whole) in
     omega (arith, more, above, times-child nodes lists x p e)
 
-pub once-within : (nodes : List Node) (lists : List (List ℕ)) → IsWhole nodes lists → (d x : ℕ) → length (ancestors_of lists x) ≤ d → x < length lists → times_in (trees_of nodes lists) (name_of_key nodes x) ≡ 1
+pub once-within : (nodes : List Node) (lists : List (List ℕ)) → IsWhole nodes lists → (d x : ℕ) → length (ancestors_of lists x) ≤ d →
+    x < length lists → times_in (trees_of nodes lists) (name_of_key nodes x) ≡ 1
 once-within nodes lists whole zero x deep node = elim (cases_Option (parent_of lists x)) [
   | inl e ↦ once-root nodes lists whole x node e
   | inr w ↦ absurd (omega (arith, ap (length {A = ℕ}) (ancestors_of-child lists whole.forest x w.0 w.1)))
@@ -180,13 +193,16 @@ once-within nodes lists whole zero x deep node = elim (cases_Option (parent_of l
 once-within nodes lists whole (suc d) x deep node = elim (cases_Option (parent_of lists x)) [
   | inl e ↦ once-root nodes lists whole x node e
   | inr w ↦
-      once-child nodes lists whole x w.0 node w.1 (once-within nodes lists whole d w.0 (omega (arith, ap (length {A = ℕ}) (ancestors_of-child lists whole.forest x w.0 w.1))) (parent_within lists w.0 x (contains-parent lists x w.0 w.1)))
+      once-child nodes lists whole x w.0 node w.1
+      (once-within nodes lists whole d w.0 (omega (arith, ap (length {A = ℕ}) (ancestors_of-child lists whole.forest x w.0 w.1)))
+      (parent_within lists w.0 x (contains-parent lists x w.0 w.1)))
 ]
 
 -- the nodes in the trees are those of keys
 is_in-names : (x : NodeName) (ms ns : List Node) → is_in name_eq x (names_of (ms ++ ns)) ≡ (is_in name_eq x (names_of ms) || is_in name_eq x (names_of ns))
 is_in-names x [] ns = refl
-is_in-names x (m ∷ ms) ns = ap (λ b. name_eq x m.name || b) (is_in-names x ms ns) ∙ turned (name_eq x m.name) (is_in name_eq x (names_of ms)) (is_in name_eq x (names_of ns))
+is_in-names x (m ∷ ms) ns = ap (λ b. name_eq x m.name || b) (is_in-names x ms ns) ∙ turned (name_eq x m.name) (is_in name_eq x (names_of ms))
+    (is_in name_eq x (names_of ns))
   where
     turned : (a b c : Bool) → (a || (b || c)) ≡ ((a || b) || c)
     turned true b c = refl
@@ -195,7 +211,8 @@ is_in-names x (m ∷ ms) ns = ap (λ b. name_eq x m.name || b) (is_in-names x ms
 abbrev pub HasKey : List Node → NodeName → Type 0
 HasKey nodes x = (k : ℕ) × (n : Node) × (slice_get nodes k ≡ Some n) × (n.name ≡ x)
 
-only-Stands : (nodes : List Node) (lists : List (List ℕ)) (x : NodeName) (ts : Trees) (ks : List ℕ) → Stands nodes lists ts ks → is_in name_eq x (names_of (nodes_in ts)) ≡ true → HasKey nodes x
+only-Stands : (nodes : List Node) (lists : List (List ℕ)) (x : NodeName) (ts : Trees) (ks : List ℕ) → Stands nodes lists ts ks →
+    is_in name_eq x (names_of (nodes_in ts)) ≡ true → HasKey nodes x
 only-Stands nodes lists x none ks s found = absurd (true≢false (sym found))
 only-Stands nodes lists x (tree n c r) [] s found = absurd s
 only-Stands nodes lists x (tree n c r) (k ∷ ks) s found = elim (or_cases (name_eq x n.name) _ found) [
@@ -226,7 +243,8 @@ pub shows_only : {f : NamedTrees} {ps : List Stored} {lists : List (List ℕ)} {
     → (x : NodeName) → has_node f.trees x ≡ true → (k : ℕ) × (slice_get f.names k ≡ Some x)
 shows_only {f = f} {ps = ps} {lists = lists} {keys = keys} is kept x found =
     let whole = IsWhole-kept kept in
-    let key = only-Stands (nodes_of ps) lists x (trees_of (nodes_of ps) lists) (root_keys (nodes_of ps) lists) (Stands-trees_of (nodes_of ps) lists whole) (ap (λ (g : NamedTrees). has_node g.trees x) is ∙ found) in
+    let key = only-Stands (nodes_of ps) lists x (trees_of (nodes_of ps) lists) (root_keys (nodes_of ps) lists)
+    (Stands-trees_of (nodes_of ps) lists whole) (ap (λ (g : NamedTrees). has_node g.trees x) is ∙ found) in
     (key.0, ap (λ (g : NamedTrees). slice_get g.names key.0) (sym is) ∙ (slice_get-names (stored_names ps) ps key.0 key.1 key.2 ∙ ap Some key.3))
 
 pub shows_there : {f : NamedTrees} {ps : List Stored} {lists : List (List ℕ)} {keys : Owner → List ℕ} → seen ps lists ≡ f → IsKept ps lists keys
@@ -235,11 +253,13 @@ shows_there {f = f} {ps = ps} {lists = lists} {keys = keys} is kept k node =
     let inside = within is kept k node in
     subst (λ (g : NamedTrees). has_node g.trees (name_at g.names k) ≡ true) is
     (ap (has_node (trees_of (nodes_of ps) lists)) (name_at-same (stored_names ps) ps k)
-    ∙ (has_node-reaches (trees_of (nodes_of ps) lists) (name_of_key (nodes_of ps) k) ∙ reached (nodes_of ps) lists (IsWhole-kept kept) k (omega (arith, kept.paired))))
+    ∙ (has_node-reaches (trees_of (nodes_of ps) lists) (name_of_key (nodes_of ps) k) ∙ reached (nodes_of ps) lists (IsWhole-kept kept) k
+    (omega (arith, kept.paired))))
 
 -- what is found is there
 pub shows_present : {f : NamedTrees} {ps : List Stored} {lists : List (List ℕ)} {keys : Owner → List ℕ} → seen ps lists ≡ f → IsKept ps lists keys
-    → (x : NodeName) (r : Option ℕ) → ((k : ℕ) → slice_get f.names k ≡ Some x → r ≡ Some k) → ForSome r (λ k. slice_get f.names k ≡ Some x) → is_some r ≡ has_node f.trees x
+    → (x : NodeName) (r : Option ℕ) → ((k : ℕ) → slice_get f.names k ≡ Some x → r ≡ Some k) → ForSome r (λ k. slice_get f.names k ≡ Some x) →
+    is_some r ≡ has_node f.trees x
 shows_present {f = f} {ps = ps} {lists = lists} {keys = keys} is kept x None all found = sym (false_from_ne_true _ (λ there.
     let key = shows_only is kept x there in
     none-some key.0 (all key.0 key.1)))

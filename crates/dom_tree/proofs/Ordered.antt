@@ -28,9 +28,12 @@ unfolding trees_on
 no_trees nodes lists = tt
 
 -- trees with these roots, put in order
-in_order-trees : (nodes : List Node) (lists : List (List ℕ)) → IsWhole nodes lists → (ks : List ℕ) → Each (λ k. k < length lists) ks → AreInOrder (trees_on nodes lists (in_order nodes ks))
+in_order-trees : (nodes : List Node) (lists : List (List ℕ)) → IsWhole nodes lists → (ks : List ℕ) → Each (λ k. k < length lists) ks →
+    AreInOrder (trees_on nodes lists (in_order nodes ks))
 in_order-trees nodes lists whole [] each = no_trees nodes lists
-in_order-trees nodes lists whole (k ∷ ks) each = subst AreInOrder (sym same) (AreInOrder-put_root (name_of_key nodes k) new rest (one_alone nodes lists k) (in_order-trees nodes lists whole ks later))
+in_order-trees nodes lists whole (k ∷ ks) each =
+    subst AreInOrder (sym same) (AreInOrder-put_root (name_of_key nodes k) new rest (one_alone nodes lists k)
+    (in_order-trees nodes lists whole ks later))
   where
     new : Trees
     new = trees_on nodes lists (k ∷ [])
@@ -46,14 +49,17 @@ in_order-trees nodes lists whole (k ∷ ks) each = subst AreInOrder (sym same) (
     head j (inr e) = absurd (true≢false (sym e))
 
     stands : (js : List ℕ) → Each (λ j. j < length lists) js → Stands nodes lists (trees_on nodes lists (in_order nodes js)) (in_order nodes js)
-    stands js within = Stands-trees_on nodes lists whole.forest whole.paired (in_order nodes js) (λ j found. within j (sym (contains-in_order nodes js j) ∙ found))
+    stands js within = Stands-trees_on nodes lists whole.forest whole.paired (in_order nodes js)
+        (λ j found. within j (sym (contains-in_order nodes js j) ∙ found))
 
     same : trees_on nodes lists (in_order nodes (k ∷ ks)) ≡ put_root (name_of_key nodes k) new rest
     same = Stands-one nodes lists _ _ (in_order nodes (k ∷ ks)) (stands (k ∷ ks) each)
         (Stands-put_root nodes lists new k (stands (k ∷ []) (λ j found. head j (or_cases (eqb k j) false found))) rest (in_order nodes ks) (stands ks later))
 
 -- so the roots of a forest are
-pub shows_order : {f : NamedTrees} {ps : List Stored} {lists : List (List ℕ)} {keys : Owner → List ℕ} → seen ps lists ≡ f → IsKept ps lists keys → AreInOrder f.trees
+pub shows_order : {f : NamedTrees} {ps : List Stored} {lists : List (List ℕ)} {keys : Owner → List ℕ} → seen ps lists ≡ f → IsKept ps lists keys →
+    AreInOrder f.trees
 shows_order {f = f} {ps = ps} {lists = lists} {keys = keys} is kept =
     subst (λ (g : NamedTrees). AreInOrder g.trees) is
-    (in_order-trees (nodes_of ps) lists (IsWhole-kept kept) (filter (is_root lists) (range_with_len 0 (length lists))) (passing_range (is_root lists) (length lists)))
+    (in_order-trees (nodes_of ps) lists (IsWhole-kept kept) (filter (is_root lists) (range_with_len 0 (length lists)))
+    (passing_range (is_root lists) (length lists)))

@@ -20,7 +20,8 @@ text_turned (a ∷ x) (b ∷ y) = ap (λ t. t && text_eq x y) (nat_turned a b) �
 
 module _ {K V : Type 0} (text_of : K → List ℕ) (items_of : V → List ℕ) (eq : K → K → Bool) (same : (x y : K) → eq x y ≡ bytes_eq (text_of x) (text_of y)) where
   -- keys that differ from one
-  other_names : (k : K) (es : List (K × V)) → AllByRecursion (λ y. eq k y ≡ false) (map (λ e. e.0) es) → AllByRecursion (λ (c : Attribute). text_eq c.name (text_of k) ≡ false) (attributes_in text_of items_of es)
+  other_names : (k : K) (es : List (K × V)) → AllByRecursion (λ y. eq k y ≡ false) (map (λ e. e.0) es) →
+      AllByRecursion (λ (c : Attribute). text_eq c.name (text_of k) ≡ false) (attributes_in text_of items_of es)
   other_names k [] h = tt
   other_names k (e ∷ es) h = (text_turned (text_of e.0) (text_of k) ∙ (sym (same k e.0 ∙ text_test (text_of k) (text_of e.0)) ∙ h.0), other_names k es h.1)
 

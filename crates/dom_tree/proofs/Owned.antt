@@ -1,5 +1,6 @@
 -- An owner's own trees: what they hold, and that reads of an owner's nodes are reads of its own trees.
-use Rattle.std.proofs.Common.{◌≡◌, inl, inr, Bool, true, false, not, cond, ◌||◌, List, [], ◌∷◌, ◌++◌, drop, Option, Some, None, unwrap_or, refl, sym, ap, subst, ◌∙◌, true≢false}
+use Rattle.std.proofs.Common.{◌≡◌, inl, inr, Bool, true, false, not, cond, ◌||◌, List, [], ◌∷◌, ◌++◌, drop, Option, Some, None, unwrap_or, refl, sym}
+use Rattle.std.proofs.Common.{ap, subst, ◌∙◌, true≢false}
 use Rattle.std.specs.Prelude.{find, length}
 use Rattle.std.specs.List.{AllByRecursion, last_or}
 use Rattle.std.specs.Option.{ForSome, option_map_or, option_or}
@@ -10,7 +11,9 @@ use Rattle.std.proofs.lemmas.List.Folds.{find-append}
 use Rattle.dom_base.specs.declared.Owner.{Owner}
 use Rattle.dom_base.specs.declared.NodeName.{NodeName}
 use Rattle.dom_model.specs.Names.{owner_eq, name_eq, is_in, first_of, last_of, items_before, items_after}
-use Rattle.dom_model.specs.Tree.{Trees, none, tree, Node, nodes, roots, names_of, node_in, no_node, kind_of, attribute_value, subtree, or_else, trees_below, on_top, inclusive_ancestors, is_inclusive_ancestor, inclusive_descendants, child_nodes, children_of, parent_of, siblings, has_data}
+use Rattle.dom_model.specs.Tree.{Trees, none, tree, Node, nodes, roots, names_of, node_in, no_node, kind_of, attribute_value, subtree, or_else}
+use Rattle.dom_model.specs.Tree.{trees_below, on_top, inclusive_ancestors, is_inclusive_ancestor, inclusive_descendants, child_nodes, children_of}
+use Rattle.dom_model.specs.Tree.{parent_of, siblings, has_data}
 use Rattle.dom_model.specs.Validity.{first_refusal, placing_tests, has_parent, without_given, breaks_document, insertion_refusal, replacement_refusal}
 use Rattle.dom_model.proofs.OwnerLaws.{owner_eq-true}
 use Rattle.dom_tree.specs.Owners.{trees_of_owner, AreOf, HaveOwners, NoneBefore, AreInOrder, AreOwned, IsReadOwn, StaysOwn}
@@ -80,7 +83,8 @@ path-own : (o : Owner) (x : NodeName) → x.owner ≡ o → (ts : Trees) → Hav
 path-own o x is none have = refl
 path-own o x is (tree n c r) have = elim (cases_Bool (owner_eq n.name.owner o)) [
   | inl e ↦ rw e (ap (λ t. cond (name_eq n.name x) (x ∷ []) (on_top (inclusive_ancestors c x) n.name t)) (path-own o x is r have.1))
-  | inr e ↦ rw (e, name_apart o n.name.owner e x n.name is refl, inclusive_ancestors-none c x (reaches-apart o n.name.owner e x is c have.0)) (path-own o x is r have.1)
+  | inr e ↦ rw (e, name_apart o n.name.owner e x n.name is refl, inclusive_ancestors-none c x (reaches-apart o n.name.owner e x is c have.0))
+      (path-own o x is r have.1)
 ]
 
 -- the node of a name
@@ -91,9 +95,11 @@ find-own o x is (tree n c r) have =
     let p : Node → Bool = λ y. name_eq y.name x in
     let split = find-append p (nodes c) in
     elim (cases_Bool (owner_eq n.name.owner o)) [
-      | inl e ↦ rw e (ap (λ t. cond (p n) (Some n) t) (split (nodes r) ∙ (ap (option_or (find p (nodes c))) (find-own o x is r have.1) ∙ sym (split (nodes (trees_of_owner o r))))))
+      | inl e ↦ rw e (ap (λ t. cond (p n) (Some n) t)
+          (split (nodes r) ∙ (ap (option_or (find p (nodes c))) (find-own o x is r have.1) ∙ sym (split (nodes (trees_of_owner o r))))))
       | inr e ↦ rw (e, name_apart o n.name.owner e x n.name is refl)
-          (split (nodes r) ∙ (ap (λ t. option_or t (find p (nodes r))) (find-none c x (reaches-apart o n.name.owner e x is c have.0)) ∙ find-own o x is r have.1))
+          (split (nodes r) ∙ (ap (λ t. option_or t (find p (nodes r))) (find-none c x (reaches-apart o n.name.owner e x is c have.0)) ∙
+          find-own o x is r have.1))
     ]
 
 -- whether a name has a node
@@ -134,7 +140,8 @@ AllOf-drop o [] all = tt
 AllOf-drop o (y ∷ ys) all = all.1
 
 -- so is the last
-AllOf-last : (o : Owner) (q : Option NodeName) (x : NodeName) (ys : List NodeName) → (unwrap_or q x).owner ≡ o → AllOf o ys → (unwrap_or (last_or q ys) x).owner ≡ o
+AllOf-last : (o : Owner) (q : Option NodeName) (x : NodeName) (ys : List NodeName) → (unwrap_or q x).owner ≡ o → AllOf o ys →
+    (unwrap_or (last_or q ys) x).owner ≡ o
 AllOf-last o q x [] is all = is
 AllOf-last o q x (y ∷ ys) is all = AllOf-last o (Some y) x ys all.0 all.1
 
@@ -246,7 +253,8 @@ read_own ts owned o x is = record {
     children = ap (λ vs. names_of (roots (trees_below vs))) alone
 
     siblings_same : siblings ts x ≡ siblings us x
-    siblings_same = siblings-own o ts owned.owners x (parent_of ts x) (stays_own ts owned o x is).parent ∙ ap (λ q. option_map_or (children_of us) q (x ∷ [])) parent
+    siblings_same = siblings-own o ts owned.owners x (parent_of ts x) (stays_own ts owned o x is).parent ∙
+        ap (λ q. option_map_or (children_of us) q (x ∷ [])) parent
 
 -- ---- validity
 
@@ -264,7 +272,8 @@ placing-own ts owned o parent node is_lost others of_parent of_node =
     cc
 
 -- whether an owner's node has a parent
-has_parent-own : (ts : Trees) → AreOwned ts → (o : Owner) (parent x : NodeName) → x.owner ≡ o → has_parent ts parent x ≡ has_parent (trees_of_owner o ts) parent x
+has_parent-own : (ts : Trees) → AreOwned ts → (o : Owner) (parent x : NodeName) → x.owner ≡ o →
+    has_parent ts parent x ≡ has_parent (trees_of_owner o ts) parent x
 has_parent-own ts owned o parent x is = ap (λ q. option_map_or (name_eq parent) q false) (read_own ts owned o x is).parent
 
 -- the refusal of an insertion among an owner's nodes
@@ -295,4 +304,5 @@ replacement_own ts owned o parent node child of_parent of_node of_child =
     let others : Trees → List Node = λ vs. without_given (Some child) (child_nodes vs parent) in
     ap first_refusal (placing-own ts owned o parent node (not (has_parent ts parent child)) (others ts) of_parent of_node
     ∙ (ap (λ b. placing_tests us parent node (not b) (others ts)) (has_parent-own ts owned o parent child of_child)
-    ∙ ap (λ ns. placing_tests us parent node (not (has_parent us parent child)) (without_given (Some child) ns)) (read_own ts owned o parent of_parent).child_list))
+    ∙ ap (λ ns. placing_tests us parent node (not (has_parent us parent child)) (without_given (Some child) ns))
+    (read_own ts owned o parent of_parent).child_list))

@@ -1,5 +1,6 @@
 -- The tests for an insertion and a replacement.
-use Rattle.std.proofs.Common.{◌≡◌, ◌≢◌, ◌⊎◌, inl, inr, ℕ, ◌<◌, ◌≤◌, Bool, true, false, not, ◌&&◌, ◌||◌, eqb, List, [], ◌∷◌, length, Option, Some, None, refl, sym, ap, subst, ◌∙◌, arith}
+use Rattle.std.proofs.Common.{◌≡◌, ◌≢◌, ◌⊎◌, inl, inr, ℕ, ◌<◌, ◌≤◌, Bool, true, false, not, ◌&&◌, ◌||◌, eqb, List, [], ◌∷◌, length, Option, Some}
+use Rattle.std.proofs.Common.{None, refl, sym, ap, subst, ◌∙◌, arith}
 use Rattle.std.specs.Prelude.{nat_lt, nat_eq}
 use Rattle.std.specs.Option.{option_map, option_map_or, option_eq}
 use Rattle.std.proofs.lemmas.Bool.{lt-ltb, le-ltb, eq-eqb, ne_eqb}
@@ -23,7 +24,8 @@ without_given-none (n ∷ ns) = ap (λ rest. n ∷ rest) (without_given-none ns)
 
 -- a fragment without a Text that goes among the children of a document, by the number n of its elements
 module _ (f : NamedTrees) (parent node : ℕ) (replaced : Option ℕ) (n : ℕ) (fragment : true ≡ is_fragment (kind_of f.trees (name_at f.names node)))
-    (no_text : false ≡ has_text (child_nodes f.trees (name_at f.names node))) (counted : n ≡ element_count (without_given None (child_nodes f.trees (name_at f.names node)))) where
+    (no_text : false ≡ has_text (child_nodes f.trees (name_at f.names node)))
+    (counted : n ≡ element_count (without_given None (child_nodes f.trees (name_at f.names node)))) where
   abbrev others : List Node
   others = without_given (option_map (name_at f.names) replaced) (child_nodes f.trees (name_at f.names parent))
 
@@ -70,6 +72,7 @@ pub lost_test : {f : NamedTrees} {ps : List Stored} {lists : List (List ℕ)} {k
 lost_test {f = f} {ps = ps} {lists = lists} {keys = keys} is kept p x r at_p at_x found inside =
     ap not (by r inside ∙ ap (λ o. option_map_or (name_eq (name_at f.names p)) o false) (shows is kept parent_in parent_of parent_in-at x r at_x found))
   where
-    by : (o : Option ℕ) → ((q : ℕ) → o ≡ Some q → q < length f.names) → option_eq KeyImpl.ghosts.eq o (Some p) ≡ option_map_or (name_eq (name_at f.names p)) (option_map (name_at f.names) o) false
+    by : (o : Option ℕ) → ((q : ℕ) → o ≡ Some q → q < length f.names) →
+        option_eq KeyImpl.ghosts.eq o (Some p) ≡ option_map_or (name_eq (name_at f.names p)) (option_map (name_at f.names) o) false
     by None inside' = refl
     by (Some q) inside' = sym (names_tell is kept p q at_p (inside' q refl))

@@ -1,5 +1,6 @@
 -- Each node of a forest is found in the trees, with what is above and below it.
-use Rattle.std.proofs.Common.{◌≡◌, inl, inr, ℕ, zero, suc, ◌<◌, ◌≤◌, Bool, true, false, ◌||◌, eqb, List, [], ◌∷◌, ◌++◌, map, length, Some, None, refl, sym, ap, subst, ◌∙◌, arith, true≢false, append_assoc}
+use Rattle.std.proofs.Common.{◌≡◌, inl, inr, ℕ, zero, suc, ◌<◌, ◌≤◌, Bool, true, false, ◌||◌, eqb, List, [], ◌∷◌, ◌++◌, map, length, Some, None, refl}
+use Rattle.std.proofs.Common.{sym, ap, subst, ◌∙◌, arith, true≢false, append_assoc}
 use Rattle.std.specs.Prelude.{slice_get, find}
 use Rattle.std.proofs.lemmas.Bool.{both_ways, or_cases, or_parts, or_left, or_right, cases_Bool}
 use Rattle.std.proofs.lemmas.Bool.Decides.{eqb_tells}
@@ -41,7 +42,8 @@ reaches-root nodes lists named x m at (tree n c r) (k ∷ ks) s found = elim (or
   | inr h ↦ or_right (name_eq n.name m.name) _ (or_right (reaches c m.name) _ (reaches-root nodes lists named x m at r ks s.2 h))
 ]
 
-pub reaches-child : (nodes : List Node) (lists : List (List ℕ)) → IsNamed nodes → (p x : ℕ) (q m : Node) → slice_get nodes p ≡ Some q → slice_get nodes x ≡ Some m
+pub reaches-child : (nodes : List Node) (lists : List (List ℕ)) → IsNamed nodes → (p x : ℕ) (q m : Node) → slice_get nodes p ≡ Some q →
+    slice_get nodes x ≡ Some m
     → contains (children_of lists p) x ≡ true → (ts : Trees) (ks : List ℕ) → Stands nodes lists ts ks → reaches ts q.name ≡ true → reaches ts m.name ≡ true
 reaches-child nodes lists named p x q m at_p at_x child none ks s found = absurd (true≢false (sym found))
 reaches-child nodes lists named p x q m at_p at_x child (tree n c r) [] s found = absurd s
@@ -49,17 +51,21 @@ reaches-child nodes lists named p x q m at_p at_x child (tree n c r) (k ∷ ks) 
     let tells : name_eq n.name q.name ≡ eqb k p = same_name nodes named k p n q s.0 at_p in
     elim (or_cases (name_eq n.name q.name) _ found) [
       | inl h ↦ elim (eqb_tells k p) [
-        | inl e ↦ or_right (name_eq n.name m.name) _ (or_left (reaches c m.name) _ (reaches-root nodes lists named x m at_x c (children_of lists k) s.1 (ap (λ j. contains (children_of lists j) x) e.1 ∙ child)))
+        | inl e ↦ or_right (name_eq n.name m.name) _
+            (or_left (reaches c m.name) _
+            (reaches-root nodes lists named x m at_x c (children_of lists k) s.1 (ap (λ j. contains (children_of lists j) x) e.1 ∙ child)))
         | inr e ↦ absurd (both_ways (name_eq n.name q.name) (tells ∙ e.0) h)
       ]
       | inr h ↦ elim (or_cases (reaches c q.name) (reaches r q.name) h) [
-        | inl i ↦ or_right (name_eq n.name m.name) _ (or_left (reaches c m.name) _ (reaches-child nodes lists named p x q m at_p at_x child c (children_of lists k) s.1 i))
+        | inl i ↦ or_right (name_eq n.name m.name) _
+            (or_left (reaches c m.name) _ (reaches-child nodes lists named p x q m at_p at_x child c (children_of lists k) s.1 i))
         | inr i ↦ or_right (name_eq n.name m.name) _ (or_right (reaches c m.name) _ (reaches-child nodes lists named p x q m at_p at_x child r ks s.2 i))
       ]
     ]
 
 -- all nodes of a forest are reached from its roots
-reaches-within : (nodes : List Node) (lists : List (List ℕ)) → IsNamed nodes → IsForest lists → length nodes ≡ length lists → (ts : Trees) (ks : List ℕ) → Stands nodes lists ts ks
+reaches-within : (nodes : List Node) (lists : List (List ℕ)) → IsNamed nodes → IsForest lists → length nodes ≡ length lists →
+    (ts : Trees) (ks : List ℕ) → Stands nodes lists ts ks
     → ((k : ℕ) → k < length lists → parent_of lists k ≡ None → contains ks k ≡ true)
     → (d x : ℕ) → length (ancestors_of lists x) ≤ d → x < length lists → reaches ts (name_of_key nodes x) ≡ true
 reaches-within nodes lists named forest paired ts ks s all zero x deep node = elim (cases_Option (parent_of lists x)) [
@@ -72,11 +78,13 @@ reaches-within nodes lists named forest paired ts ks s all (suc d) x deep node =
       let p = w.0 in
       let child = contains-parent lists x p w.1 in
       let within : p < length lists = parent_within lists p x child in
-      reaches-child nodes lists named p x (node_at nodes p) (node_at nodes x) (slice_get-get_or nodes p _ (omega arith)) (slice_get-get_or nodes x _ (omega arith)) child ts ks s
+      reaches-child nodes lists named p x (node_at nodes p) (node_at nodes x) (slice_get-get_or nodes p _ (omega arith))
+      (slice_get-get_or nodes x _ (omega arith)) child ts ks s
       (reaches-within nodes lists named forest paired ts ks s all d p (omega (arith, ap (length {A = ℕ}) (ancestors_of-child lists forest x p w.1))) within)
 ]
 
-pub reaches-all : (nodes : List Node) (lists : List (List ℕ)) → IsNamed nodes → IsForest lists → length nodes ≡ length lists → (ts : Trees) (ks : List ℕ) → Stands nodes lists ts ks
+pub reaches-all : (nodes : List Node) (lists : List (List ℕ)) → IsNamed nodes → IsForest lists → length nodes ≡ length lists →
+    (ts : Trees) (ks : List ℕ) → Stands nodes lists ts ks
     → ((k : ℕ) → k < length lists → parent_of lists k ≡ None → contains ks k ≡ true) → (x : ℕ) → x < length lists → reaches ts (name_of_key nodes x) ≡ true
 reaches-all nodes lists named forest paired ts ks s all x node =
     reaches-within nodes lists named forest paired ts ks s all (length (ancestors_of lists x)) x (omega arith) node
@@ -134,10 +142,18 @@ inclusive_ancestors-from nodes lists named forest x m at (tree n c r) (k ∷ ks)
           rw off (elim (cases_Bool (reaches c m.name)) [
             | inl h ↦
                 let below = inclusive_ancestors-from nodes lists named forest x m at c (children_of lists k) (k ∷ up) s.1
-                (λ j child. ancestors_of-child lists forest j k (parent_of_is lists forest.one_list k j child) ∙ ap (λ ys. k ∷ ys) (above k (contains-head k ks))) h in
+                (λ j child. ancestors_of-child lists forest j k (parent_of_is lists forest.one_list k j child) ∙
+                ap (λ ys. k ∷ ys) (above k (contains-head k ks))) h in
                 let is : name_of_key nodes k ≡ n.name = ap (λ (y : Node). y.name) (get_or_from_slice_get nodes k n _ s.0) in
-                rw below.1 (below.0 ++ n.name ∷ [], refl, append_assoc below.0 (n.name ∷ []) (map (name_of_key nodes) up) ∙ (ap (λ z. below.0 ++ z ∷ map (name_of_key nodes) up) (sym is) ∙ below.2))
-            | inr h ↦ rw (inclusive_ancestors-none c m.name h) (inclusive_ancestors-from nodes lists named forest x m at r ks up s.2 (λ j found_j. above j (or_right (eqb k j) (contains ks j) found_j)) (rw (off, h) at found))
+                rw below.1 (
+                  below.0 ++ n.name ∷ [],
+                  refl,
+                  append_assoc below.0 (n.name ∷ []) (map (name_of_key nodes) up) ∙
+                      (ap (λ z. below.0 ++ z ∷ map (name_of_key nodes) up) (sym is) ∙ below.2),
+                )
+            | inr h ↦ rw (inclusive_ancestors-none c m.name h)
+                (inclusive_ancestors-from nodes lists named forest x m at r ks up s.2
+                (λ j found_j. above j (or_right (eqb k j) (contains ks j) found_j)) (rw (off, h) at found))
           ])
     ]
 
@@ -174,8 +190,10 @@ find-reached nodes lists named x m at (tree n c r) (k ∷ ks) s found =
       | inr e ↦
           let off : name_eq n.name m.name ≡ false = tells ∙ e.0 in
           rw off (elim (cases_Bool (reaches c m.name)) [
-            | inl h ↦ find-append_some (λ y. name_eq y.name m.name) (nodes_in c) (nodes_in r) m (find-reached nodes lists named x m at c (children_of lists k) s.1 h)
-            | inr h ↦ find-append_none (λ y. name_eq y.name m.name) (nodes_in c) (nodes_in r) (find-none c m.name h) ∙ find-reached nodes lists named x m at r ks s.2 (rw (off, h) at found)
+            | inl h ↦ find-append_some (λ y. name_eq y.name m.name) (nodes_in c) (nodes_in r) m
+                (find-reached nodes lists named x m at c (children_of lists k) s.1 h)
+            | inr h ↦ find-append_none (λ y. name_eq y.name m.name) (nodes_in c) (nodes_in r) (find-none c m.name h) ∙
+                find-reached nodes lists named x m at r ks s.2 (rw (off, h) at found)
           ])
     ]
 
@@ -190,6 +208,7 @@ roots-Stands nodes lists (tree n c r) (k ∷ ks) s =
     cc
 
 -- the children of a node that is reached
-pub trees_below-Stands : (nodes : List Node) (lists : List (List ℕ)) (ts : Trees) (x : ℕ) → Stands nodes lists ts (x ∷ []) → Stands nodes lists (trees_below ts) (children_of lists x)
+pub trees_below-Stands : (nodes : List Node) (lists : List (List ℕ)) (ts : Trees) (x : ℕ) → Stands nodes lists ts (x ∷ []) →
+    Stands nodes lists (trees_below ts) (children_of lists x)
 trees_below-Stands nodes lists none x s = absurd s
 trees_below-Stands nodes lists (tree n c r) x s = s.1

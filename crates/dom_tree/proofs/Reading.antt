@@ -8,8 +8,10 @@ use Rattle.std.proofs.lemmas.Bool.Decides.{eqb_tells}
 use Rattle.std.proofs.lemmas.List.{append-nil}
 use Rattle.dom_base.specs.declared.NodeName.{NodeName}
 use Rattle.dom_model.specs.Names.{name_eq, first_of, last_of, items_before, items_after}
-use Rattle.dom_model.specs.Tree.{Node, names_of, trees_below, subtree, node_in, no_node, children_of as children_in, inclusive_ancestors, parent_of as parent_in, siblings, next_sibling, previous_sibling}
-use Rattle.node_arena.specs.Nodes.{children_of, contains, parent_of, ancestors_of, head_of, last_from, last_of as last_key, next_in, next_of, prev_from, prev_in, prev_of}
+use Rattle.dom_model.specs.Tree.{Node, names_of, trees_below, subtree, node_in, no_node, children_of as children_in, inclusive_ancestors}
+use Rattle.dom_model.specs.Tree.{parent_of as parent_in, siblings, next_sibling, previous_sibling}
+use Rattle.node_arena.specs.Nodes.{children_of, contains, parent_of, ancestors_of, head_of, last_from, last_of as last_key, next_in, next_of}
+use Rattle.node_arena.specs.Nodes.{prev_from, prev_in, prev_of}
 use Rattle.node_arena.proofs.Forests.{cases_Option, contains-parent, parent_within, ancestors_of-child, ancestors_of-root}
 use Rattle.node_arena.proofs.Lists.{contains-head}
 use Rattle.dom_tree.specs.Rows.{node_at, root_keys, is_root, trees_of}
@@ -25,7 +27,8 @@ is_none_from None e = refl
 is_none_from (Some x) e = absurd (true≢false (sym e))
 
 -- names of keys tell them apart
-pub name_of_key-eq : (nodes : List Node) (lists : List (List ℕ)) → IsWhole nodes lists → (j k : ℕ) → j < length lists → k < length lists → name_eq (name_of_key nodes j) (name_of_key nodes k) ≡ eqb j k
+pub name_of_key-eq : (nodes : List Node) (lists : List (List ℕ)) → IsWhole nodes lists → (j k : ℕ) → j < length lists → k < length lists →
+    name_eq (name_of_key nodes j) (name_of_key nodes k) ≡ eqb j k
 name_of_key-eq nodes lists whole j k at_j at_k =
     same_name nodes whole.named j k (node_at nodes j) (node_at nodes k) (node_here nodes lists whole j at_j) (node_here nodes lists whole k at_k)
 
@@ -41,51 +44,65 @@ last_or-map f before (k ∷ ks) = last_or-map f (Some k) ks
 
 -- ---- the reads
 
-pub node_in-at : (nodes : List Node) (lists : List (List ℕ)) → IsWhole nodes lists → (x : ℕ) → x < length lists → node_in (trees_of nodes lists) (name_of_key nodes x) ≡ node_at nodes x
+pub node_in-at : (nodes : List Node) (lists : List (List ℕ)) → IsWhole nodes lists → (x : ℕ) → x < length lists →
+    node_in (trees_of nodes lists) (name_of_key nodes x) ≡ node_at nodes x
 node_in-at nodes lists whole x node =
     ap (λ o. unwrap_or o (no_node (name_of_key nodes x)))
-    (find-reached nodes lists whole.named x (node_at nodes x) (node_here nodes lists whole x node) (trees_of nodes lists) (root_keys nodes lists) (Stands-trees_of nodes lists whole) (reached nodes lists whole x node))
+    (find-reached nodes lists whole.named x (node_at nodes x) (node_here nodes lists whole x node) (trees_of nodes lists) (root_keys nodes lists)
+    (Stands-trees_of nodes lists whole) (reached nodes lists whole x node))
 
 map-map : (f : ℕ → Node) (g : Node → NodeName) (ks : List ℕ) → map g (map f ks) ≡ map (λ k. g (f k)) ks
 map-map f g [] = refl
 map-map f g (k ∷ ks) = ap (λ ys. g (f k) ∷ ys) (map-map f g ks)
 
-pub children_in-at : (nodes : List Node) (lists : List (List ℕ)) → IsWhole nodes lists → (x : ℕ) → x < length lists → children_in (trees_of nodes lists) (name_of_key nodes x) ≡ map (name_of_key nodes) (children_of lists x)
+pub children_in-at : (nodes : List Node) (lists : List (List ℕ)) → IsWhole nodes lists → (x : ℕ) → x < length lists →
+    children_in (trees_of nodes lists) (name_of_key nodes x) ≡ map (name_of_key nodes) (children_of lists x)
 children_in-at nodes lists whole x node =
     let below = trees_below-Stands nodes lists (subtree (trees_of nodes lists) (name_of_key nodes x)) x (subtree_here nodes lists whole x node) in
     ap names_of (roots-Stands nodes lists (trees_below (subtree (trees_of nodes lists) (name_of_key nodes x))) (children_of lists x) below)
     ∙ map-map (node_at nodes) (λ n. n.name) (children_of lists x)
 
-pub inclusive_ancestors-at : (nodes : List Node) (lists : List (List ℕ)) → IsWhole nodes lists → (x : ℕ) → x < length lists → inclusive_ancestors (trees_of nodes lists) (name_of_key nodes x) ≡ map (name_of_key nodes) (x ∷ ancestors_of lists x)
+pub inclusive_ancestors-at : (nodes : List Node) (lists : List (List ℕ)) → IsWhole nodes lists → (x : ℕ) → x < length lists →
+    inclusive_ancestors (trees_of nodes lists) (name_of_key nodes x) ≡ map (name_of_key nodes) (x ∷ ancestors_of lists x)
 inclusive_ancestors-at nodes lists whole x node =
-    let path = inclusive_ancestors-from nodes lists whole.named whole.forest x (node_at nodes x) (node_here nodes lists whole x node) (trees_of nodes lists) (root_keys nodes lists) [] (Stands-trees_of nodes lists whole)
-    (λ k found. ancestors_of-root lists k (is_none_from (parent_of lists k) (passing-within nodes (is_root lists) (length lists) k found).1)) (reached nodes lists whole x node) in
+    let path = inclusive_ancestors-from nodes lists whole.named whole.forest x (node_at nodes x) (node_here nodes lists whole x node)
+    (trees_of nodes lists) (root_keys nodes lists) [] (Stands-trees_of nodes lists whole)
+    (λ k found. ancestors_of-root lists k (is_none_from (parent_of lists k) (passing-within nodes (is_root lists) (length lists) k found).1))
+    (reached nodes lists whole x node) in
     path.1 ∙ ap (λ ys. name_of_key nodes x ∷ ys) (sym (append-nil path.0) ∙ path.2)
 
-pub parent_in-at : (nodes : List Node) (lists : List (List ℕ)) → IsWhole nodes lists → (x : ℕ) → x < length lists → parent_in (trees_of nodes lists) (name_of_key nodes x) ≡ option_map (name_of_key nodes) (parent_of lists x)
+pub parent_in-at : (nodes : List Node) (lists : List (List ℕ)) → IsWhole nodes lists → (x : ℕ) → x < length lists →
+    parent_in (trees_of nodes lists) (name_of_key nodes x) ≡ option_map (name_of_key nodes) (parent_of lists x)
 parent_in-at nodes lists whole x node =
     ap (λ ys. first_of (drop 1 ys)) (inclusive_ancestors-at nodes lists whole x node) ∙ elim (cases_Option (parent_of lists x)) [
       | inl e ↦ ap (λ ys. first_of (map (name_of_key nodes) ys)) (ancestors_of-root lists x e) ∙ sym (ap (option_map (name_of_key nodes)) e)
-      | inr w ↦ ap (λ ys. first_of (map (name_of_key nodes) ys)) (ancestors_of-child lists whole.forest x w.0 w.1) ∙ sym (ap (option_map (name_of_key nodes)) w.1)
+      | inr w ↦ ap (λ ys. first_of (map (name_of_key nodes) ys)) (ancestors_of-child lists whole.forest x w.0 w.1) ∙
+          sym (ap (option_map (name_of_key nodes)) w.1)
     ]
 
-pub first_in-at : (nodes : List Node) (lists : List (List ℕ)) → IsWhole nodes lists → (x : ℕ) → x < length lists → first_of (children_in (trees_of nodes lists) (name_of_key nodes x)) ≡ option_map (name_of_key nodes) (head_of (children_of lists x))
+pub first_in-at : (nodes : List Node) (lists : List (List ℕ)) → IsWhole nodes lists → (x : ℕ) → x < length lists →
+    first_of (children_in (trees_of nodes lists) (name_of_key nodes x)) ≡ option_map (name_of_key nodes) (head_of (children_of lists x))
 first_in-at nodes lists whole x node = ap first_of (children_in-at nodes lists whole x node) ∙ first_of-map (name_of_key nodes) (children_of lists x)
 
-pub last_in-at : (nodes : List Node) (lists : List (List ℕ)) → IsWhole nodes lists → (x : ℕ) → x < length lists → last_of (children_in (trees_of nodes lists) (name_of_key nodes x)) ≡ option_map (name_of_key nodes) (last_key (children_of lists x))
+pub last_in-at : (nodes : List Node) (lists : List (List ℕ)) → IsWhole nodes lists → (x : ℕ) → x < length lists →
+    last_of (children_in (trees_of nodes lists) (name_of_key nodes x)) ≡ option_map (name_of_key nodes) (last_key (children_of lists x))
 last_in-at nodes lists whole x node = ap last_of (children_in-at nodes lists whole x node) ∙ last_or-map (name_of_key nodes) None (children_of lists x)
 
 -- ---- siblings
 
 -- the siblings of a node: the children of its parent, or itself alone
-pub siblings-child : (nodes : List Node) (lists : List (List ℕ)) → IsWhole nodes lists → (x p : ℕ) → x < length lists → parent_of lists x ≡ Some p → siblings (trees_of nodes lists) (name_of_key nodes x) ≡ map (name_of_key nodes) (children_of lists p)
+pub siblings-child : (nodes : List Node) (lists : List (List ℕ)) → IsWhole nodes lists → (x p : ℕ) → x < length lists →
+    parent_of lists x ≡ Some p → siblings (trees_of nodes lists) (name_of_key nodes x) ≡ map (name_of_key nodes) (children_of lists p)
 siblings-child nodes lists whole x p node e =
-    ap (λ o. option_map_or (children_in (trees_of nodes lists)) o (name_of_key nodes x ∷ [])) (parent_in-at nodes lists whole x node ∙ ap (option_map (name_of_key nodes)) e)
+    ap (λ o. option_map_or (children_in (trees_of nodes lists)) o (name_of_key nodes x ∷ []))
+    (parent_in-at nodes lists whole x node ∙ ap (option_map (name_of_key nodes)) e)
     ∙ children_in-at nodes lists whole p (parent_within lists p x (contains-parent lists x p e))
 
-pub siblings-root : (nodes : List Node) (lists : List (List ℕ)) → IsWhole nodes lists → (x : ℕ) → x < length lists → parent_of lists x ≡ None → siblings (trees_of nodes lists) (name_of_key nodes x) ≡ name_of_key nodes x ∷ []
+pub siblings-root : (nodes : List Node) (lists : List (List ℕ)) → IsWhole nodes lists → (x : ℕ) → x < length lists → parent_of lists x ≡ None →
+    siblings (trees_of nodes lists) (name_of_key nodes x) ≡ name_of_key nodes x ∷ []
 siblings-root nodes lists whole x node e =
-    ap (λ o. option_map_or (children_in (trees_of nodes lists)) o (name_of_key nodes x ∷ [])) (parent_in-at nodes lists whole x node ∙ ap (option_map (name_of_key nodes)) e)
+    ap (λ o. option_map_or (children_in (trees_of nodes lists)) o (name_of_key nodes x ∷ []))
+    (parent_in-at nodes lists whole x node ∙ ap (option_map (name_of_key nodes)) e)
 
 -- the names tell x from each key of the list
 abbrev pub Tells : (ℕ → NodeName) → ℕ → List ℕ → Type 0
@@ -97,7 +114,8 @@ tells-rest f x k ks tells j found = tells j (or_right (eqb k j) (contains ks j) 
 tells-here : (f : ℕ → NodeName) (x k : ℕ) (ks : List ℕ) → Tells f x (k ∷ ks) → name_eq (f x) (f k) ≡ eqb k x
 tells-here f x k ks tells = tells k (contains-head k ks)
 
-pub first_of-items_after : (f : ℕ → NodeName) (x : ℕ) (ks : List ℕ) → Tells f x ks → first_of (items_after name_eq (f x) (map f ks)) ≡ option_map f (next_in ks x)
+pub first_of-items_after : (f : ℕ → NodeName) (x : ℕ) (ks : List ℕ) → Tells f x ks →
+    first_of (items_after name_eq (f x) (map f ks)) ≡ option_map f (next_in ks x)
 first_of-items_after f x [] tells = refl
 first_of-items_after f x (k ∷ ks) tells =
     let here = tells-here f x k ks tells in
@@ -106,7 +124,8 @@ first_of-items_after f x (k ∷ ks) tells =
       | inr e ↦ rw (here, e) (first_of-items_after f x ks (tells-rest f x k ks tells))
     ]
 
-pub last_or-items_before : (f : ℕ → NodeName) (x : ℕ) (before : Option ℕ) (ks : List ℕ) → Tells f x ks → contains ks x ≡ true → last_or (option_map f before) (items_before name_eq (f x) (map f ks)) ≡ option_map f (prev_from before ks x)
+pub last_or-items_before : (f : ℕ → NodeName) (x : ℕ) (before : Option ℕ) (ks : List ℕ) → Tells f x ks → contains ks x ≡ true →
+    last_or (option_map f before) (items_before name_eq (f x) (map f ks)) ≡ option_map f (prev_from before ks x)
 last_or-items_before f x before [] tells found = absurd (true≢false (sym found))
 last_or-items_before f x before (k ∷ ks) tells found =
     let here = tells-here f x k ks tells in
@@ -115,7 +134,8 @@ last_or-items_before f x before (k ∷ ks) tells found =
       | inr e ↦ rw (here, e) (last_or-items_before f x (Some k) ks (tells-rest f x k ks tells) (rw e at found))
     ]
 
-pub tells-children : (nodes : List Node) (lists : List (List ℕ)) → IsWhole nodes lists → (x p : ℕ) → x < length lists → Tells (name_of_key nodes) x (children_of lists p)
+pub tells-children : (nodes : List Node) (lists : List (List ℕ)) → IsWhole nodes lists → (x p : ℕ) → x < length lists →
+    Tells (name_of_key nodes) x (children_of lists p)
 tells-children nodes lists whole x p node k found =
     name_of_key-eq nodes lists whole x k node (whole.forest.nodes p k found) ∙ turned (eqb_tells x k)
   where
@@ -123,7 +143,8 @@ tells-children nodes lists whole x p node k found =
     turned (inl h) = h.0 ∙ sym (eq-eqb k x (sym h.1))
     turned (inr h) = h.0 ∙ sym (ne_eqb k x (λ e. h.1 (sym e)))
 
-pub next_in-at : (nodes : List Node) (lists : List (List ℕ)) → IsWhole nodes lists → (x : ℕ) → x < length lists → next_sibling (trees_of nodes lists) (name_of_key nodes x) ≡ option_map (name_of_key nodes) (next_of lists x)
+pub next_in-at : (nodes : List Node) (lists : List (List ℕ)) → IsWhole nodes lists → (x : ℕ) → x < length lists →
+    next_sibling (trees_of nodes lists) (name_of_key nodes x) ≡ option_map (name_of_key nodes) (next_of lists x)
 next_in-at nodes lists whole x node = elim (cases_Option (parent_of lists x)) [
   | inl e ↦
       ap (λ ys. first_of (items_after name_eq (name_of_key nodes x) ys)) (siblings-root nodes lists whole x node e)
@@ -134,7 +155,8 @@ next_in-at nodes lists whole x node = elim (cases_Option (parent_of lists x)) [
       ∙ sym (ap (λ o. option_map (name_of_key nodes) (option_and_then (λ p. next_in (children_of lists p) x) o)) w.1))
 ]
 
-pub prev_in-at : (nodes : List Node) (lists : List (List ℕ)) → IsWhole nodes lists → (x : ℕ) → x < length lists → previous_sibling (trees_of nodes lists) (name_of_key nodes x) ≡ option_map (name_of_key nodes) (prev_of lists x)
+pub prev_in-at : (nodes : List Node) (lists : List (List ℕ)) → IsWhole nodes lists → (x : ℕ) → x < length lists →
+    previous_sibling (trees_of nodes lists) (name_of_key nodes x) ≡ option_map (name_of_key nodes) (prev_of lists x)
 prev_in-at nodes lists whole x node = elim (cases_Option (parent_of lists x)) [
   | inl e ↦
       ap (λ ys. last_of (items_before name_eq (name_of_key nodes x) ys)) (siblings-root nodes lists whole x node e)

@@ -1,5 +1,6 @@
 -- The roots, in the order of their names, and how they change.
-use Rattle.std.proofs.Common.{◌≡◌, ◌≢◌, inl, inr, ℕ, zero, suc, ◌+◌, ◌<◌, ◌≤◌, Bool, true, false, cond, ◌&&◌, ◌||◌, eqb, List, [], ◌∷◌, ◌++◌, length, refl, sym, ap, subst, ◌∙◌, arith, true≢false, append-nil}
+use Rattle.std.proofs.Common.{◌≡◌, ◌≢◌, inl, inr, ℕ, zero, suc, ◌+◌, ◌<◌, ◌≤◌, Bool, true, false, cond, ◌&&◌, ◌||◌, eqb, List, [], ◌∷◌, ◌++◌, length}
+use Rattle.std.proofs.Common.{refl, sym, ap, subst, ◌∙◌, arith, true≢false, append-nil}
 use Rattle.std.specs.Prelude.{filter}
 use Rattle.std.specs.List.{range_with_len}
 use Rattle.std.proofs.lemmas.Bool.{eq-eqb, eqb-true, both_ways, or_cases, or_parts, or_left, or_right, cases_Bool, false_from_ne_true, and_parts}
@@ -34,7 +35,8 @@ contains-in_order nodes [] k = refl
 contains-in_order nodes (j ∷ ks) k = contains-put_key nodes j (in_order nodes ks) k ∙ ap (λ b. eqb j k || b) (contains-in_order nodes ks k)
 
 -- two keys of different names may be put in either first
-put_key_comm : (nodes : List Node) (a b : ℕ) → (name_of_key nodes a ≡ name_of_key nodes b → ⊥) → (ks : List ℕ) → put_key nodes a (put_key nodes b ks) ≡ put_key nodes b (put_key nodes a ks)
+put_key_comm : (nodes : List Node) (a b : ℕ) → (name_of_key nodes a ≡ name_of_key nodes b → ⊥) → (ks : List ℕ) →
+    put_key nodes a (put_key nodes b ks) ≡ put_key nodes b (put_key nodes a ks)
 put_key_comm nodes a b other [] =
     let turn = name_before-turned (name_of_key nodes a) (name_of_key nodes b) other in
     elim (cases_Bool (name_before (name_of_key nodes a) (name_of_key nodes b))) [
@@ -81,12 +83,14 @@ without-put_key nodes c (k ∷ ks) absent =
     ]
 
 -- the order depends on the names alone
-put_key-same : (nodes others : List Node) (c : ℕ) (ks : List ℕ) → name_of_key nodes c ≡ name_of_key others c → Each (λ k. name_of_key nodes k ≡ name_of_key others k) ks → put_key nodes c ks ≡ put_key others c ks
+put_key-same : (nodes others : List Node) (c : ℕ) (ks : List ℕ) → name_of_key nodes c ≡ name_of_key others c →
+    Each (λ k. name_of_key nodes k ≡ name_of_key others k) ks → put_key nodes c ks ≡ put_key others c ks
 put_key-same nodes others c [] here each = refl
 put_key-same nodes others c (k ∷ ks) here each =
     rw (here, each k (contains-head k ks), put_key-same nodes others c ks here (λ j found. each j (or_right (eqb k j) (contains ks j) found)))
 
-pub in_order-same : (nodes others : List Node) (ks : List ℕ) → Each (λ k. name_of_key nodes k ≡ name_of_key others k) ks → in_order nodes ks ≡ in_order others ks
+pub in_order-same : (nodes others : List Node) (ks : List ℕ) → Each (λ k. name_of_key nodes k ≡ name_of_key others k) ks →
+    in_order nodes ks ≡ in_order others ks
 in_order-same nodes others [] each = refl
 in_order-same nodes others (k ∷ ks) each =
     let rest : Each (λ j. name_of_key nodes j ≡ name_of_key others j) ks = λ j found. each j (or_right (eqb k j) (contains ks j) found) in
@@ -155,7 +159,8 @@ contains-passing nodes p n k within e =
 
 pub passing-within : (nodes : List Node) (p : ℕ → Bool) (n k : ℕ) → contains (passing nodes p n) k ≡ true → (k < n) × (p k ≡ true)
 passing-within nodes p n k found =
-    let parts = and_parts (contains (range_with_len 0 n) k) (p k) (sym (contains-filter p (range_with_len 0 n) k) ∙ (sym (contains-in_order nodes (filter p (range_with_len 0 n)) k) ∙ found)) in
+    let parts = and_parts (contains (range_with_len 0 n) k) (p k)
+    (sym (contains-filter p (range_with_len 0 n) k) ∙ (sym (contains-in_order nodes (filter p (range_with_len 0 n)) k) ∙ found)) in
     let within = range-within 0 n k parts.0 in
     (omega (arith, within.1), parts.1)
 
@@ -170,9 +175,12 @@ passing-same nodes p q n same =
     ap (in_order nodes) (filter-same p q (range_with_len 0 n) (λ k found. let within = range-within 0 n k found in same k (omega (arith, within.1))))
 
 -- one key more passes
-pub passing-more : (nodes : List Node) → IsNamed nodes → (p q : ℕ → Bool) (n c : ℕ) → length nodes ≡ n → c < n → p c ≡ false → q c ≡ true → ((k : ℕ) → k ≢ c → q k ≡ p k)
+pub passing-more : (nodes : List Node) → IsNamed nodes → (p q : ℕ → Bool) (n c : ℕ) → length nodes ≡ n → c < n → p c ≡ false → q c ≡ true →
+    ((k : ℕ) → k ≢ c → q k ≡ p k)
     → passing nodes q n ≡ put_key nodes c (passing nodes p n)
-passing-more nodes named p q n c paired within out into same = ap (in_order nodes) with_c ∙ (in_order-between nodes c (filter p front) (filter p back) other ∙ ap (λ ks. put_key nodes c (in_order nodes ks)) (sym without_c))
+passing-more nodes named p q n c paired within out into same =
+    ap (in_order nodes) with_c ∙ (in_order-between nodes c (filter p front) (filter p back) other ∙ ap (λ ks. put_key nodes c (in_order nodes ks))
+    (sym without_c))
   where
     parts : Split (range_with_len 0 n) c
     parts = split_at (range_with_len 0 n) c (contains-range 0 n c (omega arith) (omega arith))
@@ -204,9 +212,11 @@ passing-more nodes named p q n c paired within out into same = ap (in_order node
     other : Each (λ k. name_of_key nodes c ≡ name_of_key nodes k → ⊥) (filter p front)
     other k found e =
         let in_front_k : contains front k ≡ true = (and_parts (contains front k) (p k) (sym (contains-filter p front k) ∙ found)).0 in
-        let in_range : contains (range_with_len 0 n) k ≡ true = ap (λ ks. contains ks k) parts.is ∙ (contains-append front (c ∷ back) k ∙ or_left (contains front k) _ in_front_k) in
+        let in_range : contains (range_with_len 0 n) k ≡ true =
+        ap (λ ks. contains ks k) parts.is ∙ (contains-append front (c ∷ back) k ∙ or_left (contains front k) _ in_front_k) in
         let below = range-within 0 n k in_range in
-        let is : c ≡ k = named.distinct c k (node_at nodes c) (node_at nodes k) (slice_get-get_or nodes c _ (omega arith)) (slice_get-get_or nodes k _ (omega (arith, below.1))) e in
+        let is : c ≡ k = named.distinct c k (node_at nodes c) (node_at nodes k) (slice_get-get_or nodes c _ (omega arith))
+        (slice_get-get_or nodes k _ (omega (arith, below.1))) e in
         both_ways _ absent.0 (ap (contains front) is ∙ in_front_k)
 
 -- and leaves again
@@ -227,8 +237,11 @@ without-passing nodes named p q n c paired within out same = elim (cases_Bool (p
     ]
 
 -- a key more
-pub passing-push : (nodes : List Node) (p : ℕ → Bool) (n : ℕ) → IsNamed nodes → length nodes ≡ suc n → p n ≡ true → passing nodes p (suc n) ≡ put_key nodes n (passing nodes p n)
-passing-push nodes p n named paired e = ap (in_order nodes) with_n ∙ (in_order-between nodes n (filter p (range_with_len 0 n)) [] other ∙ ap (λ ks. put_key nodes n (in_order nodes ks)) (append-nil (filter p (range_with_len 0 n))))
+pub passing-push : (nodes : List Node) (p : ℕ → Bool) (n : ℕ) → IsNamed nodes → length nodes ≡ suc n → p n ≡ true →
+    passing nodes p (suc n) ≡ put_key nodes n (passing nodes p n)
+passing-push nodes p n named paired e = ap (in_order nodes) with_n ∙
+    (in_order-between nodes n (filter p (range_with_len 0 n)) [] other ∙ ap (λ ks. put_key nodes n (in_order nodes ks))
+    (append-nil (filter p (range_with_len 0 n))))
   where
     with_n : filter p (range_with_len 0 (suc n)) ≡ filter p (range_with_len 0 n) ++ n ∷ []
     with_n = ap (filter p) (range-push 0 n n (omega arith)) ∙ (filter-append p (range_with_len 0 n) (n ∷ []) ∙ rw e refl)
@@ -237,5 +250,6 @@ passing-push nodes p n named paired e = ap (in_order nodes) with_n ∙ (in_order
     other k found same =
         let parts = and_parts (contains (range_with_len 0 n) k) (p k) (sym (contains-filter p (range_with_len 0 n) k) ∙ found) in
         let below = range-within 0 n k parts.0 in
-        let is : n ≡ k = named.distinct n k (node_at nodes n) (node_at nodes k) (slice_get-get_or nodes n _ (omega arith)) (slice_get-get_or nodes k _ (omega (arith, below.1))) same in
+        let is : n ≡ k = named.distinct n k (node_at nodes n) (node_at nodes k) (slice_get-get_or nodes n _ (omega arith))
+        (slice_get-get_or nodes k _ (omega (arith, below.1))) same in
         omega (arith, is, below.1)

@@ -1,5 +1,6 @@
 -- Trees that stand for keys: the root of each is the node of the key, and its children stand for the key's list.
-use Rattle.std.proofs.Common.{◌≡◌, ◌≢◌, ◌⊎◌, inl, inr, ℕ, zero, suc, ◌+◌, ◌<◌, ◌≤◌, true, false, eqb, List, [], ◌∷◌, ◌++◌, map, length, Option, Some, None, refl, sym, ap, subst, ◌∙◌, arith}
+use Rattle.std.proofs.Common.{◌≡◌, ◌≢◌, ◌⊎◌, inl, inr, ℕ, zero, suc, ◌+◌, ◌<◌, ◌≤◌, true, false, eqb, List, [], ◌∷◌, ◌++◌, map, length, Option, Some}
+use Rattle.std.proofs.Common.{None, refl, sym, ap, subst, ◌∙◌, arith}
 use Rattle.std.specs.Prelude.{slice_get}
 use Rattle.std.specs.Option.{option_map}
 use Rattle.std.proofs.lemmas.Bool.{or_right, cases_Bool}
@@ -29,7 +30,8 @@ pub record IsNamed (nodes : List Node) : Type 0 where
   pub distinct : (j k : ℕ) (m n : Node) → slice_get nodes j ≡ Some m → slice_get nodes k ≡ Some n → m.name ≡ n.name → j ≡ k
 
 -- names tell keys apart
-pub same_name : (nodes : List Node) → IsNamed nodes → (j k : ℕ) (m n : Node) → slice_get nodes j ≡ Some m → slice_get nodes k ≡ Some n → name_eq m.name n.name ≡ eqb j k
+pub same_name : (nodes : List Node) → IsNamed nodes → (j k : ℕ) (m n : Node) → slice_get nodes j ≡ Some m → slice_get nodes k ≡ Some n →
+    name_eq m.name n.name ≡ eqb j k
 same_name nodes named j k m n at_j at_k = by (eqb_tells j k)
   where
     by : ((eqb j k ≡ true) × (j ≡ k)) ⊎ ((eqb j k ≡ false) × (j ≢ k)) → name_eq m.name n.name ≡ eqb j k
@@ -66,7 +68,8 @@ Stands-row nodes lists below [] within stand = tt
 Stands-row nodes lists below (k ∷ ks) within stand = (
   slice_get-get_or nodes k _ (within k (contains-head k ks)),
   stand k (contains-head k ks),
-  Stands-row nodes lists below ks (Each-tail (λ j. j < length nodes) k ks within) (Each-tail (λ j. Stands nodes lists (below j) (children_of lists j)) k ks stand),
+  Stands-row nodes lists below ks (Each-tail (λ j. j < length nodes) k ks within)
+      (Each-tail (λ j. Stands nodes lists (below j) (children_of lists j)) k ks stand),
 )
 
 Stands-below : (nodes : List Node) (lists : List (List ℕ)) → IsForest lists → length nodes ≡ length lists → (m k : ℕ)
@@ -101,7 +104,8 @@ Stands-kept nodes others lists changed P node list down (tree n c r) [] each s =
 Stands-kept nodes others lists changed P node list down (tree n c r) (k ∷ ks) each s =
     let here = each k (contains-head k ks) in (
       node k n here s.0,
-      subst (λ (js : List ℕ). Stands others changed c js) (sym (list k here)) (Stands-kept nodes others lists changed P node list down c (children_of lists k) (λ j found. down k j here found) s.1),
+      subst (λ (js : List ℕ). Stands others changed c js) (sym (list k here))
+          (Stands-kept nodes others lists changed P node list down c (children_of lists k) (λ j found. down k j here found) s.1),
       Stands-kept nodes others lists changed P node list down r ks (Each-tail P k ks each) s.2,
     )
 
@@ -124,7 +128,8 @@ Stands-without nodes lists named x m at (tree n c r) [] s = absurd s
 Stands-without nodes lists named x m at (tree n c r) (k ∷ ks) s =
     let rest = Stands-without nodes lists named x m at r ks s.2 in
     let below : Stands nodes (map (without_key x) lists) (without m.name c) (children_of (map (without_key x) lists) k) =
-    subst (λ (js : List ℕ). Stands nodes (map (without_key x) lists) (without m.name c) js) (sym (children_of-without lists x k)) (Stands-without nodes lists named x m at c (children_of lists k) s.1) in
+    subst (λ (js : List ℕ). Stands nodes (map (without_key x) lists) (without m.name c) js) (sym (children_of-without lists x k))
+    (Stands-without nodes lists named x m at c (children_of lists k) s.1) in
     let tells : name_eq n.name m.name ≡ eqb k x = same_name nodes named k x n m s.0 at in
     elim (cases_Bool (eqb k x)) [
       | inl e ↦ rw (tells, e) rest
@@ -132,7 +137,8 @@ Stands-without nodes lists named x m at (tree n c r) (k ∷ ks) s =
     ]
 
 -- two lists of trees, one after the other
-pub Stands-followed_by : (nodes : List Node) (lists : List (List ℕ)) (ts us : Trees) (ks js : List ℕ) → Stands nodes lists ts ks → Stands nodes lists us js → Stands nodes lists (followed_by ts us) (ks ++ js)
+pub Stands-followed_by : (nodes : List Node) (lists : List (List ℕ)) (ts us : Trees) (ks js : List ℕ) → Stands nodes lists ts ks →
+    Stands nodes lists us js → Stands nodes lists (followed_by ts us) (ks ++ js)
 Stands-followed_by nodes lists none us [] js s t = t
 Stands-followed_by nodes lists none us (k ∷ ks) js s t = absurd s
 Stands-followed_by nodes lists (tree n c r) us [] js s t = absurd s
@@ -166,7 +172,8 @@ name_of_key nodes k = (node_at nodes k).name
 -- before the one given, or behind all
 pub Stands-insert : (nodes : List Node) (lists : List (List ℕ)) → IsNamed nodes → (new : Trees) (x : ℕ) → Stands nodes lists new (x ∷ [])
     → (before : Option ℕ) → ((b : ℕ) → before ≡ Some b → b < length nodes)
-    → (ts : Trees) (ks : List ℕ) → Stands nodes lists ts ks → Stands nodes lists (put_before (option_map (name_of_key nodes) before) new ts) (insert_before ks x before)
+    → (ts : Trees) (ks : List ℕ) → Stands nodes lists ts ks →
+    Stands nodes lists (put_before (option_map (name_of_key nodes) before) new ts) (insert_before ks x before)
 Stands-insert nodes lists named new x alone None within ts ks s = Stands-put_last nodes lists new x alone ts ks s
 Stands-insert nodes lists named new x alone (Some b) within ts ks s =
     Stands-put_before nodes lists named new x alone b (node_at nodes b) (slice_get-get_or nodes b _ (within b refl)) ts ks s
@@ -191,7 +198,12 @@ Stands-put_below nodes lists changed named new x alone before within p m at here
       | inl h ↦
           let list : children_of changed k ≡ insert_before (children_of lists k) x before =
           subst (λ (j : ℕ). children_of changed j ≡ insert_before (children_of lists j) x before) (sym h.1) here in
-          rw (tells, h.0) (s.0, subst (λ (js : List ℕ). Stands nodes changed (put_before given new more) js) (sym list) (Stands-insert nodes changed named new x alone before within more (children_of lists k) below), rest)
+          rw (tells, h.0) (
+            s.0,
+            subst (λ (js : List ℕ). Stands nodes changed (put_before given new more) js) (sym list)
+                (Stands-insert nodes changed named new x alone before within more (children_of lists k) below),
+            rest,
+          )
       | inr h ↦
           rw (tells, h.0) (s.0, subst (λ (js : List ℕ). Stands nodes changed more js) (sym (there k h.1)) below, rest)
     ]
@@ -205,7 +217,8 @@ Stands-put_root nodes lists new x alone (tree n c r) [] s = absurd s
 Stands-put_root nodes lists new x alone (tree n c r) (k ∷ ks) s =
     let rest = Stands-put_root nodes lists new x alone r ks s.2 in
     let at : name_of_key nodes k ≡ n.name = ap (λ (y : Node). y.name) (get_or_from_slice_get nodes k n _ s.0) in
-    let same : name_before (name_of_key nodes x) n.name ≡ name_before (name_of_key nodes x) (name_of_key nodes k) = ap (name_before (name_of_key nodes x)) (sym at) in
+    let same : name_before (name_of_key nodes x) n.name ≡ name_before (name_of_key nodes x) (name_of_key nodes k) =
+    ap (name_before (name_of_key nodes x)) (sym at) in
     elim (cases_Bool (name_before (name_of_key nodes x) (name_of_key nodes k))) [
       | inl e ↦ rw (same, e) (Stands-followed_by nodes lists new (tree n c r) (x ∷ []) (k ∷ ks) alone s)
       | inr e ↦ rw (same, e) (s.0, s.1, rest)

@@ -1,5 +1,6 @@
 -- What a change of one node's contents does to a `Forest`.
-use Rattle.std.proofs.Common.{◌≡◌, ◌≢◌, ◌⊎◌, inl, inr, ℕ, zero, suc, ◌<◌, true, false, cond, eqb, List, [], ◌∷◌, length, set, Some, refl, sym, ap, subst, ◌∙◌, arith}
+use Rattle.std.proofs.Common.{◌≡◌, ◌≢◌, ◌⊎◌, inl, inr, ℕ, zero, suc, ◌<◌, true, false, cond, eqb, List, [], ◌∷◌, length, set, Some, refl, sym, ap}
+use Rattle.std.proofs.Common.{subst, ◌∙◌, arith}
 use Rattle.std.specs.Prelude.{slice_get}
 use Rattle.std.specs.Option.{option_map}
 use Rattle.std.proofs.lemmas.Bool.{cases_Bool}
@@ -39,7 +40,8 @@ stored_names-set (u ∷ ps) zero s t at same = ap (λ n. n ∷ stored_names ps) 
 stored_names-set (u ∷ ps) (suc x) s t at same = ap (λ ns. u.name ∷ ns) (stored_names-set ps x s t at same)
 
 -- what holds of all nodes still holds
-pub IsKept-set : {ps : List Stored} {lists : List (List ℕ)} {keys : Owner → List ℕ} → IsKept ps lists keys → (x : ℕ) (s t : Stored) → slice_get ps x ≡ Some s → t.name ≡ s.name
+pub IsKept-set : {ps : List Stored} {lists : List (List ℕ)} {keys : Owner → List ℕ} → IsKept ps lists keys → (x : ℕ) (s t : Stored) →
+    slice_get ps x ≡ Some s → t.name ≡ s.name
     → ((d : ℕ) → t.node.document ≡ Some d → d < length ps) → IsKept (set ps x t) lists keys
 IsKept-set {ps = ps} kept x s t at same document = record {
   paired = length-set ps x t ∙ kept.paired;
@@ -55,14 +57,16 @@ IsKept-set {ps = ps} kept x s t at same document = record {
     names : stored_names (set ps x t) ≡ stored_names ps
     names = stored_names-set ps x s t at same
 
-    documents_at : (u : Stored) (k d : ℕ) → slice_get (set ps x t) k ≡ Some u → u.node.document ≡ Some d → ((eqb k x ≡ true) × (k ≡ x)) ⊎ ((eqb k x ≡ false) × (k ≢ x)) → d < length (set ps x t)
+    documents_at : (u : Stored) (k d : ℕ) → slice_get (set ps x t) k ≡ Some u → u.node.document ≡ Some d → ((eqb k x ≡ true) × (k ≡ x)) ⊎
+        ((eqb k x ≡ false) × (k ≢ x)) → d < length (set ps x t)
     documents_at u k d at_k e (inl h) =
         let is : t ≡ u = same_Some t u (sym (slice_get-set_same ps x s t at) ∙ (ap (slice_get (set ps x t)) (sym h.1) ∙ at_k)) in
         omega (arith, document d (ap (λ (v : Stored). v.node.document) is ∙ e), length-set ps x t)
     documents_at u k d at_k e (inr h) = omega (arith, kept.documents u k d (sym (slice_get-set_other ps x k t h.1) ∙ at_k) e, length-set ps x t)
 
 -- the same, under the same node document
-pub IsKept-set_same : {ps : List Stored} {lists : List (List ℕ)} {keys : Owner → List ℕ} → IsKept ps lists keys → (x : ℕ) (s t : Stored) → slice_get ps x ≡ Some s → t.name ≡ s.name
+pub IsKept-set_same : {ps : List Stored} {lists : List (List ℕ)} {keys : Owner → List ℕ} → IsKept ps lists keys → (x : ℕ) (s t : Stored) →
+    slice_get ps x ≡ Some s → t.name ≡ s.name
     → t.node.document ≡ s.node.document → IsKept (set ps x t) lists keys
 IsKept-set_same kept x s t at same document = IsKept-set kept x s t at same (λ d e. kept.documents s x d at (sym document ∙ e))
 
@@ -73,7 +77,8 @@ set_names {ps = ps} is kept x s t at same = stored_names-set ps x s t at same �
 
 -- a change of what is stored is that change of the node
 pub set_done : {f : NamedTrees} {ps : List Stored} {lists : List (List ℕ)} {keys : Owner → List ℕ} → seen ps lists ≡ f → IsKept ps lists keys
-    → (x : ℕ) (s t : Stored) (h : Node → Node) → slice_get ps x ≡ Some s → t.name ≡ s.name → ((y : Node) → (h y).name ≡ y.name) → node_from f.names t.name t.node ≡ h (node_from f.names s.name s.node)
+    → (x : ℕ) (s t : Stored) (h : Node → Node) → slice_get ps x ≡ Some s → t.name ≡ s.name → ((y : Node) → (h y).name ≡ y.name) →
+    node_from f.names t.name t.node ≡ h (node_from f.names s.name s.node)
     → seen (set ps x t) lists ≡ record f { trees = change_node h (name_at f.names x) f.trees }
 set_done {f = f} {ps = ps} {lists = lists} {keys = keys} is kept x s t h at same keeps changed =
     subst (λ (g : NamedTrees). seen (set ps x t) lists ≡ record g { trees = change_node h (name_at g.names x) g.trees }) is
@@ -108,13 +113,15 @@ set_done {f = f} {ps = ps} {lists = lists} {keys = keys} is kept x s t h at same
         ∙ ap Some (subst (λ (g : NamedTrees). node_from g.names t.name t.node ≡ h (node_from g.names s.name s.node)) (sym is) changed))
 
     own_name : s.name ≡ name_at (stored_names ps) x
-    own_name = ap (λ (y : Node). y.name) (sym (get_or_from_slice_get (nodes_of ps) x (node_from (stored_names ps) s.name s.node) _ here)) ∙ sym (name_at-same (stored_names ps) ps x)
+    own_name = ap (λ (y : Node). y.name) (sym (get_or_from_slice_get (nodes_of ps) x (node_from (stored_names ps) s.name s.node) _ here)) ∙
+        sym (name_at-same (stored_names ps) ps x)
 
     each : (k : ℕ) (y : Node) → slice_get (nodes_of ps) k ≡ Some y → slice_get others k ≡ Some (cond (name_eq y.name (name_at (stored_names ps) x)) (h y) y)
     each k y at_k = elim (eqb_tells k x) [
       | inl e ↦
           let is_y : y ≡ node_from (stored_names ps) s.name s.node = same_Some y _ (sym at_k ∙ (ap (slice_get (nodes_of ps)) e.1 ∙ here)) in
-          let named : name_eq y.name (name_at (stored_names ps) x) ≡ true = ap (λ (z : Node). name_eq z.name (name_at (stored_names ps) x)) is_y ∙ (ap (name_eq s.name) (sym own_name) ∙ name_eq-same s.name) in
+          let named : name_eq y.name (name_at (stored_names ps) x) ≡ true =
+          ap (λ (z : Node). name_eq z.name (name_at (stored_names ps) x)) is_y ∙ (ap (name_eq s.name) (sym own_name) ∙ name_eq-same s.name) in
           ap (slice_get others) e.1 ∙ (new_here ∙ (ap (λ z. Some (h z)) (sym is_y) ∙ ap (λ b. Some (cond b (h y) y)) (sym named)))
       | inr e ↦
           let apart : name_eq y.name (name_at (stored_names ps) x) ≡ false =

@@ -1,5 +1,6 @@
 -- Walks up a tree.
-use Rattle.std.proofs.Common.{◌≡◌, ◌⊎◌, inl, inr, ℕ, zero, suc, ◌-◌, ◌<◌, ◌≤◌, Bool, true, false, ◌||◌, eqb, List, [], ◌∷◌, map, length, Option, Some, None, refl, sym, ap, subst, ◌∙◌, arith, cond, true≢false}
+use Rattle.std.proofs.Common.{◌≡◌, ◌⊎◌, inl, inr, ℕ, zero, suc, ◌-◌, ◌<◌, ◌≤◌, Bool, true, false, ◌||◌, eqb, List, [], ◌∷◌, map, length, Option, Some}
+use Rattle.std.proofs.Common.{None, refl, sym, ap, subst, ◌∙◌, arith, cond, true≢false}
 use Rattle.std.specs.Prelude.{unwrap_or, is_some}
 use Rattle.std.specs.Option.{option_map, option_map_or, option_and_then}
 use Rattle.std.proofs.lemmas.Bool.{eq-eqb, ne_eqb, eqb-true, cases_Bool, or_cases, or_left, or_right, or_from, or_parts, both_ways, false_from_ne_true}
@@ -8,7 +9,8 @@ use Rattle.dom_base.specs.declared.Owner.{Owner}
 use Rattle.dom_base.specs.declared.NodeName.{NodeName}
 use Rattle.dom_model.specs.Names.{last_of, name_eq, items_before}
 use Rattle.dom_model.specs.Tree.{Node, root_of, is_inclusive_ancestor, index_of, children_of as children_in}
-use Rattle.node_arena.specs.Nodes.{contains, parent_of, children_of, ancestors_of, IsForest, IsOnce, last_from, head_of, next_in, next_of, prev_from, prev_in, prev_of}
+use Rattle.node_arena.specs.Nodes.{contains, parent_of, children_of, ancestors_of, IsForest, IsOnce, last_from, head_of, next_in, next_of, prev_from}
+use Rattle.node_arena.specs.Nodes.{prev_in, prev_of}
 use Rattle.node_arena.proofs.Lists.{contains-head, length-IsOnce, contains-next_in}
 use Rattle.node_arena.proofs.Forests.{cases_Option, contains-parent, parent_within, parent_of_is, ancestors_of-child, ancestors_of-root}
 use Rattle.dom_tree.specs.declared.data.Stored.{Stored}
@@ -36,7 +38,8 @@ pub top_key-root : (lists : List (List ℕ)) (x : ℕ) → parent_of lists x ≡
 unfolding top_key
 top_key-root lists x e = ap (λ ys. unwrap_or (last_from (Some x) ys) x) (ancestors_of-root lists x e)
 
-pub root_of-at : (nodes : List Node) (lists : List (List ℕ)) → IsWhole nodes lists → (x : ℕ) → x < length lists → root_of (trees_of nodes lists) (name_of_key nodes x) ≡ name_of_key nodes (top_key lists x)
+pub root_of-at : (nodes : List Node) (lists : List (List ℕ)) → IsWhole nodes lists → (x : ℕ) → x < length lists →
+    root_of (trees_of nodes lists) (name_of_key nodes x) ≡ name_of_key nodes (top_key lists x)
 unfolding top_key
 root_of-at nodes lists whole x node =
     ap (λ ys. unwrap_or (last_of ys) (name_of_key nodes x)) (inclusive_ancestors-at nodes lists whole x node)
@@ -51,14 +54,18 @@ root_of-at nodes lists whole x node =
 pub above_from : List (List ℕ) → ℕ → Option ℕ → Bool
 above_from lists a at = option_map_or (λ k. contains (k ∷ ancestors_of lists k) a) at false
 
-pub above_from-up : (lists : List (List ℕ)) → IsForest lists → (a k : ℕ) (up : Option ℕ) → (k ≡ a → ⊥) → up ≡ parent_of lists k → above_from lists a up ≡ above_from lists a (Some k)
+pub above_from-up : (lists : List (List ℕ)) → IsForest lists → (a k : ℕ) (up : Option ℕ) → (k ≡ a → ⊥) → up ≡ parent_of lists k →
+    above_from lists a up ≡ above_from lists a (Some k)
 unfolding above_from
 above_from-up lists forest a k up other is =
-    ap (λ o. option_map_or (λ j. contains (j ∷ ancestors_of lists j) a) o false) is ∙ (by (cases_Option (parent_of lists k)) ∙ sym (ap (λ b. b || contains (ancestors_of lists k) a) (ne_eqb k a other)))
+    ap (λ o. option_map_or (λ j. contains (j ∷ ancestors_of lists j) a) o false) is ∙
+    (by (cases_Option (parent_of lists k)) ∙ sym (ap (λ b. b || contains (ancestors_of lists k) a) (ne_eqb k a other)))
   where
-    by : (parent_of lists k ≡ None) ⊎ ((p : ℕ) × (parent_of lists k ≡ Some p)) → option_map_or (λ j. contains (j ∷ ancestors_of lists j) a) (parent_of lists k) false ≡ contains (ancestors_of lists k) a
+    by : (parent_of lists k ≡ None) ⊎ ((p : ℕ) × (parent_of lists k ≡ Some p)) →
+        option_map_or (λ j. contains (j ∷ ancestors_of lists j) a) (parent_of lists k) false ≡ contains (ancestors_of lists k) a
     by (inl e) = ap (λ o. option_map_or (λ j. contains (j ∷ ancestors_of lists j) a) o false) e ∙ sym (ap (λ ys. contains ys a) (ancestors_of-root lists k e))
-    by (inr w) = ap (λ o. option_map_or (λ j. contains (j ∷ ancestors_of lists j) a) o false) w.1 ∙ sym (ap (λ ys. contains ys a) (ancestors_of-child lists forest k w.0 w.1))
+    by (inr w) = ap (λ o. option_map_or (λ j. contains (j ∷ ancestors_of lists j) a) o false) w.1 ∙
+        sym (ap (λ ys. contains ys a) (ancestors_of-child lists forest k w.0 w.1))
 
 -- how many steps are left
 abbrev pub steps_up : List (List ℕ) → Option ℕ → ℕ
@@ -67,7 +74,8 @@ steps_up lists at = option_map_or (λ k. suc (length (ancestors_of lists k))) at
 -- ---- the answers
 
 pub shows_root : {f : NamedTrees} {ps : List Stored} {lists : List (List ℕ)} {keys : Owner → List ℕ} → seen ps lists ≡ f → IsKept ps lists keys
-    → (x top : ℕ) → x < length f.names → parent_of lists top ≡ None → top_key lists top ≡ top_key lists x → name_at f.names top ≡ root_of f.trees (name_at f.names x)
+    → (x top : ℕ) → x < length f.names → parent_of lists top ≡ None → top_key lists top ≡ top_key lists x →
+    name_at f.names top ≡ root_of f.trees (name_at f.names x)
 shows_root {f = f} {ps = ps} {lists = lists} {keys = keys} is kept x top node ends same =
     let inside = within is kept x node in
     subst (λ (g : NamedTrees). name_at g.names top ≡ root_of g.trees (name_at g.names x)) is
@@ -89,7 +97,8 @@ shows_above {f = f} {ps = ps} {lists = lists} {keys = keys} is kept a x at_a at_
 
 -- the test of a node above another one, in the lists
 pub asked_above : {f : NamedTrees} {ps : List Stored} {lists : List (List ℕ)} {keys : Owner → List ℕ} → seen ps lists ≡ f → IsKept ps lists keys
-    → (top x : ℕ) → top < length f.names → x < length f.names → is_inclusive_ancestor f.trees (name_at f.names top) (name_at f.names x) ≡ true → contains (x ∷ ancestors_of lists x) top ≡ true
+    → (top x : ℕ) → top < length f.names → x < length f.names → is_inclusive_ancestor f.trees (name_at f.names top) (name_at f.names x) ≡ true →
+    contains (x ∷ ancestors_of lists x) top ≡ true
 unfolding above_from
 asked_above {f = f} {ps = ps} {lists = lists} {keys = keys} is kept top x at_top at_x above = shows_above is kept top x at_top at_x ∙ above
 
@@ -100,7 +109,8 @@ pub record InTree (ps : List Stored) (lists : List (List ℕ)) (top x : ℕ) : T
   pub whole : IsWhole (nodes_of ps) lists
 
 pub in_tree : {f : NamedTrees} {ps : List Stored} {lists : List (List ℕ)} {keys : Owner → List ℕ} → seen ps lists ≡ f → IsKept ps lists keys
-    → (top x : ℕ) → top < length f.names → x < length f.names → is_inclusive_ancestor f.trees (name_at f.names top) (name_at f.names x) ≡ true → InTree ps lists top x
+    → (top x : ℕ) → top < length f.names → x < length f.names → is_inclusive_ancestor f.trees (name_at f.names top) (name_at f.names x) ≡ true →
+    InTree ps lists top x
 in_tree is kept top x at_top at_x above = record {
   above = asked_above is kept top x at_top at_x above;
   top_is_node = let inside = within is kept top at_top in omega (arith, kept.paired);
@@ -206,16 +216,20 @@ pub places_left-prev : (lists : List (List ℕ)) → IsForest lists → (k : ℕ
 unfolding places_left place
 places_left-prev lists forest k r is = rw is (by (cases_Option (parent_of lists k)))
   where
-    found_prev : (p : ℕ) → parent_of lists k ≡ Some p → (o : Option ℕ) → prev_in (children_of lists p) k ≡ o → option_map_or (λ j. suc (option_map_or (λ q. place_in (children_of lists q) j) (parent_of lists j) 0)) o 0 ≡ place_in (children_of lists p) k
+    found_prev : (p : ℕ) → parent_of lists k ≡ Some p → (o : Option ℕ) → prev_in (children_of lists p) k ≡ o →
+        option_map_or (λ j. suc (option_map_or (λ q. place_in (children_of lists q) j) (parent_of lists j) 0)) o 0 ≡ place_in (children_of lists p) k
     found_prev p e None h = sym (first_place (children_of lists p) k (contains-parent lists k p e) h)
     found_prev p e (Some s) h = elim (prev_place None (children_of lists p) k s (forest.once p) (contains-parent lists k p e) h) [
       | inl w ↦ absurd (none-some s w.1)
       | inr w ↦ ap (λ o. suc (option_map_or (λ q. place_in (children_of lists q) s) o 0)) (parent_of_is lists forest.one_list p s w.0) ∙ sym w.1
     ]
 
-    by : (parent_of lists k ≡ None) ⊎ ((p : ℕ) × (parent_of lists k ≡ Some p)) → option_map_or (λ j. suc (option_map_or (λ q. place_in (children_of lists q) j) (parent_of lists j) 0)) (prev_of lists k) 0 ≡ option_map_or (λ p. place_in (children_of lists p) k) (parent_of lists k) 0
+    by : (parent_of lists k ≡ None) ⊎ ((p : ℕ) × (parent_of lists k ≡ Some p)) →
+        option_map_or (λ j. suc (option_map_or (λ q. place_in (children_of lists q) j) (parent_of lists j) 0)) (prev_of lists k) 0 ≡ option_map_or
+        (λ p. place_in (children_of lists p) k) (parent_of lists k) 0
     by (inl e) = rw e refl
-    by (inr w) = ap (λ o. option_map_or (λ j. suc (option_map_or (λ q. place_in (children_of lists q) j) (parent_of lists j) 0)) (option_and_then (λ p. prev_in (children_of lists p) k) o) 0) w.1
+    by (inr w) = ap (λ o. option_map_or (λ j. suc (option_map_or (λ q. place_in (children_of lists q) j) (parent_of lists j) 0))
+        (option_and_then (λ p. prev_in (children_of lists p) k) o) 0) w.1
         ∙ (found_prev w.0 w.1 (prev_in (children_of lists w.0) k) refl ∙ sym (ap (λ o. option_map_or (λ p. place_in (children_of lists p) k) o 0) w.1))
 
 -- a node has fewer children than there are nodes
@@ -230,19 +244,23 @@ few_children lists forest p node =
     )
   where
     apart : contains (children_of lists p) p ≡ false
-    apart = false_from_ne_true _ (λ found. both_ways _ (forest.acyclic p) (ap (λ ys. contains ys p) (ancestors_of-child lists forest p p (parent_of_is lists forest.one_list p p found)) ∙ contains-head p (ancestors_of lists p)))
+    apart = false_from_ne_true _ (λ found. both_ways _ (forest.acyclic p)
+        (ap (λ ys. contains ys p) (ancestors_of-child lists forest p p (parent_of_is lists forest.one_list p p found)) ∙
+        contains-head p (ancestors_of lists p)))
 
 pub place-within : (lists : List (List ℕ)) → IsForest lists → (k : ℕ) → k < length lists → place lists k < length lists
 unfolding place
 place-within lists forest k node = by (cases_Option (parent_of lists k))
   where
-    by : (parent_of lists k ≡ None) ⊎ ((p : ℕ) × (parent_of lists k ≡ Some p)) → option_map_or (λ p. place_in (children_of lists p) k) (parent_of lists k) 0 < length lists
+    by : (parent_of lists k ≡ None) ⊎ ((p : ℕ) × (parent_of lists k ≡ Some p)) →
+        option_map_or (λ p. place_in (children_of lists p) k) (parent_of lists k) 0 < length lists
     by (inl e) = rw e (omega arith)
     by (inr w) =
         let child = contains-parent lists k w.0 w.1 in
         rw w.1 (omega (arith, place_in-within (children_of lists w.0) k child, few_children lists forest w.0 (parent_within lists w.0 k child)))
 
-pub length-items_before : (f : ℕ → NodeName) (x : ℕ) (ks : List ℕ) → Tells f x ks → contains ks x ≡ true → length (items_before name_eq (f x) (map f ks)) ≡ place_in ks x
+pub length-items_before : (f : ℕ → NodeName) (x : ℕ) (ks : List ℕ) → Tells f x ks → contains ks x ≡ true →
+    length (items_before name_eq (f x) (map f ks)) ≡ place_in ks x
 length-items_before f x [] tells found = refl
 length-items_before f x (k ∷ ks) tells found =
     let here = tells k (contains-head k ks) in
@@ -251,12 +269,15 @@ length-items_before f x (k ∷ ks) tells found =
       | inr e ↦ rw (here, e) (ap suc (length-items_before f x ks (λ j found_j. tells j (or_right (eqb k j) (contains ks j) found_j)) (rw e at found)))
     ]
 
-pub index_of-at : (nodes : List Node) (lists : List (List ℕ)) → IsWhole nodes lists → (x : ℕ) → x < length lists → index_of (trees_of nodes lists) (name_of_key nodes x) ≡ place lists x
+pub index_of-at : (nodes : List Node) (lists : List (List ℕ)) → IsWhole nodes lists → (x : ℕ) → x < length lists →
+    index_of (trees_of nodes lists) (name_of_key nodes x) ≡ place lists x
 unfolding place
 index_of-at nodes lists whole x node = by (cases_Option (parent_of lists x))
   where
-    by : (parent_of lists x ≡ None) ⊎ ((p : ℕ) × (parent_of lists x ≡ Some p)) → index_of (trees_of nodes lists) (name_of_key nodes x) ≡ option_map_or (λ p. place_in (children_of lists p) x) (parent_of lists x) 0
-    by (inl e) = ap (λ ys. length (items_before name_eq (name_of_key nodes x) ys)) (siblings-root nodes lists whole x node e) ∙ rw (name_eq-same (name_of_key nodes x), e) refl
+    by : (parent_of lists x ≡ None) ⊎ ((p : ℕ) × (parent_of lists x ≡ Some p)) →
+        index_of (trees_of nodes lists) (name_of_key nodes x) ≡ option_map_or (λ p. place_in (children_of lists p) x) (parent_of lists x) 0
+    by (inl e) = ap (λ ys. length (items_before name_eq (name_of_key nodes x) ys)) (siblings-root nodes lists whole x node e) ∙
+        rw (name_eq-same (name_of_key nodes x), e) refl
     by (inr w) = ap (λ ys. length (items_before name_eq (name_of_key nodes x) ys)) (siblings-child nodes lists whole x w.0 node w.1)
         ∙ (length-items_before (name_of_key nodes) x (children_of lists w.0) (tells-children nodes lists whole x w.0 node) (contains-parent lists x w.0 w.1)
         ∙ sym (ap (λ o. option_map_or (λ p. place_in (children_of lists p) x) o 0) w.1))
@@ -319,12 +340,16 @@ pub children_left-next : (lists : List (List ℕ)) → IsForest lists → (p k :
     → suc (children_left (children_of lists p) r) ≡ children_left (children_of lists p) (Some k)
 unfolding children_left
 children_left-next lists forest p k r child is =
-    let e : r ≡ next_in (children_of lists p) k = is ∙ ap (option_and_then (λ q. next_in (children_of lists q) k)) (parent_of_is lists forest.one_list p k child) in
-    ap (λ o. suc (option_map_or (λ j. length (children_of lists p) - place_in (children_of lists p) j) o 0)) e ∙ next_place (children_of lists p) k (forest.once p) child
+    let e : r ≡ next_in (children_of lists p) k =
+    is ∙ ap (option_and_then (λ q. next_in (children_of lists q) k)) (parent_of_is lists forest.one_list p k child) in
+    ap (λ o. suc (option_map_or (λ j. length (children_of lists p) - place_in (children_of lists p) j) o 0)) e ∙
+    next_place (children_of lists p) k (forest.once p) child
 
-pub among-next : (lists : List (List ℕ)) → IsForest lists → (p k s : ℕ) (r : Option ℕ) → contains (children_of lists p) k ≡ true → r ≡ next_of lists k → r ≡ Some s → contains (children_of lists p) s ≡ true
+pub among-next : (lists : List (List ℕ)) → IsForest lists → (p k s : ℕ) (r : Option ℕ) → contains (children_of lists p) k ≡ true →
+    r ≡ next_of lists k → r ≡ Some s → contains (children_of lists p) s ≡ true
 among-next lists forest p k s r child is e =
-    contains-next_in (children_of lists p) k s (sym (is ∙ ap (option_and_then (λ q. next_in (children_of lists q) k)) (parent_of_is lists forest.one_list p k child)) ∙ e)
+    contains-next_in (children_of lists p) k s
+    (sym (is ∙ ap (option_and_then (λ q. next_in (children_of lists q) k)) (parent_of_is lists forest.one_list p k child)) ∙ e)
 
 pub shows_children : {f : NamedTrees} {ps : List Stored} {lists : List (List ℕ)} {keys : Owner → List ℕ} → seen ps lists ≡ f → IsKept ps lists keys
     → (x : ℕ) → x < length f.names → children_in f.trees (name_at f.names x) ≡ map (name_at f.names) (children_of lists x)

@@ -1,5 +1,6 @@
 -- The nodes in the tree of a node are those that it is above.
-use Rattle.std.proofs.Common.{◌≡◌, inl, inr, ℕ, zero, suc, ◌<◌, ◌≤◌, true, false, eqb, List, [], ◌∷◌, length, Option, Some, None, sym, ap, subst, ◌∙◌, arith, true≢false}
+use Rattle.std.proofs.Common.{◌≡◌, inl, inr, ℕ, zero, suc, ◌<◌, ◌≤◌, true, false, eqb, List, [], ◌∷◌, length, Option, Some, None, sym, ap, subst, ◌∙◌}
+use Rattle.std.proofs.Common.{arith, true≢false}
 use Rattle.std.specs.Prelude.{slice_get}
 use Rattle.std.specs.Option.{option_map, ForSome}
 use Rattle.std.specs.List.{last_or}
@@ -51,8 +52,10 @@ none_above [] k few found = true≢false (sym found)
 none_above (y ∷ ys) k few found = omega arith
 
 -- what is below a node is in its tree
-reaches-below : (nodes : List Node) (lists : List (List ℕ)) → IsWhole nodes lists → (top : ℕ) → top < length lists → (ts : Trees) → Stands nodes lists ts (top ∷ [])
-    → (d y : ℕ) → y < length lists → length (ancestors_of lists y) ≤ d → contains (y ∷ ancestors_of lists y) top ≡ true → reaches ts (name_of_key nodes y) ≡ true
+reaches-below : (nodes : List Node) (lists : List (List ℕ)) → IsWhole nodes lists → (top : ℕ) → top < length lists → (ts : Trees) →
+    Stands nodes lists ts (top ∷ [])
+    → (d y : ℕ) → y < length lists → length (ancestors_of lists y) ≤ d → contains (y ∷ ancestors_of lists y) top ≡ true →
+    reaches ts (name_of_key nodes y) ≡ true
 reaches-below nodes lists whole top node ts stands d y at_y deep above = elim (or_cases (eqb y top) _ above) [
   | inl h ↦ subst (λ (k : ℕ). reaches ts (name_of_key nodes k) ≡ true) (sym (eqb-true y top h))
       (reaches-root nodes lists whole.named top (node_at nodes top) (node_here nodes lists whole top node) ts (top ∷ []) stands (contains-head top []))
@@ -67,10 +70,12 @@ reaches-below nodes lists whole top node ts stands d y at_y deep above = elim (o
           let line = ancestors_of-child lists whole.forest y w.0 w.1 in
           let child = contains-parent lists y w.0 w.1 in
           let at_p = parent_within lists w.0 y child in
-          reaches-child nodes lists whole.named w.0 y (node_at nodes w.0) (node_at nodes y) (node_here nodes lists whole w.0 at_p) (node_here nodes lists whole y at_y) child ts (top ∷ []) stands
+          reaches-child nodes lists whole.named w.0 y (node_at nodes w.0) (node_at nodes y) (node_here nodes lists whole w.0 at_p)
+          (node_here nodes lists whole y at_y) child ts (top ∷ []) stands
           (elim (or_cases (eqb w.0 top) _ (sym (ap (λ ys. contains ys top) line) ∙ h)) [
             | inl i ↦ subst (λ (k : ℕ). reaches ts (name_of_key nodes k) ≡ true) (sym (eqb-true w.0 top i))
-                (reaches-root nodes lists whole.named top (node_at nodes top) (node_here nodes lists whole top node) ts (top ∷ []) stands (contains-head top []))
+                (reaches-root nodes lists whole.named top (node_at nodes top) (node_here nodes lists whole top node) ts (top ∷ []) stands
+                (contains-head top []))
             | inr i ↦ up d w.0 at_p (omega (arith, ap (length {A = ℕ}) line)) i
           ])
     ]
@@ -81,7 +86,8 @@ reaches-alone : (nodes : List Node) (lists : List (List ℕ)) → IsWhole nodes 
 unfolding HasRoot
 reaches-alone nodes lists whole top y node at_y = elim (cases_Bool (contains (y ∷ ancestors_of lists y) top)) [
   | inl e ↦ reaches-below nodes lists whole top node alone stands (length (ancestors_of lists y)) y at_y (omega arith) e ∙ sym e
-  | inr e ↦ false_from_ne_true _ (λ found. both_ways _ e (below (has_root nodes lists whole y (node_at nodes y) (node_here nodes lists whole y at_y) alone (top ∷ []) stands found))) ∙ sym e
+  | inr e ↦ false_from_ne_true _ (λ found. both_ways _ e
+      (below (has_root nodes lists whole y (node_at nodes y) (node_here nodes lists whole y at_y) alone (top ∷ []) stands found))) ∙ sym e
 ]
   where
     alone : Trees
@@ -98,7 +104,8 @@ reaches-alone nodes lists whole top y node at_y = elim (cases_Bool (contains (y 
 
 -- the same, of names
 below-at : (nodes : List Node) (lists : List (List ℕ)) → IsWhole nodes lists → (top y : ℕ) → top < length lists → y < length lists
-    → is_in name_eq (name_of_key nodes y) (inclusive_descendants (trees_of nodes lists) (name_of_key nodes top)) ≡ is_inclusive_ancestor (trees_of nodes lists) (name_of_key nodes top) (name_of_key nodes y)
+    → is_in name_eq (name_of_key nodes y) (inclusive_descendants (trees_of nodes lists) (name_of_key nodes top)) ≡ is_inclusive_ancestor
+    (trees_of nodes lists) (name_of_key nodes top) (name_of_key nodes y)
 below-at nodes lists whole top y node at_y =
     has_node-reaches (subtree (trees_of nodes lists) (name_of_key nodes top)) (name_of_key nodes y)
     ∙ (reaches-alone nodes lists whole top y node at_y ∙ sym (above-at nodes lists whole top y node at_y))
@@ -106,14 +113,18 @@ below-at nodes lists whole top y node at_y =
 -- ---- the answers
 
 -- the same, as a caller sees it
-pub shows_below : {f : NamedTrees} {ps : List Stored} {lists : List (List ℕ)} {keys : Owner → List ℕ} → seen ps lists ≡ f → IsKept ps lists keys → (j k : ℕ) → j < length f.names → k < length f.names
-    → is_in name_eq (name_at f.names k) (inclusive_descendants f.trees (name_at f.names j)) ≡ is_inclusive_ancestor f.trees (name_at f.names j) (name_at f.names k)
+pub shows_below : {f : NamedTrees} {ps : List Stored} {lists : List (List ℕ)} {keys : Owner → List ℕ} → seen ps lists ≡ f → IsKept ps lists keys →
+    (j k : ℕ) → j < length f.names → k < length f.names
+    → is_in name_eq (name_at f.names k) (inclusive_descendants f.trees (name_at f.names j)) ≡ is_inclusive_ancestor f.trees (name_at f.names j)
+    (name_at f.names k)
 shows_below {f = f} {ps = ps} {lists = lists} {keys = keys} is kept j k at_j at_k =
     let inside_j = within is kept j at_j in
     let inside_k = within is kept k at_k in
     let paired = kept.paired in
-    subst (λ (g : NamedTrees). is_in name_eq (name_at g.names k) (inclusive_descendants g.trees (name_at g.names j)) ≡ is_inclusive_ancestor g.trees (name_at g.names j) (name_at g.names k)) is
-    (rw (name_at-same (stored_names ps) ps j, name_at-same (stored_names ps) ps k) (below-at (nodes_of ps) lists (IsWhole-kept kept) j k (omega arith) (omega arith)))
+    subst (λ (g : NamedTrees). is_in name_eq (name_at g.names k) (inclusive_descendants g.trees (name_at g.names j)) ≡ is_inclusive_ancestor
+    g.trees (name_at g.names j) (name_at g.names k)) is
+    (rw (name_at-same (stored_names ps) ps j, name_at-same (stored_names ps) ps k)
+    (below-at (nodes_of ps) lists (IsWhole-kept kept) j k (omega arith) (omega arith)))
 
 -- the first name behind another one is in the list
 first_in : (x z : NodeName) (xs : List NodeName) → first_of (items_after name_eq x xs) ≡ Some z → is_in name_eq z xs ≡ true
@@ -169,4 +180,5 @@ pub preceding_within : {f : NamedTrees} {ps : List Stored} {lists : List (List �
     → Some (name_at f.names y) ≡ last_of (items_before name_eq (name_at f.names x) (inclusive_descendants f.trees (name_at f.names top)))
     → ForSome (Some y) (λ k. is_inclusive_ancestor f.trees (name_at f.names top) (name_at f.names k) ≡ true)
 preceding_within {f = f} {ps = ps} is kept top x y at_top node value =
-    found_within is kept top (Some y) at_top (λ k e. subst (λ (j : ℕ). j < length ps) (same_Some y k e) node) (λ z e. last_in (name_at f.names x) z _ (sym value ∙ e))
+    found_within is kept top (Some y) at_top (λ k e. subst (λ (j : ℕ). j < length ps) (same_Some y k e) node)
+    (λ z e. last_in (name_at f.names x) z _ (sym value ∙ e))

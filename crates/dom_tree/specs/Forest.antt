@@ -20,7 +20,8 @@ pub record NamedTrees : Type 0 where
 
 -- a code of what a contract sees of a forest
 abbrev pub named_trees_code : Coded NamedTrees
-named_trees_code = code_by (List NodeName × Trees) (coded× (coded_list name_code) trees_code) (λ f. (f.names, f.trees)) (λ p. record { names = p.0; trees = p.1 }) (λ _. refl)
+named_trees_code = code_by (List NodeName × Trees) (coded× (coded_list name_code) trees_code) (λ f. (f.names, f.trees))
+    (λ p. record { names = p.0; trees = p.1 }) (λ _. refl)
 
 -- the name of a key
 abbrev pub name_at : List NodeName → ℕ → NodeName
@@ -44,7 +45,14 @@ attributes_of d = map (λ e. attribute_from (string_bytes e.0) e.1.items) d.attr
 
 -- a node from its name and what the code holds of it
 abbrev pub node_from : List NodeName → NodeName → NodeData → Node
-node_from names x d = record { name = x; kind = d.kind; element = string_bytes d.element; attributes = attributes_of d; text = d.text.items; document = option_map (name_at names) d.document }
+node_from names x d = record {
+  name = x;
+  kind = d.kind;
+  element = string_bytes d.element;
+  attributes = attributes_of d;
+  text = d.text.items;
+  document = option_map (name_at names) d.document;
+}
 
 -- the names of what is stored, by its keys
 abbrev pub stored_names : List Stored → List NodeName

@@ -4,7 +4,8 @@ use Rattle.std.specs.Option.{ForSome}
 use Rattle.dom_base.specs.declared.Owner.{Owner}
 use Rattle.dom_base.specs.declared.NodeName.{NodeName}
 use Rattle.dom_model.specs.Names.{Word, owner_eq, name_eq, name_before, is_in}
-use Rattle.dom_model.specs.Tree.{Trees, none, tree, Node, node_in, has_node, attribute_value, subtree, inclusive_ancestors, inclusive_descendants, parent_of, root_of, child_nodes, children_of, siblings, previous_sibling, next_sibling, index_of, length_of}
+use Rattle.dom_model.specs.Tree.{Trees, none, tree, Node, node_in, has_node, attribute_value, subtree, inclusive_ancestors, inclusive_descendants}
+use Rattle.dom_model.specs.Tree.{parent_of, root_of, child_nodes, children_of, siblings, previous_sibling, next_sibling, index_of, length_of}
 use Rattle.dom_model.specs.TreeChanges.{placed, taken_out, with_node, change_node, change_subtree}
 use Rattle.dom_model.specs.Validity.{insertion_refusal, replacement_refusal}
 

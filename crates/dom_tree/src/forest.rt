@@ -107,7 +107,9 @@ impl Forest {
         ensures once { (k : ℕ) → k < length self.now.names → count_by (λ n. name_eq n.name (name_at self.now.names k)) (nodes self.now.trees) ≡ 1 }
         ensures only { (x : Name) → has_node self.now.trees x ≡ true → (k : ℕ) × (slice_get self.now.names k ≡ Some x) }
         ensures present { (k : ℕ) → k < length self.now.names → has_node self.now.trees (name_at self.now.names k) ≡ true }
-        ensures below { (j k : ℕ) → j < length self.now.names → k < length self.now.names → is_in name_eq (name_at self.now.names k) (inclusive_descendants self.now.trees (name_at self.now.names j)) ≡ is_inclusive_ancestor self.now.trees (name_at self.now.names j) (name_at self.now.names k) }
+        ensures below { (j k : ℕ) → j < length self.now.names → k < length self.now.names →
+            is_in name_eq (name_at self.now.names k) (inclusive_descendants self.now.trees (name_at self.now.names j)) ≡ is_inclusive_ancestor
+            self.now.trees (name_at self.now.names j) (name_at self.now.names k) }
         ensures order { AreInOrder self.now.trees }
     {
         let _ = &self.arena;

@@ -1,6 +1,7 @@
 //! Laws of trees, for callers that change many nodes, and that keep every node with its owner's.
 ghost use Rattle.dom_tree.specs.EachNode.{EachNodeLaw};
-ghost use Rattle.dom_tree.specs.Owners.{OwnTreesLaw, ReadLaw, NearLaw, InsertionLaw, ReplacementLaw, AddedLaw, TakenOutLaw, PlacedLaw, ChangedNodeLaw, ChangedSubtreeLaw};
+ghost use Rattle.dom_tree.specs.Owners.{OwnTreesLaw, ReadLaw, NearLaw, InsertionLaw, ReplacementLaw, AddedLaw, TakenOutLaw, PlacedLaw};
+ghost use Rattle.dom_tree.specs.Owners.{ChangedNodeLaw, ChangedSubtreeLaw};
 
 /// Holds of all trees: what is read of an owner's node is what is read of it in the owner's own trees (own rule).
 pub fn reads_are_own()

@@ -1,5 +1,6 @@
 -- The node documents of a tree, set one after another in tree order.
-use Rattle.std.proofs.Common.{◌≡◌, ℕ, suc, ◌<◌, ◌≤◌, inl, inr, Bool, true, false, cond, ◌||◌, List, [], ◌∷◌, ◌++◌, length, Option, Some, None, option_map, refl, sym, ap, subst, ◌∙◌, arith, true≢false}
+use Rattle.std.proofs.Common.{◌≡◌, ℕ, suc, ◌<◌, ◌≤◌, inl, inr, Bool, true, false, cond, ◌||◌, List, [], ◌∷◌, ◌++◌, length, Option, Some, None}
+use Rattle.std.proofs.Common.{option_map, refl, sym, ap, subst, ◌∙◌, arith, true≢false}
 use Rattle.std.specs.Option.{ForSome}
 use Rattle.std.proofs.lemmas.Bool.{cases_Bool, cond-true, cond-false}
 use Rattle.std.proofs.Math.Bool.{or-false}
@@ -93,14 +94,18 @@ is_in_push x y [] = or-false (name_eq x y)
 is_in_push x y (z ∷ xs) = ap (λ b. name_eq x z || b) (is_in_push x y xs) ∙ or_group (name_eq x z) (is_in name_eq x xs) (name_eq x y)
 
 -- one more
-pub covered_more : (d y : NodeName) (done : List NodeName) (ts : Trees) → change_node (under_document (Some d)) y (covered d done ts) ≡ covered d (done ++ y ∷ []) ts
-covered_more d y done ts = map_nodes_then (λ n. cond (name_eq n.name y) (under_document (Some d) n) n) (λ n. cond (is_in name_eq n.name done) (with_document d n) n) (λ n. cond (is_in name_eq n.name (done ++ y ∷ [])) (with_document d n) n) each ts
+pub covered_more : (d y : NodeName) (done : List NodeName) (ts : Trees) →
+    change_node (under_document (Some d)) y (covered d done ts) ≡ covered d (done ++ y ∷ []) ts
+covered_more d y done ts = map_nodes_then (λ n. cond (name_eq n.name y) (under_document (Some d) n) n)
+    (λ n. cond (is_in name_eq n.name done) (with_document d n) n) (λ n. cond (is_in name_eq n.name (done ++ y ∷ [])) (with_document d n) n) each ts
   where
-    each : (n : Node) → (let m = cond (is_in name_eq n.name done) (with_document d n) n in cond (name_eq m.name y) (under_document (Some d) m) m) ≡ cond (is_in name_eq n.name (done ++ y ∷ [])) (with_document d n) n
+    each : (n : Node) → (let m = cond (is_in name_eq n.name done) (with_document d n) n in cond (name_eq m.name y) (under_document (Some d) m) m)
+        ≡ cond (is_in name_eq n.name (done ++ y ∷ [])) (with_document d n) n
     each n = by (is_in name_eq n.name done) (name_eq n.name y) refl refl ∙ ap (λ b. cond b (with_document d n) n) (sym (is_in_push n.name y done))
       where
         by : (a b : Bool) → is_in name_eq n.name done ≡ a → name_eq n.name y ≡ b
-            → (let m = cond (is_in name_eq n.name done) (with_document d n) n in cond (name_eq m.name y) (under_document (Some d) m) m) ≡ cond (is_in name_eq n.name done || name_eq n.name y) (with_document d n) n
+            → (let m = cond (is_in name_eq n.name done) (with_document d n) n in cond (name_eq m.name y) (under_document (Some d) m) m) ≡ cond
+            (is_in name_eq n.name done || name_eq n.name y) (with_document d n) n
         by true true p q = rw (p, q) refl
         by true false p q = rw (p, q) refl
         by false true p q = rw (p, q) refl
@@ -113,18 +118,23 @@ subtree_gone (tree n c r) x e = let gone = times_none n c r x e in rw (gone.0, s
 -- the names in a tree stay
 names_mapped : (f : Node → Node) → ((n : Node) → (f n).name ≡ n.name) → (ts : Trees) → names_of (nodes (map_nodes f ts)) ≡ names_of (nodes ts)
 names_mapped f keeps none = refl
-names_mapped f keeps (tree n c r) = rw (keeps n) (ap (λ xs. n.name ∷ xs) (both (nodes (map_nodes f c)) (nodes c) (names_mapped f keeps c) (names_mapped f keeps r)))
+names_mapped f keeps (tree n c r) = rw (keeps n)
+    (ap (λ xs. n.name ∷ xs) (both (nodes (map_nodes f c)) (nodes c) (names_mapped f keeps c) (names_mapped f keeps r)))
   where
-    both : (ms ns : List Node) → names_of ms ≡ names_of ns → names_of (nodes (map_nodes f r)) ≡ names_of (nodes r) → names_of (ms ++ nodes (map_nodes f r)) ≡ names_of (ns ++ nodes r)
+    both : (ms ns : List Node) → names_of ms ≡ names_of ns → names_of (nodes (map_nodes f r)) ≡ names_of (nodes r) →
+        names_of (ms ++ nodes (map_nodes f r)) ≡ names_of (ns ++ nodes r)
     both ms ns e h = map-append (λ m. m.name) ms (nodes (map_nodes f r)) ∙ rw (e, h) (sym (map-append (λ m. m.name) ns (nodes r)))
 
-pub subtree_mapped : (f : Node → Node) → ((n : Node) → (f n).name ≡ n.name) → (ts : Trees) (x : NodeName) → subtree (map_nodes f ts) x ≡ map_nodes f (subtree ts x)
+pub subtree_mapped : (f : Node → Node) → ((n : Node) → (f n).name ≡ n.name) → (ts : Trees) (x : NodeName) →
+    subtree (map_nodes f ts) x ≡ map_nodes f (subtree ts x)
 subtree_mapped f keeps none x = refl
 subtree_mapped f keeps (tree n c r) x = elim (cases_Bool (name_eq n.name x)) [
-  | inl h ↦ cond-true (name_eq (f n).name x) (tree (f n) (map_nodes f c) none) mapped (ap (λ y. name_eq y x) (keeps n) ∙ h) ∙ sym (ap (map_nodes f) (cond-true (name_eq n.name x) (tree n c none) (or_else (subtree c x) (subtree r x)) h))
+  | inl h ↦ cond-true (name_eq (f n).name x) (tree (f n) (map_nodes f c) none) mapped (ap (λ y. name_eq y x) (keeps n) ∙ h) ∙
+      sym (ap (map_nodes f) (cond-true (name_eq n.name x) (tree n c none) (or_else (subtree c x) (subtree r x)) h))
   | inr h ↦
       cond-false (name_eq (f n).name x) (tree (f n) (map_nodes f c) none) mapped (ap (λ y. name_eq y x) (keeps n) ∙ h)
-      ∙ ap (λ t. or_else t (subtree (map_nodes f r) x)) (subtree_mapped f keeps c x) ∙ ap (or_else (map_nodes f (subtree c x))) (subtree_mapped f keeps r x) ∙ either (subtree c x)
+      ∙ ap (λ t. or_else t (subtree (map_nodes f r) x)) (subtree_mapped f keeps c x) ∙ ap (or_else (map_nodes f (subtree c x)))
+      (subtree_mapped f keeps r x) ∙ either (subtree c x)
       ∙ sym (ap (map_nodes f) (cond-false (name_eq n.name x) (tree n c none) (or_else (subtree c x) (subtree r x)) h))
 ]
   where
@@ -135,7 +145,8 @@ subtree_mapped f keeps (tree n c r) x = elim (cases_Bool (name_eq n.name x)) [
     either none = refl
     either (tree m d s) = refl
 
-pub descendants_mapped : (f : Node → Node) → ((n : Node) → (f n).name ≡ n.name) → (ts : Trees) (x : NodeName) → inclusive_descendants (map_nodes f ts) x ≡ inclusive_descendants ts x
+pub descendants_mapped : (f : Node → Node) → ((n : Node) → (f n).name ≡ n.name) → (ts : Trees) (x : NodeName) →
+    inclusive_descendants (map_nodes f ts) x ≡ inclusive_descendants ts x
 descendants_mapped f keeps ts x = ap (λ t. names_of (nodes t)) (subtree_mapped f keeps ts x) ∙ names_mapped f keeps (subtree ts x)
 
 covered_keeps : (d : NodeName) (done : List NodeName) (n : Node) → (cond (is_in name_eq n.name done) (with_document d n) n).name ≡ n.name
@@ -145,7 +156,8 @@ covered_keeps d done n = by (is_in name_eq n.name done)
     by true = refl
     by false = refl
 
-pub descendants_covered : (d : NodeName) (done : List NodeName) (ts : Trees) (x : NodeName) → inclusive_descendants (covered d done ts) x ≡ inclusive_descendants ts x
+pub descendants_covered : (d : NodeName) (done : List NodeName) (ts : Trees) (x : NodeName) →
+    inclusive_descendants (covered d done ts) x ≡ inclusive_descendants ts x
 descendants_covered d done ts x = descendants_mapped (λ n. cond (is_in name_eq n.name done) (with_document d n) n) (covered_keeps d done) ts x
 
 -- what stands in a tree has the tree's root above it
@@ -157,14 +169,21 @@ above_inside ts once x y h = elim (cases_Bool (is_inclusive_ancestor ts x y)) [
       absurd (true≢false (sym h ∙ lacks_to y (inclusive_descendants ts x) (names_lack (subtree ts x) y gone)))
 ]
 
-pub above_covered : (d : NodeName) (done : List NodeName) (ts : Trees) → IsOnce ts → (x y : NodeName) → is_in name_eq y (inclusive_descendants ts x) ≡ true → is_inclusive_ancestor (covered d done ts) x y ≡ true
-above_covered d done ts once x y h = ap (is_in name_eq x) (path_mapped (λ n. cond (is_in name_eq n.name done) (with_document d n) n) (covered_keeps d done) ts y) ∙ above_inside ts once x y h
+pub above_covered : (d : NodeName) (done : List NodeName) (ts : Trees) → IsOnce ts → (x y : NodeName) →
+    is_in name_eq y (inclusive_descendants ts x) ≡ true → is_inclusive_ancestor (covered d done ts) x y ≡ true
+above_covered d done ts once x y h = ap (is_in name_eq x)
+    (path_mapped (λ n. cond (is_in name_eq n.name done) (with_document d n) n) (covered_keeps d done) ts y) ∙ above_inside ts once x y h
 
 -- a node that is there is the first in its tree
 pub first_inside : (ts : Trees) (x : NodeName) → 1 ≤ times_in ts x → (xs : List NodeName) × (inclusive_descendants ts x ≡ x ∷ xs)
 first_inside none x there = let none = times_in-none x in absurd (omega arith)
 first_inside (tree n c r) x there = elim (cases_Bool (name_eq n.name x)) [
-  | inl h ↦ (names_of (nodes c ++ []), ap (λ t. names_of (nodes t)) (cond-true (name_eq n.name x) (tree n c none) (or_else (subtree c x) (subtree r x)) h) ∙ ap (λ y. y ∷ names_of (nodes c ++ [])) (name_eq-true n.name x h))
+  | inl h ↦ (
+    names_of (nodes c ++ []),
+    ap (λ t. names_of (nodes t))
+        (cond-true (name_eq n.name x) (tree n c none) (or_else (subtree c x) (subtree r x)) h) ∙
+        ap (λ y. y ∷ names_of (nodes c ++ [])) (name_eq-true n.name x h),
+  )
   | inr h ↦
       let is = ap (λ t. names_of (nodes t)) (cond-false (name_eq n.name x) (tree n c none) (or_else (subtree c x) (subtree r x)) h) in
       elim (none_or_some (times_in c x)) [
@@ -188,12 +207,15 @@ pub record Sets (names : List NodeName) (d top : NodeName) (was now : Trees) (at
   pub stands : StandsIn (inclusive_descendants was top) (option_map (name_at names) at)
   pub node : ForSome at (λ k. k < length names)
 
-pub sets_first : (names : List NodeName) (d : NodeName) (was : Trees) (k : ℕ) → k < length names → 1 ≤ times_in was (name_at names k) → Sets names d (name_at names k) was was (Some k)
+pub sets_first : (names : List NodeName) (d : NodeName) (was : Trees) (k : ℕ) → k < length names → 1 ≤ times_in was (name_at names k) →
+    Sets names d (name_at names k) was was (Some k)
 sets_first names d was k k< there =
     let x = name_at names k in
     let first = first_inside was x there in
     record {
-      trees = sym (covered_none d was) ∙ ap (λ xs. covered d xs was) (sym (ap (items_before name_eq x) first.1 ∙ cond-true (name_eq x x) [] (x ∷ items_before name_eq x first.0) (name_eq-same x)));
+      trees = sym (covered_none d was) ∙
+          ap (λ xs. covered d xs was) (sym
+          (ap (items_before name_eq x) first.1 ∙ cond-true (name_eq x x) [] (x ∷ items_before name_eq x first.0) (name_eq-same x)));
       stands = ap (is_in name_eq x) first.1 ∙ ap (λ b. b || is_in name_eq x first.0) (name_eq-same x);
       node = λ j e. let same : k ≡ j = cc in subst (λ i. i < length names) same k<;
     }
@@ -203,13 +225,16 @@ pub sets_next : (names : List NodeName) (d top : NodeName) (was now new : Trees)
     → new ≡ change_node (under_document (Some d)) (name_at names k) now
     → option_map (name_at names) next ≡ first_of (items_after name_eq (name_at names k) (inclusive_descendants new top))
     → ForSome next (λ j. j < length names)
-    → Sets names d top was new next × (left (inclusive_descendants was top) (option_map (name_at names) next) < left (inclusive_descendants was top) (Some (name_at names k)))
+    → Sets names d top was new next × (left (inclusive_descendants was top) (option_map (name_at names) next) < left
+    (inclusive_descendants was top) (Some (name_at names k)))
 sets_next names d top was now new once k next sets changed found near =
     let xs = inclusive_descendants was top in
     let y = name_at names k in
-    let is : new ≡ covered d (items_before name_eq y xs ++ y ∷ []) was = changed ∙ ap (change_node (under_document (Some d)) y) sets.trees ∙ covered_more d y (items_before name_eq y xs) was in
+    let is : new ≡ covered d (items_before name_eq y xs ++ y ∷ []) was =
+    changed ∙ ap (change_node (under_document (Some d)) y) sets.trees ∙ covered_more d y (items_before name_eq y xs) was in
     let behind : option_map (name_at names) next ≡ first_of (items_after name_eq y xs) =
-    found ∙ ap (λ zs. first_of (items_after name_eq y zs)) (ap (λ t. inclusive_descendants t top) is ∙ descendants_covered d (items_before name_eq y xs ++ y ∷ []) was top) in
+    found ∙ ap (λ zs. first_of (items_after name_eq y zs))
+    (ap (λ t. inclusive_descendants t top) is ∙ descendants_covered d (items_before name_eq y xs ++ y ∷ []) was top) in
     let w = subst (λ o. Walks xs y o) (sym behind) (walks xs (names_once (subtree was top) (once_subtree was top once)) y sets.stands) in
     (record { trees = is ∙ ap (λ zs. covered d zs was) (sym w.more); stands = w.stands; node = near }, w.fewer)
 
@@ -219,22 +244,26 @@ pub sets_above : (names : List NodeName) (d top : NodeName) (was now new : Trees
 sets_above names d top was now new once k sets changed =
     let xs = inclusive_descendants was top in
     let y = name_at names k in
-    ap (λ t. is_inclusive_ancestor t top y) (changed ∙ ap (change_node (under_document (Some d)) y) sets.trees ∙ covered_more d y (items_before name_eq y xs) was)
+    ap (λ t. is_inclusive_ancestor t top y)
+    (changed ∙ ap (change_node (under_document (Some d)) y) sets.trees ∙ covered_more d y (items_before name_eq y xs) was)
     ∙ above_covered d (items_before name_eq y xs ++ y ∷ []) was once top y sets.stands
 
 -- the same of a forest, before and after a step
-pub sets_on : (f g h : NamedTrees) (top d k : ℕ) (at next : Option ℕ) → IsOnce f.trees → at ≡ Some k → g.names ≡ f.names → Sets f.names (name_at f.names d) (name_at f.names top) f.trees g.trees at
+pub sets_on : (f g h : NamedTrees) (top d k : ℕ) (at next : Option ℕ) → IsOnce f.trees → at ≡ Some k → g.names ≡ f.names →
+    Sets f.names (name_at f.names d) (name_at f.names top) f.trees g.trees at
     → h.names ≡ g.names → h.trees ≡ change_node (under_document (Some (name_at g.names d))) (name_at g.names k) g.trees
     → option_map (name_at h.names) next ≡ first_of (items_after name_eq (name_at h.names k) (inclusive_descendants h.trees (name_at h.names top)))
     → ForSome next (λ j. j < length h.names)
     → (h.names ≡ f.names) × Sets f.names (name_at f.names d) (name_at f.names top) f.trees h.trees next
-    × (left (inclusive_descendants f.trees (name_at f.names top)) (option_map (name_at f.names) next) < left (inclusive_descendants f.trees (name_at f.names top)) (option_map (name_at f.names) at))
+    × (left (inclusive_descendants f.trees (name_at f.names top)) (option_map (name_at f.names) next) < left
+    (inclusive_descendants f.trees (name_at f.names top)) (option_map (name_at f.names) at))
 sets_on f g h top d k at next once is names sets same changed found near =
     let xs = inclusive_descendants f.trees (name_at f.names top) in
     let all = same ∙ names in
     let done = sets_next f.names (name_at f.names d) (name_at f.names top) f.trees g.trees h.trees once k next
     (subst (Sets f.names (name_at f.names d) (name_at f.names top) f.trees g.trees) is sets)
     (subst (λ (ns : List NodeName). h.trees ≡ change_node (under_document (Some (name_at ns d))) (name_at ns k) g.trees) names changed)
-    (subst (λ (ns : List NodeName). option_map (name_at ns) next ≡ first_of (items_after name_eq (name_at ns k) (inclusive_descendants h.trees (name_at ns top)))) all found)
+    (subst (λ (ns : List NodeName). option_map (name_at ns) next ≡ first_of
+    (items_after name_eq (name_at ns k) (inclusive_descendants h.trees (name_at ns top)))) all found)
     (subst (λ (ns : List NodeName). ForSome next (λ j. j < length ns)) all near) in
     (all, done.0, subst (λ (o : Option ℕ). left xs (option_map (name_at f.names) next) < left xs (option_map (name_at f.names) o)) (sym is) done.1)

@@ -4,12 +4,14 @@ use Rattle.std.specs.List.{AllByRecursion}
 use Rattle.std.proofs.lemmas.Bool.{cases_Bool, cond-true, cond-false}
 use Rattle.dom_base.specs.declared.NodeName.{NodeName}
 use Rattle.dom_model.specs.Names.{name_eq, first_of, items_after}
-use Rattle.dom_model.specs.Tree.{Trees, none, tree, Node, roots, names_of, subtree, or_else, trees_below, inclusive_ancestors, parent_of, children_of, next_sibling}
+use Rattle.dom_model.specs.Tree.{Trees, none, tree, Node, roots, names_of, subtree, or_else, trees_below, inclusive_ancestors, parent_of, children_of}
+use Rattle.dom_model.specs.Tree.{next_sibling}
 use Rattle.dom_model.specs.TreeChanges.{map_nodes}
 use Rattle.dom_model.proofs.OwnerLaws.{name_eq-same}
 use Rattle.dom_tree.proofs.Names.{name_eq-true}
 use Rattle.dom_tree.proofs.Once.{times_in, times_in-tree, one-true}
-use Rattle.dom_tree_laws.proofs.Paths.{Lacks, apart_not, IsOnce, once_parts, times_none, path_here, path_beside, path_after, path_below, path_none, path_gone, path_some, path_head, times_or_else, times_subtree}
+use Rattle.dom_tree_laws.proofs.Paths.{Lacks, apart_not, IsOnce, once_parts, times_none, path_here, path_beside, path_after, path_below, path_none}
+use Rattle.dom_tree_laws.proofs.Paths.{path_gone, path_some, path_head, times_or_else, times_subtree}
 use Rattle.dom_tree_laws.proofs.Moves.{none_or_some}
 
 -- a name that stands below a root or behind it is not the root's
@@ -35,14 +37,18 @@ parent_path (tree n c r) once x p e =
     ]
   where
     by_path : (path : List NodeName) → inclusive_ancestors c x ≡ path → name_eq n.name x ≡ false → parent_of (tree n c r) x ≡ Some p
-        → (parent_of c x ≡ Some p → inclusive_ancestors c x ≡ x ∷ inclusive_ancestors c p) → (parent_of r x ≡ Some p → inclusive_ancestors r x ≡ x ∷ inclusive_ancestors r p)
+        → (parent_of c x ≡ Some p → inclusive_ancestors c x ≡ x ∷ inclusive_ancestors c p) →
+        (parent_of r x ≡ Some p → inclusive_ancestors r x ≡ x ∷ inclusive_ancestors r p)
         → inclusive_ancestors (tree n c r) x ≡ x ∷ inclusive_ancestors (tree n c r) p
     by_path [] is h e below rest =
         let there = path_after n c r x h is in
         let up = rest (sym (ap (λ path. first_of (drop 1 path)) there) ∙ e) in
-        there ∙ up ∙ ap (λ path. x ∷ path) (sym (behind (inclusive_ancestors r p) refl (ap (λ path. first_of (drop 1 path)) (sym up) ∙ sym (ap (λ path. first_of (drop 1 path)) there) ∙ e)))
+        there ∙ up ∙ ap (λ path. x ∷ path)
+        (sym (behind (inclusive_ancestors r p) refl
+        (ap (λ path. first_of (drop 1 path)) (sym up) ∙ sym (ap (λ path. first_of (drop 1 path)) there) ∙ e)))
       where
-        behind : (path : List NodeName) → inclusive_ancestors r p ≡ path → first_of (inclusive_ancestors r p) ≡ Some p → inclusive_ancestors (tree n c r) p ≡ inclusive_ancestors r p
+        behind : (path : List NodeName) → inclusive_ancestors r p ≡ path → first_of (inclusive_ancestors r p) ≡ Some p →
+            inclusive_ancestors (tree n c r) p ≡ inclusive_ancestors r p
         behind [] is e = let none = ap (λ path. first_of path) is in cc
         behind (a ∷ path) is e =
             let there = there_of r p a path is in
@@ -73,7 +79,8 @@ parent_below n c r once x p e = by_path (inclusive_ancestors c x) refl e
     by_path (a ∷ []) is e = let none = ap (λ path. first_of (drop 1 path)) is in cc
     by_path (a ∷ b ∷ path) is e =
         let found = there_of c x a (b ∷ path) is in
-        ap (λ path. first_of (drop 1 path)) (path_below n c r x a (b ∷ path) (apart_of n c r once x (omega arith)) is) ∙ sym (ap (λ path. first_of (drop 1 path)) is) ∙ e
+        ap (λ path. first_of (drop 1 path)) (path_below n c r x a (b ∷ path) (apart_of n c r once x (omega arith)) is) ∙
+        sym (ap (λ path. first_of (drop 1 path)) is) ∙ e
 
 parent_behind : (n : Node) (c r : Trees) → IsOnce (tree n c r) → (x p : NodeName) → parent_of r x ≡ Some p → parent_of (tree n c r) x ≡ Some p
 parent_behind n c r once x p e = by_path (inclusive_ancestors r x) refl e
@@ -99,7 +106,8 @@ roots_path none once = tt
 roots_path (tree n c r) once = (
   path_here n c r n.name (name_eq-same n.name),
   each_all (λ x. inclusive_ancestors r x ≡ x ∷ []) (λ x. inclusive_ancestors (tree n c r) x ≡ x ∷ [])
-      (λ x is. let found = there_of r x x [] is in let m = times_in-tree n c r x in let k = once x in path_after n c r x (apart_of n c r once x (omega arith)) (path_none c x (omega arith)) ∙ is)
+      (λ x is. let found = there_of r x x [] is in let m = times_in-tree n c r x in let k = once x in path_after n c r x
+      (apart_of n c r once x (omega arith)) (path_none c x (omega arith)) ∙ is)
       (names_of (roots r)) (roots_path r (once_parts n c r once).after),
 )
 
@@ -112,18 +120,22 @@ children_parent (tree n c r) once p =
     let parts = once_parts n c r once in
     elim (cases_Bool (name_eq n.name p)) [
       | inl h ↦
-          subst (λ t. Each (HasParent (tree n c r) p) (names_of (roots (trees_below t)))) (sym (cond-true (name_eq n.name p) (tree n c none) (or_else (subtree c p) (subtree r p)) h))
+          subst (λ t. Each (HasParent (tree n c r) p) (names_of (roots (trees_below t))))
+          (sym (cond-true (name_eq n.name p) (tree n c none) (or_else (subtree c p) (subtree r p)) h))
           (each_all (λ x. inclusive_ancestors c x ≡ x ∷ []) (HasParent (tree n c r) p)
           (λ x is. let found = there_of c x x [] is in
           ap (λ path. first_of (drop 1 path)) (path_below n c r x x [] (apart_of n c r once x (omega arith)) is) ∙ ap (λ q. Some q) (name_eq-true n.name p h))
           (names_of (roots c)) (roots_path c parts.below))
       | inr h ↦
-          subst (λ t. Each (HasParent (tree n c r) p) (names_of (roots (trees_below t)))) (sym (cond-false (name_eq n.name p) (tree n c none) (or_else (subtree c p) (subtree r p)) h))
-          (either (subtree c p) (each_all (HasParent c p) (HasParent (tree n c r) p) (λ x e. parent_below n c r once x p e) (children_of c p) (children_parent c parts.below p))
+          subst (λ t. Each (HasParent (tree n c r) p) (names_of (roots (trees_below t))))
+          (sym (cond-false (name_eq n.name p) (tree n c none) (or_else (subtree c p) (subtree r p)) h))
+          (either (subtree c p) (each_all (HasParent c p) (HasParent (tree n c r) p) (λ x e. parent_below n c r once x p e) (children_of c p)
+          (children_parent c parts.below p))
           (each_all (HasParent r p) (HasParent (tree n c r) p) (λ x e. parent_behind n c r once x p e) (children_of r p) (children_parent r parts.after p)))
     ]
   where
-    either : (t : Trees) → Each (HasParent (tree n c r) p) (names_of (roots (trees_below t))) → Each (HasParent (tree n c r) p) (children_of r p) → Each (HasParent (tree n c r) p) (names_of (roots (trees_below (or_else t (subtree r p)))))
+    either : (t : Trees) → Each (HasParent (tree n c r) p) (names_of (roots (trees_below t))) →
+        Each (HasParent (tree n c r) p) (children_of r p) → Each (HasParent (tree n c r) p) (names_of (roots (trees_below (or_else t (subtree r p)))))
     either none a b = b
     either (tree m d s) a b = a
 
@@ -176,7 +188,8 @@ first_lacks x [] h y e = cc
 first_lacks x (z ∷ zs) h y e = let same : z ≡ y = cc in subst (λ w. name_eq x w ≡ false) same h.0
 
 -- the next sibling of a child is another child
-pub next_child : (ts : Trees) → IsOnce ts → (x p y : NodeName) → parent_of ts x ≡ Some p → next_sibling ts x ≡ Some y → (parent_of ts y ≡ Some p) × (name_eq x y ≡ false)
+pub next_child : (ts : Trees) → IsOnce ts → (x p y : NodeName) → parent_of ts x ≡ Some p → next_sibling ts x ≡ Some y →
+    (parent_of ts y ≡ Some p) × (name_eq x y ≡ false)
 next_child ts once x p y up next =
     let is = ap (λ o. first_of (items_after name_eq x (Rattle.std.specs.Option.option_map_or (children_of ts) o (x ∷ [])))) up in
     let e : first_of (items_after name_eq x (children_of ts p)) ≡ Some y = sym is ∙ next in (
@@ -187,10 +200,12 @@ next_child ts once x p y up next =
 -- ---- other contents
 
 -- nodes that keep their names keep their places
-pub path_mapped : (f : Node → Node) → ((n : Node) → (f n).name ≡ n.name) → (ts : Trees) (x : NodeName) → inclusive_ancestors (map_nodes f ts) x ≡ inclusive_ancestors ts x
+pub path_mapped : (f : Node → Node) → ((n : Node) → (f n).name ≡ n.name) → (ts : Trees) (x : NodeName) →
+    inclusive_ancestors (map_nodes f ts) x ≡ inclusive_ancestors ts x
 path_mapped f keeps none x = refl
 path_mapped f keeps (tree n c r) x = rw (keeps n, path_mapped f keeps c x, path_mapped f keeps r x) refl
 
 -- a walk from a child to its next sibling
-pub next_walked : (ts : Trees) → IsOnce ts → (x p : NodeName) → parent_of ts x ≡ Some p → next_sibling ts x ≡ first_of (items_after name_eq x (children_of ts p))
+pub next_walked : (ts : Trees) → IsOnce ts → (x p : NodeName) → parent_of ts x ≡ Some p →
+    next_sibling ts x ≡ first_of (items_after name_eq x (children_of ts p))
 next_walked ts once x p up = ap (λ o. first_of (items_after name_eq x (Rattle.std.specs.Option.option_map_or (children_of ts) o (x ∷ [])))) up

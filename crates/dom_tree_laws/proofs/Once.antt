@@ -24,7 +24,8 @@ times_count (tree n c r) x =
     let a = times_in-tree n c r x in let b = times_count c x in let d = times_count r x in
     let e = sum_by-cons (λ (m : Node). cond (name_eq m.name x) 1 0) n (nodes c ++ nodes r) in
     let f = count-append (λ (m : Node). name_eq m.name x) (nodes c) (nodes r) in
-    let g : one (name_eq n.name x) ≡ cond (name_eq n.name x) 1 0 = elim (cases_Bool (name_eq n.name x)) [ inl h ↦ one-true _ h ∙ rw h refl | inr h ↦ one-false _ h ∙ rw h refl ] in
+    let g : one (name_eq n.name x) ≡ cond (name_eq n.name x) 1 0 =
+    elim (cases_Bool (name_eq n.name x)) [ inl h ↦ one-true _ h ∙ rw h refl | inr h ↦ one-false _ h ∙ rw h refl ] in
     omega arith
 
 -- from that clause
@@ -112,9 +113,11 @@ names_once (tree n c r) once =
     let parts = once_parts n c r once in (
       lacks_more n.name (nodes c) (nodes r) (names_lack c n.name parts.root_below) (names_lack r n.name parts.root_after),
       both (nodes c) (names_once c parts.below) (names_once r parts.after)
-          (each_all (λ x. 1 ≤ times_in c x) (λ x. Lacks x (names_of (nodes r))) (λ x h. let a = parts.apart x in names_lack r x (omega arith)) (names_of (nodes c)) (names_stand c)),
+          (each_all (λ x. 1 ≤ times_in c x) (λ x. Lacks x (names_of (nodes r))) (λ x h. let a = parts.apart x in names_lack r x (omega arith))
+          (names_of (nodes c)) (names_stand c)),
     )
   where
-    both : (xs : List Node) → NoTwice (names_of xs) → NoTwice (names_of (nodes r)) → Each (λ x. Lacks x (names_of (nodes r))) (names_of xs) → NoTwice (names_of (xs ++ nodes r))
+    both : (xs : List Node) → NoTwice (names_of xs) → NoTwice (names_of (nodes r)) → Each (λ x. Lacks x (names_of (nodes r))) (names_of xs) →
+        NoTwice (names_of (xs ++ nodes r))
     both [] h g apart = g
     both (m ∷ xs) h g apart = (lacks_more m.name xs (nodes r) h.0 apart.0, both xs h.1 g apart.1)

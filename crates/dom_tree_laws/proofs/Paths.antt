@@ -85,13 +85,16 @@ times_none n c r x e =
 pub path_here : (n : Node) (c r : Trees) (x : NodeName) → name_eq n.name x ≡ true → inclusive_ancestors (tree n c r) x ≡ x ∷ []
 path_here n c r x e = cond-true (name_eq n.name x) (x ∷ []) (on_top (inclusive_ancestors c x) n.name (inclusive_ancestors r x)) e
 
-pub path_beside : (n : Node) (c r : Trees) (x : NodeName) → name_eq n.name x ≡ false → inclusive_ancestors (tree n c r) x ≡ on_top (inclusive_ancestors c x) n.name (inclusive_ancestors r x)
+pub path_beside : (n : Node) (c r : Trees) (x : NodeName) → name_eq n.name x ≡ false →
+    inclusive_ancestors (tree n c r) x ≡ on_top (inclusive_ancestors c x) n.name (inclusive_ancestors r x)
 path_beside n c r x e = cond-false (name_eq n.name x) (x ∷ []) (on_top (inclusive_ancestors c x) n.name (inclusive_ancestors r x)) e
 
-pub path_after : (n : Node) (c r : Trees) (x : NodeName) → name_eq n.name x ≡ false → inclusive_ancestors c x ≡ [] → inclusive_ancestors (tree n c r) x ≡ inclusive_ancestors r x
+pub path_after : (n : Node) (c r : Trees) (x : NodeName) → name_eq n.name x ≡ false → inclusive_ancestors c x ≡ [] →
+    inclusive_ancestors (tree n c r) x ≡ inclusive_ancestors r x
 path_after n c r x e none_below = path_beside n c r x e ∙ ap (λ path. on_top path n.name (inclusive_ancestors r x)) none_below
 
-pub path_below : (n : Node) (c r : Trees) (x a : NodeName) (path : List NodeName) → name_eq n.name x ≡ false → inclusive_ancestors c x ≡ a ∷ path → inclusive_ancestors (tree n c r) x ≡ (a ∷ path) ++ n.name ∷ []
+pub path_below : (n : Node) (c r : Trees) (x a : NodeName) (path : List NodeName) → name_eq n.name x ≡ false →
+    inclusive_ancestors c x ≡ a ∷ path → inclusive_ancestors (tree n c r) x ≡ (a ∷ path) ++ n.name ∷ []
 path_below n c r x a path e is = path_beside n c r x e ∙ ap (λ path. on_top path n.name (inclusive_ancestors r x)) is
 
 -- a name that is not there has none
@@ -124,11 +127,13 @@ path_lacks none x y e = tt
 path_lacks (tree n c r) x y e =
     let parts = times_none n c r y e in
     elim (cases_Bool (name_eq n.name x)) [
-      | inl h ↦ subst (Lacks y) (sym (path_here n c r x h)) (let same = name_eq-true n.name x h in (swapped x y (subst (λ (z : NodeName). name_eq z y ≡ false) same parts.0), tt))
+      | inl h ↦ subst (Lacks y) (sym (path_here n c r x h))
+          (let same = name_eq-true n.name x h in (swapped x y (subst (λ (z : NodeName). name_eq z y ≡ false) same parts.0), tt))
       | inr h ↦ subst (Lacks y) (sym (path_beside n c r x h)) (top (inclusive_ancestors c x) parts.0 (path_lacks c x y parts.1) (path_lacks r x y parts.2))
     ]
   where
-    top : (path : List NodeName) → name_eq n.name y ≡ false → Lacks y path → Lacks y (inclusive_ancestors r x) → Lacks y (on_top path n.name (inclusive_ancestors r x))
+    top : (path : List NodeName) → name_eq n.name y ≡ false → Lacks y path → Lacks y (inclusive_ancestors r x) →
+        Lacks y (on_top path n.name (inclusive_ancestors r x))
     top [] e h g = g
     top (a ∷ path) e h g = lacks_both y (a ∷ path) (n.name ∷ []) h (swapped n.name y e, tt)
 
@@ -140,7 +145,8 @@ path_head (tree n c r) x a path is = elim (cases_Bool (name_eq n.name x)) [
   | inr h ↦ top (inclusive_ancestors c x) (λ b below e. path_head c x b below e) (path_head r x a path) refl (sym (path_beside n c r x h) ∙ is)
 ]
   where
-    top : (below : List NodeName) → ((b : NodeName) (below : List NodeName) → inclusive_ancestors c x ≡ b ∷ below → b ≡ x) → (inclusive_ancestors r x ≡ a ∷ path → a ≡ x)
+    top : (below : List NodeName) → ((b : NodeName) (below : List NodeName) → inclusive_ancestors c x ≡ b ∷ below → b ≡ x) →
+        (inclusive_ancestors r x ≡ a ∷ path → a ≡ x)
         → inclusive_ancestors c x ≡ below → on_top below n.name (inclusive_ancestors r x) ≡ a ∷ path → a ≡ x
     top [] head rest e is = rest is
     top (b ∷ below) head rest e is = let same = head b below e in cc
@@ -170,7 +176,8 @@ pub path_without : (ts : Trees) (x y : NodeName) → Lacks x (inclusive_ancestor
 path_without none x y lacks = refl
 path_without (tree n c r) x y lacks = elim (cases_Bool (name_eq n.name y)) [
   | inl h ↦
-      let other : name_eq n.name x ≡ false = let same = name_eq-true n.name y h in let off = (subst (Lacks x) (path_here n c r y h) lacks).0 in subst (λ (z : NodeName). name_eq z x ≡ false) (sym same) (swapped x y off) in
+      let other : name_eq n.name x ≡ false = let same = name_eq-true n.name y h in let off =
+      (subst (Lacks x) (path_here n c r y h) lacks).0 in subst (λ (z : NodeName). name_eq z x ≡ false) (sym same) (swapped x y off) in
       rw (other, h) refl
   | inr h ↦ elim (cases_Bool (name_eq n.name x)) [
     | inl g ↦ top_here (inclusive_ancestors c y) refl (subst (Lacks x) (path_beside n c r y h) lacks) h g (path_without r x y)
@@ -178,7 +185,8 @@ path_without (tree n c r) x y lacks = elim (cases_Bool (name_eq n.name y)) [
   ]
 ]
   where
-    top_here : (path : List NodeName) → inclusive_ancestors c y ≡ path → Lacks x (on_top path n.name (inclusive_ancestors r y)) → name_eq n.name y ≡ false → name_eq n.name x ≡ true
+    top_here : (path : List NodeName) → inclusive_ancestors c y ≡ path → Lacks x (on_top path n.name (inclusive_ancestors r y)) →
+        name_eq n.name y ≡ false → name_eq n.name x ≡ true
         → (Lacks x (inclusive_ancestors r y) → inclusive_ancestors (without x r) y ≡ inclusive_ancestors r y)
         → inclusive_ancestors (without x (tree n c r)) y ≡ inclusive_ancestors (tree n c r) y
     top_here [] e lacks h g rest = rw g (rest lacks ∙ sym (path_after n c r y h e))
@@ -187,7 +195,8 @@ path_without (tree n c r) x y lacks = elim (cases_Bool (name_eq n.name y)) [
     top_beside : (path : List NodeName) → inclusive_ancestors c y ≡ path → Lacks x (on_top path n.name (inclusive_ancestors r y))
         → (Lacks x (inclusive_ancestors c y) → inclusive_ancestors (without x c) y ≡ inclusive_ancestors c y)
         → (Lacks x (inclusive_ancestors r y) → inclusive_ancestors (without x r) y ≡ inclusive_ancestors r y)
-        → on_top (inclusive_ancestors (without x c) y) n.name (inclusive_ancestors (without x r) y) ≡ on_top (inclusive_ancestors c y) n.name (inclusive_ancestors r y)
+        → on_top (inclusive_ancestors (without x c) y) n.name (inclusive_ancestors (without x r) y) ≡ on_top (inclusive_ancestors c y) n.name
+        (inclusive_ancestors r y)
     top_beside [] e lacks below rest =
         ap (λ p. on_top p n.name (inclusive_ancestors (without x r) y)) (below (subst (Lacks x) (sym e) tt))
         ∙ ap (λ p. on_top p n.name (inclusive_ancestors (without x r) y)) e ∙ rest lacks ∙ ap (λ p. on_top p n.name (inclusive_ancestors r y)) (sym e)

@@ -36,8 +36,10 @@ all_at : (p : ℕ → Bool) (xs : List ℕ) (i : ℕ) → list_all p xs ≡ true
 all_at p xs i h l = true_from_ne_false (p (get_or xs i 0)) (λ no'. let some = list_all_at p xs i 0 l no' in cc)
 
 -- one more digit of a number
-pub one_digit : (digits : List ℕ) (n i : ℕ) → list_all is_ascii_digit digits ≡ true → i < length digits → digits_value_after 10 n (drop i digits) ≡ digits_value 10 digits →
-    (48 ≤ get_or digits i 0) × (n * 10 + (get_or digits i 0 - 48) ≤ digits_value 10 digits) × (digits_value_after 10 (n * 10 + (get_or digits i 0 - 48)) (drop (i + 1) digits) ≡ digits_value 10 digits)
+pub one_digit : (digits : List ℕ) (n i : ℕ) → list_all is_ascii_digit digits ≡ true → i < length digits →
+    digits_value_after 10 n (drop i digits) ≡ digits_value 10 digits →
+    (48 ≤ get_or digits i 0) × (n * 10 + (get_or digits i 0 - 48) ≤ digits_value 10 digits) ×
+    (digits_value_after 10 (n * 10 + (get_or digits i 0 - 48)) (drop (i + 1) digits) ≡ digits_value 10 digits)
 one_digit digits n i h l e =
     let d = digit_is (get_or digits i 0) (all_at is_ascii_digit digits i h l) in
     let step : digits_value_after 10 (n * 10 + (get_or digits i 0 - 48)) (drop (i + 1) digits) ≡ digits_value 10 digits =

@@ -2,7 +2,8 @@
 
 ghost use Rattle.std.specs.Prelude.{◌≡◌, ◌+◌, ◌*◌, ◌<◌, ◌≤◌, true, false, MatchOption};
 ghost use Rattle.std.specs.Char.{is_ascii_hexdigit, digit_value};
-ghost use Rattle.dom_text.specs.Readers.{between, read_digit as spec_read_digit, read_byte as spec_read_byte, units_at as spec_units_at, string_at as spec_string_at, next_string};
+ghost use Rattle.dom_text.specs.Readers.{between, read_digit as spec_read_digit, read_byte as spec_read_byte, units_at as spec_units_at};
+ghost use Rattle.dom_text.specs.Readers.{string_at as spec_string_at, next_string};
 ghost use Rattle.dom_words.specs.Gives.{Gives, Takes};
 ghost use Rattle.dom_words.specs.Strings.{place_view, read_view, DigitsFit, PlaceFits, ReadFits};
 

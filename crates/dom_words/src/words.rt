@@ -4,7 +4,8 @@ ghost use Rattle.std.specs.Prelude.{◌≡◌, ℕ, List, option_map, IfOk, IfEr
 ghost use Rattle.std.specs.List.{prefix_len, list_all};
 ghost use Rattle.std.specs.Char.{is_ascii_graphic};
 ghost use Rattle.dom_model.specs.Names.{is_empty};
-ghost use Rattle.dom_text.specs.Readers.{at_end, behind_space as spec_behind_space, begins_word as spec_begins_word, word_at as spec_word_at, next_word as spec_next_word, flag_at};
+ghost use Rattle.dom_text.specs.Readers.{at_end, behind_space as spec_behind_space, begins_word as spec_begins_word, word_at as spec_word_at};
+ghost use Rattle.dom_text.specs.Readers.{next_word as spec_next_word, flag_at};
 ghost use Rattle.dom_words.specs.declared.not_read.NotRead.TheVariants.{Syntax};
 ghost use Rattle.dom_words.specs.Gives.{Gives, Takes};
 

@@ -36,29 +36,36 @@ module _ {M : Type 1} {𝓤 : Ura M} (𝓛 : Logic 𝓤) (𝓜 : Model 𝓤 𝓛
   clash : (p : Ptr) (x y : V.Denot) → ent 𝓤 (sep 𝓤 (sem 𝓛 (lies_at R full_share p x)) (sem 𝓛 (lies_at R full_share p y))) (never 𝓤)
   clash (block_ptr b o) x y =
       qed 𝓛 (‵ (part_at R full_share x b o) ∷ ‵ (part_at R full_share y b o) ∷ []) ∵
-      use1 𝓛 (some (λ (v : Val). ‵ (fat full_share (layout V) b o v) ⊛ ‵ (R.own_val x (v ∷ [])))) (part_out 𝓛 R refl full_share x b o) $ pick ! (λ v. split ! $ move ! (2 ∷ []) $
-      use1 𝓛 (some (λ (w : Val). ‵ (fat full_share (layout V) b o w) ⊛ ‵ (R.own_val y (w ∷ [])))) (part_out 𝓛 R refl full_share y b o) $ pick ! (λ w. split ! $ move ! (2 ∷ []) $
+      use1 𝓛 (some (λ (v : Val). ‵ (fat full_share (layout V) b o v) ⊛ ‵ (R.own_val x (v ∷ [])))) (part_out 𝓛 R refl full_share x b o) $ pick !
+      (λ v. split ! $ move ! (2 ∷ []) $
+      use1 𝓛 (some (λ (w : Val). ‵ (fat full_share (layout V) b o w) ⊛ ‵ (R.own_val y (w ∷ [])))) (part_out 𝓛 R refl full_share y b o) $ pick !
+      (λ w. split ! $ move ! (2 ∷ []) $
       use1 𝓛 (‵ (froom (layout V) b o)) (𝓛.laws.at_room (layout V) b o v) $ keep ! (0 ∷ 1 ∷ []) $
       by ! (𝓜.room_at (layout V) (layout V) b o o o full_share w (omega arith, omega arith) (omega arith, omega arith))))
   clash null_ptr x y = fst∗ 𝓤 (never 𝓤) (never 𝓤)
 
   -- so their places differ
   differ : (p q : Ptr) (x y : V.Denot) → ent 𝓤 (sep 𝓤 (sem 𝓛 (lies_at R full_share p x)) (sem 𝓛 (lies_at R full_share q y))) (fact 𝓤 (same_ptr p q ≡ false))
-  differ p q x y = (elim (same_ptr p q) as (λ t. same_ptr p q ≡ t → ent 𝓤 (sep 𝓤 (sem 𝓛 (lies_at R full_share p x)) (sem 𝓛 (lies_at R full_share q y))) (fact 𝓤 (same_ptr p q ≡ false))) [
-    | true ↦ λ e. via 𝓤 (never 𝓤) (subst (λ r. ent 𝓤 (sep 𝓤 (sem 𝓛 (lies_at R full_share p x)) (sem 𝓛 (lies_at R full_share r y))) (never 𝓤)) (same_ptr_eq p q e) (clash p x y)) (never_e 𝓤 _)
-    | false ↦ λ e. fact_i 𝓤 (same_ptr p q ≡ false) _ e
-  ]) refl
+  differ p q x y = (elim (same_ptr p q) as
+      (λ t. same_ptr p q ≡ t → ent 𝓤 (sep 𝓤 (sem 𝓛 (lies_at R full_share p x)) (sem 𝓛 (lies_at R full_share q y))) (fact 𝓤 (same_ptr p q ≡ false))) [
+        | true ↦ λ e. via 𝓤 (never 𝓤) (subst (λ r. ent 𝓤 (sep 𝓤 (sem 𝓛 (lies_at R full_share p x)) (sem 𝓛 (lies_at R full_share r y))) (never 𝓤))
+            (same_ptr_eq p q e) (clash p x y)) (never_e 𝓤 _)
+        | false ↦ λ e. fact_i 𝓤 (same_ptr p q ≡ false) _ e
+      ]) refl
 
   -- a boxed value lies in a block, and its pointer may be compared with null
-  pub boxed : (p : Ptr) (x : V.Denot) → ent 𝓤 (sep 𝓤 (sem 𝓛 (lies_at R full_share p x)) (sem 𝓛 (may_free (bare (lone R.mir)) p))) (fact 𝓤 (InBlock p × Testable p))
+  pub boxed : (p : Ptr) (x : V.Denot) → ent 𝓤 (sep 𝓤 (sem 𝓛 (lies_at R full_share p x)) (sem 𝓛 (may_free (bare (lone R.mir)) p)))
+      (fact 𝓤 (InBlock p × Testable p))
   boxed (block_ptr b o) x =
       let p : Ptr = block_ptr b o in
       via 𝓤 (sem 𝓛 (may_free (bare (lone R.mir)) p)) (snd∗ 𝓤 (sem 𝓛 (lies_at R full_share p x)) (sem 𝓛 (may_free (bare (lone R.mir)) p)))
-      (via 𝓤 (fact 𝓤 (Testable p)) (dealloc_token-Testable 𝓛 (record { memory = record { seal = tt } }) (bare (lone R.mir)) p) (fact_mono 𝓤 (Testable p) (InBlock p × Testable p) (λ t. (tt, t))))
+      (via 𝓤 (fact 𝓤 (Testable p)) (dealloc_token-Testable 𝓛 (record { memory = record { seal = tt } }) (bare (lone R.mir)) p)
+      (fact_mono 𝓤 (Testable p) (InBlock p × Testable p) (λ t. (tt, t))))
   boxed null_ptr x = via 𝓤 (never 𝓤) (fst∗ 𝓤 (never 𝓤) (sem 𝓛 (may_free (bare (lone R.mir)) null_ptr))) (never_e 𝓤 _)
 
   -- a cell that the pool does not own lies apart from those that it owns
-  pub fresh : (ns : List (Placed V.Denot)) (p : Ptr) (x : V.Denot) → ent 𝓤 (sep 𝓤 (sem 𝓛 (lies_at R full_share p x)) (sem 𝓛 (pool_owns R ns))) (fact 𝓤 (value_at ns p ≡ None))
+  pub fresh : (ns : List (Placed V.Denot)) (p : Ptr) (x : V.Denot) →
+      ent 𝓤 (sep 𝓤 (sem 𝓛 (lies_at R full_share p x)) (sem 𝓛 (pool_owns R ns))) (fact 𝓤 (value_at ns p ≡ None))
   fresh [] p x = fact_i 𝓤 (value_at {V = V.Denot} [] p ≡ None) _ refl
   fresh (n ∷ ns) p x =
       qed 𝓛 (‵ (lies_at R full_share p x) ∷ ‵ (pool_owns R (n ∷ ns)) ∷ []) ∵ move ! (1 ∷ []) $ fsplit ! $ fsplit ! $ move ! (0 ∷ 3 ∷ []) $

@@ -22,7 +22,8 @@ Mark V = Struct (shape (C.the_type V))
 
 -- it is made of nothing
 pub mark_made : (V : RattleType) {M : Type 1} {𝓤 : Ura M} (𝓛 : Logic 𝓤) → ent 𝓤 (emp 𝓤) (sem 𝓛 ((Mark V).own_val (tt, tt) (mark ∷ [])))
-mark_made V 𝓛 = makes_shadow 𝓛 ((Mark V).own_val (tt, tt) (mark ∷ [])) (λ vss. (tt, ((λ uss. (tt, tt)), tt))) ((vstruct vnil ∷ [], tt), (refl, ((tt, (refl, tt)), tt)))
+mark_made V 𝓛 = makes_shadow 𝓛 ((Mark V).own_val (tt, tt) (mark ∷ [])) (λ vss. (tt, ((λ uss. (tt, tt)), tt)))
+    ((vstruct vnil ∷ [], tt), (refl, ((tt, (refl, tt)), tt)))
 
 -- what is had of it tells what the machine stores
 module _ {M : Type 1} {𝓤 : Ura M} {𝓛 : Logic 𝓤} {K : Type 0} {Γ : List (Item 𝓤)} {G : Goal 𝓤 𝓛.H} where

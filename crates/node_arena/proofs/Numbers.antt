@@ -1,5 +1,6 @@
 -- The numbers of places in a list of them, and what stands at a number of a list.
-use Rattle.std.proofs.Common.{◌≡◌, ℕ, zero, suc, ◌⊎◌, true≢false, inl, inr, true, false, List, [], ◌∷◌, ◌++◌, length, set, Option, Some, None, IsSome, slice_get, drop, refl, sym, ap, ◌∙◌, subst}
+use Rattle.std.proofs.Common.{◌≡◌, ℕ, zero, suc, ◌⊎◌, true≢false, inl, inr, true, false, List, [], ◌∷◌, ◌++◌, length, set, Option, Some, None, IsSome}
+use Rattle.std.proofs.Common.{slice_get, drop, refl, sym, ap, ◌∙◌, subst}
 use Rattle.std.specs.Option.{option_map, is_some}
 use Rattle.std.proofs.lemmas.Bool.{cases_Bool}
 use Rattle.std.proofs.lemmas.Option.{none-some, same_Some}
@@ -101,7 +102,9 @@ module _ {V : Type 0} where
     pub set : (w : V) → set_at cells p w ≡ set cells k (placed cell.at w)
 
   -- one place further on
-  found-later : (n : Placed V) (ns : List (Placed V)) (k : ℕ) (p : Ptr) → same_ptr n.at p ≡ false → ((i : ℕ) → number_of (places_of ns) p ≡ Some i → Found ns i p) → (o : Option ℕ) → number_of (places_of ns) p ≡ o → option_map suc o ≡ Some k → Found (n ∷ ns) k p
+  found-later : (n : Placed V) (ns : List (Placed V)) (k : ℕ) (p : Ptr) → same_ptr n.at p ≡ false →
+      ((i : ℕ) → number_of (places_of ns) p ≡ Some i → Found ns i p) → (o : Option ℕ) → number_of (places_of ns) p ≡ o →
+      option_map suc o ≡ Some k → Found (n ∷ ns) k p
   found-later n ns k p e rest None is h = absurd (none-some k h)
   found-later n ns k p e rest (Some i) is h =
       let r = rest i is in
@@ -121,14 +124,16 @@ module _ {V : Type 0} where
   found (n ∷ ns) k p h = elim (cases_Bool (same_ptr n.at p)) [
     | inl e ↦
         let here : Some 0 ≡ Some k = rw e at h in
-        subst (λ j. Found (n ∷ ns) j p) (same_Some 0 k here) (record { cell = n; is = refl; at = same_ptr_eq n.at p e; value = rw e refl; set = λ w. rw e refl })
+        subst (λ j. Found (n ∷ ns) j p) (same_Some 0 k here)
+        (record { cell = n; is = refl; at = same_ptr_eq n.at p e; value = rw e refl; set = λ w. rw e refl })
     | inr e ↦
         let later : option_map suc (number_of (places_of ns) p) ≡ Some k = rw e at h in
         found-later n ns k p e (λ i is. found ns i p is) (number_of (places_of ns) p) refl later
   ]
 
 -- the cell at the first of the places, and the places of the others
-pub first_placed : {V : Type 0} (cells : List (Placed V)) (p : Ptr) (ps : List Ptr) → p ∷ ps ≡ places_of cells → IsSome (value_at cells p) × (ps ≡ places_of (without_at cells p))
+pub first_placed : {V : Type 0} (cells : List (Placed V)) (p : Ptr) (ps : List Ptr) → p ∷ ps ≡ places_of cells → IsSome (value_at cells p) ×
+    (ps ≡ places_of (without_at cells p))
 first_placed [] p ps h = absurd (none-some p (sym (ap (λ qs. slice_get qs 0) h)))
 first_placed (n ∷ ns) p ps h =
     let first : p ≡ n.at = same_Some p n.at (ap (λ qs. slice_get qs 0) h) in

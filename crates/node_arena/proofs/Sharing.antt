@@ -36,6 +36,7 @@ module _ {M : Type 1} {𝓤 : Ura M} (𝓛 : Logic 𝓤) (l : Lft) (V : RattleTy
 
 -- what is lent of all shows what is lent of one
 module _ {M : Type 1} {𝓤 : Ura M} (𝓛 : Logic 𝓤) (V : RattleType) (κ : Lft) where
-  pub cell_seen : (xs : List (Placed V.Denot)) (n : Placed V.Denot) (ys : List (Placed V.Denot)) → ent 𝓤 (sem 𝓛 (pool_lent V (xs ++ n ∷ ys) κ)) (sem 𝓛 (lent_at V n.at n.value κ))
+  pub cell_seen : (xs : List (Placed V.Denot)) (n : Placed V.Denot) (ys : List (Placed V.Denot)) →
+      ent 𝓤 (sem 𝓛 (pool_lent V (xs ++ n ∷ ys) κ)) (sem 𝓛 (lent_at V n.at n.value κ))
   cell_seen [] n ys = fst∗ 𝓤 _ (sem 𝓛 (pool_lent V ys κ))
   cell_seen (x ∷ xs) n ys = via 𝓤 _ (snd∗ 𝓤 (sem 𝓛 (lent_at V x.at x.value κ)) _) (cell_seen xs n ys)

@@ -1,4 +1,5 @@
-use Rattle.dom_isolation.proofs.Reached.{first-is_reached, step-keeps_reached, ending-keeps_reached, finish-keeps_reached, scripts-reach, quiet_scripts-reach, sound, assigned-are_page}
+use Rattle.dom_isolation.proofs.Reached.{first-is_reached, step-keeps_reached, ending-keeps_reached, finish-keeps_reached, scripts-reach}
+use Rattle.dom_isolation.proofs.Reached.{quiet_scripts-reach, sound, assigned-are_page}
 use Rattle.dom_isolation.proofs.ReachedFacts.{shadow_roots-are_roots, no_other_shadow_roots, attached-are_there, hosts-are_theirs}
 use Rattle.dom_isolation.proofs.reached_worlds.Goals as goal
 

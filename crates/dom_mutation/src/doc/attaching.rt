@@ -21,9 +21,11 @@ impl Doc {
         requires host_is_node { host < length self.old.names }
         requires host_is_page { owner_in self.old host ≡ Page }
         ensures key { IfOk result (λ key. key ≡ length self.old.names) }
-        ensures names { OnOk result (self.new.names ≡ self.old.names ++ shadow_root_of (component_made Page (length (part_of self.old.world Page).attached)) ∷ []) }
+        ensures names { OnOk result (self.new.names ≡ self.old.names ++
+            shadow_root_of (component_made Page (length (part_of self.old.world Page).attached)) ∷ []) }
         ensures world { OnOk result (self.new.world ≡ (attaching self.old.world Page (name_in self.old host)).0) }
-        ensures refused { (r : RefusalOf) → (result ≡ Err (Fault.Refused r)) ↔ (attaching_refusal (part_of self.old.world Page) (name_in self.old host) ≡ Some r) }
+        ensures refused { (r : RefusalOf) →
+            (result ≡ Err (Fault.Refused r)) ↔ (attaching_refusal (part_of self.old.world Page) (name_in self.old host) ≡ Some r) }
         ensures unchanged { (r : RefusalOf) → result ≡ Err (Fault.Refused r) → self.new ≡ self.old }
         ensures ready { IsReady self.old → OnOk result (IsReady self.new) }
     {

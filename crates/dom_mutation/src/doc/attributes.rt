@@ -22,7 +22,8 @@ impl Doc {
         ensures other { IfErr result (λ fault. (fault ≡ Fault.Refused InvalidCharacter) ⊎ (fault ≡ Fault.Memory)) }
         ensures unchanged { is_name name.now ≡ false → self.new ≡ self.old }
         ensures names { OnOk result (self.new.names ≡ self.old.names) }
-        ensures world { OnOk result (self.new.world ≡ made (owner_in self.old node) (setting_attribute (name_in self.old node) name.now value.items) self.old.world) }
+        ensures world { OnOk result (self.new.world ≡ made (owner_in self.old node)
+            (setting_attribute (name_in self.old node) name.now value.items) self.old.world) }
         ensures ready { IsReady self.old → OnOk result (IsReady self.new) }
     {
         self.parts.laws();

@@ -29,11 +29,13 @@ impl Doc {
         requires node_is_node { node < length self.old.names }
         requires has_data { has_data (kind_of (trees_in self.old node) (name_in self.old node)) ≡ true }
         requires bounds { HasBounds (part_of self.old.world (owner_in self.old node)) }
-        ensures refused { (result ≡ Err (Fault.Refused IndexSize)) ↔ (past_end (part_of self.old.world (owner_in self.old node)) (name_in self.old node) offset ≡ true) }
+        ensures refused { (result ≡ Err (Fault.Refused IndexSize)) ↔
+            (past_end (part_of self.old.world (owner_in self.old node)) (name_in self.old node) offset ≡ true) }
         ensures other { IfErr result (λ fault. (fault ≡ Fault.Refused IndexSize) ⊎ (fault ≡ Fault.Memory)) }
         ensures unchanged { past_end (part_of self.old.world (owner_in self.old node)) (name_in self.old node) offset ≡ true → self.new ≡ self.old }
         ensures names { OnOk result (self.new.names ≡ self.old.names) }
-        ensures world { OnOk result (self.new.world ≡ made (owner_in self.old node) (replacing_data (name_in self.old node) offset count «data».items) self.old.world) }
+        ensures world { OnOk result (self.new.world ≡ made (owner_in self.old node)
+            (replacing_data (name_in self.old node) offset count «data».items) self.old.world) }
         ensures ready { IsReady self.old → OnOk result (IsReady self.new) }
     {
         self.parts.laws();

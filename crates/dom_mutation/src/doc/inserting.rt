@@ -30,10 +30,14 @@ impl Doc {
         requires child_owner { ForSome child (λ c. owner_in self.old c ≡ owner_in self.old parent) }
         requires bounds { HasBounds (part_of self.old.world (owner_in self.old parent)) }
         ensures names { OnOk result (self.new.names ≡ self.old.names) }
-        ensures world { OnOk result (self.new.world ≡ made (owner_in self.old parent) (pre_inserting (name_in self.old node) (name_in self.old parent) (option_map (name_in self.old) child)) self.old.world) }
+        ensures world { OnOk result (self.new.world ≡ made (owner_in self.old parent)
+            (pre_inserting (name_in self.old node) (name_in self.old parent) (option_map (name_in self.old) child)) self.old.world) }
 
         // A refusal is the Standard's, and changes nothing; nothing else but memory stops an insertion.
-        ensures refused { (r : RefusalOf) → (result ≡ Err (Fault.Refused r)) ↔ (insertion_refusal (trees_in self.old parent) (name_in self.old parent) (name_in self.old node) (option_map (name_in self.old) child) ≡ Some r) }
+        ensures refused { (r : RefusalOf) →
+            (result ≡ Err (Fault.Refused r)) ↔
+            (insertion_refusal (trees_in self.old parent) (name_in self.old parent) (name_in self.old node)
+            (option_map (name_in self.old) child) ≡ Some r) }
         ensures unchanged { (r : RefusalOf) → result ≡ Err (Fault.Refused r) → self.new ≡ self.old }
         ensures ready { IsReady self.old → OnOk result (IsReady self.new) }
     {
@@ -54,8 +58,10 @@ impl Doc {
         requires may_move { MayMove self.old parent child node }
         requires child_is_child { ForSome child (IsChild self.old parent) }
         requires bounds { HasBounds (part_of self.old.world (owner_in self.old parent)) }
-        ensures state { OnOk result (self.new ≡ planned (owner_in self.old parent) (inserting observed (name_in self.old node) (name_in self.old parent) (option_map (name_in self.old) child)) self.old) }
-        ensures ready { IsReady self.old → has_data (kind_of (trees_in self.old parent) (name_in self.old parent)) ≡ false → is_shadow (kind_of (trees_in self.old node) (name_in self.old node)) ≡ false → OnOk result (IsReady self.new) }
+        ensures state { OnOk result (self.new ≡ planned (owner_in self.old parent)
+            (inserting observed (name_in self.old node) (name_in self.old parent) (option_map (name_in self.old) child)) self.old) }
+        ensures ready { IsReady self.old → has_data (kind_of (trees_in self.old parent) (name_in self.old parent)) ≡ false →
+            is_shadow (kind_of (trees_in self.old node) (name_in self.old node)) ≡ false → OnOk result (IsReady self.new) }
     {
         self.parts.laws();
         insert(&mut self.parts, parent, node, child)
@@ -69,7 +75,8 @@ impl Doc {
         requires child_is_node { ForSome child (λ c. c < length self.now.names) }
         requires node_owner { owner_in self.now node ≡ owner_in self.now parent }
         requires child_owner { ForSome child (λ c. owner_in self.now c ≡ owner_in self.now parent) }
-        ensures { err_of result ≡ insertion_refusal (trees_in self.now parent) (name_in self.now parent) (name_in self.now node) (option_map (name_in self.now) child) }
+        ensures { err_of result ≡ insertion_refusal (trees_in self.now parent) (name_in self.now parent) (name_in self.now node)
+            (option_map (name_in self.now) child) }
     {
         self.parts.check_insert(parent, node, child)
     }
@@ -80,7 +87,8 @@ impl Doc {
         requires parent_is_node { parent < length self.now.names }
         requires node_is_node { node < length self.now.names }
         requires child_is_child { ForSome child (IsChild self.now parent) }
-        ensures value { option_map (name_in self.now) result ≡ reference_for (trees_in self.now parent) (name_in self.now node) (option_map (name_in self.now) child) }
+        ensures value { option_map (name_in self.now) result ≡ reference_for (trees_in self.now parent) (name_in self.now node)
+            (option_map (name_in self.now) child) }
         ensures child { ForSome result (IsChild self.now parent) }
         ensures apart { ForSome result (λ b. name_eq (name_in self.now node) (name_in self.now b) ≡ false) }
     {

@@ -57,7 +57,8 @@ impl Doc {
         requires node_is_node { node < length self.old.names }
         requires own { owner_in self.old node ≡ owner }
         ensures names { self.new.names ≡ self.old.names }
-        ensures world { OnOk result (Makes owner (Command.range_start number (own (name_in self.old node).number) offset) nothing self.old.world self.new.world) }
+        ensures world { OnOk result (Makes owner (Command.range_start number (own (name_in self.old node).number) offset) nothing self.old.world
+            self.new.world) }
         ensures refused { (result ≡ Err RefusalOf.IndexSize) ↔ (past_end (part_of self.old.world owner) (name_in self.old node) offset ≡ true) }
         ensures other { IfErr result (λ refusal. refusal ≡ RefusalOf.IndexSize) }
         ensures err { OnErr result (self.new ≡ self.old) }
@@ -110,8 +111,12 @@ impl Doc {
         requires end_is_node { points.end.0 < length self.old.names }
         requires own_start { owner_in self.old points.start.0 ≡ owner }
         requires own_end { owner_in self.old points.end.0 ≡ owner }
-        ensures state { self.new ≡ stepped owner (set_range number (from_to (at (name_in self.old points.start.0) points.start.1) (at (name_in self.old points.end.0) points.end.1))) self.old }
-        ensures ready { IsReady self.old → MayStand (part_of self.old.world owner).trees (from_to (at (name_in self.old points.start.0) points.start.1) (at (name_in self.old points.end.0) points.end.1)) → IsReady self.new }
+        ensures state { self.new ≡ stepped owner
+            (set_range number (from_to (at (name_in self.old points.start.0) points.start.1) (at (name_in self.old points.end.0) points.end.1)))
+            self.old }
+        ensures ready { IsReady self.old →
+            MayStand (part_of self.old.world owner).trees
+            (from_to (at (name_in self.old points.start.0) points.start.1) (at (name_in self.old points.end.0) points.end.1)) → IsReady self.new }
     {
         self.parts.laws();
         self.parts.range_put(owner, number, points);
@@ -134,7 +139,9 @@ impl Doc {
         ensures end_is_node { result.end.0 < length self.now.names }
         ensures own_start { owner_in self.now result.start.0 ≡ owner }
         ensures own_end { owner_in self.now result.end.0 ≡ owner }
-        ensures value { Makes owner (Command.range_get number) (boundaries (at (name_in self.now result.start.0) result.start.1) (at (name_in self.now result.end.0) result.end.1)) self.now.world self.now.world }
+        ensures value { Makes owner (Command.range_get number)
+            (boundaries (at (name_in self.now result.start.0) result.start.1) (at (name_in self.now result.end.0) result.end.1)) self.now.world
+            self.now.world }
     {
         self.parts.range_points(owner, number)
     }

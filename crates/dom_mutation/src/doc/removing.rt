@@ -33,11 +33,13 @@ impl Doc {
         requires document_is_node { document < length self.old.names }
         requires node_is_node { node < length self.old.names }
         requires one_owner { owner_in self.old document ≡ owner_in self.old node }
-        ensures refused { (r : RefusalOf) → (result ≡ Err (Fault.Refused r)) ↔ (adoption_refusal (kind_of (trees_in self.old node) (name_in self.old node)) ≡ Some r) }
+        ensures refused { (r : RefusalOf) →
+            (result ≡ Err (Fault.Refused r)) ↔ (adoption_refusal (kind_of (trees_in self.old node) (name_in self.old node)) ≡ Some r) }
         ensures other { IfErr result (λ fault. (fault ≡ Fault.Refused NotSupported) ⊎ ((fault ≡ Fault.Refused Hierarchy) ⊎ (fault ≡ Fault.Memory))) }
         ensures unchanged { (r : RefusalOf) → result ≡ Err (Fault.Refused r) → self.new ≡ self.old }
         ensures names { OnOk result (self.new.names ≡ self.old.names) }
-        ensures world { OnOk result (self.new.world ≡ made (owner_in self.old node) (adopting (name_in self.old document) (name_in self.old node)) self.old.world) }
+        ensures world { OnOk result (self.new.world ≡ made (owner_in self.old node) (adopting (name_in self.old document) (name_in self.old node))
+            self.old.world) }
         ensures ready { IsReady self.old → OnOk result (IsReady self.new) }
     {
         self.parts.laws();

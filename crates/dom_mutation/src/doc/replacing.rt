@@ -25,10 +25,13 @@ impl Doc {
         requires child_owner { owner_in self.old child ≡ owner_in self.old parent }
         requires bounds { HasBounds (part_of self.old.world (owner_in self.old parent)) }
         ensures names { OnOk result (self.new.names ≡ self.old.names) }
-        ensures world { OnOk result (self.new.world ≡ made (owner_in self.old parent) (replacing (name_in self.old parent) (name_in self.old node) (name_in self.old child)) self.old.world) }
+        ensures world { OnOk result (self.new.world ≡ made (owner_in self.old parent)
+            (replacing (name_in self.old parent) (name_in self.old node) (name_in self.old child)) self.old.world) }
 
         // A refusal is the Standard's, and changes nothing; nothing else but memory stops a replacement.
-        ensures refused { (r : RefusalOf) → (result ≡ Err (Fault.Refused r)) ↔ (replacement_refusal (trees_in self.old parent) (name_in self.old parent) (name_in self.old node) (name_in self.old child) ≡ Some r) }
+        ensures refused { (r : RefusalOf) →
+            (result ≡ Err (Fault.Refused r)) ↔
+            (replacement_refusal (trees_in self.old parent) (name_in self.old parent) (name_in self.old node) (name_in self.old child) ≡ Some r) }
         ensures unchanged { (r : RefusalOf) → result ≡ Err (Fault.Refused r) → self.new ≡ self.old }
         ensures ready { IsReady self.old → OnOk result (IsReady self.new) }
     {

@@ -28,9 +28,13 @@ impl Doc {
         ensures world { OnOk result (self.new.world ≡ made (owner_in self.old node) (splitting (name_in self.old node) offset) self.old.world) }
 
         // A refusal is one of these, in their order, and changes nothing; nothing else but memory stops a split.
-        ensures index { (result ≡ Err (Fault.Refused IndexSize)) ↔ (past_end (part_of self.old.world (owner_in self.old node)) (name_in self.old node) offset ≡ true) }
-        ensures refused { (r : RefusalOf) → result ≡ Err (Fault.Refused r) → splitting_refusal (part_of self.old.world (owner_in self.old node)) (name_in self.old node) offset ≡ Some r }
-        ensures stopped { (r : RefusalOf) → splitting_refusal (part_of self.old.world (owner_in self.old node)) (name_in self.old node) offset ≡ Some r → (result ≡ Err (Fault.Refused r)) ⊎ (result ≡ Err Fault.Memory) }
+        ensures index { (result ≡ Err (Fault.Refused IndexSize)) ↔
+            (past_end (part_of self.old.world (owner_in self.old node)) (name_in self.old node) offset ≡ true) }
+        ensures refused { (r : RefusalOf) → result ≡ Err (Fault.Refused r) →
+            splitting_refusal (part_of self.old.world (owner_in self.old node)) (name_in self.old node) offset ≡ Some r }
+        ensures stopped { (r : RefusalOf) →
+            splitting_refusal (part_of self.old.world (owner_in self.old node)) (name_in self.old node) offset ≡ Some r →
+            (result ≡ Err (Fault.Refused r)) ⊎ (result ≡ Err Fault.Memory) }
         ensures unchanged { (r : RefusalOf) → result ≡ Err (Fault.Refused r) → self.new ≡ self.old }
         ensures ready { IsReady self.old → is_text (kind_of (trees_in self.old node) (name_in self.old node)) ≡ true → OnOk result (IsReady self.new) }
     {

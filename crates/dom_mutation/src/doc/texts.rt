@@ -20,11 +20,14 @@ impl Doc {
     pub fn set_text(&mut self, node: Key, data: DomStr) -> Result<(), Fault>
         requires node_is_node { node < length self.old.names }
         requires bounds { HasBounds (part_of self.old.world (owner_in self.old node)) }
-        ensures names { OnOk result (self.new.names ≡ self.old.names ++ texts_made (part_of self.old.world (owner_in self.old node)) (name_in self.old node) «data».items) }
+        ensures names { OnOk result (self.new.names ≡ self.old.names ++ texts_made (part_of self.old.world (owner_in self.old node))
+            (name_in self.old node) «data».items) }
         ensures world { OnOk result (self.new.world ≡ made (owner_in self.old node) (setting_text (name_in self.old node) «data».items) self.old.world) }
 
         // A refusal changes nothing; nothing else but memory stops a change of text.
-        ensures refused { (result ≡ Err (Fault.Refused Limit)) ↔ (past_limit (part_of self.old.world (owner_in self.old node)).node_count (made_by_text (part_of self.old.world (owner_in self.old node)) (name_in self.old node) «data».items) ≡ true) }
+        ensures refused { (result ≡ Err (Fault.Refused Limit)) ↔
+            (past_limit (part_of self.old.world (owner_in self.old node)).node_count
+            (made_by_text (part_of self.old.world (owner_in self.old node)) (name_in self.old node) «data».items) ≡ true) }
         ensures other { IfErr result (λ fault. (fault ≡ Fault.Refused Limit) ⊎ (fault ≡ Fault.Memory)) }
         ensures unchanged { result ≡ Err (Fault.Refused Limit) → self.new ≡ self.old }
         ensures ready { IsReady self.old → OnOk result (IsReady self.new) }

@@ -33,9 +33,11 @@ impl Parts {
         requires host_is_node { host < length self.old.names }
         requires host_is_page { owner_in self.old host ≡ Page }
         ensures key { IfOk result (λ key. key ≡ length self.old.names) }
-        ensures names { OnOk result (self.new.names ≡ self.old.names ++ shadow_root_of (component_made Page (length (part_of self.old.world Page).attached)) ∷ []) }
+        ensures names { OnOk result (self.new.names ≡ self.old.names ++
+            shadow_root_of (component_made Page (length (part_of self.old.world Page).attached)) ∷ []) }
         ensures world { OnOk result (self.new.world ≡ (attaching self.old.world Page (name_in self.old host)).0) }
-        ensures refused { (r : RefusalOf) → (result ≡ Err (Fault.Refused r)) ↔ (attaching_refusal (part_of self.old.world Page) (name_in self.old host) ≡ Some r) }
+        ensures refused { (r : RefusalOf) →
+            (result ≡ Err (Fault.Refused r)) ↔ (attaching_refusal (part_of self.old.world Page) (name_in self.old host) ≡ Some r) }
         ensures unchanged { (r : RefusalOf) → result ≡ Err (Fault.Refused r) → self.new ≡ self.old }
     {
         if let Err(refusal) = self.check_attach(host) {
@@ -103,7 +105,8 @@ fn attach_root(
     requires slots { AreSlotsOf forest.old slots.old }
     ensures key { IfOk result (λ key. key ≡ length forest.old.names) }
     ensures names { OnOk result (forest.new.names ≡ forest.old.names ++ next_name owner forest.old.names ∷ []) }
-    ensures trees { OnOk result (forest.new.trees ≡ with_node (new_root (next_name owner forest.old.names) Shadow (node_in forest.old.trees (name_at forest.old.names host)).document) forest.old.trees) }
+    ensures trees { OnOk result (forest.new.trees ≡ with_node
+        (new_root (next_name owner forest.old.names) Shadow (node_in forest.old.trees (name_at forest.old.names host)).document) forest.old.trees) }
     ensures tables { OnOk result (tables.new.items ≡ tables.old.items ++ no_keyed_tables ∷ []) }
     ensures hosts { OnOk result (slots.new.hosts ≡ slots.old.hosts ++ record { host = host; root = length forest.old.names; owner = owner } ∷ []) }
     ensures free { OnOk result (slots.new.begun ≡ None) }

@@ -43,7 +43,8 @@ impl Parts {
         requires root_is_node { root < length self.old.names }
         requires own { owner_in self.old root ≡ owner }
         ensures names { self.new.names ≡ self.old.names }
-        ensures world { IfOk result (λ number. Makes owner (Command.iterator_new (own (name_in self.old root).number) (filter_of filter)) (an_iterator number) self.old.world self.new.world) }
+        ensures world { IfOk result (λ number. Makes owner (Command.iterator_new (own (name_in self.old root).number) (filter_of filter))
+            (an_iterator number) self.old.world self.new.world) }
         ensures limit { (result ≡ Err (Fault.Refused Limit)) ↔ (past_limit (length (part_of self.old.world owner).iterators) 1 ≡ true) }
         ensures other { IfErr result (λ fault. (fault ≡ Fault.Refused Limit) ⊎ (fault ≡ Fault.Memory)) }
         ensures err { OnErr result (self.new ≡ self.old) }
@@ -59,7 +60,8 @@ impl Parts {
         requires root_is_node { root < length self.old.names }
         requires own { owner_in self.old root ≡ owner }
         ensures names { self.new.names ≡ self.old.names }
-        ensures world { IfOk result (λ number. Makes owner (Command.walker_new (own (name_in self.old root).number) (filter_of filter)) (a_walker number) self.old.world self.new.world) }
+        ensures world { IfOk result (λ number. Makes owner (Command.walker_new (own (name_in self.old root).number) (filter_of filter))
+            (a_walker number) self.old.world self.new.world) }
         ensures limit { (result ≡ Err (Fault.Refused Limit)) ↔ (past_limit (length (part_of self.old.world owner).walkers) 1 ≡ true) }
         ensures other { IfErr result (λ fault. (fault ≡ Fault.Refused Limit) ⊎ (fault ≡ Fault.Memory)) }
         ensures err { OnErr result (self.new ≡ self.old) }

@@ -52,7 +52,8 @@ impl Parts {
         requires node_is_node { node < length self.old.names }
         requires own { owner_in self.old node ≡ owner }
         ensures names { self.new.names ≡ self.old.names }
-        ensures world { OnOk result (Makes owner (Command.observe number (own (name_in self.old node).number) (words_of options)) nothing self.old.world self.new.world) }
+        ensures world { OnOk result (Makes owner (Command.observe number (own (name_in self.old node).number) (words_of options)) nothing
+            self.old.world self.new.world) }
         ensures no_kind { (result ≡ Err (Fault.Refused TypeFault)) ↔ (asks_for_nothing (options_of (words_of options)) ≡ true) }
         ensures other { IfErr result (λ fault. (fault ≡ Fault.Refused TypeFault) ⊎ (fault ≡ Fault.Memory)) }
         ensures err { OnErr result (self.new ≡ self.old) }
@@ -77,7 +78,8 @@ impl Parts {
         requires { is_some (slice_get (part_of self.old.world owner).record_queues number) ≡ true }
         ensures names { self.new.names ≡ self.old.names }
         ensures nodes { AllByRecursion (NamesNodes self.old) result.items }
-        ensures world { MakesSaying owner (Command.take number) (map (λ r. recorded number (change_in self.old r)) result.items) (a_count (length result.items)) self.old.world self.new.world }
+        ensures world { MakesSaying owner (Command.take number) (map (λ r. recorded number (change_in self.old r)) result.items)
+            (a_count (length result.items)) self.old.world self.new.world }
     {
         let Some(records) = self.observers.take(owner, number) else {
             unreachable!()

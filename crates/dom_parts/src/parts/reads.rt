@@ -2,7 +2,8 @@
 ghost use Rattle.std.specs.Prelude.{◌≡◌, ℕ, ◌<◌, ◌≤◌, true, false, length, count_by, is_some, Some};
 ghost use Rattle.std.specs.Option.{option_map, ForSome};
 ghost use Rattle.dom_model.specs.Names.{first_of, last_of, name_eq, items_after};
-ghost use Rattle.dom_model.specs.Tree.{nodes, node_in, attribute_value, kind_of, parent_of, children_of, next_sibling, previous_sibling, length_of, index_of, has_node, is_inclusive_ancestor, is_document, inclusive_descendants};
+ghost use Rattle.dom_model.specs.Tree.{nodes, node_in, attribute_value, kind_of, parent_of, children_of, next_sibling, previous_sibling, length_of};
+ghost use Rattle.dom_model.specs.Tree.{index_of, has_node, is_inclusive_ancestor, is_document, inclusive_descendants};
 ghost use Rattle.dom_base.specs.declared.NodeName.{NodeName as Name};
 ghost use Rattle.dom_base.specs.declared.Owner.{Owner as OwnerOf};
 ghost use Rattle.dom_model.specs.World.{part_of, is_there, is_connected};
@@ -153,7 +154,8 @@ impl Parts {
         requires top_is_node { top < length self.now.names }
         requires one_owner { owner_in self.now node ≡ owner_in self.now top }
         requires within { is_inclusive_ancestor (trees_in self.now top) (name_in self.now top) (name_in self.now node) ≡ true }
-        ensures value { option_map (name_in self.now) result ≡ first_of (items_after name_eq (name_in self.now node) (inclusive_descendants (trees_in self.now top) (name_in self.now top))) }
+        ensures value { option_map (name_in self.now) result ≡ first_of
+            (items_after name_eq (name_in self.now node) (inclusive_descendants (trees_in self.now top) (name_in self.now top))) }
         ensures node { ForSome result (IsOwnNode self.now top) }
         ensures within { ForSome result (λ k. is_inclusive_ancestor (trees_in self.now top) (name_in self.now top) (name_in self.now k) ≡ true) }
     {

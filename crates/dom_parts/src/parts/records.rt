@@ -30,7 +30,9 @@ impl Parts {
         requires removed_are_nodes { AreNodes self.old removed.now }
         requires prev_is_node { IsNodeIf self.old prev }
         requires next_is_node { IsNodeIf self.old next }
-        ensures { OnOk result (self.new ≡ stepped (owner_in self.old target) (queue_record (child_list (name_in self.old target) (map (name_in self.old) added.now) (map (name_in self.old) removed.now) (option_map (name_in self.old) prev) (option_map (name_in self.old) next))) self.old) }
+        ensures { OnOk result (self.new ≡ stepped (owner_in self.old target)
+            (queue_record (child_list (name_in self.old target) (map (name_in self.old) added.now) (map (name_in self.old) removed.now)
+            (option_map (name_in self.old) prev) (option_map (name_in self.old) next))) self.old) }
     {
         if !self.is_watched(target) {
             return Ok(());
@@ -48,7 +50,9 @@ impl Parts {
     /// Observers are told that an attribute changes, before it does.
     pub fn tell_attribute(&mut self, node: Key, name: &str) -> Result<(), AllocError>
         requires { node < length self.old.names }
-        ensures { OnOk result (self.new ≡ stepped (owner_in self.old node) (queue_record (attributes (name_in self.old node) name.now (attribute_value (node_in (trees_in self.old node) (name_in self.old node)) name.now))) self.old) }
+        ensures { OnOk result (self.new ≡ stepped (owner_in self.old node)
+            (queue_record (attributes (name_in self.old node) name.now
+            (attribute_value (node_in (trees_in self.old node) (name_in self.old node)) name.now))) self.old) }
     {
         if !self.is_watched(node) {
             return Ok(());
@@ -65,7 +69,8 @@ impl Parts {
     /// Observers are told that data change, before they do.
     pub fn tell_data(&mut self, node: Key) -> Result<(), AllocError>
         requires { node < length self.old.names }
-        ensures { OnOk result (self.new ≡ stepped (owner_in self.old node) (queue_record (character_data (name_in self.old node) (Some (node_in (trees_in self.old node) (name_in self.old node)).text))) self.old) }
+        ensures { OnOk result (self.new ≡ stepped (owner_in self.old node)
+            (queue_record (character_data (name_in self.old node) (Some (node_in (trees_in self.old node) (name_in self.old node)).text))) self.old) }
     {
         if !self.is_watched(node) {
             return Ok(());

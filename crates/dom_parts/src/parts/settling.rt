@@ -28,7 +28,8 @@ pub(super) fn settle(
     requires { 0 < length tables.old.items }
     ensures result { result ≡ done }
     ensures forest { OnOk done (forest.new ≡ forest.old) }
-    ensures tables { OnOk done (tables_of tables.new.items (observers_of observers.new) queue.new slots.new signalled.new.items ranges.new ≡ tables_of tables.old.items (observers_of observers.old) queue.old slots.old signalled.old.items ranges.old) }
+    ensures tables { OnOk done (tables_of tables.new.items (observers_of observers.new) queue.new slots.new signalled.new.items
+        ranges.new ≡ tables_of tables.old.items (observers_of observers.old) queue.old slots.old signalled.old.items ranges.old) }
     ensures empty { OnErr done (forest.new ≡ record { names = []; trees = none }) }
     ensures first { OnErr done (AreFirst (tables_of tables.new.items (observers_of observers.new) queue.new slots.new signalled.new.items ranges.new)) }
 {

@@ -71,7 +71,8 @@ impl Parts {
         requires not_above { is_inclusive_ancestor (trees_in self.old parent) (name_in self.old node) (name_in self.old parent) ≡ false }
         requires before_is_node { ForSome before (λ b. b < length self.old.names) }
         requires before_is_child { ForSome before (λ b. parent_of (trees_in self.old b) (name_in self.old b) ≡ Some (name_in self.old parent)) }
-        ensures { OnOk result (self.new ≡ stepped (owner_in self.old parent) (place (name_in self.old node) (name_in self.old parent) (option_map (name_in self.old) before)) self.old) }
+        ensures { OnOk result (self.new ≡ stepped (owner_in self.old parent)
+            (place (name_in self.old node) (name_in self.old parent) (option_map (name_in self.old) before)) self.old) }
     {
         self.forest.nodes_stand_once();
         let done = link(
@@ -179,7 +180,8 @@ impl Parts {
         requires is_child { IsChild self.old parent child }
         requires bounds { HasBounds (part_of self.old.world (owner_in self.old parent)) }
         requires few { count ≤ 1000000 }
-        ensures { self.new ≡ stepped (owner_in self.old parent) (make_room (name_in self.old parent) (index_of (trees_in self.old child) (name_in self.old child)) count) self.old }
+        ensures { self.new ≡ stepped (owner_in self.old parent)
+            (make_room (name_in self.old parent) (index_of (trees_in self.old child) (name_in self.old child)) count) self.old }
     {
         self.forest.nodes_stand_once();
         self.ranges
@@ -195,7 +197,8 @@ impl Parts {
         requires new_owner { owner_in self.old new ≡ owner_in self.old node }
         requires parent_owner { owner_in self.old parent ≡ owner_in self.old node }
         requires few { index < 1000000 }
-        ensures { self.new ≡ stepped (owner_in self.old node) (split_at (name_in self.old node) offset (name_in self.old new) (name_in self.old parent) index) self.old }
+        ensures { self.new ≡ stepped (owner_in self.old node)
+            (split_at (name_in self.old node) offset (name_in self.old new) (name_in self.old parent) index) self.old }
     {
         self.forest.nodes_stand_once();
         self.ranges
@@ -210,7 +213,9 @@ impl Parts {
         requires nexts_are_nodes { AllByRecursion (IsOwnNode self.old first) nexts.now }
         requires bounds { HasBounds (part_of self.old.world (owner_in self.old first)) }
         requires fit { JoinsFit (trees_in self.old first) (name_in self.old first) size (map (name_in self.old) nexts.now) }
-        ensures { self.new ≡ planned (owner_in self.old first) (steps_of (joins (trees_in self.old first) (name_in self.old first) (name_in self.old parent) size (map (name_in self.old) nexts.now))) self.old }
+        ensures { self.new ≡ planned (owner_in self.old first)
+            (steps_of (joins (trees_in self.old first) (name_in self.old first) (name_in self.old parent) size
+            (map (name_in self.old) nexts.now))) self.old }
     {
         self.laws();
         self.forest.nodes_stand_once();
@@ -234,7 +239,9 @@ impl Parts {
         requires bounds { HasBounds (part_of self.old.world (owner_in self.old first)) }
         requires fits { size + length_of (trees_in self.old first) (name_in self.old next) ≤ length_of (trees_in self.old first) (name_in self.old first) }
         ensures joined { result ≡ size + length_of (trees_in self.old first) (name_in self.old next) }
-        ensures state { self.new ≡ stepped (owner_in self.old first) (join_at (name_in self.old first) size (name_in self.old next) (name_in self.old parent) (index_of (trees_in self.old first) (name_in self.old next))) self.old }
+        ensures state { self.new ≡ stepped (owner_in self.old first)
+            (join_at (name_in self.old first) size (name_in self.old next) (name_in self.old parent)
+            (index_of (trees_in self.old first) (name_in self.old next))) self.old }
     {
         self.forest.nodes_stand_once();
         // What is joined is within the first Text, whose length is a number of the code's.

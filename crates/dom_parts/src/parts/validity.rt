@@ -18,7 +18,8 @@ impl Parts {
         requires child_is_node { ForSome child (λ c. c < length self.now.names) }
         requires node_owner { owner_in self.now node ≡ owner_in self.now parent }
         requires child_owner { ForSome child (λ c. owner_in self.now c ≡ owner_in self.now parent) }
-        ensures { err_of result ≡ insertion_refusal (trees_in self.now parent) (name_in self.now parent) (name_in self.now node) (option_map (name_in self.now) child) }
+        ensures { err_of result ≡ insertion_refusal (trees_in self.now parent) (name_in self.now parent) (name_in self.now node)
+            (option_map (name_in self.now) child) }
     {
         self.forest.check_insert(parent, node, child)
     }

@@ -21,7 +21,9 @@ pub(super) fn push_siblings(
 ) -> Result<(), AllocError>
     requires from_is_node { ForSome from (λ k. k < length forest.now.names) }
     requires until_is_node { ForSome until (λ k. k < length forest.now.names) }
-    ensures { OnOk result (Adds forest.now.names pieces.old.items pieces.new.items (map whole_item (up_to (option_map (name_at forest.now.names) until) (from_sibling forest.now.trees (option_map (name_at forest.now.names) from))))) }
+    ensures { OnOk result (Adds forest.now.names pieces.old.items pieces.new.items
+        (map whole_item (up_to (option_map (name_at forest.now.names) until)
+        (from_sibling forest.now.trees (option_map (name_at forest.now.names) from))))) }
 {
     forest.nodes_stand_once();
     let mut at = from;
@@ -44,7 +46,9 @@ pub(super) fn push_children(
     behind: bool,
 ) -> Result<(), AllocError>
     requires { point.0 < length forest.now.names }
-    ensures { OnOk result (Adds forest.now.names pieces.old.items pieces.new.items (map whole_item (if behind then drop point.1 (children_of forest.now.trees (name_at forest.now.names point.0)) else take point.1 (children_of forest.now.trees (name_at forest.now.names point.0))))) }
+    ensures { OnOk result (Adds forest.now.names pieces.old.items pieces.new.items
+        (map whole_item (if behind then drop point.1 (children_of forest.now.trees (name_at forest.now.names point.0)) else take point.1
+        (children_of forest.now.trees (name_at forest.now.names point.0))))) }
 {
     forest.nodes_stand_once();
     let (node, offset) = point;

@@ -6,7 +6,8 @@ ghost use Rattle.dom_model.specs.Extract.{pieces_apart, common_ancestor};
 ghost use Rattle.dom_model.specs.Names.{name_eq, items_before, items_after};
 ghost use Rattle.dom_model.specs.Ranges.{at, is_contained};
 ghost use Rattle.dom_model.specs.Tree.{children_of, siblings, length_of};
-ghost use Rattle.dom_range_ops.specs.Pieces.{Adds, AreSpanned, ArePaths, items_of, whole_item, clone_item, end_item, wholes_if, heads, tails, end_items, side_items, first_behind, first_from};
+ghost use Rattle.dom_range_ops.specs.Pieces.{Adds, AreSpanned, ArePaths, items_of, whole_item, clone_item, end_item, wholes_if, heads, tails};
+ghost use Rattle.dom_range_ops.specs.Pieces.{end_items, side_items, first_behind, first_from};
 ghost use Rattle.dom_range_ops.specs.Texts.{range_at_points};
 ghost use Rattle.dom_tree.specs.Forest.{name_at};
 
@@ -38,7 +39,8 @@ pub(super) fn push_pieces(
 ) -> Result<(), AllocError>
     requires spanned { AreSpanned forest.now points.now }
     requires paths { ArePaths forest.now points.now start_path.now end_path.now }
-    ensures { OnOk result (Adds forest.now.names pieces.old.items pieces.new.items (items_of (pieces_apart forest.now.trees (range_at_points forest.now.names points.now)))) }
+    ensures { OnOk result (Adds forest.now.names pieces.old.items pieces.new.items
+        (items_of (pieces_apart forest.now.trees (range_at_points forest.now.names points.now)))) }
 {
     forest.nodes_stand_once();
     let start = Side {
@@ -65,7 +67,9 @@ fn push_between(
 ) -> Result<(), AllocError>
     requires spanned { AreSpanned forest.now points.now }
     requires paths { ArePaths forest.now points.now start_path.now end_path.now }
-    ensures { OnOk result (Adds forest.now.names pieces.old.items pieces.new.items (map whole_item (filter (is_contained forest.now.trees (range_at_points forest.now.names points.now)) (children_of forest.now.trees (common_ancestor forest.now.trees (range_at_points forest.now.names points.now)))))) }
+    ensures { OnOk result (Adds forest.now.names pieces.old.items pieces.new.items
+        (map whole_item (filter (is_contained forest.now.trees (range_at_points forest.now.names points.now))
+        (children_of forest.now.trees (common_ancestor forest.now.trees (range_at_points forest.now.names points.now)))))) }
 {
     forest.nodes_stand_once();
     if is_before(forest, points.end, points.start) {
@@ -80,7 +84,8 @@ fn push_between(
 fn first_behind(forest: &Forest, point: (Key, usize), path: &[Key]) -> Option<Key>
     requires point_is_node { point.0 < length forest.now.names }
     requires nodes { AllByRecursion (λ k. k < length forest.now.names) path.now }
-    ensures value { option_map (name_at forest.now.names) result ≡ first_behind forest.now.trees (at (name_at forest.now.names point.0) point.1) (map (name_at forest.now.names) path.now) }
+    ensures value { option_map (name_at forest.now.names) result ≡ first_behind forest.now.trees (at (name_at forest.now.names point.0) point.1)
+        (map (name_at forest.now.names) path.now) }
     ensures node { ForSome result (λ k. k < length forest.now.names) }
 {
     let (node, offset) = point;
@@ -94,7 +99,8 @@ fn first_behind(forest: &Forest, point: (Key, usize), path: &[Key]) -> Option<Ke
 fn first_from(forest: &Forest, point: (Key, usize), path: &[Key]) -> Option<Key>
     requires point_is_node { point.0 < length forest.now.names }
     requires nodes { AllByRecursion (λ k. k < length forest.now.names) path.now }
-    ensures value { option_map (name_at forest.now.names) result ≡ first_from forest.now.trees (at (name_at forest.now.names point.0) point.1) (map (name_at forest.now.names) path.now) }
+    ensures value { option_map (name_at forest.now.names) result ≡ first_from forest.now.trees (at (name_at forest.now.names point.0) point.1)
+        (map (name_at forest.now.names) path.now) }
     ensures node { ForSome result (λ k. k < length forest.now.names) }
 {
     let (node, offset) = point;
@@ -113,7 +119,9 @@ fn push_side(
 ) -> Result<(), AllocError>
     requires point_is_node { side.point.0 < length forest.now.names }
     requires nodes { AllByRecursion (λ k. k < length forest.now.names) path.now }
-    ensures { OnOk result (Adds forest.now.names pieces.old.items pieces.new.items (side_items forest.now.trees (at (name_at forest.now.names side.point.0) side.point.1) side.behind (map (name_at forest.now.names) path.now))) }
+    ensures { OnOk result (Adds forest.now.names pieces.old.items pieces.new.items
+        (side_items forest.now.trees (at (name_at forest.now.names side.point.0) side.point.1) side.behind
+        (map (name_at forest.now.names) path.now))) }
 {
     if path.is_empty() {
         return Ok(());
@@ -153,7 +161,9 @@ fn push_head(
 ) -> Result<(), AllocError>
     requires node { node < length forest.now.names }
     requires child { child < length forest.now.names }
-    ensures { OnOk result (Adds forest.now.names pieces.old.items pieces.new.items (clone_item (name_at forest.now.names node) ∷ wholes_if before (items_before name_eq (name_at forest.now.names child) (children_of forest.now.trees (name_at forest.now.names node))))) }
+    ensures { OnOk result (Adds forest.now.names pieces.old.items pieces.new.items
+        (clone_item (name_at forest.now.names node) ∷ wholes_if before
+        (items_before name_eq (name_at forest.now.names child) (children_of forest.now.trees (name_at forest.now.names node))))) }
 {
     forest.nodes_stand_once();
     pieces.push(Piece::Clone(node))?;
@@ -188,7 +198,9 @@ fn push_tail(
     behind: bool,
 ) -> Result<(), AllocError>
     requires { child < length forest.now.names }
-    ensures { OnOk result (Adds forest.now.names pieces.old.items pieces.new.items (wholes_if behind (items_after name_eq (name_at forest.now.names child) (siblings forest.now.trees (name_at forest.now.names child))) ++ end_item ∷ [])) }
+    ensures { OnOk result (Adds forest.now.names pieces.old.items pieces.new.items
+        (wholes_if behind (items_after name_eq (name_at forest.now.names child) (siblings forest.now.trees (name_at forest.now.names child))) ++
+        end_item ∷ [])) }
 {
     forest.nodes_stand_once();
     if behind {
@@ -201,7 +213,8 @@ fn push_tail(
 /// What is taken of the node of an end: a part of its data, or a clone with the children that are taken.
 fn push_end(pieces: &mut Vec<Piece>, forest: &Forest, side: Side) -> Result<(), AllocError>
     requires { side.point.0 < length forest.now.names }
-    ensures { OnOk result (Adds forest.now.names pieces.old.items pieces.new.items (end_items forest.now.trees (at (name_at forest.now.names side.point.0) side.point.1) side.behind)) }
+    ensures { OnOk result (Adds forest.now.names pieces.old.items pieces.new.items
+        (end_items forest.now.trees (at (name_at forest.now.names side.point.0) side.point.1) side.behind)) }
 {
     let Side { point, behind } = side;
     let node = point.0;
@@ -218,7 +231,8 @@ fn push_end(pieces: &mut Vec<Piece>, forest: &Forest, side: Side) -> Result<(), 
 /// The part of a Text or Comment behind an end, or else that in front of it.
 fn cut_of(forest: &Forest, side: Side) -> Piece
     requires { side.point.0 < length forest.now.names }
-    ensures { result ≡ Piece.Cut side.point.0 (if side.behind then side.point.1 else 0) (if side.behind then length_of forest.now.trees (name_at forest.now.names side.point.0) else side.point.1) }
+    ensures { result ≡ Piece.Cut side.point.0 (if side.behind then side.point.1 else 0)
+        (if side.behind then length_of forest.now.trees (name_at forest.now.names side.point.0) else side.point.1) }
 {
     let (node, offset) = side.point;
     if side.behind {

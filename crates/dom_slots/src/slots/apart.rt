@@ -19,7 +19,8 @@ impl Slots {
         requires hosts { HostsAreNodes forest.now.names self.now.hosts }
         requires nodes { StepHasNodes forest.now.names step }
         requires left { ForSome left (λ k. k < length forest.now.names) }
-        ensures { result ≡ is_apart (shadows forest.now self.now.hosts) (name_at forest.now.names (step_node step)) (option_map (name_at forest.now.names) left) }
+        ensures { result ≡ is_apart (shadows forest.now self.now.hosts) (name_at forest.now.names (step_node step))
+            (option_map (name_at forest.now.names) left) }
     {
         forest.nodes_stand_once();
         let node = step.node();

@@ -54,7 +54,8 @@ impl Slots {
         requires slot_is_node { slot < length forest.now.names }
         requires free { self.now.begun ≡ None }
         requires slots { AreSlotsOf forest.now self.now }
-        ensures value { IfOk result (λ keys. map (name_at forest.now.names) keys.items ≡ assigned_at (shadows forest.now self.now.hosts) (name_at forest.now.names slot)) }
+        ensures value { IfOk result (λ keys. map (name_at forest.now.names) keys.items ≡ assigned_at (shadows forest.now self.now.hosts)
+            (name_at forest.now.names slot)) }
         ensures nodes { IfOk result (λ keys. All (λ k. k < length forest.now.names) keys.items) }
     {
         forest.nodes_stand_once();
@@ -81,7 +82,8 @@ impl Slots {
     pub(super) fn assigned_now(&self, forest: &Forest, slot: Key) -> Result<Vec<Key>, AllocError>
         requires slot_is_node { slot < length forest.now.names }
         requires hosts { HostsAreNodes forest.now.names self.now.hosts }
-        ensures value { IfOk result (λ keys. map (name_at forest.now.names) keys.items ≡ assigned_at (shadows forest.now self.now.hosts) (name_at forest.now.names slot)) }
+        ensures value { IfOk result (λ keys. map (name_at forest.now.names) keys.items ≡ assigned_at (shadows forest.now self.now.hosts)
+            (name_at forest.now.names slot)) }
         ensures nodes { IfOk result (λ keys. All (λ k. k < length forest.now.names) keys.items) }
     {
         forest.nodes_stand_once();
@@ -96,7 +98,8 @@ impl Slots {
         requires host_is_node { host < length forest.now.names }
         requires slot_is_node { slot < length forest.now.names }
         requires hosts { HostsAreNodes forest.now.names self.now.hosts }
-        ensures value { IfOk result (λ keys. map (name_at forest.now.names) keys.items ≡ assigned_under (shadows forest.now self.now.hosts) (name_at forest.now.names slot) (name_at forest.now.names host)) }
+        ensures value { IfOk result (λ keys. map (name_at forest.now.names) keys.items ≡ assigned_under (shadows forest.now self.now.hosts)
+            (name_at forest.now.names slot) (name_at forest.now.names host)) }
         ensures nodes { IfOk result (λ keys. All (λ k. k < length forest.now.names) keys.items) }
     {
         forest.nodes_stand_once();

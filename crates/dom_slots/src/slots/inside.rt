@@ -35,7 +35,10 @@ impl Slots {
         requires slot { ForSome begun.slot (λ k. k < length forest.now.names) }
         ensures hosts { IfOk result (λ keys. self.new.hosts ≡ self.old.hosts) }
         ensures begun { IfOk result (λ keys. self.new.begun ≡ self.old.begun) }
-        ensures renewed { (p : Name → Truth) → (MovesNone forest.now self.old.hosts begun.step → IsButFor forest.now self.old.hosts self.old.table begun.slot begun.step) → AreRenewed forest.now self.old.hosts p self.old.table [] [] self.old.table [] → IfOk result (λ keys. IsInside forest.now self.old.hosts p self.old.table begun.step begun.left begun.slot self.new.table keys.items) }
+        ensures renewed { (p : Name → Truth) →
+            (MovesNone forest.now self.old.hosts begun.step → IsButFor forest.now self.old.hosts self.old.table begun.slot begun.step) →
+            AreRenewed forest.now self.old.hosts p self.old.table [] [] self.old.table [] →
+            IfOk result (λ keys. IsInside forest.now self.old.hosts p self.old.table begun.step begun.left begun.slot self.new.table keys.items) }
     {
         let kept = begun;
         let moved = self.moved_slots(forest, kept)?;
@@ -54,7 +57,9 @@ impl Slots {
         requires still { MovesNone forest.now self.old.hosts begun.step }
         ensures hosts { IfOk result (λ keys. self.new.hosts ≡ self.old.hosts) }
         ensures begun { IfOk result (λ keys. self.new.begun ≡ self.old.begun) }
-        ensures renewed { (p : Name → Truth) → IsButFor forest.now self.old.hosts self.old.table begun.slot begun.step → AreRenewed forest.now self.old.hosts p self.old.table [] [] self.old.table [] → IfOk result (λ keys. IsInside forest.now self.old.hosts p self.old.table begun.step begun.left begun.slot self.new.table keys.items) }
+        ensures renewed { (p : Name → Truth) → IsButFor forest.now self.old.hosts self.old.table begun.slot begun.step →
+            AreRenewed forest.now self.old.hosts p self.old.table [] [] self.old.table [] →
+            IfOk result (λ keys. IsInside forest.now self.old.hosts p self.old.table begun.step begun.left begun.slot self.new.table keys.items) }
     {
         let kept = begun;
         let mut signals = self.moved_signals(forest, kept)?;
@@ -79,7 +84,8 @@ impl Slots {
         requires moved_nodes { All (λ k. k < length forest.now.names) moved.now }
         ensures hosts { IfOk result (λ keys. self.new.hosts ≡ self.old.hosts) }
         ensures begun { IfOk result (λ keys. self.new.begun ≡ self.old.begun) }
-        ensures renewed { (p : Name → Truth) (old : SlotTable) → AreRenewed forest.now self.old.hosts p old [] [] self.old.table [] → IfOk result (λ keys. IsInside forest.now self.old.hosts p old begun.step begun.left begun.slot self.new.table keys.items) }
+        ensures renewed { (p : Name → Truth) (old : SlotTable) → AreRenewed forest.now self.old.hosts p old [] [] self.old.table [] →
+            IfOk result (λ keys. IsInside forest.now self.old.hosts p old begun.step begun.left begun.slot self.new.table keys.items) }
     {
         let kept = begun;
         let mut signals = self.own_signals(forest, kept)?;
@@ -101,7 +107,10 @@ impl Slots {
     ) -> Result<(), AllocError>
         requires hosts { HostsAreNodes forest.now.names self.now.hosts }
         requires around { around < length forest.now.names }
-        ensures { (p : Name → Truth) (old : SlotTable) (done told : List Name) (table : SlotTable) → AreRenewed forest.now self.now.hosts p old done told table signals.old.items → OnOk result (AreRenewed forest.now self.now.hosts p old done (told ++ bare_around forest.now self.now.hosts step (name_at forest.now.names around)) table signals.new.items) }
+        ensures { (p : Name → Truth) (old : SlotTable) (done told : List Name) (table : SlotTable) →
+            AreRenewed forest.now self.now.hosts p old done told table signals.old.items →
+            OnOk result (AreRenewed forest.now self.now.hosts p old done
+            (told ++ bare_around forest.now self.now.hosts step (name_at forest.now.names around)) table signals.new.items) }
     {
         forest.nodes_stand_once();
         if step.is_move() && self.is_bare(forest, around)? {
@@ -142,7 +151,10 @@ impl Slots {
         requires moved_nodes { All (λ k. k < length forest.now.names) moved.now }
         ensures hosts { OnOk result (self.new.hosts ≡ self.old.hosts) }
         ensures begun { OnOk result (self.new.begun ≡ self.old.begun) }
-        ensures renewed { (p : Name → Truth) (old : SlotTable) (done told : List Name) → AreRenewed forest.now self.old.hosts p old done told self.old.table signals.old.items → OnOk result (MayMove forest.now self.old.hosts p old done told begun.step begun.left (name_at forest.now.names around) self.new.table signals.new.items) }
+        ensures renewed { (p : Name → Truth) (old : SlotTable) (done told : List Name) →
+            AreRenewed forest.now self.old.hosts p old done told self.old.table signals.old.items →
+            OnOk result (MayMove forest.now self.old.hosts p old done told begun.step begun.left (name_at forest.now.names around) self.new.table
+            signals.new.items) }
     {
         self.renew_tree(forest, around, signals)?;
         self.renew(forest, moved, signals)?;
@@ -152,7 +164,10 @@ impl Slots {
     /// The slots that a step moves, or the slots below a slot whose attributes it changes.
     fn moved_slots(&self, forest: &Forest, begun: Begun) -> Result<Vec<Key>, AllocError>
         requires { StepHasNodes forest.now.names begun.step }
-        ensures value { IfOk result (λ keys. (map (name_at forest.now.names) keys.items ≡ slots_among (subtree forest.now.trees (name_at forest.now.names (step_node begun.step)))) ⊎ ((keys.items ≡ []) × (is_move begun.step ≡ false) × (is_slot_element (node_in forest.now.trees (name_at forest.now.names (step_node begun.step))) ≡ false))) }
+        ensures value { IfOk result (λ keys.
+            (map (name_at forest.now.names) keys.items ≡ slots_among (subtree forest.now.trees (name_at forest.now.names (step_node begun.step))))
+            ⊎ ((keys.items ≡ []) × (is_move begun.step ≡ false) ×
+            (is_slot_element (node_in forest.now.trees (name_at forest.now.names (step_node begun.step))) ≡ false))) }
         ensures nodes { IfOk result (λ keys. All (λ k. k < length forest.now.names) keys.items) }
     {
         if !begun.step.is_move() && !is_slot(forest, begun.step.node()) {
@@ -172,7 +187,10 @@ impl Slots {
         requires node { node < length forest.now.names }
         ensures hosts { OnOk result (self.new.hosts ≡ self.old.hosts) }
         ensures begun { OnOk result (self.new.begun ≡ self.old.begun) }
-        ensures renewed { (p : Name → Truth) (old : SlotTable) (done told : List Name) → AreRenewed forest.now self.old.hosts p old done told self.old.table signals.old.items → OnOk result (AreRenewed forest.now self.old.hosts p old (done ++ tree_slots forest.now.trees (name_at forest.now.names node)) (told ++ filter p (tree_slots forest.now.trees (name_at forest.now.names node))) self.new.table signals.new.items) }
+        ensures renewed { (p : Name → Truth) (old : SlotTable) (done told : List Name) →
+            AreRenewed forest.now self.old.hosts p old done told self.old.table signals.old.items →
+            OnOk result (AreRenewed forest.now self.old.hosts p old (done ++ tree_slots forest.now.trees (name_at forest.now.names node))
+            (told ++ filter p (tree_slots forest.now.trees (name_at forest.now.names node))) self.new.table signals.new.items) }
     {
         let slots = slots_below(self.alloc, forest, forest.root(node))?;
         self.renew(forest, &slots, signals)
@@ -184,7 +202,10 @@ impl Slots {
         requires left { ForSome begun.left (λ k. k < length forest.now.names) }
         ensures hosts { OnOk result (self.new.hosts ≡ self.old.hosts) }
         ensures begun { OnOk result (self.new.begun ≡ self.old.begun) }
-        ensures renewed { (q : Name → Truth) → AreRenewed forest.now self.old.hosts q self.old.table [] [] self.old.table [] → OnOk result ((keys : List ℕ) × AreRenewed forest.now self.old.hosts q self.old.table (left_slots forest.now self.old.hosts begun.step begun.left) (filter q (left_slots forest.now self.old.hosts begun.step begun.left)) self.new.table keys) }
+        ensures renewed { (q : Name → Truth) → AreRenewed forest.now self.old.hosts q self.old.table [] [] self.old.table [] →
+            OnOk result ((keys : List ℕ) ×
+            AreRenewed forest.now self.old.hosts q self.old.table (left_slots forest.now self.old.hosts begun.step begun.left)
+            (filter q (left_slots forest.now self.old.hosts begun.step begun.left)) self.new.table keys) }
     {
         match begun.step.left_behind(begun.left) {
             Some(left) => {

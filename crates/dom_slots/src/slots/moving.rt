@@ -33,7 +33,10 @@ impl Slots {
         requires slot { ForSome begun.slot (λ k. k < length forest.now.names) }
         ensures hosts { IfOk result (λ keys. self.new.hosts ≡ self.old.hosts) }
         ensures begun { IfOk result (λ keys. self.new.begun ≡ self.old.begun) }
-        ensures renewed { (p : Name → Truth) → IsButFor forest.now self.old.hosts self.old.table begun.slot begun.step → AreRenewed forest.now self.old.hosts p self.old.table [] [] self.old.table [] → IfOk result (λ keys. AreRenewed forest.now self.old.hosts p self.old.table (own_slots forest.now self.old.hosts begun.slot begun.step) (filter p (own_slots forest.now self.old.hosts begun.slot begun.step)) self.new.table keys.items) }
+        ensures renewed { (p : Name → Truth) → IsButFor forest.now self.old.hosts self.old.table begun.slot begun.step →
+            AreRenewed forest.now self.old.hosts p self.old.table [] [] self.old.table [] →
+            IfOk result (λ keys. AreRenewed forest.now self.old.hosts p self.old.table (own_slots forest.now self.old.hosts begun.slot begun.step)
+            (filter p (own_slots forest.now self.old.hosts begun.slot begun.step)) self.new.table keys.items) }
     {
         forest.nodes_stand_once();
         let node = begun.step.node();
@@ -62,7 +65,12 @@ impl Slots {
         requires slot { ForSome slot (λ k. k < length forest.now.names) }
         ensures hosts { OnOk result (self.new.hosts ≡ self.old.hosts) }
         ensures begun { OnOk result (self.new.begun ≡ self.old.begun) }
-        ensures renewed { (p : Name → Truth) (old : SlotTable) (done told : List Name) → ((k : ℕ) → slot ≡ Some k → map (name_at forest.now.names) (without node (list_of self.old.table k)) ≡ assigned_at (shadows forest.now self.old.hosts) (name_at forest.now.names k)) → AreRenewed forest.now self.old.hosts p old done told self.old.table signals.old.items → OnOk result (AreRenewed forest.now self.old.hosts p old (done ++ option_to_list (option_map (name_at forest.now.names) slot)) (told ++ filter p (option_to_list (option_map (name_at forest.now.names) slot))) self.new.table signals.new.items) }
+        ensures renewed { (p : Name → Truth) (old : SlotTable) (done told : List Name) →
+            ((k : ℕ) → slot ≡ Some k → map (name_at forest.now.names) (without node (list_of self.old.table k)) ≡ assigned_at
+            (shadows forest.now self.old.hosts) (name_at forest.now.names k)) →
+            AreRenewed forest.now self.old.hosts p old done told self.old.table signals.old.items →
+            OnOk result (AreRenewed forest.now self.old.hosts p old (done ++ option_to_list (option_map (name_at forest.now.names) slot))
+            (told ++ filter p (option_to_list (option_map (name_at forest.now.names) slot))) self.new.table signals.new.items) }
     {
         forest.nodes_stand_once();
         let Some(key) = slot else {
@@ -89,7 +97,12 @@ impl Slots {
         requires own { option_map (name_at forest.now.names) slot ≡ slot_at (shadows forest.now self.old.hosts) (name_at forest.now.names node) }
         ensures hosts { OnOk result (self.new.hosts ≡ self.old.hosts) }
         ensures begun { OnOk result (self.new.begun ≡ self.old.begun) }
-        ensures renewed { (p : Name → Truth) (old : SlotTable) (done told : List Name) → ((k : ℕ) → slot ≡ Some k → map (name_at forest.now.names) (list_of self.old.table k) ≡ names_but (name_at forest.now.names node) (assigned_at (shadows forest.now self.old.hosts) (name_at forest.now.names k))) → AreRenewed forest.now self.old.hosts p old done told self.old.table signals.old.items → OnOk result (AreRenewed forest.now self.old.hosts p old (done ++ option_to_list (option_map (name_at forest.now.names) slot)) (told ++ filter p (option_to_list (option_map (name_at forest.now.names) slot))) self.new.table signals.new.items) }
+        ensures renewed { (p : Name → Truth) (old : SlotTable) (done told : List Name) →
+            ((k : ℕ) → slot ≡ Some k → map (name_at forest.now.names) (list_of self.old.table k) ≡ names_but (name_at forest.now.names node)
+            (assigned_at (shadows forest.now self.old.hosts) (name_at forest.now.names k))) →
+            AreRenewed forest.now self.old.hosts p old done told self.old.table signals.old.items →
+            OnOk result (AreRenewed forest.now self.old.hosts p old (done ++ option_to_list (option_map (name_at forest.now.names) slot))
+            (told ++ filter p (option_to_list (option_map (name_at forest.now.names) slot))) self.new.table signals.new.items) }
     {
         forest.nodes_stand_once();
         let Some(key) = slot else {
@@ -108,7 +121,9 @@ impl Slots {
         requires hosts { HostsAreNodes forest.now.names self.now.hosts }
         requires slot { slot < length forest.now.names }
         requires node { node < length forest.now.names }
-        ensures { result ≡ true → (h : Name) × (host_named forest.now.names self.now.hosts (root_of forest.now.trees (name_at forest.now.names slot)) ≡ Some h) × (parent_of forest.now.trees (name_at forest.now.names node) ≡ Some h) }
+        ensures { result ≡ true → (h : Name) ×
+            (host_named forest.now.names self.now.hosts (root_of forest.now.trees (name_at forest.now.names slot)) ≡ Some h) ×
+            (parent_of forest.now.trees (name_at forest.now.names node) ≡ Some h) }
     {
         forest.nodes_stand_once();
         match self.host_of(forest.root(slot)) {

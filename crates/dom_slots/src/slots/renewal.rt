@@ -24,7 +24,10 @@ impl Slots {
         requires nodes { All (λ k. k < length forest.now.names) slots.now }
         ensures hosts { OnOk result (self.new.hosts ≡ self.old.hosts) }
         ensures begun { OnOk result (self.new.begun ≡ self.old.begun) }
-        ensures renewed { (p : Name → Truth) (old : SlotTable) (done told : List Name) → AreRenewed forest.now self.old.hosts p old done told self.old.table signals.old.items → OnOk result (AreRenewed forest.now self.old.hosts p old (done ++ map (name_at forest.now.names) slots.now) (told ++ filter p (map (name_at forest.now.names) slots.now)) self.new.table signals.new.items) }
+        ensures renewed { (p : Name → Truth) (old : SlotTable) (done told : List Name) →
+            AreRenewed forest.now self.old.hosts p old done told self.old.table signals.old.items →
+            OnOk result (AreRenewed forest.now self.old.hosts p old (done ++ map (name_at forest.now.names) slots.now)
+            (told ++ filter p (map (name_at forest.now.names) slots.now)) self.new.table signals.new.items) }
     {
         for slot in slots {
             self.renew_slot(forest, *slot, signals)?;
@@ -43,7 +46,10 @@ impl Slots {
         requires node { slot < length forest.now.names }
         ensures hosts { OnOk result (self.new.hosts ≡ self.old.hosts) }
         ensures begun { OnOk result (self.new.begun ≡ self.old.begun) }
-        ensures renewed { (p : Name → Truth) (old : SlotTable) (done told : List Name) → AreRenewed forest.now self.old.hosts p old done told self.old.table signals.old.items → OnOk result (AreRenewed forest.now self.old.hosts p old (done ++ name_at forest.now.names slot ∷ []) (told ++ filter p (name_at forest.now.names slot ∷ [])) self.new.table signals.new.items) }
+        ensures renewed { (p : Name → Truth) (old : SlotTable) (done told : List Name) →
+            AreRenewed forest.now self.old.hosts p old done told self.old.table signals.old.items →
+            OnOk result (AreRenewed forest.now self.old.hosts p old (done ++ name_at forest.now.names slot ∷ [])
+            (told ++ filter p (name_at forest.now.names slot ∷ [])) self.new.table signals.new.items) }
     {
         forest.nodes_stand_once();
         let list = self.assigned_now(forest, slot)?;

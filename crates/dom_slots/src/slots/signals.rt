@@ -55,7 +55,9 @@ impl Slots {
     /// walked, and their hosts' children read for each slot there.
     pub fn end(&mut self, forest: &Forest) -> Result<Vec<Key>, AllocError>
         requires { (was : Trees) × (b : BegunStep) × IsEndOf was forest.now self.old b }
-        ensures value { (was : Trees) (b : BegunStep) → IsEndOf was forest.now self.old b → IfOk result (λ keys. map (name_at forest.now.names) keys.items ≡ step_signals forest.now.names (shadow_trees forest.now.names was self.old.hosts) (shadows forest.now self.old.hosts) b.step b.left) }
+        ensures value { (was : Trees) (b : BegunStep) → IsEndOf was forest.now self.old b →
+            IfOk result (λ keys. map (name_at forest.now.names) keys.items ≡ step_signals forest.now.names
+            (shadow_trees forest.now.names was self.old.hosts) (shadows forest.now self.old.hosts) b.step b.left) }
         ensures nodes { IfOk result (λ keys. All (λ k. k < length forest.now.names) keys.items) }
         ensures hosts { OnOk result (self.new.hosts ≡ self.old.hosts) }
         ensures free { OnOk result (self.new.begun ≡ None) }
@@ -86,7 +88,9 @@ impl Slots {
         requires slot { ForSome begun.slot (λ k. k < length forest.now.names) }
         ensures hosts { IfOk result (λ keys. self.new.hosts ≡ self.old.hosts) }
         ensures begun { IfOk result (λ keys. self.new.begun ≡ self.old.begun) }
-        ensures renewed { (p : Name → Truth) (old : SlotTable) → AreRenewed forest.now self.old.hosts p old [] [] self.old.table [] → IfOk result (λ keys. AreRenewed forest.now self.old.hosts p old (own_slots forest.now self.old.hosts begun.slot begun.step) (filter p (own_slots forest.now self.old.hosts begun.slot begun.step)) self.new.table keys.items) }
+        ensures renewed { (p : Name → Truth) (old : SlotTable) → AreRenewed forest.now self.old.hosts p old [] [] self.old.table [] →
+            IfOk result (λ keys. AreRenewed forest.now self.old.hosts p old (own_slots forest.now self.old.hosts begun.slot begun.step)
+            (filter p (own_slots forest.now self.old.hosts begun.slot begun.step)) self.new.table keys.items) }
     {
         forest.nodes_stand_once();
         let slot = self.slot_now(forest, begun.step.node());

@@ -51,7 +51,8 @@ impl Forest {
         requires key_is_node { key < length self.old.names }
         requires document_is_node { ForSome document (λ d. d < length self.old.names) }
         ensures names { self.new.names ≡ self.old.names }
-        ensures trees { self.new.trees ≡ change_node (under_document (option_map (name_at self.old.names) document)) (name_at self.old.names key) self.old.trees }
+        ensures trees { self.new.trees ≡ change_node (under_document (option_map (name_at self.old.names) document)) (name_at self.old.names key)
+            self.old.trees }
     {
         self.arena.payload_mut(key).node.document = document;
     }

@@ -66,7 +66,8 @@ impl Forest {
         requires before_is_node { ForSome before (λ b. b < length self.old.names) }
         requires before_is_child { ForSome before (λ b. parent_of self.old.trees (name_at self.old.names b) ≡ Some (name_at self.old.names parent)) }
         ensures names { self.new.names ≡ self.old.names }
-        ensures trees { self.new.trees ≡ placed (name_at self.old.names child) (name_at self.old.names parent) (option_map (name_at self.old.names) before) self.old.trees }
+        ensures trees { self.new.trees ≡ placed (name_at self.old.names child) (name_at self.old.names parent)
+            (option_map (name_at self.old.names) before) self.old.trees }
     {
         self.arena.link_before(parent, child, before);
     }

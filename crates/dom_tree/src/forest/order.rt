@@ -16,7 +16,8 @@ impl Forest {
         requires key_is_node { key < length self.now.names }
         requires top_is_node { top < length self.now.names }
         requires within { is_inclusive_ancestor self.now.trees (name_at self.now.names top) (name_at self.now.names key) ≡ true }
-        ensures value { option_map (name_at self.now.names) result ≡ first_of (items_after name_eq (name_at self.now.names key) (inclusive_descendants self.now.trees (name_at self.now.names top))) }
+        ensures value { option_map (name_at self.now.names) result ≡ first_of
+            (items_after name_eq (name_at self.now.names key) (inclusive_descendants self.now.trees (name_at self.now.names top))) }
         ensures node { ForSome result (λ k. k < length self.now.names) }
         ensures within { ForSome result (λ k. is_inclusive_ancestor self.now.trees (name_at self.now.names top) (name_at self.now.names k) ≡ true) }
     {
@@ -44,7 +45,8 @@ impl Forest {
         requires key_is_node { key < length self.now.names }
         requires top_is_node { top < length self.now.names }
         requires within { is_inclusive_ancestor self.now.trees (name_at self.now.names top) (name_at self.now.names key) ≡ true }
-        ensures value { option_map (name_at self.now.names) result ≡ last_of (items_before name_eq (name_at self.now.names key) (inclusive_descendants self.now.trees (name_at self.now.names top))) }
+        ensures value { option_map (name_at self.now.names) result ≡ last_of
+            (items_before name_eq (name_at self.now.names key) (inclusive_descendants self.now.trees (name_at self.now.names top))) }
         ensures node { ForSome result (λ k. k < length self.now.names) }
         ensures within { ForSome result (λ k. is_inclusive_ancestor self.now.trees (name_at self.now.names top) (name_at self.now.names k) ≡ true) }
     {

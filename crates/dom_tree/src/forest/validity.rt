@@ -2,7 +2,8 @@
 ghost use Rattle.std.specs.Prelude.{◌≡◌, ◌<◌, length, ◌&&◌};
 ghost use Rattle.std.specs.Option.{option_map, ForSome};
 ghost use Rattle.dom_model.specs.Tree.{kind_of, is_element, is_text, is_document, is_fragment, child_nodes};
-ghost use Rattle.dom_model.specs.Validity.{insertion_refusal, replacement_refusal, first_refusal, placing_tests, without_given, element_count, has_text, breaks_document, may_be_parent, may_be_inserted};
+ghost use Rattle.dom_model.specs.Validity.{insertion_refusal, replacement_refusal, first_refusal, placing_tests, without_given, element_count};
+ghost use Rattle.dom_model.specs.Validity.{has_text, breaks_document, may_be_parent, may_be_inserted};
 ghost use Rattle.dom_tree.specs.Forest.{err_of};
 ghost use Rattle.dom_tree.specs.Forest.{name_at};
 
@@ -17,7 +18,8 @@ impl Forest {
         requires parent_is_node { parent < length self.now.names }
         requires node_is_node { node < length self.now.names }
         requires child_is_node { ForSome child (λ c. c < length self.now.names) }
-        ensures { err_of result ≡ insertion_refusal self.now.trees (name_at self.now.names parent) (name_at self.now.names node) (option_map (name_at self.now.names) child) }
+        ensures { err_of result ≡ insertion_refusal self.now.trees (name_at self.now.names parent) (name_at self.now.names node)
+            (option_map (name_at self.now.names) child) }
     {
         let is_lost = match child {
             Some(child) => self.arena.parent(child) != Some(parent),
@@ -32,7 +34,8 @@ impl Forest {
         requires parent_is_node { parent < length self.now.names }
         requires node_is_node { node < length self.now.names }
         requires child_is_node { child < length self.now.names }
-        ensures { err_of result ≡ replacement_refusal self.now.trees (name_at self.now.names parent) (name_at self.now.names node) (name_at self.now.names child) }
+        ensures { err_of result ≡ replacement_refusal self.now.trees (name_at self.now.names parent) (name_at self.now.names node)
+            (name_at self.now.names child) }
     {
         let is_lost = self.arena.parent(child) != Some(parent);
         self.check_placing(parent, node, is_lost, Some(child))
@@ -49,7 +52,9 @@ impl Forest {
         requires parent_is_node { parent < length self.now.names }
         requires node_is_node { node < length self.now.names }
         requires replaced_is_node { ForSome replaced (λ c. c < length self.now.names) }
-        ensures { err_of result ≡ first_refusal (placing_tests self.now.trees (name_at self.now.names parent) (name_at self.now.names node) is_lost (without_given (option_map (name_at self.now.names) replaced) (child_nodes self.now.trees (name_at self.now.names parent)))) }
+        ensures { err_of result ≡ first_refusal
+            (placing_tests self.now.trees (name_at self.now.names parent) (name_at self.now.names node) is_lost
+            (without_given (option_map (name_at self.now.names) replaced) (child_nodes self.now.trees (name_at self.now.names parent)))) }
     {
         let into = self.kind(parent);
         let kind = self.kind(node);
@@ -82,7 +87,8 @@ impl Forest {
         requires parent_is_node { parent < length self.now.names }
         requires node_is_node { node < length self.now.names }
         requires replaced_is_node { ForSome replaced (λ c. c < length self.now.names) }
-        ensures { result ≡ breaks_document self.now.trees (name_at self.now.names node) (without_given (option_map (name_at self.now.names) replaced) (child_nodes self.now.trees (name_at self.now.names parent))) }
+        ensures { result ≡ breaks_document self.now.trees (name_at self.now.names node)
+            (without_given (option_map (name_at self.now.names) replaced) (child_nodes self.now.trees (name_at self.now.names parent))) }
     {
         if !is_fragment(self.kind(node)) {
             return self.is_element(node) && self.element_count(parent, replaced) > 0;

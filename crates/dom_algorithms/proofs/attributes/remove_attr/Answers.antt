@@ -16,7 +16,8 @@ use Rattle.dom_algorithms.proofs.attributes.remove_attr.Goals as goal
 
 -- the two steps of an attribute that goes
 unset : (d : DocState) (o : Owner) (x : NodeName) (a : Word) → is_some (attribute_value (node_in (part_of d.world o).trees x) a) ≡ true
-    → stepped o (set_attribute x a None) (stepped o (queue_record (attributes x a (attribute_value (node_in (part_of d.world o).trees x) a))) d) ≡ planned o (unsetting_attribute x a) d
+    → stepped o (set_attribute x a None) (stepped o (queue_record (attributes x a (attribute_value (node_in (part_of d.world o).trees x) a))) d) ≡
+    planned o (unsetting_attribute x a) d
 unset d o x a has = by (attribute_value (node_in (part_of d.world o).trees x) a) refl has
   where
     both : Option DomString → DocState
@@ -25,7 +26,8 @@ unset d o x a has = by (attribute_value (node_in (part_of d.world o).trees x) a)
     made_of : Option DomString → DocState
     made_of v = record d { world = world_after o d.world (option_map_or (λ old. queue_record (attributes x a (Some old)) ∷ set_attribute x a None ∷ []) v []) }
 
-    by : (v : Option DomString) → attribute_value (node_in (part_of d.world o).trees x) a ≡ v → is_some v ≡ true → both (attribute_value (node_in (part_of d.world o).trees x) a) ≡ made_of (attribute_value (node_in (part_of d.world o).trees x) a)
+    by : (v : Option DomString) → attribute_value (node_in (part_of d.world o).trees x) a ≡ v → is_some v ≡ true →
+        both (attribute_value (node_in (part_of d.world o).trees x) a) ≡ made_of (attribute_value (node_in (part_of d.world o).trees x) a)
     by None e h = cc
     by (Some old) e h = ap both e ∙ sym (ap made_of e)
 

@@ -7,4 +7,7 @@ use Rattle.dom_algorithms.proofs.character_data.set_data.Goals as goal
 pub returns-clause-world : goal.returns-clause-world
 returns-clause-world c =
     let d = c.args.parts.now in
-    on_ok_weaker c.replacing_data.result (λ done. ap (λ e. e.world) (done ∙ ap (λ n. planned (owner_in d c.args.node) (replacing_data (name_in d c.args.node) 0 n c.args.data.items) d) c.length-count.ensures)) c.replacing_data.ensures
+    on_ok_weaker c.replacing_data.result
+    (λ done. ap (λ e. e.world) (done ∙
+    ap (λ n. planned (owner_in d c.args.node) (replacing_data (name_in d c.args.node) 0 n c.args.data.items) d) c.length-count.ensures))
+    c.replacing_data.ensures

@@ -18,8 +18,10 @@ returns-clause-paths c =
     let o = owner_in d c.args.fragment in
     let ys = map (name_in d) c.args.children.now in
     let alone = subst (λ (s : DocState). IsAlone s.world (owner_in s c.args.fragment)) (sym c.in_ok-take_each.ensures.state)
-    (alone_made o (in_turn (removing suppressed) ys) d.world (c.laws.ensures.alone c.args.fragment c.requires.fragment_is_node) (plans_each o (removing suppressed) (plans_removing o suppressed) ys)) in
+    (alone_made o (in_turn (removing suppressed) ys) d.world (c.laws.ensures.alone c.args.fragment c.requires.fragment_is_node)
+    (plans_each o (removing suppressed) (plans_removing o suppressed) ys)) in
     on_ok_weaker c.tell_children.result (λ told y off. ap (λ (s : DocState). inclusive_ancestors (trees_in s c.args.fragment) y) told
-    ∙ ap (λ (p : Part). inclusive_ancestors p.trees y) (alone.steps (queue_record (child_list (name_in e c.args.fragment) [] (map (name_in e) c.args.children.now) None None) ∷ []) (tt, tt))
+    ∙ ap (λ (p : Part). inclusive_ancestors p.trees y)
+    (alone.steps (queue_record (child_list (name_in e c.args.fragment) [] (map (name_in e) c.args.children.now) None None) ∷ []) (tt, tt))
     ∙ c.in_ok-take_each.ensures.paths y off)
     c.tell_children.ensures

@@ -16,25 +16,30 @@ place_all-requires-clause-may_move c =
     let d = c.args.parts.now in
     all_may_now c.args.parent c.args.before d c.empty.new.parts
     (stays_emptied d c.laws.ensures.once c.args.parent c.args.fragment c.args.before c.requires.may_move c.requires.before_is_child c.args.children.now
-    (are_inside d c.laws.ensures.once c.args.parent c.args.fragment c.args.before c.requires.may_move c.requires.before_is_child c.args.children.now c.requires.are_children)
+    (are_inside d c.laws.ensures.once c.args.parent c.args.fragment c.args.before c.requires.may_move c.requires.before_is_child
+    c.args.children.now c.requires.are_children)
     c.empty.new.parts (map (name_in d) c.args.children.now) c.in_ok-empty.ensures.state c.in_ok-empty.ensures.paths)
     c.args.children.now
     (all_may d c.laws.ensures.once c.args.parent c.args.fragment c.args.before c.requires.may_move c.requires.before_is_child c.args.children.now
-    (are_inside d c.laws.ensures.once c.args.parent c.args.fragment c.args.before c.requires.may_move c.requires.before_is_child c.args.children.now c.requires.are_children) c.requires.are_nodes)
+    (are_inside d c.laws.ensures.once c.args.parent c.args.fragment c.args.before c.requires.may_move c.requires.before_is_child
+    c.args.children.now c.requires.are_children) c.requires.are_nodes)
 
 pub place_all-requires-clause-before_is_child : goal.place_all-requires-clause-before_is_child
 place_all-requires-clause-before_is_child c =
     let d = c.args.parts.now in
     child_now c.args.parent c.args.before d c.empty.new.parts
     (stays_emptied d c.laws.ensures.once c.args.parent c.args.fragment c.args.before c.requires.may_move c.requires.before_is_child c.args.children.now
-    (are_inside d c.laws.ensures.once c.args.parent c.args.fragment c.args.before c.requires.may_move c.requires.before_is_child c.args.children.now c.requires.are_children)
+    (are_inside d c.laws.ensures.once c.args.parent c.args.fragment c.args.before c.requires.may_move c.requires.before_is_child
+    c.args.children.now c.requires.are_children)
     c.empty.new.parts (map (name_in d) c.args.children.now) c.in_ok-empty.ensures.state c.in_ok-empty.ensures.paths)
     c.requires.before_is_child
 
 pub returns : goal.returns
 returns c =
-    on_ok_weaker c.place_all.result (inserted_fragment c.args.parts.now c.empty.new.parts c.place_all.new.parts c.laws.ensures.alone (observing_of c.args.how) c.args.parent c.args.fragment c.args.before c.args.prev c.args.children.now
-    c.requires.parent_is_node c.requires.may_move c.requires.is_fragment c.requires.prev_is_before c.requires.are_children (some_left c.args.children.now c.if-is_empty.ensures) c.in_ok-empty.ensures.state) c.place_all.ensures
+    on_ok_weaker c.place_all.result (inserted_fragment c.args.parts.now c.empty.new.parts c.place_all.new.parts c.laws.ensures.alone
+    (observing_of c.args.how) c.args.parent c.args.fragment c.args.before c.args.prev c.args.children.now
+    c.requires.parent_is_node c.requires.may_move c.requires.is_fragment c.requires.prev_is_before c.requires.are_children
+    (some_left c.args.children.now c.if-is_empty.ensures) c.in_ok-empty.ensures.state) c.place_all.ensures
 
 pub place_all-requires-clause-bounds : goal.place_all-requires-clause-bounds
 place_all-requires-clause-bounds c =
@@ -42,7 +47,8 @@ place_all-requires-clause-bounds c =
     let e = c.empty.new.parts in
     let is = c.in_ok-empty.ensures.state in
     bounds_at d e c.args.parent (ap (λ (s : DocState). s.names) is)
-    (bounds_emptied (owner_in d c.args.parent) d (c.laws.ensures.alone c.args.parent c.requires.parent_is_node) (c.laws.ensures.parts _) c.requires.bounds (name_in d c.args.fragment) (map (name_in d) c.args.children.now) e
+    (bounds_emptied (owner_in d c.args.parent) d (c.laws.ensures.alone c.args.parent c.requires.parent_is_node) (c.laws.ensures.parts _)
+    c.requires.bounds (name_in d c.args.fragment) (map (name_in d) c.args.children.now) e
     (is ∙ ap (λ o. planned o (emptying (name_in d c.args.fragment) (map (name_in d) c.args.children.now)) d) c.requires.may_move.owner))
 
 pub place_all-requires-clause-few : goal.place_all-requires-clause-few

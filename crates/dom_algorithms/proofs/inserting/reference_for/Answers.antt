@@ -7,11 +7,18 @@ use Rattle.dom_algorithms.proofs.inserting.reference_for.Goals as goal
 
 pub returns-then-eq-clause-child : goal.returns-then-eq-clause-child
 returns-then-eq-clause-child c b is =
-    (next_is_child c.args.parts.now c.laws.ensures.once c.args.parent c.in_ok-child.child c.args.node c.next.result (c.requires.child_is_child c.in_ok-child.child c.in_ok-child.was) (eqb-true c.in_ok-child.child c.args.node (sym c.eq.ensures ∙ c.if-eq.true)) c.next.ensures.value c.next.ensures.node c.next.ensures.owner b is).0
+    (next_is_child c.args.parts.now c.laws.ensures.once c.args.parent c.in_ok-child.child c.args.node c.next.result
+    (c.requires.child_is_child c.in_ok-child.child c.in_ok-child.was)
+    (eqb-true c.in_ok-child.child c.args.node (sym c.eq.ensures ∙ c.if-eq.true)) c.next.ensures.value c.next.ensures.node c.next.ensures.owner
+    b is).0
 
 pub returns-then-eq-clause-apart : goal.returns-then-eq-clause-apart
 returns-then-eq-clause-apart c b is =
-    (next_is_child c.args.parts.now c.laws.ensures.once c.args.parent c.in_ok-child.child c.args.node c.next.result (c.requires.child_is_child c.in_ok-child.child c.in_ok-child.was) (eqb-true c.in_ok-child.child c.args.node (sym c.eq.ensures ∙ c.if-eq.true)) c.next.ensures.value c.next.ensures.node c.next.ensures.owner b is).1
+    (next_is_child c.args.parts.now c.laws.ensures.once c.args.parent c.in_ok-child.child c.args.node c.next.result
+    (c.requires.child_is_child c.in_ok-child.child c.in_ok-child.was)
+    (eqb-true c.in_ok-child.child c.args.node (sym c.eq.ensures ∙ c.if-eq.true)) c.next.ensures.value c.next.ensures.node c.next.ensures.owner
+    b is).1
 
 pub returns-clause-child : goal.returns-clause-child
-returns-clause-child c b is = subst (IsChild c.args.parts.now c.args.parent) (same_Some c.in_ok-child.child b is) (c.requires.child_is_child c.in_ok-child.child c.in_ok-child.was)
+returns-clause-child c b is = subst (IsChild c.args.parts.now c.args.parent) (same_Some c.in_ok-child.child b is)
+    (c.requires.child_is_child c.in_ok-child.child c.in_ok-child.was)

@@ -10,11 +10,13 @@ returns-then-is_text-clause-value c =
     let d = c.args.parts.now in
     let y = name_in d c.in_ok-next.next in
     text_next (trees_in d c.args.node) (name_in d c.args.node) y true (sym c.in_ok-next.ensures.value)
-    (ap (λ o. is_text (kind_of (part_of d.world o).trees y)) (sym (c.in_ok-next.ensures.owner c.in_ok-next.next refl)) ∙ sym c.is_text.ensures ∙ c.if-is_text.true)
+    (ap (λ o. is_text (kind_of (part_of d.world o).trees y)) (sym (c.in_ok-next.ensures.owner c.in_ok-next.next refl)) ∙ sym c.is_text.ensures ∙
+    c.if-is_text.true)
 
 pub returns-clause-value : goal.returns-clause-value
 returns-clause-value c =
     let d = c.args.parts.now in
     let y = name_in d c.in_ok-next.next in
     text_next (trees_in d c.args.node) (name_in d c.args.node) y false (sym c.in_ok-next.ensures.value)
-    (ap (λ o. is_text (kind_of (part_of d.world o).trees y)) (sym (c.in_ok-next.ensures.owner c.in_ok-next.next refl)) ∙ sym c.is_text.ensures ∙ c.if-is_text.false)
+    (ap (λ o. is_text (kind_of (part_of d.world o).trees y)) (sym (c.in_ok-next.ensures.owner c.in_ok-next.next refl)) ∙ sym c.is_text.ensures ∙
+    c.if-is_text.false)

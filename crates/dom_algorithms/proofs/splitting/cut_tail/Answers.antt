@@ -16,11 +16,14 @@ returns c =
     let y = name_in d c.args.new in
     let place_it = placing_tail x c.args.offset y (parent_of (trees_in d c.args.node) x) in
     let placed : c.match-parent.parts ≡ planned o place_it d = elim c.match-parent.branch [
-      | in-Some+in_ok-placing_tail w ↦ w.parts-is ∙ w.in_ok-placing_tail.ensures ∙ ap (λ up. planned o (placing_tail x c.args.offset y up) d) (ap (option_map (name_in d)) (sym w.in-Some.is) ∙ c.parent.ensures.value)
-      | in_default w ↦ w.parts-is ∙ ap (λ up. planned o (placing_tail x c.args.offset y up) d) (ap (option_map (name_in d)) (sym w.in_default.is) ∙ c.parent.ensures.value)
+      | in-Some+in_ok-placing_tail w ↦ w.parts-is ∙ w.in_ok-placing_tail.ensures ∙ ap (λ up. planned o (placing_tail x c.args.offset y up) d)
+          (ap (option_map (name_in d)) (sym w.in-Some.is) ∙ c.parent.ensures.value)
+      | in_default w ↦ w.parts-is ∙ ap (λ up. planned o (placing_tail x c.args.offset y up) d)
+          (ap (option_map (name_in d)) (sym w.in_default.is) ∙ c.parent.ensures.value)
     ] in
     on_ok_weaker c.replacing_data.result (λ cut. cut
-    ∙ ap (λ (s : DocState). planned (owner_in s c.args.node) (replacing_data (name_in s c.args.node) c.args.offset c.args.count c.new-none.result.items) s) placed
+    ∙ ap (λ (s : DocState). planned (owner_in s c.args.node)
+    (replacing_data (name_in s c.args.node) c.args.offset c.args.count c.new-none.result.items) s) placed
     ∙ ap (λ units. planned o (replacing_data x c.args.offset c.args.count units) (planned o place_it d)) c.new-none.ensures.items
     ∙ planned_then o place_it (replacing_data x c.args.offset c.args.count []) d (c.laws.ensures.alone c.args.node c.requires.node_is_node)
     (plans_tail o x c.args.offset y (parent_of (trees_in d c.args.node) x) c.requires.one_owner))

@@ -10,17 +10,22 @@ use Rattle.dom_algorithms.proofs.splitting.placing_tail.Goals as goal
 
 pub inserting-requires-clause-may_move : goal.inserting-requires-clause-may_move
 inserting-requires-clause-may_move c =
-    tail_may c.args.parts.now c.laws.ensures.once c.args.parent c.args.node c.args.new c.next-next.result c.requires.node_is_child c.requires.new_is_node c.requires.one_owner c.requires.unlinked c.requires.not_above
-    (next_is_near c.args.parts.now c.laws.ensures.once c.args.parent c.args.node c.next-next.result c.requires.node_is_child c.next-next.ensures.value c.next-next.ensures.node c.next-next.ensures.owner)
+    tail_may c.args.parts.now c.laws.ensures.once c.args.parent c.args.node c.args.new c.next-next.result c.requires.node_is_child
+    c.requires.new_is_node c.requires.one_owner c.requires.unlinked c.requires.not_above
+    (next_is_near c.args.parts.now c.laws.ensures.once c.args.parent c.args.node c.next-next.result c.requires.node_is_child
+    c.next-next.ensures.value c.next-next.ensures.node c.next-next.ensures.owner)
 
 pub inserting-requires-clause-before_is_child : goal.inserting-requires-clause-before_is_child
 inserting-requires-clause-before_is_child c =
-    next_is_near c.args.parts.now c.laws.ensures.once c.args.parent c.args.node c.next-next.result c.requires.node_is_child c.next-next.ensures.value c.next-next.ensures.node c.next-next.ensures.owner
+    next_is_near c.args.parts.now c.laws.ensures.once c.args.parent c.args.node c.next-next.result c.requires.node_is_child
+    c.next-next.ensures.value c.next-next.ensures.node c.next-next.ensures.owner
 
 pub returns : goal.returns
 returns c =
-    tail_placed c.args.parts.now c.inserting.new.parts c.split_at.new.self c.args.parent c.args.node c.args.new c.args.offset c.next-next.result (c.laws.ensures.alone c.args.node c.requires.node_is_child.node)
-    c.requires.node_is_child.owner c.requires.one_owner c.next-next.ensures.value c.in_ok-inserting.ensures c.index-index.result c.index-index.ensures c.split_at.ensures
+    tail_placed c.args.parts.now c.inserting.new.parts c.split_at.new.self c.args.parent c.args.node c.args.new c.args.offset c.next-next.result
+    (c.laws.ensures.alone c.args.node c.requires.node_is_child.node)
+    c.requires.node_is_child.owner c.requires.one_owner c.next-next.ensures.value c.in_ok-inserting.ensures c.index-index.result
+    c.index-index.ensures c.split_at.ensures
 
 pub inserting-requires-clause-bounds : goal.inserting-requires-clause-bounds
 inserting-requires-clause-bounds c = subst (λ o. HasBounds (part_of c.args.parts.now.world o)) c.requires.node_is_child.owner c.requires.bounds
@@ -29,6 +34,7 @@ pub split_at-requires-clause-few : goal.split_at-requires-clause-few
 split_at-requires-clause-few c =
     let d = c.args.parts.now in
     let o = owner_in d c.args.parent in
-    let few = index_limited (part_of d.world o) (c.laws.ensures.parts o) (c.laws.ensures.limited o) (name_in d c.args.node) (name_in d c.args.parent) c.requires.node_is_child.child in
+    let few = index_limited (part_of d.world o) (c.laws.ensures.parts o) (c.laws.ensures.limited o) (name_in d c.args.node)
+    (name_in d c.args.parent) c.requires.node_is_child.child in
     let same = c.index-index.ensures ∙ ap (λ o. index_of (part_of d.world o).trees (name_in d c.args.node)) c.requires.node_is_child.owner in
     omega (arith, few, same)

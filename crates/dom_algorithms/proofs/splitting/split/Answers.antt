@@ -11,29 +11,42 @@ use Rattle.dom_algorithms.proofs.splitting.split.Goals as goal
 
 pub cut_tail-requires-clause-one_owner : goal.cut_tail-requires-clause-one_owner
 cut_tail-requires-clause-one_owner c =
-    new_owner c.args.parts.now c.make_text.new.parts c.args.node c.in_ok-new.new (option_map (name_in c.args.parts.now) c.document-document.result) c.in_ok-tail.tail.items c.in_ok-new.ensures.names c.in_ok-new.ensures.world c.in_ok-new.ensures.key c.requires.node_is_node (c.laws.ensures.alone c.args.node c.requires.node_is_node)
+    new_owner c.args.parts.now c.make_text.new.parts c.args.node c.in_ok-new.new
+    (option_map (name_in c.args.parts.now) c.document-document.result) c.in_ok-tail.tail.items c.in_ok-new.ensures.names
+    c.in_ok-new.ensures.world c.in_ok-new.ensures.key c.requires.node_is_node (c.laws.ensures.alone c.args.node c.requires.node_is_node)
 
 pub cut_tail-requires-clause-unlinked : goal.cut_tail-requires-clause-unlinked
 cut_tail-requires-clause-unlinked c =
-    new_unlinked c.args.parts.now c.make_text.new.parts c.args.node c.in_ok-new.new (option_map (name_in c.args.parts.now) c.document-document.result) c.in_ok-tail.tail.items c.in_ok-new.ensures.names c.in_ok-new.ensures.world c.in_ok-new.ensures.key c.requires.node_is_node (c.laws.ensures.alone c.args.node c.requires.node_is_node)
+    new_unlinked c.args.parts.now c.make_text.new.parts c.args.node c.in_ok-new.new
+    (option_map (name_in c.args.parts.now) c.document-document.result) c.in_ok-tail.tail.items c.in_ok-new.ensures.names
+    c.in_ok-new.ensures.world c.in_ok-new.ensures.key c.requires.node_is_node (c.laws.ensures.alone c.args.node c.requires.node_is_node)
     c.laws-2.ensures.distinct c.laws-2.ensures.once
 
 pub cut_tail-requires-clause-not_above : goal.cut_tail-requires-clause-not_above
 cut_tail-requires-clause-not_above c =
-    new_not_above c.args.parts.now c.make_text.new.parts c.args.node c.in_ok-new.new (option_map (name_in c.args.parts.now) c.document-document.result) c.in_ok-tail.tail.items c.in_ok-new.ensures.names c.in_ok-new.ensures.world c.in_ok-new.ensures.key c.requires.node_is_node (c.laws.ensures.alone c.args.node c.requires.node_is_node)
+    new_not_above c.args.parts.now c.make_text.new.parts c.args.node c.in_ok-new.new
+    (option_map (name_in c.args.parts.now) c.document-document.result) c.in_ok-tail.tail.items c.in_ok-new.ensures.names
+    c.in_ok-new.ensures.world c.in_ok-new.ensures.key c.requires.node_is_node (c.laws.ensures.alone c.args.node c.requires.node_is_node)
     c.laws-2.ensures.distinct c.laws-2.ensures.once
 
 pub returns-clause-world : goal.returns-clause-world
 returns-clause-world c =
     let units = ap (λ (s : DomString). length s) c.text.ensures in
     let left = c.saturating_sub-count.ensures in
-    let counts : c.saturating_sub-count.result ≡ length (node_in (trees_in c.args.parts.now c.args.node) (name_in c.args.parts.now c.args.node)).text - c.args.offset = omega (arith, units, left) in
-    split_whole c.args.parts.now c.make_text.new.parts c.args.node c.in_ok-new.new (option_map (name_in c.args.parts.now) c.document-document.result) c.in_ok-tail.tail.items c.in_ok-new.ensures.names c.in_ok-new.ensures.world c.in_ok-new.ensures.key c.requires.node_is_node (c.laws.ensures.alone c.args.node c.requires.node_is_node)
-    c.laws-2.ensures.distinct c.laws-2.ensures.once c.cut_tail.new.parts c.args.offset c.saturating_sub-count.result counts c.document-document.ensures.value c.in_ok-tail.ensures c.in_ok-cut_tail.ensures
+    let counts : c.saturating_sub-count.result ≡ length
+    (node_in (trees_in c.args.parts.now c.args.node) (name_in c.args.parts.now c.args.node)).text - c.args.offset =
+    omega (arith, units, left) in
+    split_whole c.args.parts.now c.make_text.new.parts c.args.node c.in_ok-new.new
+    (option_map (name_in c.args.parts.now) c.document-document.result) c.in_ok-tail.tail.items c.in_ok-new.ensures.names
+    c.in_ok-new.ensures.world c.in_ok-new.ensures.key c.requires.node_is_node (c.laws.ensures.alone c.args.node c.requires.node_is_node)
+    c.laws-2.ensures.distinct c.laws-2.ensures.once c.cut_tail.new.parts c.args.offset c.saturating_sub-count.result counts
+    c.document-document.ensures.value c.in_ok-tail.ensures c.in_ok-cut_tail.ensures
 
 pub cut_tail-requires-clause-bounds : goal.cut_tail-requires-clause-bounds
 cut_tail-requires-clause-bounds c =
     let d = c.args.parts.now in
     let y = next_name (part_of d.world (owner_in d c.args.node)) in
-    bounds_added d c.make_text.new.parts c.args.node y (new_text_node y (option_map (name_in d) c.document-document.result) c.in_ok-tail.tail.items) c.requires.node_is_node (c.laws.ensures.alone c.args.node c.requires.node_is_node)
+    bounds_added d c.make_text.new.parts c.args.node y
+    (new_text_node y (option_map (name_in d) c.document-document.result) c.in_ok-tail.tail.items) c.requires.node_is_node
+    (c.laws.ensures.alone c.args.node c.requires.node_is_node)
     (c.laws.ensures.parts _) c.requires.bounds c.in_ok-new.ensures.names c.in_ok-new.ensures.world

@@ -12,22 +12,30 @@ use Rattle.dom_algorithms.proofs.texts.replace_children.Goals as goal
 
 pub put_text-requires-clause-one_owner : goal.put_text-requires-clause-one_owner
 put_text-requires-clause-one_owner c =
-    new_owner c.args.parts.now c.make_text.new.parts c.args.node c.in_ok-text.text (Some (name_in c.args.parts.now c.document_below-document.result)) c.args.units.items c.in_ok-text.ensures.names c.in_ok-text.ensures.world c.in_ok-text.ensures.key c.requires.node_is_node (c.laws.ensures.alone c.args.node c.requires.node_is_node)
+    new_owner c.args.parts.now c.make_text.new.parts c.args.node c.in_ok-text.text
+    (Some (name_in c.args.parts.now c.document_below-document.result)) c.args.units.items c.in_ok-text.ensures.names
+    c.in_ok-text.ensures.world c.in_ok-text.ensures.key c.requires.node_is_node (c.laws.ensures.alone c.args.node c.requires.node_is_node)
 
 pub put_text-requires-clause-not_above : goal.put_text-requires-clause-not_above
 put_text-requires-clause-not_above c =
-    new_not_above c.args.parts.now c.make_text.new.parts c.args.node c.in_ok-text.text (Some (name_in c.args.parts.now c.document_below-document.result)) c.args.units.items c.in_ok-text.ensures.names c.in_ok-text.ensures.world c.in_ok-text.ensures.key c.requires.node_is_node (c.laws.ensures.alone c.args.node c.requires.node_is_node)
+    new_not_above c.args.parts.now c.make_text.new.parts c.args.node c.in_ok-text.text
+    (Some (name_in c.args.parts.now c.document_below-document.result)) c.args.units.items c.in_ok-text.ensures.names
+    c.in_ok-text.ensures.world c.in_ok-text.ensures.key c.requires.node_is_node (c.laws.ensures.alone c.args.node c.requires.node_is_node)
     c.laws-2.ensures.distinct c.laws-2.ensures.once
 
 pub returns-clause-world : goal.returns-clause-world
 returns-clause-world c =
-    text_whole c.args.parts.now c.make_text.new.parts c.args.node c.in_ok-text.text (Some (name_in c.args.parts.now c.document_below-document.result)) c.args.units.items c.in_ok-text.ensures.names c.in_ok-text.ensures.world c.in_ok-text.ensures.key c.requires.node_is_node (c.laws.ensures.alone c.args.node c.requires.node_is_node)
-    c.laws-2.ensures.distinct c.laws-2.ensures.once c.put_text.new.parts (ap is_empty (sym c.as_slice.ensures.value) ∙ some_left c.as_slice.result.now c.if-is_empty.ensures)
+    text_whole c.args.parts.now c.make_text.new.parts c.args.node c.in_ok-text.text
+    (Some (name_in c.args.parts.now c.document_below-document.result)) c.args.units.items c.in_ok-text.ensures.names
+    c.in_ok-text.ensures.world c.in_ok-text.ensures.key c.requires.node_is_node (c.laws.ensures.alone c.args.node c.requires.node_is_node)
+    c.laws-2.ensures.distinct c.laws-2.ensures.once c.put_text.new.parts
+    (ap is_empty (sym c.as_slice.ensures.value) ∙ some_left c.as_slice.result.now c.if-is_empty.ensures)
     (ap (λ y. Some y) c.document_below-document.ensures.value) c.in_ok-put_text.ensures
 
 pub put_text-requires-clause-bounds : goal.put_text-requires-clause-bounds
 put_text-requires-clause-bounds c =
     let d = c.args.parts.now in
     let y = next_name (part_of d.world (owner_in d c.args.node)) in
-    bounds_added d c.make_text.new.parts c.args.node y (new_text_node y (Some (name_in d c.document_below-document.result)) c.args.units.items) c.requires.node_is_node (c.laws.ensures.alone c.args.node c.requires.node_is_node)
+    bounds_added d c.make_text.new.parts c.args.node y (new_text_node y (Some (name_in d c.document_below-document.result)) c.args.units.items)
+    c.requires.node_is_node (c.laws.ensures.alone c.args.node c.requires.node_is_node)
     (c.laws.ensures.parts _) c.requires.bounds c.in_ok-text.ensures.names c.in_ok-text.ensures.world

@@ -9,4 +9,5 @@ link_before-requires-clause-unlinked g c = rw c.unlink.ensures.unlinked (unlinke
 -- src/arena.rt:17:5
 pub link_before-requires-clause-not_above : goal.link_before-requires-clause-not_above
 link_before-requires-clause-not_above g c =
-    rw c.unlink.ensures.unlinked (not_above-without c.args.arena.now.children c.parent.ensures.sound.forest c.args.key c.in-Some.parent (sym c.parent.ensures.value ∙ c.in-Some.is))
+    rw c.unlink.ensures.unlinked (not_above-without c.args.arena.now.children c.parent.ensures.sound.forest c.args.key c.in-Some.parent
+    (sym c.parent.ensures.value ∙ c.in-Some.is))

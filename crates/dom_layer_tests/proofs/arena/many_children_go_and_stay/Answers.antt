@@ -14,6 +14,7 @@ loop-number-preserved g c =
       root = omega (arith, c.loop-number.invariant.root);
       before = λ k is. let same = same_Some _ k is in omega (arith, c.in_ok-child.ensures.key);
       children = rw c.in_ok-push-2.ensures.items (All-push (λ k. k < length c.link.new.arena.payloads) c.loop-number.children.items c.in_ok-child.child
-          (All-weaker (λ k. k < length old) (λ k. k < length c.link.new.arena.payloads) (λ k within. omega (arith, longer)) c.loop-number.children.items c.loop-number.invariant.children)
+          (All-weaker (λ k. k < length old) (λ k. k < length c.link.new.arena.payloads) (λ k within. omega (arith, longer))
+          c.loop-number.children.items c.loop-number.invariant.children)
           (omega (arith, c.in_ok-child.ensures.key)));
     }

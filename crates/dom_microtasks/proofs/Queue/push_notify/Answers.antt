@@ -57,12 +57,14 @@ queued-new o ts e = cond-false (list_any (is_notify_of o) ts) ts (ts ++ notify_t
 pub returns-then-contains-clause-ok : goal.returns-then-contains-clause-ok
 returns-then-contains-clause-ok c =
     let o = c.args.owner in
-    let there = subst (λ (ts : List Task). list_any (is_notify_of o) ts ≡ true) c.self.view_is (queued c.self.inside c.self.invariant o true (c.if-contains.ensures)) in
+    let there = subst (λ (ts : List Task). list_any (is_notify_of o) ts ≡ true) c.self.view_is
+    (queued c.self.inside c.self.invariant o true (c.if-contains.ensures)) in
     sym (cond-true (list_any (is_notify_of o) c.args.self.now) c.args.self.now (c.args.self.now ++ notify_task o ∷ []) there)
 
 pub returns-clause-ok : goal.returns-clause-ok
 returns-clause-ok c =
     let o = c.args.owner in
-    let off = subst (λ (ts : List Task). list_any (is_notify_of o) ts ≡ false) c.self.view_is (queued c.self.inside c.self.invariant o false (c.if-contains.ensures)) in
+    let off = subst (λ (ts : List Task). list_any (is_notify_of o) ts ≡ false) c.self.view_is
+    (queued c.self.inside c.self.invariant o false (c.if-contains.ensures)) in
     let last : map task_of c.push_back.new.self.items ≡ c.args.self.now ++ notify_task o ∷ [] = grind (arith, common_steps) in
     last ∙ sym (queued-new o c.args.self.now off)

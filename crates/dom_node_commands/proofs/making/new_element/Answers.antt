@@ -9,4 +9,5 @@ use Rattle.dom_node_commands.proofs.making.new_element.Goals as goal
 pub returns-in_err-admit-clause-handled : goal.returns-in_err-admit-clause-handled
 returns-in_err-admit-clause-handled c =
     let p = err_from_is_err_and c.from_residual.result c.from_residual.ensures.1 in
-    rw (p.1, p.2) (refused c.args.state.now.world c.args.owner (Command.new_element (string_bytes c.args.name)) [] c.args.out.now.items c.in_err-admit.field-0.0 (naming-new_element (string_bytes c.args.name)) (sym c.admit.ensures ∙ c.in_err-admit.was))
+    rw (p.1, p.2) (refused c.args.state.now.world c.args.owner (Command.new_element (string_bytes c.args.name)) [] c.args.out.now.items
+    c.in_err-admit.field-0.0 (naming-new_element (string_bytes c.args.name)) (sym c.admit.ensures ∙ c.in_err-admit.was))

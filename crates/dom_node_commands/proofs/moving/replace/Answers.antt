@@ -20,7 +20,10 @@ use Rattle.dom_node_commands.proofs.moving.replace.Goals as goal
 pub returns-in_err-admit-clause-handled : goal.returns-in_err-admit-clause-handled
 returns-in_err-admit-clause-handled c =
     let p = err_from_is_err_and c.from_residual.result c.from_residual.ensures.1 in
-    rw (p.1, p.2) (refused c.args.state.now.world c.args.owner (Command.replace (spelled_view c.args.parent) (spelled_view c.args.node) (spelled_view c.args.child)) (Any c.args.parent ∷ Any c.args.node ∷ Any c.args.child ∷ []) c.args.out.now.items c.in_err-admit.field-0.0 (naming-replace c.args.parent c.args.node c.args.child) (sym c.admit.ensures ∙ c.in_err-admit.was))
+    rw (p.1, p.2) (refused c.args.state.now.world c.args.owner
+    (Command.replace (spelled_view c.args.parent) (spelled_view c.args.node) (spelled_view c.args.child))
+    (Any c.args.parent ∷ Any c.args.node ∷ Any c.args.child ∷ []) c.args.out.now.items c.in_err-admit.field-0.0
+    (naming-replace c.args.parent c.args.node c.args.child) (sym c.admit.ensures ∙ c.in_err-admit.was))
 
 pub returns-in_err-replace-clause-handled : goal.returns-in_err-replace-clause-handled
 returns-in_err-replace-clause-handled c =
@@ -29,8 +32,15 @@ returns-in_err-replace-clause-handled c =
     let parent_is : IsKey d.names d.world c.args.owner c.key-parent.result (spelled_view c.args.parent) = rw (← c.state.view_is) at c.key-parent.ensures.name in
     let node_is : IsKey d.names d.world c.args.owner c.key-node.result (spelled_view c.args.node) = rw (← c.state.view_is) at c.key-node.ensures.name in
     let child_is : IsKey d.names d.world c.args.owner c.key-child.result (spelled_view c.args.child) = rw (← c.state.view_is) at c.key-child.ensures.name in
-    rw (p.1, p.2) (faults c.state.inside.turn d c.args.state.now c.state.view_is c.args.owner (Command.replace (spelled_view c.args.parent) (spelled_view c.args.node) (spelled_view c.args.child)) (Any c.args.parent ∷ Any c.args.node ∷ Any c.args.child ∷ []) (naming-replace c.args.parent c.args.node c.args.child) (sym c.admit.ensures ∙ c.in_ok-admit.was) c.replace.new.self.world c.args.out.now.items c.in_err-replace.field-0.0
-    (λ r e. (sym (replace-refused d.names d.world c.args.owner (spelled_view c.args.parent) (spelled_view c.args.node) (spelled_view c.args.child) c.key-parent.result c.key-node.result c.key-child.result parent_is node_is child_is) ∙ (c.in_err-replace.ensures.refused r).0 (ap Err e), ap (λ s. s.world) (c.in_err-replace.ensures.unchanged r (ap Err e)))))
+    rw (p.1, p.2) (faults c.state.inside.turn d c.args.state.now c.state.view_is c.args.owner
+    (Command.replace (spelled_view c.args.parent) (spelled_view c.args.node) (spelled_view c.args.child))
+    (Any c.args.parent ∷ Any c.args.node ∷ Any c.args.child ∷ []) (naming-replace c.args.parent c.args.node c.args.child)
+    (sym c.admit.ensures ∙ c.in_ok-admit.was) c.replace.new.self.world c.args.out.now.items c.in_err-replace.field-0.0
+    (λ r e. (
+      sym (replace-refused d.names d.world c.args.owner (spelled_view c.args.parent) (spelled_view c.args.node) (spelled_view c.args.child)
+          c.key-parent.result c.key-node.result c.key-child.result parent_is node_is child_is) ∙ (c.in_err-replace.ensures.refused r).0 (ap Err e),
+      ap (λ s. s.world) (c.in_err-replace.ensures.unchanged r (ap Err e)),
+    )))
 
 pub returns-clause-handled : goal.returns-clause-handled
 returns-clause-handled c =
@@ -38,9 +48,21 @@ returns-clause-handled c =
     let parent_is : IsKey d.names d.world c.args.owner c.key-parent.result (spelled_view c.args.parent) = rw (← c.state.view_is) at c.key-parent.ensures.name in
     let node_is : IsKey d.names d.world c.args.owner c.key-node.result (spelled_view c.args.node) = rw (← c.state.view_is) at c.key-node.ensures.name in
     let child_is : IsKey d.names d.world c.args.owner c.key-child.result (spelled_view c.args.child) = rw (← c.state.view_is) at c.key-child.ensures.name in
-    plans c.state.inside.turn d c.args.state.now c.state.view_is c.args.owner (Command.replace (spelled_view c.args.parent) (spelled_view c.args.node) (spelled_view c.args.child)) (Any c.args.parent ∷ Any c.args.node ∷ Any c.args.child ∷ []) (naming-replace c.args.parent c.args.node c.args.child) (sym c.admit.ensures ∙ c.in_ok-admit.was) c.replace.new.self.world c.accept.new.self.world (λ p. replacing (named p (spelled_view c.args.parent)) (named p (spelled_view c.args.node)) (named p (spelled_view c.args.child)) p) (λ p. nothing) nothing c.args.out.now.items c.accept.new.out.items c.accept.result refl
-    (sym (replace-refused d.names d.world c.args.owner (spelled_view c.args.parent) (spelled_view c.args.node) (spelled_view c.args.child) c.key-parent.result c.key-node.result c.key-child.result parent_is node_is child_is) ∙ accepted_none tt (replacement_refusal (part_of d.world (name_at d.names c.key-parent.result).owner).trees (name_at d.names c.key-parent.result) (name_at d.names c.key-node.result) (name_at d.names c.key-child.result)) (λ r. (c.in_ok-replace.ensures.refused r).1))
-    (replace-made d.names d.world c.args.owner (spelled_view c.args.parent) (spelled_view c.args.node) (spelled_view c.args.child) c.key-parent.result c.key-node.result c.key-child.result parent_is node_is child_is c.replace.new.self.world c.in_ok-replace.ensures.world) refl c.accept.ensures.done
+    plans c.state.inside.turn d c.args.state.now c.state.view_is c.args.owner
+    (Command.replace (spelled_view c.args.parent) (spelled_view c.args.node) (spelled_view c.args.child))
+    (Any c.args.parent ∷ Any c.args.node ∷ Any c.args.child ∷ []) (naming-replace c.args.parent c.args.node c.args.child)
+    (sym c.admit.ensures ∙ c.in_ok-admit.was) c.replace.new.self.world c.accept.new.self.world
+    (λ p. replacing (named p (spelled_view c.args.parent)) (named p (spelled_view c.args.node)) (named p (spelled_view c.args.child)) p)
+    (λ p. nothing) nothing c.args.out.now.items c.accept.new.out.items c.accept.result refl
+    (sym (replace-refused d.names d.world c.args.owner (spelled_view c.args.parent) (spelled_view c.args.node) (spelled_view c.args.child)
+    c.key-parent.result c.key-node.result c.key-child.result parent_is node_is child_is) ∙
+    accepted_none tt (replacement_refusal (part_of d.world (name_at d.names c.key-parent.result).owner).trees
+    (name_at d.names c.key-parent.result) (name_at d.names c.key-node.result) (name_at d.names c.key-child.result))
+    (λ r. (c.in_ok-replace.ensures.refused r).1))
+    (replace-made d.names d.world c.args.owner (spelled_view c.args.parent) (spelled_view c.args.node) (spelled_view c.args.child)
+    c.key-parent.result c.key-node.result c.key-child.result parent_is node_is child_is c.replace.new.self.world
+    c.in_ok-replace.ensures.world) refl c.accept.ensures.done
 
 pub replace-requires-clause-bounds : goal.replace-requires-clause-bounds
-replace-requires-clause-bounds c = bounded-inside c.state.inside.turn c.state.inside.doc c.args.state.now c.state.view_is c.requires.bounds (owner_in c.state.inside.doc c.key-parent.result)
+replace-requires-clause-bounds c = bounded-inside c.state.inside.turn c.state.inside.doc c.args.state.now c.state.view_is c.requires.bounds
+    (owner_in c.state.inside.doc c.key-parent.result)

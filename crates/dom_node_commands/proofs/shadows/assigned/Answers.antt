@@ -15,14 +15,18 @@ use Rattle.dom_node_commands.proofs.shadows.assigned.Goals as goal
 pub returns-in_err-admit-clause-handled : goal.returns-in_err-admit-clause-handled
 returns-in_err-admit-clause-handled c =
     let p = err_from_is_err_and c.from_residual.result c.from_residual.ensures.1 in
-    rw (p.1, p.2) (refused_own c.args.state.now.world c.args.owner (Command.assigned (spelled_view c.args.slot)) (Slot c.args.slot ∷ []) c.args.out.now.items c.in_err-admit.field-0.0 (naming-assigned c.args.owner (sym c.is_page.ensures ∙ c.if-is_page.false) c.args.slot) (sym c.admit.ensures ∙ c.in_err-admit.was))
+    rw (p.1, p.2) (refused_own c.args.state.now.world c.args.owner (Command.assigned (spelled_view c.args.slot)) (Slot c.args.slot ∷ [])
+    c.args.out.now.items c.in_err-admit.field-0.0 (naming-assigned c.args.owner (sym c.is_page.ensures ∙ c.if-is_page.false) c.args.slot)
+    (sym c.admit.ensures ∙ c.in_err-admit.was))
 
 pub returns-clause-handled : goal.returns-clause-handled
 returns-clause-handled c =
     let w = c.args.state.now.world in
     let o = c.args.owner in
     let s = spelled_view c.args.slot in
-    asks_own w c.accept.new.self.world o (Command.assigned s) (Slot c.args.slot ∷ []) (λ v. a_list (assigned v (named (part_of v o) s))) (a_list c.deref.result.now) c.args.out.now.items c.accept.new.out.items c.accept.result (naming-assigned o (sym c.is_page.ensures ∙ c.if-is_page.false) c.args.slot) refl (sym c.admit.ensures ∙ c.in_ok-admit.was) refl
+    asks_own w c.accept.new.self.world o (Command.assigned s) (Slot c.args.slot ∷ []) (λ v. a_list (assigned v (named (part_of v o) s)))
+    (a_list c.deref.result.now) c.args.out.now.items c.accept.new.out.items c.accept.result
+    (naming-assigned o (sym c.is_page.ensures ∙ c.if-is_page.false) c.args.slot) refl (sym c.admit.ensures ∙ c.in_ok-admit.was) refl
     (ap a_list (c.deref.ensures.value ∙ c.in_ok-nodes.ensures ∙ assigned-opened w o s)) c.accept.ensures.done
 
 pub assigned_to-requires : goal.assigned_to-requires

@@ -16,6 +16,8 @@ returns c =
     let f = c.forest_and_slots.result.0.now in
     let trees = shadows f c.forest_and_slots.result.1.now.hosts in
     let x = named (part_of w c.args.owner) (spelled_view c.args.slot) in
-    let is : name_at f.names c.key-slot.result ≡ x = ap (λ (names : List NodeName). name_at names c.key-slot.result) c.forest_and_slots.ensures.names ∙ c.key-slot.ensures.name in
+    let is : name_at f.names c.key-slot.result ≡ x =
+    ap (λ (names : List NodeName). name_at names c.key-slot.result) c.forest_and_slots.ensures.names ∙ c.key-slot.ensures.name in
     IfOk-weaker c.names_of.result (λ names. names.items ≡ map (name_at f.names) c.deref.result.now) (λ names. names.items ≡ assigned w x)
-    (λ names e. e ∙ ap (map (name_at f.names)) c.deref.ensures.value ∙ c.in_ok-nodes.ensures.value ∙ ap (assigned_at trees) is ∙ sym (c.slots_are_of_worlds.ensures.assigned trees w c.forest_and_slots.ensures.shown x)) c.names_of.ensures
+    (λ names e. e ∙ ap (map (name_at f.names)) c.deref.ensures.value ∙ c.in_ok-nodes.ensures.value ∙ ap (assigned_at trees) is ∙
+    sym (c.slots_are_of_worlds.ensures.assigned trees w c.forest_and_slots.ensures.shown x)) c.names_of.ensures

@@ -18,7 +18,8 @@ use Rattle.dom_node_commands.proofs.shadows.attach_to.Goals as goal
 pub returns-in_err-admit-clause-handled : goal.returns-in_err-admit-clause-handled
 returns-in_err-admit-clause-handled c =
     let p = err_from_is_err_and c.from_residual.result c.from_residual.ensures.1 in
-    rw (p.1, p.2) (refused_own c.args.state.now.world Page (Command.attach (spelled_view c.args.host)) (Element c.args.host ∷ []) c.args.out.now.items c.in_err-admit.field-0.0 (naming-attach c.args.host) (sym c.admit.ensures ∙ c.in_err-admit.was))
+    rw (p.1, p.2) (refused_own c.args.state.now.world Page (Command.attach (spelled_view c.args.host)) (Element c.args.host ∷ [])
+    c.args.out.now.items c.in_err-admit.field-0.0 (naming-attach c.args.host) (sym c.admit.ensures ∙ c.in_err-admit.was))
 
 pub attach-requires-clause-host_is_page : goal.attach-requires-clause-host_is_page
 attach-requires-clause-host_is_page c =
@@ -31,7 +32,8 @@ returns-in_err-root-clause-handled c =
     let p = err_from_is_err_and c.from_residual-in_err-root.result c.from_residual-in_err-root.ensures.1 in
     let d = c.state.inside.doc in
     let host_is : IsKey d.names d.world Page c.key-host.result (spelled_view c.args.host) = rw (← c.state.view_is) at c.key-host.ensures.name in
-    rw (p.1, p.2) (attach-faults c.state.inside.turn d c.args.state.now c.state.view_is c.args.host c.key-host.result host_is (sym c.admit.ensures ∙ c.in_ok-admit.was) c.attach.new.self.world c.args.out.now.items c.in_err-root.field-0.0
+    rw (p.1, p.2) (attach-faults c.state.inside.turn d c.args.state.now c.state.view_is c.args.host c.key-host.result host_is
+    (sym c.admit.ensures ∙ c.in_ok-admit.was) c.attach.new.self.world c.args.out.now.items c.in_err-root.field-0.0
     (λ r e. ((c.in_err-root.ensures.refused r).0 (ap Err e), ap (λ s. s.world) (c.in_err-root.ensures.unchanged r (ap Err e)))))
 
 pub returns-clause-handled : goal.returns-clause-handled
@@ -40,6 +42,9 @@ returns-clause-handled c =
     let host_is : IsKey d.names d.world Page c.key-host.result (spelled_view c.args.host) = rw (← c.state.view_is) at c.key-host.ensures.name in
     let root = c.in_ok-root.root in
     let component = component_made Page (length (part_of d.world Page).attached) in
-    attach-done c.state.inside.turn d c.args.state.now c.state.view_is c.args.host c.key-host.result host_is (sym c.admit.ensures ∙ c.in_ok-admit.was) c.attach.new.self.world c.accept.new.self.world c.name-component.result.owner c.args.out.now.items c.accept.new.out.items c.accept.result
+    attach-done c.state.inside.turn d c.args.state.now c.state.view_is c.args.host c.key-host.result host_is
+    (sym c.admit.ensures ∙ c.in_ok-admit.was) c.attach.new.self.world c.accept.new.self.world c.name-component.result.owner
+    c.args.out.now.items c.accept.new.out.items c.accept.result
     (none_stopped root _ (λ r e. inl ((c.in_ok-root.ensures.refused r).1 e))) c.in_ok-root.ensures.world
-    (ap (λ (x : NodeName). x.owner) (name-last d.names c.forest.result.now.names (shadow_root_of component) c.name-component.result root (c.forest.ensures.names ∙ c.in_ok-root.ensures.names) c.in_ok-root.ensures.key c.name-component.ensures.at)) c.accept.ensures.done
+    (ap (λ (x : NodeName). x.owner) (name-last d.names c.forest.result.now.names (shadow_root_of component) c.name-component.result root
+    (c.forest.ensures.names ∙ c.in_ok-root.ensures.names) c.in_ok-root.ensures.key c.name-component.ensures.at)) c.accept.ensures.done

@@ -22,19 +22,23 @@ following-at-requires-clause-within c =
     let top = name_at f.names c.args.top in
     let names = c.set_document.ensures.names ∙ c.loop-at.invariant.0 in
     let at = subst (Sets f.names d top f.trees g.trees) c.in-Some.is c.loop-at.invariant.1 in
-    let changed = c.set_document.ensures.trees ∙ ap (λ ns. change_node (under_document (Some (name_at ns c.args.document))) (name_at ns c.in-Some.node) g.trees) c.loop-at.invariant.0 in
+    let changed = c.set_document.ensures.trees ∙
+    ap (λ ns. change_node (under_document (Some (name_at ns c.args.document))) (name_at ns c.in-Some.node) g.trees) c.loop-at.invariant.0 in
     subst (λ (ns : List NodeName). is_inclusive_ancestor c.set_document.new.self.trees (name_at ns c.args.top) (name_at ns c.in-Some.node) ≡ _) (sym names)
-    (sets_above f.names d top f.trees g.trees c.set_document.new.self.trees (once_forest f.names f.trees c.nodes_stand_once.ensures.once c.nodes_stand_once.ensures.only) c.in-Some.node at changed)
+    (sets_above f.names d top f.trees g.trees c.set_document.new.self.trees
+    (once_forest f.names f.trees c.nodes_stand_once.ensures.once c.nodes_stand_once.ensures.only) c.in-Some.node at changed)
 
 pub loop-at-smaller : goal.loop-at-smaller
 loop-at-smaller c =
     (sets_on c.args.forest.now c.loop-at.forest c.set_document.new.self c.args.top c.args.document c.in-Some.node c.loop-at.at c.following-at.result
-    (once_forest c.args.forest.now.names c.args.forest.now.trees c.nodes_stand_once.ensures.once c.nodes_stand_once.ensures.only) c.in-Some.is c.loop-at.invariant.0 c.loop-at.invariant.1
+    (once_forest c.args.forest.now.names c.args.forest.now.trees c.nodes_stand_once.ensures.once c.nodes_stand_once.ensures.only) c.in-Some.is
+    c.loop-at.invariant.0 c.loop-at.invariant.1
     c.set_document.ensures.names c.set_document.ensures.trees c.following-at.ensures.value c.following-at.ensures.node).2
 
 pub loop-at-preserved : goal.loop-at-preserved
 loop-at-preserved c =
     let on = sets_on c.args.forest.now c.loop-at.forest c.set_document.new.self c.args.top c.args.document c.in-Some.node c.loop-at.at c.following-at.result
-    (once_forest c.args.forest.now.names c.args.forest.now.trees c.nodes_stand_once.ensures.once c.nodes_stand_once.ensures.only) c.in-Some.is c.loop-at.invariant.0 c.loop-at.invariant.1
+    (once_forest c.args.forest.now.names c.args.forest.now.trees c.nodes_stand_once.ensures.once c.nodes_stand_once.ensures.only) c.in-Some.is
+    c.loop-at.invariant.0 c.loop-at.invariant.1
     c.set_document.ensures.names c.set_document.ensures.trees c.following-at.ensures.value c.following-at.ensures.node in
     (on.0, on.1)

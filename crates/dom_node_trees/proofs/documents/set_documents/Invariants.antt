@@ -10,4 +10,5 @@ invariant-loop-at l =
     × Sets l.initial.forest.names (name_at l.initial.forest.names l.document) (name_at l.initial.forest.names l.top) l.initial.forest.trees l.forest.trees l.at
 
 abbrev pub decreases-loop-at : goal.decreases-loop-at
-decreases-loop-at l = left (inclusive_descendants l.initial.forest.trees (name_at l.initial.forest.names l.top)) (option_map (name_at l.initial.forest.names) l.at)
+decreases-loop-at l = left (inclusive_descendants l.initial.forest.trees (name_at l.initial.forest.names l.top))
+    (option_map (name_at l.initial.forest.names) l.at)

@@ -10,17 +10,22 @@ pub loop-slot-preserved : goal.loop-slot-preserved
 loop-slot-preserved c = (
   c.in_ok-signal.ensures.signalled
       ∙ (ap (λ ks. append_once nat_eq ks c.slot-item.result) c.loop-slot.invariant.0
-      ∙ sym (fold_next (append_once nat_eq) c.args.signalled.now.items c.deref-slot-items.result.now c.loop-slot.slot-index c.slot-item.result c.loop-slot-test.true c.slot-item.is)),
+      ∙ sym (fold_next (append_once nat_eq) c.args.signalled.now.items c.deref-slot-items.result.now c.loop-slot.slot-index c.slot-item.result
+      c.loop-slot-test.true c.slot-item.is)),
   c.in_ok-signal.ensures.queue
       ∙ (ap (queued_notify (name_at c.args.forest.now.names c.slot-item.result).owner) c.loop-slot.invariant.1
-      ∙ sym (fold_next (queued_by c.args.forest.now.names) c.args.queue.now c.deref-slot-items.result.now c.loop-slot.slot-index c.slot-item.result c.loop-slot-test.true c.slot-item.is)),
+      ∙ sym (fold_next (queued_by c.args.forest.now.names) c.args.queue.now c.deref-slot-items.result.now c.loop-slot.slot-index
+      c.slot-item.result c.loop-slot-test.true c.slot-item.is)),
 )
 
 pub returns : goal.returns
 returns c was b end =
     let f = c.args.forest.now in
     let all = take_all c.loop-slot.slot-index c.deref-slot-items.result.now c.loop-slot-test.false ∙ c.deref-slot-items.ensures.value in
-    all_signalled f.names c.nodes_stand_once.ensures.distinct was f.trees b.step b.left c.args.slots.now c.end.new.self c.args.signalled.now.items c.args.queue.now c.in_ok-keys.keys.items
-    c.in_ok-keys.ensures.hosts c.in_ok-keys.ensures.free c.in_ok-keys.ensures.slots c.requires.nodes c.in_ok-keys.ensures.nodes (c.in_ok-keys.ensures.value was b end)
+    all_signalled f.names c.nodes_stand_once.ensures.distinct was f.trees b.step b.left c.args.slots.now c.end.new.self c.args.signalled.now.items
+    c.args.queue.now c.in_ok-keys.keys.items
+    c.in_ok-keys.ensures.hosts c.in_ok-keys.ensures.free c.in_ok-keys.ensures.slots c.requires.nodes c.in_ok-keys.ensures.nodes
+    (c.in_ok-keys.ensures.value was b end)
     c.loop-slot.signalled.items c.loop-slot.queue
-    (c.loop-slot.invariant.0 ∙ ap (fold (append_once nat_eq) c.args.signalled.now.items) all) (c.loop-slot.invariant.1 ∙ ap (fold (queued_by f.names) c.args.queue.now) all)
+    (c.loop-slot.invariant.0 ∙ ap (fold (append_once nat_eq) c.args.signalled.now.items) all)
+    (c.loop-slot.invariant.1 ∙ ap (fold (queued_by f.names) c.args.queue.now) all)

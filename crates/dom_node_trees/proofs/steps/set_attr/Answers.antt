@@ -10,17 +10,23 @@ end-requires-clause-step c =
     let b = c.in_ok-begin.ensures.begun in (
       c.args.forest.now.trees,
       b.0,
-      ends c.args.forest.now c.set_attr.new.self c.args.slots.now c.begin.new.self (Attribute c.args.node) b c.in_ok-set_attr.ensures.names c.in_ok-begin.ensures.hosts
+      ends c.args.forest.now c.set_attr.new.self c.args.slots.now c.begin.new.self (Attribute c.args.node) b c.in_ok-set_attr.ensures.names
+          c.in_ok-begin.ensures.hosts
           c.requires.node_is_node c.requires.signals.slots c.in_ok-begin.ensures.table (c.args.name.now, Some c.args.value.items, c.in_ok-set_attr.ensures.ok),
     )
 
 pub end-requires-clause-nodes : goal.end-requires-clause-nodes
-end-requires-clause-nodes c = subst (λ (ns : List NodeName). All (λ k. k < length ns) c.args.signalled.now.items) (sym c.in_ok-set_attr.ensures.names) c.requires.signals.nodes
+end-requires-clause-nodes c = subst (λ (ns : List NodeName). All (λ k. k < length ns) c.args.signalled.now.items)
+    (sym c.in_ok-set_attr.ensures.names) c.requires.signals.nodes
 
 pub returns-clause-signals : goal.returns-clause-signals
 returns-clause-signals c =
     let b = c.in_ok-begin.ensures.begun in
     let f = c.args.forest.now in
     let g = c.set_attr.new.self in
-    on_ok_weaker c.end.result (λ h. let t = told f g c.args.slots.now c.begin.new.self (Attribute c.args.node) b c.in_ok-set_attr.ensures.names c.in_ok-begin.ensures.hosts c.args.signalled.now.items c.args.queue.now _ h in record { hosts = t.hosts; held = t.held; signalled = t.signalled; tasks = t.tasks })
-    (c.end.ensures f.trees b.0 (ends f g c.args.slots.now c.begin.new.self (Attribute c.args.node) b c.in_ok-set_attr.ensures.names c.in_ok-begin.ensures.hosts c.requires.node_is_node c.requires.signals.slots c.in_ok-begin.ensures.table (c.args.name.now, Some c.args.value.items, c.in_ok-set_attr.ensures.ok)))
+    on_ok_weaker c.end.result (λ h. let t = told f g c.args.slots.now c.begin.new.self (Attribute c.args.node) b c.in_ok-set_attr.ensures.names
+    c.in_ok-begin.ensures.hosts c.args.signalled.now.items c.args.queue.now _ h in
+    record { hosts = t.hosts; held = t.held; signalled = t.signalled; tasks = t.tasks })
+    (c.end.ensures f.trees b.0 (ends f g c.args.slots.now c.begin.new.self (Attribute c.args.node) b c.in_ok-set_attr.ensures.names
+    c.in_ok-begin.ensures.hosts c.requires.node_is_node c.requires.signals.slots c.in_ok-begin.ensures.table
+    (c.args.name.now, Some c.args.value.items, c.in_ok-set_attr.ensures.ok)))

@@ -15,12 +15,15 @@ end-requires-clause-step c =
     )
 
 pub end-requires-clause-nodes : goal.end-requires-clause-nodes
-end-requires-clause-nodes c = subst (λ (ns : List NodeName). All (λ k. k < length ns) c.args.signalled.now.items) (sym c.unlink.ensures.names) c.requires.signals.nodes
+end-requires-clause-nodes c = subst (λ (ns : List NodeName). All (λ k. k < length ns) c.args.signalled.now.items) (sym c.unlink.ensures.names)
+    c.requires.signals.nodes
 
 pub returns-clause-signals : goal.returns-clause-signals
 returns-clause-signals c =
     let b = c.in_ok-begin.ensures.begun in
     let f = c.args.forest.now in
     let g = c.unlink.new.self in
-    on_ok_weaker c.end.result (λ h. let t = told f g c.args.slots.now c.begin.new.self (Removal c.args.node) b c.unlink.ensures.names c.in_ok-begin.ensures.hosts c.args.signalled.now.items c.args.queue.now _ h in record { left = b.0.left; is_left = b.2.left; signals = t })
-    (c.end.ensures f.trees b.0 (ends f g c.args.slots.now c.begin.new.self (Removal c.args.node) b c.unlink.ensures.names c.in_ok-begin.ensures.hosts c.requires.node_is_node c.requires.signals.slots c.in_ok-begin.ensures.table (b.2.left, c.unlink.ensures.trees)))
+    on_ok_weaker c.end.result (λ h. let t = told f g c.args.slots.now c.begin.new.self (Removal c.args.node) b c.unlink.ensures.names
+    c.in_ok-begin.ensures.hosts c.args.signalled.now.items c.args.queue.now _ h in record { left = b.0.left; is_left = b.2.left; signals = t })
+    (c.end.ensures f.trees b.0 (ends f g c.args.slots.now c.begin.new.self (Removal c.args.node) b c.unlink.ensures.names
+    c.in_ok-begin.ensures.hosts c.requires.node_is_node c.requires.signals.slots c.in_ok-begin.ensures.table (b.2.left, c.unlink.ensures.trees)))

@@ -17,7 +17,8 @@ use Rattle.dom_observer_commands.proofs.microtasks.micro.Goals as goal
 pub returns-in_err-admit-clause-handled : goal.returns-in_err-admit-clause-handled
 returns-in_err-admit-clause-handled c =
     let p = err_from_is_err_and c.from_residual.result c.from_residual.ensures.1 in
-    rw (p.1, p.2) (refused c.args.state.now.world c.args.owner (Command.micro (string_bytes c.args.label)) [] c.args.out.now.items c.in_err-admit.field-0.0 (naming-micro (string_bytes c.args.label)) (sym c.admit.ensures ∙ c.in_err-admit.was))
+    rw (p.1, p.2) (refused c.args.state.now.world c.args.owner (Command.micro (string_bytes c.args.label)) [] c.args.out.now.items
+    c.in_err-admit.field-0.0 (naming-micro (string_bytes c.args.label)) (sym c.admit.ensures ∙ c.in_err-admit.was))
 
 pub returns-clause-handled : goal.returns-clause-handled
 returns-clause-handled c =
@@ -25,8 +26,12 @@ returns-clause-handled c =
     let t = c.state.inside.turn in
     let o = c.args.owner in
     let label = string_bytes c.args.label in
-    in_state t d c.args.state.now c.state.view_is o (Command.micro label) [] (naming-micro label) (sym c.admit.ensures ∙ c.in_ok-admit.was) c.accept.new.self.world c.args.out.now.items c.accept.new.out.items c.accept.result
-    (finished None (opening_turn (with_turn t c.push_micro.new.self.world) o, says o (replied nothing) ∷ []) (accepted (with_turn t d.world) o (Command.micro label)) (with_turn t d.world) (with_turn t c.push_micro.new.self.world)
+    in_state t d c.args.state.now c.state.view_is o (Command.micro label) [] (naming-micro label) (sym c.admit.ensures ∙ c.in_ok-admit.was)
+    c.accept.new.self.world c.args.out.now.items c.accept.new.out.items c.accept.result
+    (finished None (opening_turn (with_turn t c.push_micro.new.self.world) o, says o (replied nothing) ∷ [])
+    (accepted (with_turn t d.world) o (Command.micro label)) (with_turn t d.world) (with_turn t c.push_micro.new.self.world)
     c.accept.new.self.world c.args.out.now.items c.accept.new.out.items c.accept.result refl
-    (ap (λ (e : DocState). (opening_turn (with_turn t e.world) o, says o (replied nothing) ∷ [])) (c.in_ok-push_micro.ensures.ok ∙ ap (λ (v : Word). with_tasks (d.world.tasks ++ micro_task o v ∷ []) d) (ap (λ v. v.items) c.into_bytes.ensures.value))
+    (ap (λ (e : DocState). (opening_turn (with_turn t e.world) o, says o (replied nothing) ∷ []))
+    (c.in_ok-push_micro.ensures.ok ∙ ap (λ (v : Word). with_tasks (d.world.tasks ++ micro_task o v ∷ []) d)
+    (ap (λ v. v.items) c.into_bytes.ensures.value))
     ∙ micro_queued t d.world o label) c.accept.ensures.done)

@@ -20,5 +20,6 @@ returns-clause-text c =
     let list = c.in_ok-notices.notices.items in
     subst (λ (s : DocState). OnOk r (after ≡ before ++ output_text (notified_lines (part_of s.world o)))) c.state.view_is
     (subst (λ (os : List Output). OnOk r (after ≡ before ++ output_text os)) (notice_lines_are d d.world o list c.in_ok-notices.ensures.notices)
-    (subst (λ (ns : List NodeName). OnOk r (after ≡ before ++ output_text (notice_lines ns o list))) (c.forest-forest.ensures.names ∙ c.in_ok-notices.ensures.names)
+    (subst (λ (ns : List NodeName). OnOk r (after ≡ before ++ output_text (notice_lines ns o list)))
+    (c.forest-forest.ensures.names ∙ c.in_ok-notices.ensures.names)
     (subst (λ xs. OnOk r (after ≡ before ++ output_text (notice_lines c.forest-forest.result.now.names o xs))) c.as_slice.ensures.value c.put_notices.ensures)))

@@ -20,7 +20,10 @@ use Rattle.dom_observer_commands.proofs.observing.observe.Goals as goal
 pub returns-in_err-admit-clause-handled : goal.returns-in_err-admit-clause-handled
 returns-in_err-admit-clause-handled c =
     let p = err_from_is_err_and c.from_residual.result c.from_residual.ensures.1 in
-    rw (p.1, p.2) (refused c.args.state.now.world c.args.owner (Command.observe c.args.number (spelled_view c.args.node) (observe_view c.args.words)) (Any c.args.node ∷ Observer c.args.number ∷ []) c.args.out.now.items c.in_err-admit.field-0.0 (naming-observe c.args.number c.args.node (observe_view c.args.words)) (sym c.admit.ensures ∙ c.in_err-admit.was))
+    rw (p.1, p.2) (refused c.args.state.now.world c.args.owner
+    (Command.observe c.args.number (spelled_view c.args.node) (observe_view c.args.words)) (Any c.args.node ∷ Observer c.args.number ∷ [])
+    c.args.out.now.items c.in_err-admit.field-0.0 (naming-observe c.args.number c.args.node (observe_view c.args.words))
+    (sym c.admit.ensures ∙ c.in_err-admit.was))
 
 pub returns-in_err-observe-clause-handled : goal.returns-in_err-observe-clause-handled
 returns-in_err-observe-clause-handled c =
@@ -28,7 +31,9 @@ returns-in_err-observe-clause-handled c =
     let d = c.state.inside.doc in
     let e = c.in_err-observe.ensures in
     let same_test = ap (λ (w : ObserveWords). asks_for_nothing (options_of w)) c.observer_options.ensures in
-    rw (p.1, p.2) (faults c.state.inside.turn d c.args.state.now c.state.view_is c.args.owner (Command.observe c.args.number (spelled_view c.args.node) (observe_view c.args.words)) (Any c.args.node ∷ Observer c.args.number ∷ []) (naming-observe c.args.number c.args.node (observe_view c.args.words))
+    rw (p.1, p.2) (faults c.state.inside.turn d c.args.state.now c.state.view_is c.args.owner
+    (Command.observe c.args.number (spelled_view c.args.node) (observe_view c.args.words)) (Any c.args.node ∷ Observer c.args.number ∷ [])
+    (naming-observe c.args.number c.args.node (observe_view c.args.words))
     (sym c.admit.ensures ∙ c.in_ok-admit.was) c.observe.new.self.world c.args.out.now.items c.in_err-observe.field-0.0
     (λ r is.
     let same = only_refusal c.in_err-observe.field-0.0 TypeFault r e.other is in
@@ -39,10 +44,14 @@ returns-clause-handled c =
     let d = c.state.inside.doc in
     let node_is : IsKey d.names d.world c.args.owner c.key-node.result (spelled_view c.args.node) = rw (← c.state.view_is) at c.key-node.ensures.name in
     let same_test = ap (λ (w : ObserveWords). asks_for_nothing (options_of w)) c.observer_options.ensures in
-    tabled c.state.inside.turn d c.args.state.now c.state.view_is c.args.owner (Command.observe c.args.number (spelled_view c.args.node) (observe_view c.args.words)) (Any c.args.node ∷ Observer c.args.number ∷ []) (naming-observe c.args.number c.args.node (observe_view c.args.words))
-    (sym c.admit.ensures ∙ c.in_ok-admit.was) c.observe.new.self.world c.accept.new.self.world nothing nothing c.args.out.now.items c.accept.new.out.items c.accept.result refl
+    tabled c.state.inside.turn d c.args.state.now c.state.view_is c.args.owner
+    (Command.observe c.args.number (spelled_view c.args.node) (observe_view c.args.words)) (Any c.args.node ∷ Observer c.args.number ∷ [])
+    (naming-observe c.args.number c.args.node (observe_view c.args.words))
+    (sym c.admit.ensures ∙ c.in_ok-admit.was) c.observe.new.self.world c.accept.new.self.world nothing nothing c.args.out.now.items
+    c.accept.new.out.items c.accept.result refl
     (lone_fails _ TypeFault (λ h. accepted_not TypeFault (c.in_ok-observe.ensures.no_kind.1 (same_test ∙ h))))
-    (observe-made d.names d.world c.observe.new.self.world c.args.owner (spelled_view c.args.node) c.key-node.result node_is c.args.number (words_of c.observer_options.result) (observe_view c.args.words) nothing c.observer_options.ensures c.in_ok-observe.ensures.world)
+    (observe-made d.names d.world c.observe.new.self.world c.args.owner (spelled_view c.args.node) c.key-node.result node_is c.args.number
+    (words_of c.observer_options.result) (observe_view c.args.words) nothing c.observer_options.ensures c.in_ok-observe.ensures.world)
     refl c.accept.ensures.done
 
 pub observe-requires-clause-own : goal.observe-requires-clause-own

@@ -15,7 +15,8 @@ use Rattle.dom_observer_commands.proofs.observing.take_records.Goals as goal
 pub returns-in_err-admit-clause-handled : goal.returns-in_err-admit-clause-handled
 returns-in_err-admit-clause-handled c =
     let p = err_from_is_err_and c.from_residual.result c.from_residual.ensures.1 in
-    rw (p.1, p.2) (refused c.args.state.now.world c.args.owner (Command.take c.args.number) (Observer c.args.number ∷ []) c.args.out.now.items c.in_err-admit.field-0.0 (naming-take c.args.number) (sym c.admit.ensures ∙ c.in_err-admit.was))
+    rw (p.1, p.2) (refused c.args.state.now.world c.args.owner (Command.take c.args.number) (Observer c.args.number ∷ []) c.args.out.now.items
+    c.in_err-admit.field-0.0 (naming-take c.args.number) (sym c.admit.ensures ∙ c.in_err-admit.was))
 
 pub returns-clause-handled : goal.returns-clause-handled
 returns-clause-handled c =
@@ -25,8 +26,11 @@ returns-clause-handled c =
     let before = c.args.out.now.items in
     let records = c.take_records-records.result.items in
     let names = c.forest-forest.result.now.names in
-    tabled_saying c.state.inside.turn d c.args.state.now c.state.view_is o (Command.take k) (Observer k ∷ []) (naming-take k) (sym c.admit.ensures ∙ c.in_ok-admit.was) c.take_records-records.new.self.world c.accept.new.self.world
-    (map (λ r. recorded k (change_in d r)) records) (a_count (length records)) (a_count c.len.result) before c.put_records.new.out.items c.accept.new.out.items c.accept.result refl refl c.take_records-records.ensures.world (ap a_count (c.len.ensures ∙ sym c.as_slice.ensures.len ∙ ap length c.as_slice.ensures.value))
+    tabled_saying c.state.inside.turn d c.args.state.now c.state.view_is o (Command.take k) (Observer k ∷ []) (naming-take k)
+    (sym c.admit.ensures ∙ c.in_ok-admit.was) c.take_records-records.new.self.world c.accept.new.self.world
+    (map (λ r. recorded k (change_in d r)) records) (a_count (length records)) (a_count c.len.result) before c.put_records.new.out.items
+    c.accept.new.out.items c.accept.result refl refl c.take_records-records.ensures.world
+    (ap a_count (c.len.ensures ∙ sym c.as_slice.ensures.len ∙ ap length c.as_slice.ensures.value))
     (c.in_ok-put_records.ensures ∙ ap (λ rs. before ++ output_text (record_lines names o k rs)) c.as_slice.ensures.value
     ∙ ap (λ (ns : List NodeName). before ++ output_text (record_lines ns o k records)) (c.forest-forest.ensures.names ∙ c.take_records-records.ensures.names)
     ∙ ap (λ (lines : List Output). before ++ output_text lines) (record_lines_are d o k records)) c.accept.ensures.done

@@ -23,13 +23,16 @@ loop-registered-preserved c =
           ∙ (ap (λ r. before ++ r ∷ []) w.in_ok-copied_to.ensures
           ∙ sym (cond-true test more before (sym c.observes_below.ensures ∙ w.if-observes_below.true)))))
       | else-observes_below w ↦
-          ap (λ copies. map registration_of copies.items) w.copies-is ∙ sym (cond-false test more before (sym c.observes_below.ensures ∙ w.if-observes_below.false))
+          ap (λ copies. map registration_of copies.items) w.copies-is ∙
+          sym (cond-false test more before (sym c.observes_below.ensures ∙ w.if-observes_below.false))
     ] in
     here
     ∙ (ap (λ copies. f copies item) c.loop-registered.invariant
-    ∙ sym (fold-view_more f registration_of (map registration_of c.args.copies.now.items) c.args.registrations.now c.loop-registered.registered-index c.registered-item.result (omega arith) c.registered-item.is))
+    ∙ sym (fold-view_more f registration_of (map registration_of c.args.copies.now.items) c.args.registrations.now
+    c.loop-registered.registered-index c.registered-item.result (omega arith) c.registered-item.is))
 
 pub returns : goal.returns
 returns c =
     c.loop-registered.invariant
-    ∙ fold-view_all (copied_by c.args.node c.args.above) registration_of (map registration_of c.args.copies.now.items) c.args.registrations.now c.loop-registered.registered-index (omega arith)
+    ∙ fold-view_all (copied_by c.args.node c.args.above) registration_of (map registration_of c.args.copies.now.items) c.args.registrations.now
+    c.loop-registered.registered-index (omega arith)

@@ -6,4 +6,5 @@ use Rattle.dom_observers.proofs.registrations.copy_on.Given as goal
 
 abbrev pub invariant-loop-registered : goal.invariant-loop-registered
 invariant-loop-registered l =
-    map registration_of l.copies.items ≡ fold (copied_by l.node l.above) (map registration_of l.initial.copies.items) (take l.registered-index (map registration_of l.registrations))
+    map registration_of l.copies.items ≡ fold (copied_by l.node l.above) (map registration_of l.initial.copies.items)
+    (take l.registered-index (map registration_of l.registrations))

@@ -15,7 +15,8 @@ use Rattle.dom_path.proofs.event.items_of.Goals as goal
 
 pub items-requires-clause-event : goal.items-requires-clause-event
 items-requires-clause-event c = record {
-  at_target = stand-kept c.args.forest.now c.args.slots.now.hosts c.of.new.trees c.of_any.new.trees c.in_ok-target.target c.in_ok-related.ensures.grown c.in_ok-target.ensures.stands;
+  at_target = stand-kept c.args.forest.now c.args.slots.now.hosts c.of.new.trees c.of_any.new.trees c.in_ok-target.target
+      c.in_ok-related.ensures.grown c.in_ok-target.ensures.stands;
   at_related = c.in_ok-related.ensures.stands;
   begins = c.in_ok-target.ensures.entered;
 }
@@ -29,7 +30,8 @@ returns-then-is_silent-clause-path c = λ depth hosted.
     let trees = c.of_any.new.trees in
     let at_target = stand-kept f hosts c.of.new.trees trees target c.in_ok-related.ensures.grown c.in_ok-target.ensures.stands in
     let silent : is_empty_at (shadows f hosts) depth (name_at f.names target.node) (related_name f.names related) ≡ true =
-    sym (silent-named f hosts c.nodes_stand_once.ensures.distinct trees c.in_ok-related.ensures.trees depth hosted target related at_target c.in_ok-related.ensures.stands) ∙ sym c.if-is_silent.ensures in
+    sym (silent-named f hosts c.nodes_stand_once.ensures.distinct trees c.in_ok-related.ensures.trees depth hosted target related at_target
+    c.in_ok-related.ensures.stands) ∙ sym c.if-is_silent.ensures in
     let t = ap (name_at f.names) c.in_ok-target.ensures.node in
     let r = related-key f.names related c.args.related c.in_ok-related.ensures.node in
     subst (IsBuilt f hosts (name_at f.names c.args.target) (option_map (name_at f.names) c.args.related) depth c.args.composed) (sym c.new.ensures.items)
@@ -45,11 +47,14 @@ returns-clause-path c =
     let at_target = stand-kept f hosts c.of.new.trees trees target c.in_ok-related.ensures.grown c.in_ok-target.ensures.stands in
     let t = ap (name_at f.names) c.in_ok-target.ensures.node in
     let r = related-key f.names related c.args.related c.in_ok-related.ensures.node in
-    ok-other (λ (items : SmallVec Item). (depth : ℕ) → IsHosted f hosts depth → IsWay f hosts (name_at f.names target.node) (related_name f.names related) depth c.args.composed items.items)
-    (λ (items : SmallVec Item). (depth : ℕ) → IsHosted f hosts depth → IsBuilt f hosts (name_at f.names c.args.target) (option_map (name_at f.names) c.args.related) depth c.args.composed items.items)
+    ok-other (λ (items : SmallVec Item). (depth : ℕ) → IsHosted f hosts depth →
+    IsWay f hosts (name_at f.names target.node) (related_name f.names related) depth c.args.composed items.items)
+    (λ (items : SmallVec Item). (depth : ℕ) → IsHosted f hosts depth →
+    IsBuilt f hosts (name_at f.names c.args.target) (option_map (name_at f.names) c.args.related) depth c.args.composed items.items)
     (λ (items : SmallVec Item) way depth hosted.
     let shown : is_empty_at (shadows f hosts) depth (name_at f.names target.node) (related_name f.names related) ≡ false =
-    sym (silent-named f hosts c.nodes_stand_once.ensures.distinct trees c.in_ok-related.ensures.trees depth hosted target related at_target c.in_ok-related.ensures.stands) ∙ sym c.if-is_silent.ensures in
+    sym (silent-named f hosts c.nodes_stand_once.ensures.distinct trees c.in_ok-related.ensures.trees depth hosted target related at_target
+    c.in_ok-related.ensures.stands) ∙ sym c.if-is_silent.ensures in
     subst (λ (p : NodeName × Option NodeName). IsBuilt f hosts p.0 p.1 depth c.args.composed items.items) (λ j. (t j, r j))
     (built-way f hosts (name_at f.names target.node) (related_name f.names related) depth c.args.composed items.items shown (way depth hosted)))
     c.items.result c.items.ensures.way

@@ -14,7 +14,10 @@ pub returns-in-ChildList-clause-ok : goal.returns-in-ChildList-clause-ok
 returns-in-ChildList-clause-ok c =
     let owner = c.args.owner in
     let arm = c.in-ChildList in
-    let same = child_list_row (owner_word owner) (codes " ") (codes "record o") (decimal c.args.observer) (codes "childList ") (node_text owner arm.target) (codes " added=") (list_text owner arm.added.now)
-    (codes " removed=") (list_text owner arm.removed.now) (codes " prev=") (node_or_null owner arm.previous) (codes " next=") (node_or_null owner arm.next) (10 ∷ []) in
+    let same = child_list_row (owner_word owner) (codes " ") (codes "record o") (decimal c.args.observer) (codes "childList ")
+    (node_text owner arm.target) (codes " added=") (list_text owner arm.added.now)
+    (codes " removed=") (list_text owner arm.removed.now) (codes " prev=") (node_or_null owner arm.previous) (codes " next=")
+    (node_or_null owner arm.next) (10 ∷ []) in
     let Puts : List ℕ → Type 0 = λ text. OnOk c.put_line.result (c.put_line.new.out.items ≡ c.args.out.now.items ++ text) in
-    subst (λ (change : Change). Puts (output_text (says owner (recorded c.args.observer (change_view change)) ∷ []))) (sym arm.is) (subst Puts same c.put_line.ensures.ok)
+    subst (λ (change : Change). Puts (output_text (says owner (recorded c.args.observer (change_view change)) ∷ []))) (sym arm.is)
+    (subst Puts same c.put_line.ensures.ok)

@@ -8,5 +8,6 @@ use Rattle.dom_printer.proofs.trees.put_tree.Goals as goal
 
 pub returns-clause-tree : goal.returns-clause-tree
 returns-clause-tree c = λ trees e.
-    let same : steps_text c.args.owner (steps_view c.args.steps.now) ≡ trees_text c.args.owner trees = ap (steps_text c.args.owner) e ∙ steps_text-shown_steps c.args.owner trees in
+    let same : steps_text c.args.owner (steps_view c.args.steps.now) ≡ trees_text c.args.owner trees =
+    ap (steps_text c.args.owner) e ∙ steps_text-shown_steps c.args.owner trees in
     grind (arith, common_steps, same)

@@ -19,14 +19,19 @@ use Rattle.dom_query_commands.proofs.cursors.new_iterator.Goals as goal
 pub returns-in_err-admit-clause-handled : goal.returns-in_err-admit-clause-handled
 returns-in_err-admit-clause-handled c =
     let p = err_from_is_err_and c.from_residual.result c.from_residual.ensures.1 in
-    rw (p.1, p.2) (refused c.args.state.now.world c.args.owner (Command.iterator_new (spelled_view c.args.root) (filter_view c.args.filter)) (Any c.args.root ∷ []) c.args.out.now.items c.in_err-admit.field-0.0 (naming-iterator_new c.args.root (filter_view c.args.filter)) (sym c.admit.ensures ∙ c.in_err-admit.was))
+    rw (p.1, p.2) (refused c.args.state.now.world c.args.owner (Command.iterator_new (spelled_view c.args.root) (filter_view c.args.filter))
+    (Any c.args.root ∷ []) c.args.out.now.items c.in_err-admit.field-0.0 (naming-iterator_new c.args.root (filter_view c.args.filter))
+    (sym c.admit.ensures ∙ c.in_err-admit.was))
 
 pub returns-in_err-number-clause-handled : goal.returns-in_err-number-clause-handled
 returns-in_err-number-clause-handled c =
     let p = err_from_is_err_and c.from_residual-in_err-number.result c.from_residual-in_err-number.ensures.1 in
     let d = c.state.inside.doc in
     let e = c.in_err-number.ensures in
-    rw (p.1, p.2) (faults c.state.inside.turn d c.args.state.now c.state.view_is c.args.owner (Command.iterator_new (spelled_view c.args.root) (filter_view c.args.filter)) (Any c.args.root ∷ []) (naming-iterator_new c.args.root (filter_view c.args.filter)) (sym c.admit.ensures ∙ c.in_ok-admit.was) c.iter_make.new.self.world c.args.out.now.items c.in_err-number.field-0.0
+    rw (p.1, p.2) (faults c.state.inside.turn d c.args.state.now c.state.view_is c.args.owner
+    (Command.iterator_new (spelled_view c.args.root) (filter_view c.args.filter)) (Any c.args.root ∷ [])
+    (naming-iterator_new c.args.root (filter_view c.args.filter)) (sym c.admit.ensures ∙ c.in_ok-admit.was) c.iter_make.new.self.world
+    c.args.out.now.items c.in_err-number.field-0.0
     (λ r is.
     let same = only_refusal c.in_err-number.field-0.0 Limit r e.other is in
     (lone_holds _ Limit (e.limit.0 (ap Err (is ∙ ap Refused same))) ∙ ap Some (sym same), ap (λ s. s.world) e.err)))
@@ -35,10 +40,15 @@ pub returns-clause-handled : goal.returns-clause-handled
 returns-clause-handled c =
     let d = c.state.inside.doc in
     let root_is : IsKey d.names d.world c.args.owner c.key-root.result (spelled_view c.args.root) = rw (← c.state.view_is) at c.key-root.ensures.name in
-    tabled c.state.inside.turn d c.args.state.now c.state.view_is c.args.owner (Command.iterator_new (spelled_view c.args.root) (filter_view c.args.filter)) (Any c.args.root ∷ []) (naming-iterator_new c.args.root (filter_view c.args.filter)) (sym c.admit.ensures ∙ c.in_ok-admit.was) c.iter_make.new.self.world c.accept.new.self.world
+    tabled c.state.inside.turn d c.args.state.now c.state.view_is c.args.owner
+    (Command.iterator_new (spelled_view c.args.root) (filter_view c.args.filter)) (Any c.args.root ∷ [])
+    (naming-iterator_new c.args.root (filter_view c.args.filter)) (sym c.admit.ensures ∙ c.in_ok-admit.was) c.iter_make.new.self.world
+    c.accept.new.self.world
     (an_iterator c.in_ok-number.number) (an_iterator c.in_ok-number.number) c.args.out.now.items c.accept.new.out.items c.accept.result refl
     (lone_fails _ Limit (λ h. given_not c.in_ok-number.number Limit (c.in_ok-number.ensures.limit.1 h)))
-    (new_iterator-made d.names d.world c.iter_make.new.self.world c.args.owner (spelled_view c.args.root) c.key-root.result root_is (filter_of c.node_filter.result) (filter_view c.args.filter) (an_iterator c.in_ok-number.number) c.node_filter.ensures c.in_ok-number.ensures.world)
+    (new_iterator-made d.names d.world c.iter_make.new.self.world c.args.owner (spelled_view c.args.root) c.key-root.result root_is
+    (filter_of c.node_filter.result) (filter_view c.args.filter) (an_iterator c.in_ok-number.number) c.node_filter.ensures
+    c.in_ok-number.ensures.world)
     refl c.accept.ensures.done
 
 pub iter_make-requires-clause-own : goal.iter_make-requires-clause-own

@@ -18,5 +18,7 @@ returns c =
     let x = named (part_of w o) (spelled_view c.args.node) in
     let is : name_at c.state.inside.doc.names c.key-key.result ≡ x = rw (← c.state.view_is) at c.key-key.ensures.name in
     let here = ap (λ (names : List NodeName). name_at names c.key-key.result) c.forest-forest.ensures.names ∙ is in
-    let own = ap (subtree ts) here ∙ (read_own ts c.forest-forest.ensures.owned o x (owner-named w o (spelled_view c.args.node))).alone ∙ ap (λ (us : Trees). subtree us x) (c.forest-forest.ensures.trees o) in
-    rw (← c.state.view_is) (c.put_tree.ensures.tree (subtree (part_of w o).trees x) (ap steps_view c.deref.ensures.value ∙ c.in_ok-steps.ensures ∙ ap shown_steps own))
+    let own = ap (subtree ts) here ∙ (read_own ts c.forest-forest.ensures.owned o x (owner-named w o (spelled_view c.args.node))).alone ∙
+    ap (λ (us : Trees). subtree us x) (c.forest-forest.ensures.trees o) in
+    rw (← c.state.view_is) (c.put_tree.ensures.tree (subtree (part_of w o).trees x)
+    (ap steps_view c.deref.ensures.value ∙ c.in_ok-steps.ensures ∙ ap shown_steps own))

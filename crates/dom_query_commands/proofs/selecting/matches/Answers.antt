@@ -17,12 +17,16 @@ use Rattle.dom_query_commands.proofs.selecting.matches.Goals as goal
 pub returns-in_err-admit-clause-handled : goal.returns-in_err-admit-clause-handled
 returns-in_err-admit-clause-handled c =
     let p = err_from_is_err_and c.from_residual.result c.from_residual.ensures.1 in
-    rw (p.1, p.2) (refused c.args.state.now.world c.args.owner (Command.matches (spelled_view c.args.element) c.args.text.items) (Element c.args.element ∷ []) c.args.out.now.items c.in_err-admit.field-0.0 (naming-matches c.args.element c.args.text.items) (sym c.admit.ensures ∙ c.in_err-admit.was))
+    rw (p.1, p.2) (refused c.args.state.now.world c.args.owner (Command.matches (spelled_view c.args.element) c.args.text.items)
+    (Element c.args.element ∷ []) c.args.out.now.items c.in_err-admit.field-0.0 (naming-matches c.args.element c.args.text.items)
+    (sym c.admit.ensures ∙ c.in_err-admit.was))
 
 pub returns-in_err-selector-clause-handled : goal.returns-in_err-selector-clause-handled
 returns-in_err-selector-clause-handled c =
     let p = err_from_is_err_and c.from_residual-in_err-selector.result c.from_residual-in_err-selector.ensures.1 in
-    rw (p.1, p.2) (unanswered c.args.state.now.world c.args.owner (Command.matches (spelled_view c.args.element) c.args.text.items) (Element c.args.element ∷ []) c.args.out.now.items c.in_err-selector.field-0.0 (naming-matches c.args.element c.args.text.items) (sym c.admit.ensures ∙ c.in_ok-admit.was)
+    rw (p.1, p.2) (unanswered c.args.state.now.world c.args.owner (Command.matches (spelled_view c.args.element) c.args.text.items)
+    (Element c.args.element ∷ []) c.args.out.now.items c.in_err-selector.field-0.0 (naming-matches c.args.element c.args.text.items)
+    (sym c.admit.ensures ∙ c.in_ok-admit.was)
     (unread c.args.text.items c.deref.result.now c.in_err-selector.field-0.0 c.deref.ensures.value c.in_err-selector.ensures.unread))
 
 pub returns-clause-handled : goal.returns-clause-handled
@@ -30,8 +34,13 @@ returns-clause-handled c =
     let w = c.args.state.now.world in
     let s = spelled_view c.args.element in
     let sel = selector_view c.in_ok-selector.selector in
-    reads w c.accept.new.self.world c.args.owner (Command.matches (spelled_view c.args.element) c.args.text.items) (Element c.args.element ∷ []) (λ p. a_truth (selector_matches p.trees (selectors_of c.args.text.items) (named p s))) (a_truth c.is_selected-truth.result) c.args.out.now.items c.accept.new.out.items c.accept.result (naming-matches c.args.element c.args.text.items) refl (sym c.admit.ensures ∙ c.in_ok-admit.was)
-    (read_none c.args.text.items c.deref.result.now sel c.deref.ensures.value c.in_ok-selector.ensures.read) (ap a_truth (c.is_selected-truth.ensures ∙ ap (λ q. selector_matches (part_of w c.args.owner).trees q (named (part_of w c.args.owner) s)) (read_as c.args.text.items c.deref.result.now sel c.deref.ensures.value c.in_ok-selector.ensures.read))) c.accept.ensures.done
+    reads w c.accept.new.self.world c.args.owner (Command.matches (spelled_view c.args.element) c.args.text.items) (Element c.args.element ∷ [])
+    (λ p. a_truth (selector_matches p.trees (selectors_of c.args.text.items) (named p s))) (a_truth c.is_selected-truth.result)
+    c.args.out.now.items c.accept.new.out.items c.accept.result (naming-matches c.args.element c.args.text.items) refl
+    (sym c.admit.ensures ∙ c.in_ok-admit.was)
+    (read_none c.args.text.items c.deref.result.now sel c.deref.ensures.value c.in_ok-selector.ensures.read)
+    (ap a_truth (c.is_selected-truth.ensures ∙ ap (λ q. selector_matches (part_of w c.args.owner).trees q (named (part_of w c.args.owner) s))
+    (read_as c.args.text.items c.deref.result.now sel c.deref.ensures.value c.in_ok-selector.ensures.read))) c.accept.ensures.done
 
 pub is_selected-truth-requires : goal.is_selected-truth-requires
 is_selected-truth-requires c = one_there c.args.state.now.world c.args.owner (Element c.args.element) (sym c.admit.ensures ∙ c.in_ok-admit.was)

@@ -24,5 +24,6 @@ returns c =
     let own = query_own f.trees c.forest-forest.ensures.owned c.args.owner sel x (owner-named w c.args.owner s) in
     let same = read_at (λ ts y. query_all ts sel y) f.names f.trees w c.args.owner s c.key-key.result here c.forest-forest.ensures.trees own in
     rw (← c.state.view_is)
-    (IfOk-weaker c.names_of.result (λ names. names.items ≡ map (name_at f.names) c.deref.result.now) (λ names. names.items ≡ query_all (part_of w c.args.owner).trees sel x)
+    (IfOk-weaker c.names_of.result (λ names. names.items ≡ map (name_at f.names) c.deref.result.now)
+    (λ names. names.items ≡ query_all (part_of w c.args.owner).trees sel x)
     (λ names e. e ∙ ap (map (name_at f.names)) c.deref.ensures.value ∙ c.in_ok-keys.ensures.found ∙ same) c.names_of.ensures)

@@ -25,7 +25,8 @@ take-ended xs n e = elim ((slice_get_cases xs n).1) [
 ]
 
 -- one attribute more
-attributes-next : (items : List Attribute) (a : Attribute) (all : List model.Attribute) → attributes_view items ≡ take (length items) all → slice_get all (length items) ≡ Some (attribute_view a)
+attributes-next : (items : List Attribute) (a : Attribute) (all : List model.Attribute) → attributes_view items ≡ take (length items) all →
+    slice_get all (length items) ≡ Some (attribute_view a)
     → attributes_view (items ++ a ∷ []) ≡ take (length (items ++ a ∷ [])) all
 attributes-next items a all so_far next =
     map-append attribute_view items (a ∷ [])
@@ -40,7 +41,8 @@ loop-name-preserved c =
     let next : slice_get all (length c.loop-name.attributes.items) ≡ Some (attribute_view attribute) =
     ap (slice_get all) (sym length_read) ∙ sym c.in-Some.ensures in
     ap attributes_view c.in_ok-push.ensures.items
-    ∙ (attributes-next c.loop-name.attributes.items attribute all c.loop-name.invariant next ∙ ap (λ items. take (length items) all) (sym c.in_ok-push.ensures.items))
+    ∙ (attributes-next c.loop-name.attributes.items attribute all c.loop-name.invariant next ∙
+    ap (λ items. take (length items) all) (sym c.in_ok-push.ensures.items))
 
 pub returns : goal.returns
 returns c =

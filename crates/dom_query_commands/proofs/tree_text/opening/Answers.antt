@@ -24,10 +24,12 @@ abbrev told_by : NodeName → Kind → Words → Node
 told_by x k w = told x k (name_in w) (attributes_in w) (data_in w)
 
 -- the opening of an element
-shown-element : (n : Node) (k : Kind) (e : Word) (a : List Attribute) → k ≡ kinds.Element → k ≡ n.kind → e ≡ n.element → a ≡ n.attributes → told n.name k e a [] ≡ shown n
+shown-element : (n : Node) (k : Kind) (e : Word) (a : List Attribute) → k ≡ kinds.Element → k ≡ n.kind → e ≡ n.element → a ≡ n.attributes →
+    told n.name k e a [] ≡ shown n
 shown-element n k e a is kind element attributes =
     ap (λ j. told n.name j e a []) is
-    ∙ (ap (λ f. told n.name kinds.Element f a []) element ∙ (ap (λ b. told n.name kinds.Element n.element b []) attributes ∙ ap (λ j. shown_as j n) (sym is ∙ kind)))
+    ∙ (ap (λ f. told n.name kinds.Element f a []) element ∙
+    (ap (λ b. told n.name kinds.Element n.element b []) attributes ∙ ap (λ j. shown_as j n) (sym is ∙ kind)))
 
 -- of a Text or a Comment
 shown-data : (n : Node) (k : Kind) (t : DomString) → (k ≡ kinds.Text) ⊎ (k ≡ kinds.Comment) → k ≡ n.kind → t ≡ n.text → told n.name k [] [] t ≡ shown n
@@ -46,11 +48,13 @@ returns c =
     let node = node_in c.args.forest.now.trees (name_at names c.args.key) in
     let kind = c.kind-kind.result in
     let name : c.name.result ≡ node.name =
-    sym (get_or_from_slice_get names c.args.key c.name.result (node_of Page 0) c.name.ensures.value) ∙ sym (node_in-name c.args.forest.now.trees (name_at names c.args.key)) in
+    sym (get_or_from_slice_get names c.args.key c.name.result (node_of Page 0) c.name.ensures.value) ∙
+    sym (node_in-name c.args.forest.now.trees (name_at names c.args.key)) in
     ap (λ x. told_by x kind c.match-kind.words) name ∙ elim c.match-kind.branch [
       | in-Element+in_ok-attributes-in-Element w ↦
           ap (told_by node.name kind) w.words-is
-          ∙ shown-element node kind w.element.result.now (attributes_in (words.Element w.element.result w.in_ok-attributes-in-Element.field-0)) w.in-Element.is c.kind-kind.ensures w.element.ensures w.in_ok-attributes-in-Element.ensures
+          ∙ shown-element node kind w.element.result.now (attributes_in (words.Element w.element.result w.in_ok-attributes-in-Element.field-0))
+          w.in-Element.is c.kind-kind.ensures w.element.ensures w.in_ok-attributes-in-Element.ensures
       | in-Text w ↦ ap (told_by node.name kind) w.words-is ∙ shown-data node kind w.text.result.now w.in-Text.is c.kind-kind.ensures w.text.ensures
       | in-Document w ↦ ap (told_by node.name kind) w.words-is ∙ shown-plain node kind w.in-Document.is c.kind-kind.ensures
     ]

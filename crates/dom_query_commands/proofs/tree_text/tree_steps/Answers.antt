@@ -19,7 +19,8 @@ loop-place-init c =
     record {
       node = λ place e. subst (λ p. key_of p < length names) (same_Some _ place e) c.requires;
       within = within_self names ts c.args.top law.once law.only c.requires;
-      so_far = ap (λ items. steps_view items ++ (shown_steps (subtree ts (name_at names c.args.top)) ++ rest_behind ts (name_at names c.args.top))) c.new-steps.ensures.items;
+      so_far = ap (λ items. steps_view items ++
+          (shown_steps (subtree ts (name_at names c.args.top)) ++ rest_behind ts (name_at names c.args.top))) c.new-steps.ensures.items;
     }
 
 pub loop-place-smaller : goal.loop-place-smaller
@@ -54,4 +55,5 @@ returns c =
     let ts = c.args.forest.now.trees in
     let behind = rest_behind ts (name_at names c.args.top) in
     append_cancel_right (steps_view c.loop-place.steps.items) (shown_steps (subtree ts (name_at names c.args.top))) behind
-    (sym (ap (λ place. steps_view c.loop-place.steps.items ++ rest_or ts (name_at names c.args.top) (option_map (place_view names) place)) c.in_default.is) ∙ c.loop-place.invariant.so_far)
+    (sym (ap (λ place. steps_view c.loop-place.steps.items ++ rest_or ts (name_at names c.args.top) (option_map (place_view names) place))
+    c.in_default.is) ∙ c.loop-place.invariant.so_far)

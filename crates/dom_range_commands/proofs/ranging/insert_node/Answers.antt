@@ -16,7 +16,9 @@ use Rattle.dom_range_commands.proofs.ranging.insert_node.Goals as goal
 pub returns-in_err-admit-clause-handled : goal.returns-in_err-admit-clause-handled
 returns-in_err-admit-clause-handled c =
     let p = err_from_is_err_and c.from_residual.result c.from_residual.ensures.1 in
-    rw (p.1, p.2) (refused c.args.state.now.world c.args.owner (Command.insert_node c.args.number (spelled_view c.args.node)) (Any c.args.node ∷ Range c.args.number ∷ []) c.args.out.now.items c.in_err-admit.field-0.0 (naming-insert_node c.args.number c.args.node) (sym c.admit.ensures ∙ c.in_err-admit.was))
+    rw (p.1, p.2) (refused c.args.state.now.world c.args.owner (Command.insert_node c.args.number (spelled_view c.args.node))
+    (Any c.args.node ∷ Range c.args.number ∷ []) c.args.out.now.items c.in_err-admit.field-0.0 (naming-insert_node c.args.number c.args.node)
+    (sym c.admit.ensures ∙ c.in_err-admit.was))
 
 pub insert_node-requires-clause-own : goal.insert_node-requires-clause-own
 insert_node-requires-clause-own c =
@@ -29,15 +31,25 @@ returns-in_err-insert_node-clause-handled c =
     let p = err_from_is_err_and c.from_residual-in_err-insert_node.result c.from_residual-in_err-insert_node.ensures.1 in
     let d = c.state.inside.doc in
     let node_is : IsKey d.names d.world c.args.owner c.key-node.result (spelled_view c.args.node) = rw (← c.state.view_is) at c.key-node.ensures.name in
-    rw (p.1, p.2) (faults c.state.inside.turn d c.args.state.now c.state.view_is c.args.owner (Command.insert_node c.args.number (spelled_view c.args.node)) (Any c.args.node ∷ Range c.args.number ∷ []) (naming-insert_node c.args.number c.args.node) (sym c.admit.ensures ∙ c.in_ok-admit.was) c.insert_node.new.doc.world c.args.out.now.items c.in_err-insert_node.field-0.0
-    (λ r e. (sym (inserted-refused d.names d.world c.args.owner c.args.number (spelled_view c.args.node) c.key-node.result node_is) ∙ c.in_err-insert_node.ensures.refused r (ap Err e), ap (λ s. s.world) (c.in_err-insert_node.ensures.unchanged r (ap Err e)))))
+    rw (p.1, p.2) (faults c.state.inside.turn d c.args.state.now c.state.view_is c.args.owner
+    (Command.insert_node c.args.number (spelled_view c.args.node)) (Any c.args.node ∷ Range c.args.number ∷ [])
+    (naming-insert_node c.args.number c.args.node) (sym c.admit.ensures ∙ c.in_ok-admit.was) c.insert_node.new.doc.world c.args.out.now.items
+    c.in_err-insert_node.field-0.0
+    (λ r e. (
+      sym (inserted-refused d.names d.world c.args.owner c.args.number (spelled_view c.args.node) c.key-node.result node_is) ∙
+          c.in_err-insert_node.ensures.refused r (ap Err e),
+      ap (λ s. s.world) (c.in_err-insert_node.ensures.unchanged r (ap Err e)),
+    )))
 
 pub returns-clause-handled : goal.returns-clause-handled
 returns-clause-handled c =
     let d = c.state.inside.doc in
     let x = spelled_view c.args.node in
     let node_is : IsKey d.names d.world c.args.owner c.key-node.result x = rw (← c.state.view_is) at c.key-node.ensures.name in
-    plans c.state.inside.turn d c.args.state.now c.state.view_is c.args.owner (Command.insert_node c.args.number x) (Any c.args.node ∷ Range c.args.number ∷ []) (naming-insert_node c.args.number c.args.node) (sym c.admit.ensures ∙ c.in_ok-admit.was) c.insert_node.new.doc.world c.accept.new.self.world
+    plans c.state.inside.turn d c.args.state.now c.state.view_is c.args.owner (Command.insert_node c.args.number x)
+    (Any c.args.node ∷ Range c.args.number ∷ []) (naming-insert_node c.args.number c.args.node) (sym c.admit.ensures ∙ c.in_ok-admit.was)
+    c.insert_node.new.doc.world c.accept.new.self.world
     (λ p. inserting_node c.args.number (named p x) p) (λ p. nothing) nothing c.args.out.now.items c.accept.new.out.items c.accept.result refl
     (sym (inserted-refused d.names d.world c.args.owner c.args.number x c.key-node.result node_is) ∙ none_stopped tt _ c.in_ok-insert_node.ensures.stopped)
-    (inserted-made d.names d.world c.args.owner c.args.number x c.key-node.result node_is c.insert_node.new.doc.world c.in_ok-insert_node.ensures.world) refl c.accept.ensures.done
+    (inserted-made d.names d.world c.args.owner c.args.number x c.key-node.result node_is c.insert_node.new.doc.world
+    c.in_ok-insert_node.ensures.world) refl c.accept.ensures.done

@@ -13,7 +13,9 @@ use Rattle.dom_range_commands.proofs.ranging.set_range_start.Goals as goal
 pub returns-in_err-admit-clause-handled : goal.returns-in_err-admit-clause-handled
 returns-in_err-admit-clause-handled c =
     let p = err_from_is_err_and c.from_residual.result c.from_residual.ensures.1 in
-    rw (p.1, p.2) (refused c.args.state.now.world c.args.owner (Command.range_start c.args.number (spelled_view c.args.node) c.args.offset) (Any c.args.node ∷ Range c.args.number ∷ []) c.args.out.now.items c.in_err-admit.field-0.0 (naming-range_start c.args.number c.args.node c.args.offset) (sym c.admit.ensures ∙ c.in_err-admit.was))
+    rw (p.1, p.2) (refused c.args.state.now.world c.args.owner (Command.range_start c.args.number (spelled_view c.args.node) c.args.offset)
+    (Any c.args.node ∷ Range c.args.number ∷ []) c.args.out.now.items c.in_err-admit.field-0.0
+    (naming-range_start c.args.number c.args.node c.args.offset) (sym c.admit.ensures ∙ c.in_err-admit.was))
 
 pub range_set_start-set-requires-clause-own : goal.range_set_start-set-requires-clause-own
 range_set_start-set-requires-clause-own c =

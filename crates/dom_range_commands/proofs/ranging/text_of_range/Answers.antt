@@ -13,7 +13,8 @@ use Rattle.dom_range_commands.proofs.ranging.text_of_range.Goals as goal
 pub returns-in_err-admit-clause-handled : goal.returns-in_err-admit-clause-handled
 returns-in_err-admit-clause-handled c =
     let p = err_from_is_err_and c.from_residual.result c.from_residual.ensures.1 in
-    rw (p.1, p.2) (refused c.args.state.now.world c.args.owner (Command.range_text c.args.number) (Range c.args.number ∷ []) c.args.out.now.items c.in_err-admit.field-0.0 (naming-range_text c.args.number) (sym c.admit.ensures ∙ c.in_err-admit.was))
+    rw (p.1, p.2) (refused c.args.state.now.world c.args.owner (Command.range_text c.args.number) (Range c.args.number ∷ []) c.args.out.now.items
+    c.in_err-admit.field-0.0 (naming-range_text c.args.number) (sym c.admit.ensures ∙ c.in_err-admit.was))
 
 pub returns-clause-handled : goal.returns-clause-handled
 returns-clause-handled c =
@@ -21,6 +22,10 @@ returns-clause-handled c =
     let o = c.args.owner in
     let pass = sym c.admit.ensures ∙ c.in_ok-admit.was in
     let there : is_there d.world o ≡ true = rw (← c.state.view_is) at (admitted c.args.state.now.world o (Range c.args.number ∷ []) pass) in
-    let known : is_some (range_at (part_of d.world o) c.args.number) ≡ true = rw (← c.state.view_is) at (one_there c.args.state.now.world o (Range c.args.number) pass) in
-    told c.state.inside.turn d c.args.state.now c.state.view_is o (Command.range_text c.args.number) (Range c.args.number ∷ []) (naming-range_text c.args.number) pass c.accept.new.self.world (a_string c.in_ok-text.text.items) (a_string c.deref.result.now)
-    c.args.out.now.items c.accept.new.out.items c.accept.result refl refl (text_told d.world o c.args.number c.in_ok-text.text.items there known c.in_ok-text.ensures) (ap a_string c.deref.ensures.value) c.accept.ensures.done
+    let known : is_some (range_at (part_of d.world o) c.args.number) ≡ true =
+    rw (← c.state.view_is) at (one_there c.args.state.now.world o (Range c.args.number) pass) in
+    told c.state.inside.turn d c.args.state.now c.state.view_is o (Command.range_text c.args.number) (Range c.args.number ∷ [])
+    (naming-range_text c.args.number) pass c.accept.new.self.world (a_string c.in_ok-text.text.items) (a_string c.deref.result.now)
+    c.args.out.now.items c.accept.new.out.items c.accept.result refl refl
+    (text_told d.world o c.args.number c.in_ok-text.text.items there known c.in_ok-text.ensures) (ap a_string c.deref.ensures.value)
+    c.accept.ensures.done

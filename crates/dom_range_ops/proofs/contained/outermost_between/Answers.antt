@@ -21,40 +21,60 @@ pub loop-at-init : goal.loop-at-init
 loop-at-init c =
     let f = c.args.forest.now in
     let e = c.nodes_stand_once.ensures in
-    subst (λ ks. Finds f (range_at_points f.names c.args.points.now) c.root-top.result c.node_after-at.result ks c.pop-partial.result c.pop-partial.new.self.items) (sym c.new-found.ensures.items)
-    (finds-first f e.once e.only e.distinct c.args.points.now c.requires.bounded c.requires.leaves c.root-top.result c.root-top.ensures.value c.requires.ordered c.node_after-at.result c.node_after-at.ensures.value c.node_after-at.ensures.stands
-    c.args.path.items c.pop-partial.new.self.items c.pop-partial.result c.requires.path c.requires.path_nodes c.pop-partial.ensures.items (λ none. let is = (rw none at c.pop-partial.ensures.cases).0 in let ok = c.args.path.ok in omega (arith, is, ok)))
+    subst (λ ks. Finds f (range_at_points f.names c.args.points.now) c.root-top.result c.node_after-at.result ks c.pop-partial.result
+    c.pop-partial.new.self.items) (sym c.new-found.ensures.items)
+    (finds-first f e.once e.only e.distinct c.args.points.now c.requires.bounded c.requires.leaves c.root-top.result c.root-top.ensures.value
+    c.requires.ordered c.node_after-at.result c.node_after-at.ensures.value c.node_after-at.ensures.stands
+    c.args.path.items c.pop-partial.new.self.items c.pop-partial.result c.requires.path c.requires.path_nodes c.pop-partial.ensures.items
+    (λ none. let is = (rw none at c.pop-partial.ensures.cases).0 in let ok = c.args.path.ok in omega (arith, is, ok)))
 
 pub loop-at-smaller-then-is_node-2 : goal.loop-at-smaller-then-is_node-2
 loop-at-smaller-then-is_node-2 c =
     let f = c.args.forest.now in
     let e = c.nodes_stand_once.ensures in
-    (finds-pass f e.once e.only e.distinct c.args.points.now c.requires.bounded c.requires.leaves c.root-top.result c.root-top.ensures.value c.loop-at.at c.in-Some.key c.loop-at.found.items c.loop-at.partial c.loop-at.path.items c.in-Some.is c.loop-at.invariant
-    c.node_after-stop.result c.node_after-stop.ensures.value c.node_after-stop.ensures.stands (λ stop. true≢false (sym (c.is_node.ensures.1 stop) ∙ c.if-is_node.false)) (c.is_node-in-Some.ensures.0 c.if-is_node-2.true) c.pop-partial-then-is_node-2.new.self.items c.pop-partial-then-is_node-2.result c.pop-partial-then-is_node-2.ensures.items
-    (λ none. let is = (rw none at c.pop-partial-then-is_node-2.ensures.cases).0 in let ok = c.loop-at.path.ok in omega (arith, is, ok)) c.following-at.result c.following-at.ensures.value c.following-at.ensures.node).1
+    (finds-pass f e.once e.only e.distinct c.args.points.now c.requires.bounded c.requires.leaves c.root-top.result c.root-top.ensures.value
+    c.loop-at.at c.in-Some.key c.loop-at.found.items c.loop-at.partial c.loop-at.path.items c.in-Some.is c.loop-at.invariant
+    c.node_after-stop.result c.node_after-stop.ensures.value c.node_after-stop.ensures.stands
+    (λ stop. true≢false (sym (c.is_node.ensures.1 stop) ∙ c.if-is_node.false)) (c.is_node-in-Some.ensures.0 c.if-is_node-2.true)
+    c.pop-partial-then-is_node-2.new.self.items c.pop-partial-then-is_node-2.result c.pop-partial-then-is_node-2.ensures.items
+    (λ none. let is = (rw none at c.pop-partial-then-is_node-2.ensures.cases).0 in let ok = c.loop-at.path.ok in omega (arith, is, ok))
+    c.following-at.result c.following-at.ensures.value c.following-at.ensures.node).1
 
 pub loop-at-preserved-then-is_node-2 : goal.loop-at-preserved-then-is_node-2
 loop-at-preserved-then-is_node-2 c =
     let f = c.args.forest.now in
     let e = c.nodes_stand_once.ensures in
-    (finds-pass f e.once e.only e.distinct c.args.points.now c.requires.bounded c.requires.leaves c.root-top.result c.root-top.ensures.value c.loop-at.at c.in-Some.key c.loop-at.found.items c.loop-at.partial c.loop-at.path.items c.in-Some.is c.loop-at.invariant
-    c.node_after-stop.result c.node_after-stop.ensures.value c.node_after-stop.ensures.stands (λ stop. true≢false (sym (c.is_node.ensures.1 stop) ∙ c.if-is_node.false)) (c.is_node-in-Some.ensures.0 c.if-is_node-2.true) c.pop-partial-then-is_node-2.new.self.items c.pop-partial-then-is_node-2.result c.pop-partial-then-is_node-2.ensures.items
-    (λ none. let is = (rw none at c.pop-partial-then-is_node-2.ensures.cases).0 in let ok = c.loop-at.path.ok in omega (arith, is, ok)) c.following-at.result c.following-at.ensures.value c.following-at.ensures.node).0
+    (finds-pass f e.once e.only e.distinct c.args.points.now c.requires.bounded c.requires.leaves c.root-top.result c.root-top.ensures.value
+    c.loop-at.at c.in-Some.key c.loop-at.found.items c.loop-at.partial c.loop-at.path.items c.in-Some.is c.loop-at.invariant
+    c.node_after-stop.result c.node_after-stop.ensures.value c.node_after-stop.ensures.stands
+    (λ stop. true≢false (sym (c.is_node.ensures.1 stop) ∙ c.if-is_node.false)) (c.is_node-in-Some.ensures.0 c.if-is_node-2.true)
+    c.pop-partial-then-is_node-2.new.self.items c.pop-partial-then-is_node-2.result c.pop-partial-then-is_node-2.ensures.items
+    (λ none. let is = (rw none at c.pop-partial-then-is_node-2.ensures.cases).0 in let ok = c.loop-at.path.ok in omega (arith, is, ok))
+    c.following-at.result c.following-at.ensures.value c.following-at.ensures.node).0
 
 pub loop-at-smaller : goal.loop-at-smaller
 loop-at-smaller c =
     let f = c.args.forest.now in
     let e = c.nodes_stand_once.ensures in
-    (finds-find f e.once e.only e.distinct c.args.points.now c.requires.bounded c.requires.leaves c.root-top.result c.root-top.ensures.value c.loop-at.at c.in-Some.key c.loop-at.found.items c.loop-at.partial c.loop-at.path.items c.in-Some.is c.loop-at.invariant
-    c.node_after-stop.result c.node_after-stop.ensures.value c.node_after-stop.ensures.stands (λ stop. true≢false (sym (c.is_node.ensures.1 stop) ∙ c.if-is_node.false)) (λ same. true≢false (sym (c.is_node-in-Some.ensures.1 same) ∙ c.if-is_node-2.false)) c.beyond-at.result c.beyond-at.ensures.value c.beyond-at.ensures.stands).1
+    (finds-find f e.once e.only e.distinct c.args.points.now c.requires.bounded c.requires.leaves c.root-top.result c.root-top.ensures.value
+    c.loop-at.at c.in-Some.key c.loop-at.found.items c.loop-at.partial c.loop-at.path.items c.in-Some.is c.loop-at.invariant
+    c.node_after-stop.result c.node_after-stop.ensures.value c.node_after-stop.ensures.stands
+    (λ stop. true≢false (sym (c.is_node.ensures.1 stop) ∙ c.if-is_node.false))
+    (λ same. true≢false (sym (c.is_node-in-Some.ensures.1 same) ∙ c.if-is_node-2.false)) c.beyond-at.result c.beyond-at.ensures.value
+    c.beyond-at.ensures.stands).1
 
 pub loop-at-preserved : goal.loop-at-preserved
 loop-at-preserved c =
     let f = c.args.forest.now in
     let e = c.nodes_stand_once.ensures in
-    subst (λ ks. Finds f (range_at_points f.names c.args.points.now) c.root-top.result c.beyond-at.result ks c.loop-at.partial c.loop-at.path.items) (sym c.in_ok-push.ensures.items)
-    (finds-find f e.once e.only e.distinct c.args.points.now c.requires.bounded c.requires.leaves c.root-top.result c.root-top.ensures.value c.loop-at.at c.in-Some.key c.loop-at.found.items c.loop-at.partial c.loop-at.path.items c.in-Some.is c.loop-at.invariant
-    c.node_after-stop.result c.node_after-stop.ensures.value c.node_after-stop.ensures.stands (λ stop. true≢false (sym (c.is_node.ensures.1 stop) ∙ c.if-is_node.false)) (λ same. true≢false (sym (c.is_node-in-Some.ensures.1 same) ∙ c.if-is_node-2.false)) c.beyond-at.result c.beyond-at.ensures.value c.beyond-at.ensures.stands).0
+    subst (λ ks. Finds f (range_at_points f.names c.args.points.now) c.root-top.result c.beyond-at.result ks c.loop-at.partial
+    c.loop-at.path.items) (sym c.in_ok-push.ensures.items)
+    (finds-find f e.once e.only e.distinct c.args.points.now c.requires.bounded c.requires.leaves c.root-top.result c.root-top.ensures.value
+    c.loop-at.at c.in-Some.key c.loop-at.found.items c.loop-at.partial c.loop-at.path.items c.in-Some.is c.loop-at.invariant
+    c.node_after-stop.result c.node_after-stop.ensures.value c.node_after-stop.ensures.stands
+    (λ stop. true≢false (sym (c.is_node.ensures.1 stop) ∙ c.if-is_node.false))
+    (λ same. true≢false (sym (c.is_node-in-Some.ensures.1 same) ∙ c.if-is_node-2.false)) c.beyond-at.result c.beyond-at.ensures.value
+    c.beyond-at.ensures.stands).0
 
 pub returns-clause-value : goal.returns-clause-value
 returns-clause-value c =
@@ -63,8 +83,11 @@ returns-clause-value c =
     elim c.match-at.branch [
       | in-Some+then-is_node w ↦
           let here = w.is_node.ensures.0 w.if-is_node.true in
-          finds-end f e.once e.only e.distinct c.args.points.now c.requires.bounded c.requires.leaves c.root-top.result c.root-top.ensures.value c.loop-at.at w.in-Some.key c.loop-at.found.items c.loop-at.partial c.loop-at.path.items w.in-Some.is c.loop-at.invariant
-          (ap (option_map (name_at f.names)) (w.in-Some.is ∙ sym here) ∙ stop-is f e.once e.only c.args.points.now c.requires.bounded c.root-top.result c.root-top.ensures.value c.node_after-stop.result c.node_after-stop.ensures.value)
+          finds-end f e.once e.only e.distinct c.args.points.now c.requires.bounded c.requires.leaves c.root-top.result c.root-top.ensures.value
+          c.loop-at.at w.in-Some.key c.loop-at.found.items c.loop-at.partial c.loop-at.path.items w.in-Some.is c.loop-at.invariant
+          (ap (option_map (name_at f.names)) (w.in-Some.is ∙ sym here) ∙ stop-is f e.once e.only c.args.points.now c.requires.bounded
+          c.root-top.result c.root-top.ensures.value c.node_after-stop.result c.node_after-stop.ensures.value)
       | in_default w ↦
-          finds-all f e.once e.only e.distinct c.args.points.now c.requires.bounded c.requires.leaves c.root-top.result c.root-top.ensures.value c.loop-at.at c.loop-at.found.items c.loop-at.partial c.loop-at.path.items w.in_default.is c.loop-at.invariant
+          finds-all f e.once e.only e.distinct c.args.points.now c.requires.bounded c.requires.leaves c.root-top.result c.root-top.ensures.value
+          c.loop-at.at c.loop-at.found.items c.loop-at.partial c.loop-at.path.items w.in_default.is c.loop-at.invariant
     ]

@@ -12,4 +12,5 @@ returns-then-is_before-clause-value c =
     let e = c.nodes_stand_once.ensures in
     let r = range_at_points f.names c.args.points.now in
     ap (map (name_at f.names)) c.new.ensures.items
-    ∙ sym (none-reversed f.trees r (is-bounded f e.once e.only c.args.points.now c.requires.bounded) (λ x i k. c.requires.leaves x (is_in-from x (nodes_around f.trees r) i) k) (sym c.if-is_before.ensures))
+    ∙ sym (none-reversed f.trees r (is-bounded f e.once e.only c.args.points.now c.requires.bounded)
+    (λ x i k. c.requires.leaves x (is_in-from x (nodes_around f.trees r) i) k) (sym c.if-is_before.ensures))

@@ -10,8 +10,11 @@ invariant-up l = record {
   below : is_inclusive_ancestor l.forest.trees (name_at l.forest.names l.top) (name_at l.forest.names l.at) ≡ true;
   apart : is_inclusive_ancestor l.forest.trees (name_at l.forest.names l.at) (name_at l.forest.names l.fn.first) ≡ false;
   nodes : AllByRecursion (λ k. k < length l.forest.names) l.path.items;
-  left : map (name_at l.forest.names) l.path.items ++ filter (λ a. not (is_inclusive_ancestor l.forest.trees a (name_at l.forest.names l.fn.first))) (inclusive_ancestors l.forest.trees (name_at l.forest.names l.at))
-      ≡ filter (λ a. not (is_inclusive_ancestor l.forest.trees a (name_at l.forest.names l.fn.first))) (inclusive_ancestors l.forest.trees (name_at l.forest.names l.fn.last));
+  left : map (name_at l.forest.names) l.path.items ++
+      filter (λ a. not (is_inclusive_ancestor l.forest.trees a (name_at l.forest.names l.fn.first)))
+      (inclusive_ancestors l.forest.trees (name_at l.forest.names l.at))
+      ≡ filter (λ a. not (is_inclusive_ancestor l.forest.trees a (name_at l.forest.names l.fn.first)))
+      (inclusive_ancestors l.forest.trees (name_at l.forest.names l.fn.last));
 }
 
 abbrev pub decreases-up : goal.decreases-up

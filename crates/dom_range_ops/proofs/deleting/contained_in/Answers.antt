@@ -22,7 +22,8 @@ returns-clause-value c =
     let g = c.forest-forest.ensures in
     let e = c.nodes_stand_once.ensures in
     if-ok c.outermost_contained.result
-    (λ keys is. ap (λ (ns : List NodeName). map (name_at ns) keys.items) (sym g.names) ∙ (is ∙ outermost-in c.forest-forest.result.now e.once e.only g.owned c.args.doc.now g.names g.trees c.args.points.now c.requires))
+    (λ keys is. ap (λ (ns : List NodeName). map (name_at ns) keys.items) (sym g.names) ∙
+    (is ∙ outermost-in c.forest-forest.result.now e.once e.only g.owned c.args.doc.now g.names g.trees c.args.points.now c.requires))
     c.outermost_contained.ensures.value
 
 pub returns-clause-nodes : goal.returns-clause-nodes
@@ -30,5 +31,6 @@ returns-clause-nodes c =
     let g = c.forest-forest.ensures in
     let e = c.nodes_stand_once.ensures in
     if-both c.outermost_contained.result
-    (λ keys is nodes. found-own c.forest-forest.result.now e.once e.only g.owned c.args.doc.now g.names g.trees c.args.points.now c.requires keys.items nodes is)
+    (λ keys is nodes. found-own c.forest-forest.result.now e.once e.only g.owned c.args.doc.now g.names g.trees c.args.points.now c.requires
+    keys.items nodes is)
     c.outermost_contained.ensures.value c.outermost_contained.ensures.nodes

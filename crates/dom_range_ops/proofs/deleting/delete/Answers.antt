@@ -16,7 +16,8 @@ place_after-place-requires c =
     let e = c.nodes_stand_once.ensures in
     let points = c.range_points-points.result in
     let k = c.range_points-points.ensures in
-    let here = of-points c.forest.result.now e.once e.only g.owned d g.names g.trees c.args.owner c.args.number points k.start_is_node k.end_is_node c.requires.there c.requires.ends c.requires.bounds k.value.0 in
+    let here = of-points c.forest.result.now e.once e.only g.owned d g.names g.trees c.args.owner c.args.number points k.start_is_node
+    k.end_is_node c.requires.there c.requires.ends c.requires.bounds k.value.0 in
     here.range
 
 pub delete_contents-requires : goal.delete_contents-requires
@@ -26,7 +27,8 @@ delete_contents-requires c =
     let e = c.nodes_stand_once.ensures in
     let points = c.range_points-points.result in
     let k = c.range_points-points.ensures in
-    let here = of-points c.forest.result.now e.once e.only g.owned d g.names g.trees c.args.owner c.args.number points k.start_is_node k.end_is_node c.requires.there c.requires.ends c.requires.bounds k.value.0 in
+    let here = of-points c.forest.result.now e.once e.only g.owned d g.names g.trees c.args.owner c.args.number points k.start_is_node
+    k.end_is_node c.requires.there c.requires.ends c.requires.bounds k.value.0 in
     here.range
 
 pub range_put-requires-clause-there : goal.range_put-requires-clause-there
@@ -36,7 +38,8 @@ range_put-requires-clause-there c =
     let e = c.nodes_stand_once.ensures in
     let points = c.range_points-points.result in
     let k = c.range_points-points.ensures in
-    let here = of-points c.forest.result.now e.once e.only g.owned d g.names g.trees c.args.owner c.args.number points k.start_is_node k.end_is_node c.requires.there c.requires.ends c.requires.bounds k.value.0 in
+    let here = of-points c.forest.result.now e.once e.only g.owned d g.names g.trees c.args.owner c.args.number points k.start_is_node
+    k.end_is_node c.requires.there c.requires.ends c.requires.bounds k.value.0 in
     let alone = c.laws.ensures.alone points.start.0 k.start_is_node in
     let r = range_at_points d.names points in
     deletion-there c.args.owner c.args.number d c.delete_contents.new.doc points.start.0 r here.owner alone c.requires.there c.in_ok-delete_contents.ensures
@@ -48,8 +51,10 @@ range_put-requires-clause-own_start c =
     let e = c.nodes_stand_once.ensures in
     let points = c.range_points-points.result in
     let k = c.range_points-points.ensures in
-    let here = of-points c.forest.result.now e.once e.only g.owned d g.names g.trees c.args.owner c.args.number points k.start_is_node k.end_is_node c.requires.there c.requires.ends c.requires.bounds k.value.0 in
-    deletion-owner c.args.owner d c.delete_contents.new.doc points.start.0 (range_at_points d.names points) c.both_at.result.start c.place_after-place.result here.owner c.place_after-place.ensures.owner c.in_ok-delete_contents.ensures c.both_at.ensures.start
+    let here = of-points c.forest.result.now e.once e.only g.owned d g.names g.trees c.args.owner c.args.number points k.start_is_node
+    k.end_is_node c.requires.there c.requires.ends c.requires.bounds k.value.0 in
+    deletion-owner c.args.owner d c.delete_contents.new.doc points.start.0 (range_at_points d.names points) c.both_at.result.start
+    c.place_after-place.result here.owner c.place_after-place.ensures.owner c.in_ok-delete_contents.ensures c.both_at.ensures.start
 
 pub range_put-requires-clause-own_end : goal.range_put-requires-clause-own_end
 range_put-requires-clause-own_end c =
@@ -58,8 +63,10 @@ range_put-requires-clause-own_end c =
     let e = c.nodes_stand_once.ensures in
     let points = c.range_points-points.result in
     let k = c.range_points-points.ensures in
-    let here = of-points c.forest.result.now e.once e.only g.owned d g.names g.trees c.args.owner c.args.number points k.start_is_node k.end_is_node c.requires.there c.requires.ends c.requires.bounds k.value.0 in
-    deletion-owner c.args.owner d c.delete_contents.new.doc points.start.0 (range_at_points d.names points) c.both_at.result.end c.place_after-place.result here.owner c.place_after-place.ensures.owner c.in_ok-delete_contents.ensures c.both_at.ensures.end
+    let here = of-points c.forest.result.now e.once e.only g.owned d g.names g.trees c.args.owner c.args.number points k.start_is_node
+    k.end_is_node c.requires.there c.requires.ends c.requires.bounds k.value.0 in
+    deletion-owner c.args.owner d c.delete_contents.new.doc points.start.0 (range_at_points d.names points) c.both_at.result.end
+    c.place_after-place.result here.owner c.place_after-place.ensures.owner c.in_ok-delete_contents.ensures c.both_at.ensures.end
 
 pub returns-clause-world : goal.returns-clause-world
 returns-clause-world c =
@@ -68,11 +75,14 @@ returns-clause-world c =
     let e = c.nodes_stand_once.ensures in
     let points = c.range_points-points.result in
     let k = c.range_points-points.ensures in
-    let here = of-points c.forest.result.now e.once e.only g.owned d g.names g.trees c.args.owner c.args.number points k.start_is_node k.end_is_node c.requires.there c.requires.ends c.requires.bounds k.value.0 in
+    let here = of-points c.forest.result.now e.once e.only g.owned d g.names g.trees c.args.owner c.args.number points k.start_is_node
+    k.end_is_node c.requires.there c.requires.ends c.requires.bounds k.value.0 in
     let alone = c.laws.ensures.alone points.start.0 k.start_is_node in
     let r = range_at_points d.names points in
-    let wide = sym (c.is_collapsed.ensures d.names (c.laws.ensures.distinct points.start.0 points.end.0 k.start_is_node k.end_is_node)) ∙ c.if-is_collapsed.false in
-    deletion-done c.args.owner c.args.number d c.delete_contents.new.doc c.range_put.new.self points.start.0 r c.both_at.result.start c.both_at.result.end c.place_after-place.result here.owner alone here.there wide c.place_after-place.ensures.value
+    let wide = sym (c.is_collapsed.ensures d.names (c.laws.ensures.distinct points.start.0 points.end.0 k.start_is_node k.end_is_node)) ∙
+    c.if-is_collapsed.false in
+    deletion-done c.args.owner c.args.number d c.delete_contents.new.doc c.range_put.new.self points.start.0 r c.both_at.result.start
+    c.both_at.result.end c.place_after-place.result here.owner alone here.there wide c.place_after-place.ensures.value
     c.in_ok-delete_contents.ensures c.both_at.ensures.start c.both_at.ensures.end c.range_put.ensures.state
 
 pub returns-clause-ready : goal.returns-clause-ready
@@ -80,11 +90,13 @@ returns-clause-ready c h =
     let k = c.range_points-points.ensures in
     let n = c.args.number in
     ready-planned c.args.doc.now c.range_points-points.result.start.0 c.args.owner (λ p. plan_of_range p n (deleting n)) c.range_put.new.self.world
-    (record { alone = c.laws.ensures.alone; parts = c.laws.ensures.parts; stand = c.laws.ensures.stand }) k.start_is_node k.own_start (returns-clause-world c) h (λ i r. ready-deleting _ i r n)
+    (record { alone = c.laws.ensures.alone; parts = c.laws.ensures.parts; stand = c.laws.ensures.stand }) k.start_is_node k.own_start
+    (returns-clause-world c) h (λ i r. ready-deleting _ i r n)
 
 pub returns-clause-there : goal.returns-clause-there
 returns-clause-there c h =
     let k = c.range_points-points.ensures in
     let n = c.args.number in
     range-there c.args.doc.now c.range_points-points.result.start.0 c.args.owner (λ p. plan_of_range p n (deleting n)) c.range_put.new.self.world
-    (record { alone = c.laws.ensures.alone; parts = c.laws.ensures.parts; stand = c.laws.ensures.stand }) k.start_is_node k.own_start (returns-clause-world c) (ready-deleting _ (c.laws.ensures.parts c.args.owner) (h c.args.owner) n) n c.requires.there
+    (record { alone = c.laws.ensures.alone; parts = c.laws.ensures.parts; stand = c.laws.ensures.stand }) k.start_is_node k.own_start
+    (returns-clause-world c) (ready-deleting _ (c.laws.ensures.parts c.args.owner) (h c.args.owner) n) n c.requires.there

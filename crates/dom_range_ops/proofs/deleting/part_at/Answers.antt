@@ -23,4 +23,5 @@ returns c =
     ap (λ (ns : List NodeName). cutting (name_at ns c.args.key) c.part_in.result) (sym names)
     ∙ (c.part_in.ensures
     ∙ (ap (λ (ns : List NodeName). cutting_data f.trees (range_at_points f.names c.args.points.now) (name_at ns c.args.key)) names
-    ∙ cutting-in f e.once e.only g.owned c.args.doc.now g.names g.trees c.args.points.now c.requires.range (name_in c.args.doc.now c.args.key) c.requires.owner))
+    ∙ cutting-in f e.once e.only g.owned c.args.doc.now g.names g.trees c.args.points.now c.requires.range (name_in c.args.doc.now c.args.key)
+    c.requires.owner))

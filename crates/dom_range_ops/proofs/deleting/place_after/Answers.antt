@@ -32,5 +32,7 @@ returns-clause-owner c =
     let e = c.nodes_stand_once.ensures in
     let k = c.new_place.result in
     ap (λ (ns : List NodeName). (name_at ns k.0).owner) (sym g.names)
-    ∙ (ap (λ (b : Boundary NodeName). b.node.owner) (c.new_place.ensures.value ∙ place-in c.forest-forest.result.now e.once e.only g.owned c.args.doc.now g.names g.trees c.args.points.now c.requires)
+    ∙ (ap (λ (b : Boundary NodeName). b.node.owner)
+    (c.new_place.ensures.value ∙ place-in c.forest-forest.result.now e.once e.only g.owned c.args.doc.now g.names g.trees c.args.points.now
+    c.requires)
     ∙ place-there c.forest-forest.result.now e.once e.only g.owned c.args.doc.now g.names g.trees c.args.points.now c.requires)

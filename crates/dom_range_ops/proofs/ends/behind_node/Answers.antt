@@ -10,7 +10,9 @@ returns-in-Some-next-clause-value c =
     let f = c.args.forest.now in
     let e = c.nodes_stand_once.ensures in
     ap (at (name_at f.names c.in-Some.parent)) c.index.ensures
-    ∙ sym (place-next f.trees (Once-forest f e.once e.only) (name_at f.names c.args.key) (name_at f.names c.in-Some.parent) (Has-forest f e.once c.args.key c.requires.node) (sym c.in-Some.ensures.value) (name_at f.names c.in-Some-next.next) (sym c.in-Some-next.ensures.value))
+    ∙ sym (place-next f.trees (Once-forest f e.once e.only) (name_at f.names c.args.key) (name_at f.names c.in-Some.parent)
+    (Has-forest f e.once c.args.key c.requires.node) (sym c.in-Some.ensures.value) (name_at f.names c.in-Some-next.next)
+    (sym c.in-Some-next.ensures.value))
 
 pub returns-in-None-clause-value : goal.returns-in-None-clause-value
 returns-in-None-clause-value c =
@@ -18,4 +20,6 @@ returns-in-None-clause-value c =
     let e = c.nodes_stand_once.ensures in
     let up = sym c.in-Some.ensures.value in
     ap (at (name_at f.names c.in-Some.parent)) c.length.ensures
-    ∙ sym (place-last f.trees (Once-forest f e.once e.only) (name_at f.names c.args.key) (name_at f.names c.in-Some.parent) (Has-forest f e.once c.args.key c.requires.node) up (sym c.in-None.ensures.value) (c.requires.below_no_data (name_at f.names c.in-Some.parent) up))
+    ∙ sym (place-last f.trees (Once-forest f e.once e.only) (name_at f.names c.args.key) (name_at f.names c.in-Some.parent)
+    (Has-forest f e.once c.args.key c.requires.node) up (sym c.in-None.ensures.value)
+    (c.requires.below_no_data (name_at f.names c.in-Some.parent) up))

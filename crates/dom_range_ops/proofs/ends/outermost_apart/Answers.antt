@@ -9,13 +9,16 @@ use Rattle.dom_range_ops.proofs.DeletionPlaces.{alone-is}
 use Rattle.dom_range_ops.proofs.ends.outermost_apart.Goals as goal
 
 pub returns-in_default-clause-above : goal.returns-in_default-clause-above
-returns-in_default-clause-above c = above-itself c.args.forest.now.trees (name_at c.args.forest.now.names c.args.first) (c.nodes_stand_once.ensures.once c.args.first c.requires.first_is_node)
+returns-in_default-clause-above c = above-itself c.args.forest.now.trees (name_at c.args.forest.now.names c.args.first)
+    (c.nodes_stand_once.ensures.once c.args.first c.requires.first_is_node)
 
 pub returns-in_default-clause-alone : goal.returns-in_default-clause-alone
 returns-in_default-clause-alone c =
     let f = c.args.forest.now in
     let e = c.nodes_stand_once.ensures in
-    alone-is f.trees (Once-forest f e.once e.only) (name_at f.names c.args.last) (name_at f.names c.args.first) (Has-forest f e.once c.args.first c.requires.first_is_node) (Has-forest f e.once c.args.last c.requires.last_is_node) c.requires.apart (inl (sym c.in_default.ensures.value))
+    alone-is f.trees (Once-forest f e.once e.only) (name_at f.names c.args.last) (name_at f.names c.args.first)
+    (Has-forest f e.once c.args.first c.requires.first_is_node) (Has-forest f e.once c.args.last c.requires.last_is_node) c.requires.apart
+    (inl (sym c.in_default.ensures.value))
 
 pub raise-low-requires-clause-deep : goal.raise-low-requires-clause-deep
 raise-low-requires-clause-deep c =
@@ -36,7 +39,8 @@ up-init c =
       node = low.node;
       other_is_node = other.node;
       above = low.above;
-      apart = first-apart f e.once e.only c.raise-low.result c.args.first c.args.last c.requires.first_is_node c.requires.last_is_node low.above c.requires.apart
+      apart = first-apart f e.once e.only c.raise-low.result c.args.first c.args.last c.requires.first_is_node c.requires.last_is_node low.above
+          c.requires.apart
           (elim g.root [
             | inl root ↦ inl (omega (arith, root, low.height))
             | inr root ↦ inr (omega (arith, root, low.height, other.height, up, g.difference))
@@ -49,7 +53,9 @@ pub returns-in_default-parent-clause-alone : goal.returns-in_default-parent-clau
 returns-in_default-parent-clause-alone c =
     let f = c.args.forest.now in
     let e = c.nodes_stand_once.ensures in
-    alone-is f.trees (Once-forest f e.once e.only) (name_at f.names c.args.last) (name_at f.names c.up.low) (Has-forest f e.once c.up.low c.up.invariant.node) (Has-forest f e.once c.args.last c.requires.last_is_node) c.up.invariant.apart (inl (sym c.in_default-parent.ensures.value))
+    alone-is f.trees (Once-forest f e.once e.only) (name_at f.names c.args.last) (name_at f.names c.up.low)
+    (Has-forest f e.once c.up.low c.up.invariant.node) (Has-forest f e.once c.args.last c.requires.last_is_node) c.up.invariant.apart
+    (inl (sym c.in_default-parent.ensures.value))
 
 pub returns-then-eq-clause-alone : goal.returns-then-eq-clause-alone
 returns-then-eq-clause-alone c =
@@ -57,13 +63,15 @@ returns-then-eq-clause-alone c =
     let e = c.nodes_stand_once.ensures in
     let same = eqb-true c.in-Some-parent.above c.up.other (sym c.if-eq.ensures) in
     let above = ap (λ k. is_inclusive_ancestor f.trees (name_at f.names k) (name_at f.names c.args.last)) same ∙ c.up.invariant.beside in
-    alone-is f.trees (Once-forest f e.once e.only) (name_at f.names c.args.last) (name_at f.names c.up.low) (Has-forest f e.once c.up.low c.up.invariant.node) (Has-forest f e.once c.args.last c.requires.last_is_node) c.up.invariant.apart
+    alone-is f.trees (Once-forest f e.once e.only) (name_at f.names c.args.last) (name_at f.names c.up.low)
+    (Has-forest f e.once c.up.low c.up.invariant.node) (Has-forest f e.once c.args.last c.requires.last_is_node) c.up.invariant.apart
     (inr (name_at f.names c.in-Some-parent.above, sym c.in-Some-parent.ensures.value, above))
 
 pub returns-in_default-parent-2-clause-above : goal.returns-in_default-parent-2-clause-above
 returns-in_default-parent-2-clause-above c =
     let e = c.nodes_stand_once.ensures in
-    raise-up c.args.forest.now e.once e.only c.up.low c.in-Some-parent.above c.args.first c.up.invariant.node c.requires.first_is_node c.in-Some-parent.ensures.value c.up.invariant.above
+    raise-up c.args.forest.now e.once e.only c.up.low c.in-Some-parent.above c.args.first c.up.invariant.node c.requires.first_is_node
+    c.in-Some-parent.ensures.value c.up.invariant.above
 
 pub returns-in_default-parent-2-clause-alone : goal.returns-in_default-parent-2-clause-alone
 returns-in_default-parent-2-clause-alone c =
@@ -73,8 +81,10 @@ returns-in_default-parent-2-clause-alone c =
     let up = height-up f e.once e.only c.up.low c.in-Some-parent.above c.up.invariant.node c.in-Some-parent.ensures.value in
     let root = height-root f e.once e.only c.up.other c.up.invariant.other_is_node c.in_default-parent-2.ensures.value in
     let other = other_key f e.distinct c.in-Some-parent.above c.up.other node c.up.invariant.other_is_node (sym c.if-eq.ensures) in
-    let apart = level-apart f e.once e.only c.in-Some-parent.above c.up.other c.args.last c.requires.last_is_node c.up.invariant.beside (omega (arith, up, c.up.invariant.level)) other in
-    alone-is f.trees (Once-forest f e.once e.only) (name_at f.names c.args.last) (name_at f.names c.in-Some-parent.above) (Has-forest f e.once c.in-Some-parent.above node) (Has-forest f e.once c.args.last c.requires.last_is_node) apart
+    let apart = level-apart f e.once e.only c.in-Some-parent.above c.up.other c.args.last c.requires.last_is_node c.up.invariant.beside
+    (omega (arith, up, c.up.invariant.level)) other in
+    alone-is f.trees (Once-forest f e.once e.only) (name_at f.names c.args.last) (name_at f.names c.in-Some-parent.above)
+    (Has-forest f e.once c.in-Some-parent.above node) (Has-forest f e.once c.args.last c.requires.last_is_node) apart
     (inl (root-alone f e.once e.only c.in-Some-parent.above node (omega (arith, up, root, c.up.invariant.level))))
 
 pub up-smaller : goal.up-smaller
@@ -94,8 +104,11 @@ up-preserved c =
     record {
       node = node;
       other_is_node = c.in-Some-parent-2.ensures.node c.in-Some-parent-2.beside refl;
-      above = raise-up f e.once e.only c.up.low c.in-Some-parent.above c.args.first c.up.invariant.node c.requires.first_is_node c.in-Some-parent.ensures.value c.up.invariant.above;
-      apart = level-apart f e.once e.only c.in-Some-parent.above c.up.other c.args.last c.requires.last_is_node c.up.invariant.beside (omega (arith, up, c.up.invariant.level)) other;
-      beside = raise-up f e.once e.only c.up.other c.in-Some-parent-2.beside c.args.last c.up.invariant.other_is_node c.requires.last_is_node c.in-Some-parent-2.ensures.value c.up.invariant.beside;
+      above = raise-up f e.once e.only c.up.low c.in-Some-parent.above c.args.first c.up.invariant.node c.requires.first_is_node
+          c.in-Some-parent.ensures.value c.up.invariant.above;
+      apart = level-apart f e.once e.only c.in-Some-parent.above c.up.other c.args.last c.requires.last_is_node c.up.invariant.beside
+          (omega (arith, up, c.up.invariant.level)) other;
+      beside = raise-up f e.once e.only c.up.other c.in-Some-parent-2.beside c.args.last c.up.invariant.other_is_node c.requires.last_is_node
+          c.in-Some-parent-2.ensures.value c.up.invariant.beside;
       level = omega (arith, up, over, c.up.invariant.level);
     }

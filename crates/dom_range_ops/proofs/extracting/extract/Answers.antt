@@ -22,7 +22,8 @@ pieces_in-requires c =
     let e = c.nodes_stand_once.ensures in
     let points = c.range_points-points.result in
     let k = c.range_points-points.ensures in
-    let here = of-points c.forest.result.now e.once e.only g.owned d g.names g.trees c.args.owner c.args.number points k.start_is_node k.end_is_node c.requires.there c.requires.ends c.requires.bounds k.value.0 in
+    let here = of-points c.forest.result.now e.once e.only g.owned d g.names g.trees c.args.owner c.args.number points k.start_is_node
+    k.end_is_node c.requires.there c.requires.ends c.requires.bounds k.value.0 in
     here.range
 
 pub is_past_limit-requires : goal.is_past_limit-requires
@@ -32,7 +33,8 @@ is_past_limit-requires c =
     let e = c.nodes_stand_once.ensures in
     let points = c.range_points-points.result in
     let k = c.range_points-points.ensures in
-    let here = of-points c.forest.result.now e.once e.only g.owned d g.names g.trees c.args.owner c.args.number points k.start_is_node k.end_is_node c.requires.there c.requires.ends c.requires.bounds k.value.0 in
+    let here = of-points c.forest.result.now e.once e.only g.owned d g.names g.trees c.args.owner c.args.number points k.start_is_node
+    k.end_is_node c.requires.there c.requires.ends c.requires.bounds k.value.0 in
     subst (λ (o : Owner). is_there d.world o ≡ true) here.owner (c.laws.ensures.present points.start.0 k.start_is_node)
 
 pub place_after-place-requires : goal.place_after-place-requires
@@ -42,7 +44,8 @@ place_after-place-requires c =
     let e = c.nodes_stand_once.ensures in
     let points = c.range_points-points.result in
     let k = c.range_points-points.ensures in
-    let here = of-points c.forest.result.now e.once e.only g.owned d g.names g.trees c.args.owner c.args.number points k.start_is_node k.end_is_node c.requires.there c.requires.ends c.requires.bounds k.value.0 in
+    let here = of-points c.forest.result.now e.once e.only g.owned d g.names g.trees c.args.owner c.args.number points k.start_is_node
+    k.end_is_node c.requires.there c.requires.ends c.requires.bounds k.value.0 in
     here.range
 
 pub extract_pieces-requires-clause-start_owner : goal.extract_pieces-requires-clause-start_owner
@@ -52,7 +55,8 @@ extract_pieces-requires-clause-start_owner c =
     let e = c.nodes_stand_once.ensures in
     let points = c.range_points-points.result in
     let k = c.range_points-points.ensures in
-    let here = of-points c.forest.result.now e.once e.only g.owned d g.names g.trees c.args.owner c.args.number points k.start_is_node k.end_is_node c.requires.there c.requires.ends c.requires.bounds k.value.0 in
+    let here = of-points c.forest.result.now e.once e.only g.owned d g.names g.trees c.args.owner c.args.number points k.start_is_node
+    k.end_is_node c.requires.there c.requires.ends c.requires.bounds k.value.0 in
     here.owner
 
 pub extract_pieces-requires-clause-place_owner : goal.extract_pieces-requires-clause-place_owner
@@ -62,7 +66,8 @@ extract_pieces-requires-clause-place_owner c =
     let e = c.nodes_stand_once.ensures in
     let points = c.range_points-points.result in
     let k = c.range_points-points.ensures in
-    let here = of-points c.forest.result.now e.once e.only g.owned d g.names g.trees c.args.owner c.args.number points k.start_is_node k.end_is_node c.requires.there c.requires.ends c.requires.bounds k.value.0 in
+    let here = of-points c.forest.result.now e.once e.only g.owned d g.names g.trees c.args.owner c.args.number points k.start_is_node
+    k.end_is_node c.requires.there c.requires.ends c.requires.bounds k.value.0 in
     c.place_after-place.ensures.owner ∙ here.owner
 
 pub extract_pieces-requires-clause-may_take : goal.extract_pieces-requires-clause-may_take
@@ -72,13 +77,15 @@ extract_pieces-requires-clause-may_take c =
     let e = c.nodes_stand_once.ensures in
     let points = c.range_points-points.result in
     let k = c.range_points-points.ensures in
-    let here = of-points c.forest.result.now e.once e.only g.owned d g.names g.trees c.args.owner c.args.number points k.start_is_node k.end_is_node c.requires.there c.requires.ends c.requires.bounds k.value.0 in
+    let here = of-points c.forest.result.now e.once e.only g.owned d g.names g.trees c.args.owner c.args.number points k.start_is_node
+    k.end_is_node c.requires.there c.requires.ends c.requires.bounds k.value.0 in
     let pieces = c.in_ok-pieces.pieces.items in
     let value = c.in_ok-pieces.ensures.value in
     let taken = c.as_slice.result.now in
     let taken_is = ap (map (item_in d.names)) c.as_slice.ensures.value ∙ value in
     let count = c.count_made.ensures d.names ∙ ap (λ ps. made_by (map (item_in d.names) ps)) (c.deref.ensures.value ∙ sym c.as_slice.ensures.value) in
-    own-may_take d c.args.owner c.args.number points here taken taken_is (c.laws.ensures.parts c.args.owner) c.requires.bounds c.requires.roots (sym (c.is_past_limit.ensures ∙ ap (λ n. past_limit (part_of d.world c.args.owner).node_count (suc n)) count) ∙ c.if-is_past_limit.false)
+    own-may_take d c.args.owner c.args.number points here taken taken_is (c.laws.ensures.parts c.args.owner) c.requires.bounds c.requires.roots
+    (sym (c.is_past_limit.ensures ∙ ap (λ n. past_limit (part_of d.world c.args.owner).node_count (suc n)) count) ∙ c.if-is_past_limit.false)
 
 pub returns-clause-names : goal.returns-clause-names
 returns-clause-names c =
@@ -87,12 +94,14 @@ returns-clause-names c =
     let e = c.nodes_stand_once.ensures in
     let points = c.range_points-points.result in
     let k = c.range_points-points.ensures in
-    let here = of-points c.forest.result.now e.once e.only g.owned d g.names g.trees c.args.owner c.args.number points k.start_is_node k.end_is_node c.requires.there c.requires.ends c.requires.bounds k.value.0 in
+    let here = of-points c.forest.result.now e.once e.only g.owned d g.names g.trees c.args.owner c.args.number points k.start_is_node
+    k.end_is_node c.requires.there c.requires.ends c.requires.bounds k.value.0 in
     let pieces = c.in_ok-pieces.pieces.items in
     let value = c.in_ok-pieces.ensures.value in
     let taken = c.as_slice.result.now in
     let taken_is = ap (map (item_in d.names)) c.as_slice.ensures.value ∙ value in
-    if-done c.extract_pieces.result (names-own d c.args.owner c.args.number points here taken taken_is c.extract_pieces.new.doc.names) c.extract_pieces.ensures.names
+    if-done c.extract_pieces.result (names-own d c.args.owner c.args.number points here taken taken_is c.extract_pieces.new.doc.names)
+    c.extract_pieces.ensures.names
 
 pub returns-clause-world : goal.returns-clause-world
 returns-clause-world c =
@@ -101,12 +110,15 @@ returns-clause-world c =
     let e = c.nodes_stand_once.ensures in
     let points = c.range_points-points.result in
     let k = c.range_points-points.ensures in
-    let here = of-points c.forest.result.now e.once e.only g.owned d g.names g.trees c.args.owner c.args.number points k.start_is_node k.end_is_node c.requires.there c.requires.ends c.requires.bounds k.value.0 in
+    let here = of-points c.forest.result.now e.once e.only g.owned d g.names g.trees c.args.owner c.args.number points k.start_is_node
+    k.end_is_node c.requires.there c.requires.ends c.requires.bounds k.value.0 in
     let pieces = c.in_ok-pieces.pieces.items in
     let value = c.in_ok-pieces.ensures.value in
     let taken = c.as_slice.result.now in
     let taken_is = ap (map (item_in d.names)) c.as_slice.ensures.value ∙ value in
-    if-done c.extract_pieces.result (world-own d c.args.owner c.args.number points here taken taken_is (at (name_in d c.place_after-place.result.0) c.place_after-place.result.1) c.place_after-place.ensures.value c.extract_pieces.new.doc.world) c.extract_pieces.ensures.world
+    if-done c.extract_pieces.result (world-own d c.args.owner c.args.number points here taken taken_is
+    (at (name_in d c.place_after-place.result.0) c.place_after-place.result.1) c.place_after-place.ensures.value
+    c.extract_pieces.new.doc.world) c.extract_pieces.ensures.world
 
 pub returns-then-is_past_limit-clause-refused : goal.returns-then-is_past_limit-clause-refused
 returns-then-is_past_limit-clause-refused c =
@@ -115,11 +127,13 @@ returns-then-is_past_limit-clause-refused c =
     let e = c.nodes_stand_once.ensures in
     let points = c.range_points-points.result in
     let k = c.range_points-points.ensures in
-    let here = of-points c.forest.result.now e.once e.only g.owned d g.names g.trees c.args.owner c.args.number points k.start_is_node k.end_is_node c.requires.there c.requires.ends c.requires.bounds k.value.0 in
+    let here = of-points c.forest.result.now e.once e.only g.owned d g.names g.trees c.args.owner c.args.number points k.start_is_node
+    k.end_is_node c.requires.there c.requires.ends c.requires.bounds k.value.0 in
     let pieces = c.in_ok-pieces.pieces.items in
     let value = c.in_ok-pieces.ensures.value in
     let count = c.count_made.ensures d.names ∙ ap (λ ps. made_by (map (item_in d.names) ps)) c.deref.ensures.value in
-    λ r is. limit-refused d c.args.owner c.args.number points here pieces value c.count_made.result count (sym c.is_past_limit.ensures ∙ c.if-is_past_limit.true) ∙ ap Some (let same : Limit ≡ r = cc in same)
+    λ r is. limit-refused d c.args.owner c.args.number points here pieces value c.count_made.result count
+    (sym c.is_past_limit.ensures ∙ c.if-is_past_limit.true) ∙ ap Some (let same : Limit ≡ r = cc in same)
 
 pub returns-clause-stopped : goal.returns-clause-stopped
 returns-clause-stopped c =
@@ -128,11 +142,13 @@ returns-clause-stopped c =
     let e = c.nodes_stand_once.ensures in
     let points = c.range_points-points.result in
     let k = c.range_points-points.ensures in
-    let here = of-points c.forest.result.now e.once e.only g.owned d g.names g.trees c.args.owner c.args.number points k.start_is_node k.end_is_node c.requires.there c.requires.ends c.requires.bounds k.value.0 in
+    let here = of-points c.forest.result.now e.once e.only g.owned d g.names g.trees c.args.owner c.args.number points k.start_is_node
+    k.end_is_node c.requires.there c.requires.ends c.requires.bounds k.value.0 in
     let pieces = c.in_ok-pieces.pieces.items in
     let value = c.in_ok-pieces.ensures.value in
     let count = c.count_made.ensures d.names ∙ ap (λ ps. made_by (map (item_in d.names) ps)) c.deref.ensures.value in
-    λ r is. let none = limit-kept d c.args.owner c.args.number points here pieces value c.count_made.result count (sym c.is_past_limit.ensures ∙ c.if-is_past_limit.false) in let no : None ≡ Some r = sym none ∙ is in absurd cc
+    λ r is. let none = limit-kept d c.args.owner c.args.number points here pieces value c.count_made.result count
+    (sym c.is_past_limit.ensures ∙ c.if-is_past_limit.false) in let no : None ≡ Some r = sym none ∙ is in absurd cc
 
 pub returns-clause-ready : goal.returns-clause-ready
 returns-clause-ready c h =
@@ -140,7 +156,8 @@ returns-clause-ready c h =
     let n = c.args.number in
     if-done c.extract_pieces.result
     (λ w. ready-planned c.args.doc.now c.range_points-points.result.start.0 c.args.owner (λ p. plan_of_range p n (extracting n)) c.extract_pieces.new.doc.world
-    (record { alone = c.laws.ensures.alone; parts = c.laws.ensures.parts; stand = c.laws.ensures.stand }) k.start_is_node k.own_start w h (λ i r. ready-extracting _ i r n)) (returns-clause-world c)
+    (record { alone = c.laws.ensures.alone; parts = c.laws.ensures.parts; stand = c.laws.ensures.stand }) k.start_is_node k.own_start w h
+    (λ i r. ready-extracting _ i r n)) (returns-clause-world c)
 
 pub returns-clause-there : goal.returns-clause-there
 returns-clause-there c h =
@@ -148,4 +165,5 @@ returns-clause-there c h =
     let n = c.args.number in
     if-done c.extract_pieces.result
     (λ w. range-there c.args.doc.now c.range_points-points.result.start.0 c.args.owner (λ p. plan_of_range p n (extracting n)) c.extract_pieces.new.doc.world
-    (record { alone = c.laws.ensures.alone; parts = c.laws.ensures.parts; stand = c.laws.ensures.stand }) k.start_is_node k.own_start w (ready-extracting _ (c.laws.ensures.parts c.args.owner) (h c.args.owner) n) n c.requires.there) (returns-clause-world c)
+    (record { alone = c.laws.ensures.alone; parts = c.laws.ensures.parts; stand = c.laws.ensures.stand }) k.start_is_node k.own_start w
+    (ready-extracting _ (c.laws.ensures.parts c.args.owner) (h c.args.owner) n) n c.requires.there) (returns-clause-world c)

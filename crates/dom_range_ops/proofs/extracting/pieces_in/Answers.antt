@@ -16,7 +16,11 @@ pieces_between-requires c =
     let g = c.forest-forest.ensures in
     let e = c.nodes_stand_once.ensures in
     let b = bounded-in c.forest-forest.result.now e.once e.only g.owned c.args.doc.now g.names g.trees c.args.points.now c.requires in
-    record { ends = b.ends; within = b.within; leaves = leaves-in c.forest-forest.result.now e.once e.only g.owned c.args.doc.now g.names g.trees c.args.points.now c.requires }
+    record {
+      ends = b.ends;
+      within = b.within;
+      leaves = leaves-in c.forest-forest.result.now e.once e.only g.owned c.args.doc.now g.names g.trees c.args.points.now c.requires;
+    }
 
 pub returns-clause-value : goal.returns-clause-value
 returns-clause-value c =
@@ -25,7 +29,8 @@ returns-clause-value c =
     let e = c.nodes_stand_once.ensures in
     let d = c.args.doc.now in
     let points = c.args.points.now in
-    let same = pieces-points f e.once e.only g.owned (owner_in d points.start.0) (trees_in d points.start.0) (g.trees (owner_in d points.start.0)) points (range_at_points d.names points) (ap (λ (ns : List NodeName). range_at_points ns points) (sym g.names)) c.requires.ends in
+    let same = pieces-points f e.once e.only g.owned (owner_in d points.start.0) (trees_in d points.start.0) (g.trees (owner_in d points.start.0))
+    points (range_at_points d.names points) (ap (λ (ns : List NodeName). range_at_points ns points) (sym g.names)) c.requires.ends in
     if-ok c.pieces_between.result
     (λ pieces are. ap (λ (ns : List NodeName). map (item_in ns) pieces.items) (sym g.names) ∙ (are.value ∙ ap items_of same))
     c.pieces_between.ensures
@@ -34,5 +39,6 @@ pub returns-clause-nodes : goal.returns-clause-nodes
 returns-clause-nodes c =
     let g = c.forest-forest.ensures in
     if-ok c.pieces_between.result
-    (λ pieces are. subst (λ (ns : List NodeName). AllByRecursion (IsPieceOf ns) pieces.items) g.names (pieces-of_names c.forest-forest.result.now.names pieces.items are.nodes))
+    (λ pieces are. subst (λ (ns : List NodeName). AllByRecursion (IsPieceOf ns) pieces.items) g.names
+    (pieces-of_names c.forest-forest.result.now.names pieces.items are.nodes))
     c.pieces_between.ensures

@@ -21,8 +21,10 @@ insert_before-requires-clause-open c =
     let o = c.args.owner in
     let x = name_in d c.args.node in
     let own = c.requires.parent_own in
-    open-kept d c.remove.new.self o (removing observed x) (subst (IsAlone d.world) own (c.laws.ensures.alone c.args.parent c.requires.parent_is_node)) (plans_removing o observed x)
-    (c.in_ok-remove.ensures.world ∙ ap (λ w. made w (removing observed x) d.world) c.requires.node_own) _ (leads-removing observed x (part_of d.world o) (c.laws.ensures.parts o)).changed c.args.parent
+    open-kept d c.remove.new.self o (removing observed x)
+    (subst (IsAlone d.world) own (c.laws.ensures.alone c.args.parent c.requires.parent_is_node)) (plans_removing o observed x)
+    (c.in_ok-remove.ensures.world ∙ ap (λ w. made w (removing observed x) d.world) c.requires.node_own) _
+    (leads-removing observed x (part_of d.world o) (c.laws.ensures.parts o)).changed c.args.parent
     (ap (λ (ns : List NodeName). name_at ns c.args.parent) c.in_ok-remove.ensures.names) own
     (ap (λ w. has_node (part_of d.world w).trees (name_in d c.args.parent)) (sym own) ∙ c.laws.ensures.stand c.args.parent c.requires.parent_is_node)
     (ap (λ w. has_data (kind_of (part_of d.world w).trees (name_in d c.args.parent))) (sym own) ∙ c.requires.open)
@@ -34,8 +36,10 @@ insert_before-requires-clause-may_move c =
     let x = name_in d c.args.node in
     let owner = c.requires.node_own ∙ sym c.requires.parent_own in
     may_now c.args.parent c.reference_for-reference.result d e
-    (stays-left d e c.laws.ensures.once c.args.parent c.args.node c.reference_for-reference.result (c.laws.ensures.alone c.args.node c.requires.node_is_node) owner c.requires.not_above c.reference_for-reference.ensures.child
-    c.reference_for-reference.ensures.apart (state-is d e (owner_in d c.args.node) (removing observed x) c.in_ok-remove.ensures.names c.in_ok-remove.ensures.world))
+    (stays-left d e c.laws.ensures.once c.args.parent c.args.node c.reference_for-reference.result
+    (c.laws.ensures.alone c.args.node c.requires.node_is_node) owner c.requires.not_above c.reference_for-reference.ensures.child
+    c.reference_for-reference.ensures.apart
+    (state-is d e (owner_in d c.args.node) (removing observed x) c.in_ok-remove.ensures.names c.in_ok-remove.ensures.world))
     c.args.node (record { node = c.requires.node_is_node; owner = owner; not_above = c.requires.not_above; apart = c.reference_for-reference.ensures.apart })
 
 pub insert_before-requires-clause-child_is_child : goal.insert_before-requires-clause-child_is_child
@@ -44,8 +48,10 @@ insert_before-requires-clause-child_is_child c =
     let e = c.remove.new.self in
     let x = name_in d c.args.node in
     child_now c.args.parent c.reference_for-reference.result d e
-    (stays-left d e c.laws.ensures.once c.args.parent c.args.node c.reference_for-reference.result (c.laws.ensures.alone c.args.node c.requires.node_is_node) (c.requires.node_own ∙ sym c.requires.parent_own) c.requires.not_above
-    c.reference_for-reference.ensures.child c.reference_for-reference.ensures.apart (state-is d e (owner_in d c.args.node) (removing observed x) c.in_ok-remove.ensures.names c.in_ok-remove.ensures.world))
+    (stays-left d e c.laws.ensures.once c.args.parent c.args.node c.reference_for-reference.result
+    (c.laws.ensures.alone c.args.node c.requires.node_is_node) (c.requires.node_own ∙ sym c.requires.parent_own) c.requires.not_above
+    c.reference_for-reference.ensures.child c.reference_for-reference.ensures.apart
+    (state-is d e (owner_in d c.args.node) (removing observed x) c.in_ok-remove.ensures.names c.in_ok-remove.ensures.world))
     c.reference_for-reference.ensures.child
 
 pub insert_before-requires-clause-bounds : goal.insert_before-requires-clause-bounds
@@ -53,8 +59,10 @@ insert_before-requires-clause-bounds c =
     let d = c.args.doc.now in
     let o = c.args.owner in
     let x = name_in d c.args.node in
-    bounds_removed o d (subst (IsAlone d.world) c.requires.parent_own (c.laws.ensures.alone c.args.parent c.requires.parent_is_node)) (c.laws.ensures.parts o) c.requires.bounds observed x c.remove.new.self
-    (state-is d c.remove.new.self o (removing observed x) c.in_ok-remove.ensures.names (c.in_ok-remove.ensures.world ∙ ap (λ w. made w (removing observed x) d.world) c.requires.node_own))
+    bounds_removed o d (subst (IsAlone d.world) c.requires.parent_own (c.laws.ensures.alone c.args.parent c.requires.parent_is_node))
+    (c.laws.ensures.parts o) c.requires.bounds observed x c.remove.new.self
+    (state-is d c.remove.new.self o (removing observed x) c.in_ok-remove.ensures.names
+    (c.in_ok-remove.ensures.world ∙ ap (λ w. made w (removing observed x) d.world) c.requires.node_own))
 
 pub returns : goal.returns
 returns c =
@@ -62,6 +70,9 @@ returns c =
     let e = c.remove.new.self in
     let x = name_in d c.args.node in
     on_ok_weaker c.insert_before.result
-    (inserted-at d c.args.owner c.args.number c.args.parent c.args.node (subst (IsAlone d.world) c.requires.parent_own (c.laws.ensures.alone c.args.parent c.requires.parent_is_node)) c.requires.parent_own c.requires.node_own e
-    c.insert_before.new.doc c.args.child c.reference_for-reference.result c.reference_for-reference.ensures.value (state-is d e (owner_in d c.args.node) (removing observed x) c.in_ok-remove.ensures.names c.in_ok-remove.ensures.world))
+    (inserted-at d c.args.owner c.args.number c.args.parent c.args.node
+    (subst (IsAlone d.world) c.requires.parent_own (c.laws.ensures.alone c.args.parent c.requires.parent_is_node)) c.requires.parent_own
+    c.requires.node_own e
+    c.insert_before.new.doc c.args.child c.reference_for-reference.result c.reference_for-reference.ensures.value
+    (state-is d e (owner_in d c.args.node) (removing observed x) c.in_ok-remove.ensures.names c.in_ok-remove.ensures.world))
     c.insert_before.ensures

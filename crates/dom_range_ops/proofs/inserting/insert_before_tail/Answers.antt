@@ -17,7 +17,9 @@ insert_at-requires-clause-there c =
     let o = c.args.owner in
     let own = c.requires.start_is_child.owner ∙ c.requires.parent_own in
     let f = splitting (name_in d c.args.points.now.start.0) c.args.points.now.start.1 in
-    range-kept o f d.world c.split.new.self.world (subst (IsAlone d.world) c.requires.parent_own (c.laws.ensures.alone c.args.parent c.requires.parent_is_node)) (plans_splitting o (name_in d c.args.points.now.start.0) c.args.points.now.start.1)
+    range-kept o f d.world c.split.new.self.world
+    (subst (IsAlone d.world) c.requires.parent_own (c.laws.ensures.alone c.args.parent c.requires.parent_is_node))
+    (plans_splitting o (name_in d c.args.points.now.start.0) c.args.points.now.start.1)
     (c.in_ok-tail.ensures.world ∙ ap (λ w. made w f d.world) own) c.args.number c.requires.there
 
 pub insert_at-requires-clause-not_above : goal.insert_at-requires-clause-not_above
@@ -27,9 +29,11 @@ insert_at-requires-clause-not_above c =
     let own = c.requires.start_is_child.owner ∙ c.requires.parent_own in
     split-apart d c.split.new.self o c.args.points.now.start.0 c.args.points.now.start.1 c.args.parent c.args.node c.in_ok-tail.tail
     (subst (IsAlone d.world) c.requires.parent_own (c.laws.ensures.alone c.args.parent c.requires.parent_is_node)) (c.laws.ensures.parts o)
-    (c.in_ok-tail.ensures.names ∙ ap (λ w. d.names ++ next_name (part_of d.world w) ∷ []) own) (c.in_ok-tail.ensures.world ∙ ap (λ w. made w (splitting (name_in d c.args.points.now.start.0) c.args.points.now.start.1) d.world) own)
+    (c.in_ok-tail.ensures.names ∙ ap (λ w. d.names ++ next_name (part_of d.world w) ∷ []) own)
+    (c.in_ok-tail.ensures.world ∙ ap (λ w. made w (splitting (name_in d c.args.points.now.start.0) c.args.points.now.start.1) d.world) own)
     c.in_ok-tail.ensures.key c.requires.start_is_child c.requires.parent_is_node c.requires.parent_own
-    c.requires.node_is_node (ap (λ w. has_node (part_of d.world w).trees (name_in d c.args.node)) (sym c.requires.node_own) ∙ c.laws.ensures.stand c.args.node c.requires.node_is_node) c.requires.not_above
+    c.requires.node_is_node (ap (λ w. has_node (part_of d.world w).trees (name_in d c.args.node)) (sym c.requires.node_own) ∙
+    c.laws.ensures.stand c.args.node c.requires.node_is_node) c.requires.not_above
 
 pub insert_at-requires-clause-open : goal.insert_at-requires-clause-open
 insert_at-requires-clause-open c =
@@ -38,9 +42,11 @@ insert_at-requires-clause-open c =
     let own = c.requires.start_is_child.owner ∙ c.requires.parent_own in
     split-open d c.split.new.self o c.args.points.now.start.0 c.args.points.now.start.1 c.args.parent c.args.node c.in_ok-tail.tail
     (subst (IsAlone d.world) c.requires.parent_own (c.laws.ensures.alone c.args.parent c.requires.parent_is_node)) (c.laws.ensures.parts o)
-    (c.in_ok-tail.ensures.names ∙ ap (λ w. d.names ++ next_name (part_of d.world w) ∷ []) own) (c.in_ok-tail.ensures.world ∙ ap (λ w. made w (splitting (name_in d c.args.points.now.start.0) c.args.points.now.start.1) d.world) own)
+    (c.in_ok-tail.ensures.names ∙ ap (λ w. d.names ++ next_name (part_of d.world w) ∷ []) own)
+    (c.in_ok-tail.ensures.world ∙ ap (λ w. made w (splitting (name_in d c.args.points.now.start.0) c.args.points.now.start.1) d.world) own)
     c.in_ok-tail.ensures.key c.requires.start_is_child c.requires.parent_is_node c.requires.parent_own
-    (ap (λ w. has_node (part_of d.world w).trees (name_in d c.args.parent)) (sym c.requires.parent_own) ∙ c.laws.ensures.stand c.args.parent c.requires.parent_is_node) c.requires.open
+    (ap (λ w. has_node (part_of d.world w).trees (name_in d c.args.parent)) (sym c.requires.parent_own) ∙
+    c.laws.ensures.stand c.args.parent c.requires.parent_is_node) c.requires.open
 
 pub insert_at-requires-clause-child_is_child : goal.insert_at-requires-clause-child_is_child
 insert_at-requires-clause-child_is_child c b is =
@@ -48,9 +54,11 @@ insert_at-requires-clause-child_is_child c b is =
     let o = c.args.owner in
     let own = c.requires.start_is_child.owner ∙ c.requires.parent_own in
     let same : c.in_ok-tail.tail ≡ b = cc in
-    subst (IsChild c.split.new.self c.args.parent) same (split-child d c.split.new.self o c.args.points.now.start.0 c.args.points.now.start.1 c.args.parent c.args.node c.in_ok-tail.tail
+    subst (IsChild c.split.new.self c.args.parent) same
+    (split-child d c.split.new.self o c.args.points.now.start.0 c.args.points.now.start.1 c.args.parent c.args.node c.in_ok-tail.tail
     (subst (IsAlone d.world) c.requires.parent_own (c.laws.ensures.alone c.args.parent c.requires.parent_is_node)) (c.laws.ensures.parts o)
-    (c.in_ok-tail.ensures.names ∙ ap (λ w. d.names ++ next_name (part_of d.world w) ∷ []) own) (c.in_ok-tail.ensures.world ∙ ap (λ w. made w (splitting (name_in d c.args.points.now.start.0) c.args.points.now.start.1) d.world) own)
+    (c.in_ok-tail.ensures.names ∙ ap (λ w. d.names ++ next_name (part_of d.world w) ∷ []) own)
+    (c.in_ok-tail.ensures.world ∙ ap (λ w. made w (splitting (name_in d c.args.points.now.start.0) c.args.points.now.start.1) d.world) own)
     c.in_ok-tail.ensures.key c.requires.start_is_child c.requires.parent_is_node c.requires.parent_own)
 
 pub insert_at-requires-clause-bounds : goal.insert_at-requires-clause-bounds
@@ -60,9 +68,11 @@ insert_at-requires-clause-bounds c =
     let own = c.requires.start_is_child.owner ∙ c.requires.parent_own in
     split-bounds d c.split.new.self o c.args.points.now.start.0 c.args.points.now.start.1 c.args.parent c.args.node c.in_ok-tail.tail
     (subst (IsAlone d.world) c.requires.parent_own (c.laws.ensures.alone c.args.parent c.requires.parent_is_node)) (c.laws.ensures.parts o)
-    (c.in_ok-tail.ensures.names ∙ ap (λ w. d.names ++ next_name (part_of d.world w) ∷ []) own) (c.in_ok-tail.ensures.world ∙ ap (λ w. made w (splitting (name_in d c.args.points.now.start.0) c.args.points.now.start.1) d.world) own)
+    (c.in_ok-tail.ensures.names ∙ ap (λ w. d.names ++ next_name (part_of d.world w) ∷ []) own)
+    (c.in_ok-tail.ensures.world ∙ ap (λ w. made w (splitting (name_in d c.args.points.now.start.0) c.args.points.now.start.1) d.world) own)
     c.in_ok-tail.ensures.key c.requires.start_is_child c.requires.parent_is_node c.requires.parent_own
-    (ap (λ w. has_node (part_of d.world w).trees (name_in d c.args.points.now.start.0)) (sym own) ∙ c.laws.ensures.stand c.args.points.now.start.0 c.requires.start_is_child.node) c.requires.text c.requires.bounds
+    (ap (λ w. has_node (part_of d.world w).trees (name_in d c.args.points.now.start.0)) (sym own) ∙ c.laws.ensures.stand c.args.points.now.start.0
+    c.requires.start_is_child.node) c.requires.text c.requires.bounds
 
 pub returns-clause-world : goal.returns-clause-world
 returns-clause-world c =
@@ -71,6 +81,7 @@ returns-clause-world c =
     let own = c.requires.start_is_child.owner ∙ c.requires.parent_own in
     split-whole d c.split.new.self o c.args.points.now.start.0 c.args.points.now.start.1 c.args.parent c.args.node c.in_ok-tail.tail
     (subst (IsAlone d.world) c.requires.parent_own (c.laws.ensures.alone c.args.parent c.requires.parent_is_node)) (c.laws.ensures.parts o)
-    (c.in_ok-tail.ensures.names ∙ ap (λ w. d.names ++ next_name (part_of d.world w) ∷ []) own) (c.in_ok-tail.ensures.world ∙ ap (λ w. made w (splitting (name_in d c.args.points.now.start.0) c.args.points.now.start.1) d.world) own)
+    (c.in_ok-tail.ensures.names ∙ ap (λ w. d.names ++ next_name (part_of d.world w) ∷ []) own)
+    (c.in_ok-tail.ensures.world ∙ ap (λ w. made w (splitting (name_in d c.args.points.now.start.0) c.args.points.now.start.1) d.world) own)
     c.in_ok-tail.ensures.key c.requires.start_is_child c.requires.parent_is_node c.requires.parent_own
     c.requires.node_is_node c.insert_at.new.doc c.args.number (range_at_points d.names c.args.points.now) refl refl c.in_ok-insert_at.ensures

@@ -30,8 +30,11 @@ returns-in-Err-clause-tested c q e =
     let x = name_in d c.args.node in
     let r = range_at_points d.names c.range_points-points.result in
     let some = some-of (range_at p c.args.number) c.requires.there in
-    let there : range_at p c.args.number ≡ Some r = some.1 ∙ ap (λ a. Some a) (read-points p _ c.args.number some.0 _ _ some.1 c.range_points-points.ensures.value.0) in
-    let test : insert_node_refusal p.trees r x ≡ Some c.in-Err.refusal = sym (c.check.ensures ∙ ap (λ w. insert_node_refusal (part_of d.world w).trees r x) c.range_points-points.ensures.own_start) ∙ ap err_of c.in-Err.is in
+    let there : range_at p c.args.number ≡ Some r =
+    some.1 ∙ ap (λ a. Some a) (read-points p _ c.args.number some.0 _ _ some.1 c.range_points-points.ensures.value.0) in
+    let test : insert_node_refusal p.trees r x ≡ Some c.in-Err.refusal =
+    sym (c.check.ensures ∙ ap (λ w. insert_node_refusal (part_of d.world w).trees r x) c.range_points-points.ensures.own_start) ∙
+    ap err_of c.in-Err.is in
     let same : Some c.in-Err.refusal ≡ Some q = sym test ∙ (sym (tests-at o d.world c.args.number r x there) ∙ e) in
     let is : c.in-Err.refusal ≡ q = cc in
     ap (λ (a : Refusal). Err (Refused a)) is
@@ -44,9 +47,14 @@ returns-in-Err-clause-stopped c q e =
     let x = name_in d c.args.node in
     let r = range_at_points d.names c.range_points-points.result in
     let some = some-of (range_at p c.args.number) c.requires.there in
-    let there : range_at p c.args.number ≡ Some r = some.1 ∙ ap (λ a. Some a) (read-points p _ c.args.number some.0 _ _ some.1 c.range_points-points.ensures.value.0) in
-    let test : insert_node_refusal p.trees r x ≡ Some c.in-Err.refusal = sym (c.check.ensures ∙ ap (λ w. insert_node_refusal (part_of d.world w).trees r x) c.range_points-points.ensures.own_start) ∙ ap err_of c.in-Err.is in
-    let same : Some c.in-Err.refusal ≡ Some q = sym (ap (λ a. option_or a (limit_on p.node_count (made_by_insert_node p r))) test) ∙ (sym (refusal-at o d.world c.args.number r x there) ∙ e) in
+    let there : range_at p c.args.number ≡ Some r =
+    some.1 ∙ ap (λ a. Some a) (read-points p _ c.args.number some.0 _ _ some.1 c.range_points-points.ensures.value.0) in
+    let test : insert_node_refusal p.trees r x ≡ Some c.in-Err.refusal =
+    sym (c.check.ensures ∙ ap (λ w. insert_node_refusal (part_of d.world w).trees r x) c.range_points-points.ensures.own_start) ∙
+    ap err_of c.in-Err.is in
+    let same : Some c.in-Err.refusal ≡ Some q =
+    sym (ap (λ a. option_or a (limit_on p.node_count (made_by_insert_node p r))) test) ∙
+    (sym (refusal-at o d.world c.args.number r x there) ∙ e) in
     let is : c.in-Err.refusal ≡ q = cc in
     inl (ap (λ (a : Refusal). Err (Refused a)) is)
 
@@ -58,7 +66,8 @@ insert_tested-requires-clause-within c =
     let x = name_in d c.args.node in
     let r = range_at_points d.names c.range_points-points.result in
     let some = some-of (range_at p c.args.number) c.requires.there in
-    let there : range_at p c.args.number ≡ Some r = some.1 ∙ ap (λ a. Some a) (read-points p _ c.args.number some.0 _ _ some.1 c.range_points-points.ensures.value.0) in
+    let there : range_at p c.args.number ≡ Some r =
+    some.1 ∙ ap (λ a. Some a) (read-points p _ c.args.number some.0 _ _ some.1 c.range_points-points.ensures.value.0) in
     (within-at p c.args.number r c.requires.bounds there).0
 
 pub returns-clause-world : goal.returns-clause-world
@@ -69,8 +78,10 @@ returns-clause-world c =
     let x = name_in d c.args.node in
     let r = range_at_points d.names c.range_points-points.result in
     let some = some-of (range_at p c.args.number) c.requires.there in
-    let there : range_at p c.args.number ≡ Some r = some.1 ∙ ap (λ a. Some a) (read-points p _ c.args.number some.0 _ _ some.1 c.range_points-points.ensures.value.0) in
-    let more : c.insert_tested.new.doc.world ≡ made o (inserting_into_range c.args.number r x) d.world → c.insert_tested.new.doc.world ≡ made o (inserting_node c.args.number x) d.world = λ h. h ∙ steps-at o d.world c.args.number r x there in
+    let there : range_at p c.args.number ≡ Some r =
+    some.1 ∙ ap (λ a. Some a) (read-points p _ c.args.number some.0 _ _ some.1 c.range_points-points.ensures.value.0) in
+    let more : c.insert_tested.new.doc.world ≡ made o (inserting_into_range c.args.number r x) d.world →
+    c.insert_tested.new.doc.world ≡ made o (inserting_node c.args.number x) d.world = λ h. h ∙ steps-at o d.world c.args.number r x there in
     on_ok_weaker c.insert_tested.result more c.insert_tested.ensures.world
 
 pub returns-clause-stopped : goal.returns-clause-stopped
@@ -81,9 +92,13 @@ returns-clause-stopped c q e =
     let x = name_in d c.args.node in
     let r = range_at_points d.names c.range_points-points.result in
     let some = some-of (range_at p c.args.number) c.requires.there in
-    let there : range_at p c.args.number ≡ Some r = some.1 ∙ ap (λ a. Some a) (read-points p _ c.args.number some.0 _ _ some.1 c.range_points-points.ensures.value.0) in
-    let none : insert_node_refusal p.trees r x ≡ None = sym (c.check.ensures ∙ ap (λ w. insert_node_refusal (part_of d.world w).trees r x) c.range_points-points.ensures.own_start) ∙ ap err_of c.in_default.is in
-    c.insert_tested.ensures.stopped q (sym (ap (λ a. option_or a (limit_on p.node_count (made_by_insert_node p r))) none) ∙ (sym (refusal-at o d.world c.args.number r x there) ∙ e))
+    let there : range_at p c.args.number ≡ Some r =
+    some.1 ∙ ap (λ a. Some a) (read-points p _ c.args.number some.0 _ _ some.1 c.range_points-points.ensures.value.0) in
+    let none : insert_node_refusal p.trees r x ≡ None =
+    sym (c.check.ensures ∙ ap (λ w. insert_node_refusal (part_of d.world w).trees r x) c.range_points-points.ensures.own_start) ∙
+    ap err_of c.in_default.is in
+    c.insert_tested.ensures.stopped q (sym (ap (λ a. option_or a (limit_on p.node_count (made_by_insert_node p r))) none) ∙
+    (sym (refusal-at o d.world c.args.number r x there) ∙ e))
 
 pub returns-clause-ready : goal.returns-clause-ready
 returns-clause-ready c h =
@@ -96,12 +111,16 @@ returns-clause-ready c h =
     let r = range_at_points d.names c.range_points-points.result in
     let some = some-of (range_at p n) c.requires.there in
     let there : range_at p n ≡ Some r = some.1 ∙ ap (λ a. Some a) (read-points p _ n some.0 _ _ some.1 k.value.0) in
-    let none : insert_node_refusal p.trees r x ≡ None = sym (c.check.ensures ∙ ap (λ w. insert_node_refusal (part_of d.world w).trees r x) k.own_start) ∙ ap err_of c.in_default.is in
+    let none : insert_node_refusal p.trees r x ≡ None =
+    sym (c.check.ensures ∙ ap (λ w. insert_node_refusal (part_of d.world w).trees r x) k.own_start) ∙ ap err_of c.in_default.is in
     let shown : HasLaws d = record { alone = c.laws.ensures.alone; parts = c.laws.ensures.parts; stand = c.laws.ensures.stand } in
-    let keep = λ (i : IsPart p) (h : IsReadyPart p). ready-inserting_into_range p i h n x (stands-in d c.args.node o shown c.requires.node_is_node c.requires.own)
-    (λ q e. let both : Some r ≡ Some q = sym there ∙ e in let same : r ≡ q = cc in subst (λ (a : Range NodeName). insert_node_refusal p.trees a x ≡ None) same none) in
+    let keep = λ (i : IsPart p) (h : IsReadyPart p). ready-inserting_into_range p i h n x
+    (stands-in d c.args.node o shown c.requires.node_is_node c.requires.own)
+    (λ q e. let both : Some r ≡ Some q = sym there ∙
+    e in let same : r ≡ q = cc in subst (λ (a : Range NodeName). insert_node_refusal p.trees a x ≡ None) same none) in
     on_ok_weaker c.insert_tested.result
-    (λ w. ready-planned d c.range_points-points.result.start.0 o (inserting_node n x) c.insert_tested.new.doc.world shown k.start_is_node k.own_start w h keep) (returns-clause-world c)
+    (λ w. ready-planned d c.range_points-points.result.start.0 o (inserting_node n x) c.insert_tested.new.doc.world shown k.start_is_node
+    k.own_start w h keep) (returns-clause-world c)
 
 pub returns-clause-there : goal.returns-clause-there
 returns-clause-there c h =
@@ -114,9 +133,13 @@ returns-clause-there c h =
     let r = range_at_points d.names c.range_points-points.result in
     let some = some-of (range_at p n) c.requires.there in
     let there : range_at p n ≡ Some r = some.1 ∙ ap (λ a. Some a) (read-points p _ n some.0 _ _ some.1 k.value.0) in
-    let none : insert_node_refusal p.trees r x ≡ None = sym (c.check.ensures ∙ ap (λ w. insert_node_refusal (part_of d.world w).trees r x) k.own_start) ∙ ap err_of c.in_default.is in
+    let none : insert_node_refusal p.trees r x ≡ None =
+    sym (c.check.ensures ∙ ap (λ w. insert_node_refusal (part_of d.world w).trees r x) k.own_start) ∙ ap err_of c.in_default.is in
     let shown : HasLaws d = record { alone = c.laws.ensures.alone; parts = c.laws.ensures.parts; stand = c.laws.ensures.stand } in
-    let keep = λ (i : IsPart p) (h : IsReadyPart p). ready-inserting_into_range p i h n x (stands-in d c.args.node o shown c.requires.node_is_node c.requires.own)
-    (λ q e. let both : Some r ≡ Some q = sym there ∙ e in let same : r ≡ q = cc in subst (λ (a : Range NodeName). insert_node_refusal p.trees a x ≡ None) same none) in
+    let keep = λ (i : IsPart p) (h : IsReadyPart p). ready-inserting_into_range p i h n x
+    (stands-in d c.args.node o shown c.requires.node_is_node c.requires.own)
+    (λ q e. let both : Some r ≡ Some q = sym there ∙
+    e in let same : r ≡ q = cc in subst (λ (a : Range NodeName). insert_node_refusal p.trees a x ≡ None) same none) in
     on_ok_weaker c.insert_tested.result
-    (λ w. range-there d c.range_points-points.result.start.0 o (inserting_node n x) c.insert_tested.new.doc.world shown k.start_is_node k.own_start w (keep (shown.parts o) (h o)) n c.requires.there) (returns-clause-world c)
+    (λ w. range-there d c.range_points-points.result.start.0 o (inserting_node n x) c.insert_tested.new.doc.world shown k.start_is_node
+    k.own_start w (keep (shown.parts o) (h o)) n c.requires.there) (returns-clause-world c)

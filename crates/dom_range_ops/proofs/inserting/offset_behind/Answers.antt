@@ -17,7 +17,8 @@ overflow_add-result c =
       | in-Some w ↦
           let child = c.requires.child_is_child w.in-Some.child w.in-Some.is in
           let o = owner_in d c.args.parent in
-          let less = index_limited (part_of d.world o) (c.laws.ensures.parts o) (c.laws.ensures.limited o) (name_in d w.in-Some.child) (name_in d c.args.parent) child.child in
+          let less = index_limited (part_of d.world o) (c.laws.ensures.parts o) (c.laws.ensures.limited o) (name_in d w.in-Some.child)
+          (name_in d c.args.parent) child.child in
           let is = w.place-is ∙ w.index-place.ensures ∙ ap (λ q. index_of (part_of d.world q).trees (name_in d w.in-Some.child)) child.owner in
           omega (arith, less, is)
       | in-None w ↦

@@ -23,12 +23,21 @@ loop-piece-preserved c =
       | then-is_made w ↦
           let one = w.count-is in
           let few = inv.few in
-          record { few = omega (arith, one, few); value = λ names. let g = grown names in let v = inv.value names in let yes = ap {B = ℕ} (λ b. if b then 1 else 0) w.if-is_made.true in omega (arith, one, g, v, yes) }
+          record {
+            few = omega (arith, one, few);
+            value = λ names. let g = grown names in let v = inv.value names in let yes =
+                ap {B = ℕ} (λ b. if b then 1 else 0) w.if-is_made.true in omega (arith, one, g, v, yes);
+          }
       | else-is_made w ↦
           let one = w.count-is in
           let few = inv.few in
-          record { few = omega (arith, one, few); value = λ names. let g = grown names in let v = inv.value names in let no = ap {B = ℕ} (λ b. if b then 1 else 0) w.if-is_made.false in omega (arith, one, g, v, no) }
+          record {
+            few = omega (arith, one, few);
+            value = λ names. let g = grown names in let v = inv.value names in let no =
+                ap {B = ℕ} (λ b. if b then 1 else 0) w.if-is_made.false in omega (arith, one, g, v, no);
+          }
     ]
 
 pub returns : goal.returns
-returns c names = c.loop-piece.invariant.value names ∙ ap (λ ps. made_by (map (item_in names) ps)) (all-taken c.args.pieces.now c.loop-piece.piece-index c.loop-piece-test.false)
+returns c names = c.loop-piece.invariant.value names ∙ ap (λ ps. made_by (map (item_in names) ps))
+    (all-taken c.args.pieces.now c.loop-piece.piece-index c.loop-piece-test.false)

@@ -12,38 +12,53 @@ use Rattle.dom_range_ops.proofs.points.beyond.Goals as goal
 pub returns-then-is_some-clause-value : goal.returns-then-is_some-clause-value
 returns-then-is_some-clause-value c =
     let f = c.args.forest.now in
-    let apart = other_name f c.nodes_stand_once.ensures.distinct c.loop-top.at c.args.top c.loop-top.invariant.stands.node c.requires.top_is_node (sym c.loop-top-test.ensures) in
-    (next_step f c.nodes_stand_once.ensures.once c.nodes_stand_once.ensures.only c.args.top c.loop-top.at c.next-next.result c.loop-top.invariant.stands apart c.next-next.ensures.value c.next-next.ensures.node (sym c.if-is_some.ensures)).0
+    let apart = other_name f c.nodes_stand_once.ensures.distinct c.loop-top.at c.args.top c.loop-top.invariant.stands.node c.requires.top_is_node
+    (sym c.loop-top-test.ensures) in
+    (next_step f c.nodes_stand_once.ensures.once c.nodes_stand_once.ensures.only c.args.top c.loop-top.at c.next-next.result
+    c.loop-top.invariant.stands apart c.next-next.ensures.value c.next-next.ensures.node (sym c.if-is_some.ensures)).0
     ∙ ap first_of c.loop-top.invariant.left
 
 pub returns-then-is_some-clause-stands : goal.returns-then-is_some-clause-stands
 returns-then-is_some-clause-stands c =
     let f = c.args.forest.now in
-    let apart = other_name f c.nodes_stand_once.ensures.distinct c.loop-top.at c.args.top c.loop-top.invariant.stands.node c.requires.top_is_node (sym c.loop-top-test.ensures) in
-    (next_step f c.nodes_stand_once.ensures.once c.nodes_stand_once.ensures.only c.args.top c.loop-top.at c.next-next.result c.loop-top.invariant.stands apart c.next-next.ensures.value c.next-next.ensures.node (sym c.if-is_some.ensures)).1
+    let apart = other_name f c.nodes_stand_once.ensures.distinct c.loop-top.at c.args.top c.loop-top.invariant.stands.node c.requires.top_is_node
+    (sym c.loop-top-test.ensures) in
+    (next_step f c.nodes_stand_once.ensures.once c.nodes_stand_once.ensures.only c.args.top c.loop-top.at c.next-next.result
+    c.loop-top.invariant.stands apart c.next-next.ensures.value c.next-next.ensures.node (sym c.if-is_some.ensures)).1
 
 pub returns-in_err-at-clause-value : goal.returns-in_err-at-clause-value
 returns-in_err-at-clause-value c =
     let f = c.args.forest.now in
-    let apart = other_name f c.nodes_stand_once.ensures.distinct c.loop-top.at c.args.top c.loop-top.invariant.stands.node c.requires.top_is_node (sym c.loop-top-test.ensures) in
-    absurd (climb_ends f c.nodes_stand_once.ensures.once c.nodes_stand_once.ensures.only c.args.top c.loop-top.at None c.loop-top.invariant.stands apart c.in_err-at.ensures.value refl)
+    let apart = other_name f c.nodes_stand_once.ensures.distinct c.loop-top.at c.args.top c.loop-top.invariant.stands.node c.requires.top_is_node
+    (sym c.loop-top-test.ensures) in
+    absurd (climb_ends f c.nodes_stand_once.ensures.once c.nodes_stand_once.ensures.only c.args.top c.loop-top.at None c.loop-top.invariant.stands
+    apart c.in_err-at.ensures.value refl)
 
 pub loop-top-smaller : goal.loop-top-smaller
 loop-top-smaller c =
     let f = c.args.forest.now in
-    let apart = other_name f c.nodes_stand_once.ensures.distinct c.loop-top.at c.args.top c.loop-top.invariant.stands.node c.requires.top_is_node (sym c.loop-top-test.ensures) in
-    (climb_step f c.nodes_stand_once.ensures.once c.nodes_stand_once.ensures.only c.args.top c.loop-top.at c.in_ok-at.at c.next-next.result (Some c.in_ok-at.at) c.loop-top.invariant.stands apart c.next-next.ensures.value (sym c.if-is_some.ensures) c.in_ok-at.ensures.value refl (c.in_ok-at.ensures.node c.in_ok-at.at refl)).higher
+    let apart = other_name f c.nodes_stand_once.ensures.distinct c.loop-top.at c.args.top c.loop-top.invariant.stands.node c.requires.top_is_node
+    (sym c.loop-top-test.ensures) in
+    (climb_step f c.nodes_stand_once.ensures.once c.nodes_stand_once.ensures.only c.args.top c.loop-top.at c.in_ok-at.at c.next-next.result
+    (Some c.in_ok-at.at) c.loop-top.invariant.stands apart c.next-next.ensures.value (sym c.if-is_some.ensures) c.in_ok-at.ensures.value refl
+    (c.in_ok-at.ensures.node c.in_ok-at.at refl)).higher
 
 pub loop-top-preserved : goal.loop-top-preserved
 loop-top-preserved c =
     let f = c.args.forest.now in
-    let apart = other_name f c.nodes_stand_once.ensures.distinct c.loop-top.at c.args.top c.loop-top.invariant.stands.node c.requires.top_is_node (sym c.loop-top-test.ensures) in
-    let up = climb_step f c.nodes_stand_once.ensures.once c.nodes_stand_once.ensures.only c.args.top c.loop-top.at c.in_ok-at.at c.next-next.result (Some c.in_ok-at.at) c.loop-top.invariant.stands apart c.next-next.ensures.value (sym c.if-is_some.ensures) c.in_ok-at.ensures.value refl (c.in_ok-at.ensures.node c.in_ok-at.at refl) in
+    let apart = other_name f c.nodes_stand_once.ensures.distinct c.loop-top.at c.args.top c.loop-top.invariant.stands.node c.requires.top_is_node
+    (sym c.loop-top-test.ensures) in
+    let up = climb_step f c.nodes_stand_once.ensures.once c.nodes_stand_once.ensures.only c.args.top c.loop-top.at c.in_ok-at.at
+    c.next-next.result (Some c.in_ok-at.at) c.loop-top.invariant.stands apart c.next-next.ensures.value (sym c.if-is_some.ensures)
+    c.in_ok-at.ensures.value refl (c.in_ok-at.ensures.node c.in_ok-at.at refl) in
     record { stands = up.stands; left = sym up.beyond_is ∙ c.loop-top.invariant.left }
 
 pub returns-clause-value : goal.returns-clause-value
 returns-clause-value c =
     let f = c.args.forest.now in
-    let same : name_at f.names c.loop-top.at ≡ name_at f.names c.args.top = ap (name_at f.names) (eqb-true c.loop-top.at c.args.top (not-false _ (sym c.loop-top-test.ensures))) in
-    let w = subst (IsWithin f.trees (name_at f.names c.args.top)) same (IsWithin-key f c.nodes_stand_once.ensures.once c.nodes_stand_once.ensures.only c.args.top c.loop-top.at c.loop-top.invariant.stands) in
-    ap first_of (sym (ap (beyond f.trees (name_at f.names c.args.top)) same ∙ (top_places f.trees (name_at f.names c.args.top) w).1) ∙ c.loop-top.invariant.left)
+    let same : name_at f.names c.loop-top.at ≡ name_at f.names c.args.top =
+    ap (name_at f.names) (eqb-true c.loop-top.at c.args.top (not-false _ (sym c.loop-top-test.ensures))) in
+    let w = subst (IsWithin f.trees (name_at f.names c.args.top)) same
+    (IsWithin-key f c.nodes_stand_once.ensures.once c.nodes_stand_once.ensures.only c.args.top c.loop-top.at c.loop-top.invariant.stands) in
+    ap first_of (sym (ap (beyond f.trees (name_at f.names c.args.top)) same ∙ (top_places f.trees (name_at f.names c.args.top) w).1) ∙
+    c.loop-top.invariant.left)

@@ -16,7 +16,8 @@ returns-in_err-at-clause-value c =
     let f = c.args.forest.now in
     ap (option_map (name_at f.names)) c.from_residual.ensures
     ∙ kid-none f.trees (name_at f.names c.args.node) c.args.index c.loop-left.left
-    (subst (λ (o : Option NodeName). IsAtKid f.trees (name_at f.names c.args.node) c.args.index c.loop-left.left o) (ap (option_map (name_at f.names)) c.in_err-at.was) c.loop-left.invariant.kid)
+    (subst (λ (o : Option NodeName). IsAtKid f.trees (name_at f.names c.args.node) c.args.index c.loop-left.left o)
+    (ap (option_map (name_at f.names)) c.in_err-at.was) c.loop-left.invariant.kid)
 
 pub next-at-requires : goal.next-at-requires
 next-at-requires c = c.loop-left.invariant.node c.in_ok-at.field-0 c.in_ok-at.was
@@ -29,9 +30,11 @@ loop-left-preserved c =
     let more : c.loop-left.left ≡ suc (c.loop-left.left - 1) = omega arith in
     record {
       node = c.next-at.ensures.node;
-      kid = kid-next f.trees (name_at f.names c.args.node) (name_at f.names c.in_ok-at.field-0) c.args.index (c.loop-left.left - 1) _ (Once-forest f e.once e.only) (Has-forest f e.once c.args.node c.requires)
+      kid = kid-next f.trees (name_at f.names c.args.node) (name_at f.names c.in_ok-at.field-0) c.args.index (c.loop-left.left - 1) _
+          (Once-forest f e.once e.only) (Has-forest f e.once c.args.node c.requires)
           (subst (λ n. IsAtKid f.trees (name_at f.names c.args.node) c.args.index n (Some (name_at f.names c.in_ok-at.field-0))) more
-          (subst (λ (o : Option NodeName). IsAtKid f.trees (name_at f.names c.args.node) c.args.index c.loop-left.left o) (ap (option_map (name_at f.names)) c.in_ok-at.was) c.loop-left.invariant.kid))
+          (subst (λ (o : Option NodeName). IsAtKid f.trees (name_at f.names c.args.node) c.args.index c.loop-left.left o)
+          (ap (option_map (name_at f.names)) c.in_ok-at.was) c.loop-left.invariant.kid))
           c.next-at.ensures.value;
     }
 
@@ -40,7 +43,9 @@ returns-clause-value c =
     let f = c.args.forest.now in
     let over = c.loop-left-test.false in
     let none : c.loop-left.left ≡ 0 = omega arith in
-    kid-there f.trees (name_at f.names c.args.node) c.args.index _ (subst (λ n. IsAtKid f.trees (name_at f.names c.args.node) c.args.index n (option_map (name_at f.names) c.loop-left.at)) none c.loop-left.invariant.kid)
+    kid-there f.trees (name_at f.names c.args.node) c.args.index _
+    (subst (λ n. IsAtKid f.trees (name_at f.names c.args.node) c.args.index n (option_map (name_at f.names) c.loop-left.at)) none
+    c.loop-left.invariant.kid)
 
 pub returns-clause-node : goal.returns-clause-node
 returns-clause-node c = c.loop-left.invariant.node

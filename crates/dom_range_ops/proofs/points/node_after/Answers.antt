@@ -15,7 +15,8 @@ returns-then-is_some-clause-value c =
     let w = IsWithin-key f e.once e.only c.args.top c.args.point.0 c.requires.stands in
     let k = was_some c.child_at-child.result (sym c.if-is_some.ensures) in
     let is = ap (option_map (name_at f.names)) k.1 in
-    is ∙ (after-child f.trees (name_at f.names c.args.top) (at (name_at f.names c.args.point.0) c.args.point.1) w (name_at f.names k.0) (sym is ∙ c.child_at-child.ensures.value)).0
+    is ∙ (after-child f.trees (name_at f.names c.args.top) (at (name_at f.names c.args.point.0) c.args.point.1) w (name_at f.names k.0)
+    (sym is ∙ c.child_at-child.ensures.value)).0
 
 pub returns-then-is_some-clause-stands : goal.returns-then-is_some-clause-stands
 returns-then-is_some-clause-stands c k there =
@@ -23,7 +24,8 @@ returns-then-is_some-clause-stands c k there =
     let e = c.nodes_stand_once.ensures in
     let w = IsWithin-key f e.once e.only c.args.top c.args.point.0 c.requires.stands in
     let is = ap (option_map (name_at f.names)) there in
-    let inside = (after-child f.trees (name_at f.names c.args.top) (at (name_at f.names c.args.point.0) c.args.point.1) w (name_at f.names k) (sym is ∙ c.child_at-child.ensures.value)).1 in
+    let inside = (after-child f.trees (name_at f.names c.args.top) (at (name_at f.names c.args.point.0) c.args.point.1) w (name_at f.names k)
+    (sym is ∙ c.child_at-child.ensures.value)).1 in
     record { node = c.child_at-child.ensures.node k there; within = above-within f.trees (name_at f.names c.args.top) (name_at f.names k) inside }
 
 pub returns-clause-value : goal.returns-clause-value
@@ -32,4 +34,5 @@ returns-clause-value c =
     let e = c.nodes_stand_once.ensures in
     let w = IsWithin-key f e.once e.only c.args.top c.args.point.0 c.requires.stands in
     let none = ap (option_map (name_at f.names)) (was_none c.child_at-child.result (sym c.if-is_some.ensures)) in
-    c.beyond.ensures.value ∙ after-tree f.trees (name_at f.names c.args.top) (at (name_at f.names c.args.point.0) c.args.point.1) w (sym none ∙ c.child_at-child.ensures.value)
+    c.beyond.ensures.value ∙ after-tree f.trees (name_at f.names c.args.top) (at (name_at f.names c.args.point.0) c.args.point.1) w
+    (sym none ∙ c.child_at-child.ensures.value)

@@ -16,10 +16,13 @@ insert_before-requires-clause-may_move c =
     let d = c.args.doc.now in
     let e = c.add.new.self in
     let top = c.args.top in
-    let owner : c.name-owner.result.owner ≡ owner_in d top = ap (λ (y : NodeName). y.owner) (sym c.name-owner.ensures.at) ∙ ap (λ (ns : List NodeName). (name_at ns top).owner) c.forest.ensures.names in
+    let owner : c.name-owner.result.owner ≡ owner_in d top =
+    ap (λ (y : NodeName). y.owner) (sym c.name-owner.ensures.at) ∙ ap (λ (ns : List NodeName). (name_at ns top).owner)
+    c.forest.ensures.names in
     let n = node_from d.names (next_name (part_of d.world (owner_in d top))) c.args.node in
     subst (MayMove e top None) (sym c.in_ok-new.ensures.key)
-    (new-moves d e top n c.requires.top_is_node (c.laws.ensures.alone top c.requires.top_is_node) (c.laws.ensures.parts _) (c.laws.ensures.stand top c.requires.top_is_node) refl
+    (new-moves d e top n c.requires.top_is_node (c.laws.ensures.alone top c.requires.top_is_node) (c.laws.ensures.parts _)
+    (c.laws.ensures.stand top c.requires.top_is_node) refl
     (c.in_ok-new.ensures.names ∙ ap (λ (o : Owner). d.names ++ next_name (part_of d.world o) ∷ []) owner)
     (c.in_ok-new.ensures.world ∙ ap (λ (o : Owner). made o (doing (make (node_from d.names (next_name (part_of d.world o)) c.args.node))) d.world) owner))
 
@@ -27,9 +30,12 @@ pub insert_before-requires-clause-bounds : goal.insert_before-requires-clause-bo
 insert_before-requires-clause-bounds c =
     let d = c.args.doc.now in
     let top = c.args.top in
-    let owner : c.name-owner.result.owner ≡ owner_in d top = ap (λ (y : NodeName). y.owner) (sym c.name-owner.ensures.at) ∙ ap (λ (ns : List NodeName). (name_at ns top).owner) c.forest.ensures.names in
+    let owner : c.name-owner.result.owner ≡ owner_in d top =
+    ap (λ (y : NodeName). y.owner) (sym c.name-owner.ensures.at) ∙ ap (λ (ns : List NodeName). (name_at ns top).owner)
+    c.forest.ensures.names in
     let y = next_name (part_of d.world (owner_in d top)) in
-    bounds_added d c.add.new.self top y (node_from d.names y c.args.node) c.requires.top_is_node (c.laws.ensures.alone top c.requires.top_is_node) (c.laws.ensures.parts _) c.requires.bounds
+    bounds_added d c.add.new.self top y (node_from d.names y c.args.node) c.requires.top_is_node (c.laws.ensures.alone top c.requires.top_is_node)
+    (c.laws.ensures.parts _) c.requires.bounds
     (c.in_ok-new.ensures.names ∙ ap (λ (o : Owner). d.names ++ next_name (part_of d.world o) ∷ []) owner)
     (c.in_ok-new.ensures.world ∙ ap (λ (o : Owner). made o (doing (make (node_from d.names (next_name (part_of d.world o)) c.args.node))) d.world) owner)
 
@@ -38,9 +44,13 @@ returns-clause-world c =
     let d = c.args.doc.now in
     let e = c.add.new.self in
     let top = c.args.top in
-    let owner : c.name-owner.result.owner ≡ owner_in d top = ap (λ (y : NodeName). y.owner) (sym c.name-owner.ensures.at) ∙ ap (λ (ns : List NodeName). (name_at ns top).owner) c.forest.ensures.names in
+    let owner : c.name-owner.result.owner ≡ owner_in d top =
+    ap (λ (y : NodeName). y.owner) (sym c.name-owner.ensures.at) ∙ ap (λ (ns : List NodeName). (name_at ns top).owner)
+    c.forest.ensures.names in
     let n = node_from d.names (next_name (part_of d.world (owner_in d top))) c.args.node in
-    below-made d e top n c.requires.top_is_node (c.laws.ensures.alone top c.requires.top_is_node) (c.laws.ensures.parts _) (c.laws.ensures.stand top c.requires.top_is_node) refl
+    below-made d e top n c.requires.top_is_node (c.laws.ensures.alone top c.requires.top_is_node) (c.laws.ensures.parts _)
+    (c.laws.ensures.stand top c.requires.top_is_node) refl
     (c.in_ok-new.ensures.names ∙ ap (λ (o : Owner). d.names ++ next_name (part_of d.world o) ∷ []) owner)
     (c.in_ok-new.ensures.world ∙ ap (λ (o : Owner). made o (doing (make (node_from d.names (next_name (part_of d.world o)) c.args.node))) d.world) owner)
-    c.insert_before.new.self (c.in_ok-insert_before.ensures.state ∙ ap (λ k. planned (owner_in e top) (inserting observed (name_in e k) (name_in e top) None) e) c.in_ok-new.ensures.key)
+    c.insert_before.new.self (c.in_ok-insert_before.ensures.state ∙
+    ap (λ k. planned (owner_in e top) (inserting observed (name_in e k) (name_in e top) None) e) c.in_ok-new.ensures.key)

@@ -18,8 +18,10 @@ add_below-requires-clause-no_shadow c =
     let d = c.args.doc.now in
     let f = c.forest-forest.result.now in
     let o = owner_in d c.args.top in
-    let read = node-read d f o c.args.node c.forest-forest.ensures.owned c.forest-forest.ensures.names (c.forest-forest.ensures.trees o) c.requires.node_owner in
-    ap is_shadow (c.in_ok-copy.ensures.kind ∙ ap (λ (n : Node). n.kind) read) ∙ data-no_shadow (kind_of (trees_in d c.args.top) (name_in d c.args.node)) c.requires.units
+    let read = node-read d f o c.args.node c.forest-forest.ensures.owned c.forest-forest.ensures.names (c.forest-forest.ensures.trees o)
+    c.requires.node_owner in
+    ap is_shadow (c.in_ok-copy.ensures.kind ∙ ap (λ (n : Node). n.kind) read) ∙
+    data-no_shadow (kind_of (trees_in d c.args.top) (name_in d c.args.node)) c.requires.units
 
 pub returns-clause-world : goal.returns-clause-world
 returns-clause-world c =
@@ -30,11 +32,16 @@ returns-clause-world c =
     let x = name_in d c.args.node in
     let y = next_name (part_of d.world o) in
     let n = node_from d.names y c.in_ok-copy.copy in
-    let read = node-read d f o c.args.node c.forest-forest.ensures.owned c.forest-forest.ensures.names (c.forest-forest.ensures.trees o) c.requires.node_owner in
+    let read = node-read d f o c.args.node c.forest-forest.ensures.owned c.forest-forest.ensures.names (c.forest-forest.ensures.trees o)
+    c.requires.node_owner in
     let is : n ≡ clone_part y c.args.from c.args.to (node_in (trees_in d c.args.top) x) =
-    ap (λ (ns : List NodeName). node_from ns y c.in_ok-copy.copy) (sym c.forest-forest.ensures.names) ∙ c.in_ok-copy.ensures.value y ∙ ap (clone_part y c.args.from c.args.to) read in
+    ap (λ (ns : List NodeName). node_from ns y c.in_ok-copy.copy) (sym c.forest-forest.ensures.names) ∙ c.in_ok-copy.ensures.value y ∙
+    ap (clone_part y c.args.from c.args.to) read in
     let count = c.saturating_sub.result in
-    units-made d e c.delete_data.new.self c.args.top c.args.node n c.args.from count (c.laws.ensures.alone c.args.top c.requires.top_is_node) (owner-part_of d.world o) c.requires.node_owner
-    (name-kept d e (y ∷ []) c.args.node c.in_ok-add_below.ensures.names c.requires.node_is_node) c.in_ok-add_below.ensures.world c.in_ok-delete_data.ensures.state
+    units-made d e c.delete_data.new.self c.args.top c.args.node n c.args.from count (c.laws.ensures.alone c.args.top c.requires.top_is_node)
+    (owner-part_of d.world o) c.requires.node_owner
+    (name-kept d e (y ∷ []) c.args.node c.in_ok-add_below.ensures.names c.requires.node_is_node) c.in_ok-add_below.ensures.world
+    c.in_ok-delete_data.ensures.state
     ∙ ap (λ (m : Node). made o (making_below (name_in d c.args.top) m and_then replacing_data x c.args.from count []) d.world) is
-    ∙ ap (λ k. made o (making_below (name_in d c.args.top) (clone_part y c.args.from c.args.to (node_in (trees_in d c.args.top) x)) and_then replacing_data x c.args.from k []) d.world) c.saturating_sub.ensures
+    ∙ ap (λ k. made o (making_below (name_in d c.args.top) (clone_part y c.args.from c.args.to (node_in (trees_in d c.args.top) x)) and_then
+    replacing_data x c.args.from k []) d.world) c.saturating_sub.ensures

@@ -35,8 +35,11 @@ loop-at-init c =
     let e = c.nodes_stand_once.ensures in
     record {
       stands = c.node_after-at.ensures.stands;
-      leads = leads-from f e.once e.only c.args.points.now c.requires.bounded c.root-top.result c.root-top.ensures.value c.requires.ordered c.node_after-at.result c.node_after-at.ensures.value;
-      left = ap (λ xs. c.args.text.now.items ++ xs) (text-from f e.once e.only c.args.points.now c.requires.bounded c.root-top.result c.root-top.ensures.value c.node_after-at.result c.node_after-at.ensures.value);
+      leads = leads-from f e.once e.only c.args.points.now c.requires.bounded c.root-top.result c.root-top.ensures.value c.requires.ordered
+          c.node_after-at.result c.node_after-at.ensures.value;
+      left = ap (λ xs. c.args.text.now.items ++ xs)
+          (text-from f e.once e.only c.args.points.now c.requires.bounded c.root-top.result c.root-top.ensures.value c.node_after-at.result
+          c.node_after-at.ensures.value);
     }
 
 pub text_part-requires-clause-node : goal.text_part-requires-clause-node
@@ -52,7 +55,8 @@ pub loop-at-smaller : goal.loop-at-smaller
 loop-at-smaller c =
     let f = c.args.forest.now in
     let e = c.nodes_stand_once.ensures in
-    let step = following_step f e.once e.only c.root-top.result c.in-Some.key c.following-at.result (c.loop-at.invariant.stands c.in-Some.key c.in-Some.is) c.following-at.ensures.value c.following-at.ensures.node in
+    let step = following_step f e.once e.only c.root-top.result c.in-Some.key c.following-at.result
+    (c.loop-at.invariant.stands c.in-Some.key c.in-Some.is) c.following-at.ensures.value c.following-at.ensures.node in
     length-behind f c.root-top.result c.in-Some.key c.loop-at.at c.following-at.result c.in-Some.is step.0
 
 pub loop-at-preserved : goal.loop-at-preserved
@@ -61,7 +65,8 @@ loop-at-preserved c =
     let e = c.nodes_stand_once.ensures in
     let points = c.args.points.now in
     let stands = c.loop-at.invariant.stands c.in-Some.key c.in-Some.is in
-    let step = following_step f e.once e.only c.root-top.result c.in-Some.key c.following-at.result stands c.following-at.ensures.value c.following-at.ensures.node in
+    let step = following_step f e.once e.only c.root-top.result c.in-Some.key c.following-at.result stands c.following-at.ensures.value
+    c.following-at.ensures.node in
     let r = range_at_points f.names points in
     let bounded = is-bounded f e.once e.only points c.requires.bounded in
     let part : NodeName → List ℕ = text_part f.trees r in
@@ -74,7 +79,8 @@ loop-at-preserved c =
     let left : old ++ contained_text f.trees r (x ∷ xs) ≡ all = ap (λ ys. old ++ contained_text f.trees r ys) (sym is) ∙ c.loop-at.invariant.left in
     let off : Some x ≡ first_of (nodes_after f.trees (root_of f.trees r.start.node) r.end) → ⊥ = λ first.
     let found = key-found f e.distinct c.node_after-stop.result c.in-Some.key (λ k there. (c.node_after-stop.ensures.stands k there).node) stands.node
-    (stop-is f e.once e.only points c.requires.bounded c.root-top.result c.root-top.ensures.value c.node_after-stop.result c.node_after-stop.ensures.value ∙ sym first) in
+    (stop-is f e.once e.only points c.requires.bounded c.root-top.result c.root-top.ensures.value c.node_after-stop.result
+    c.node_after-stop.ensures.value ∙ sym first) in
     true≢false (sym (c.is_node.ensures.1 found) ∙ c.if-is_node.false) in
     let next = go-on f.trees r bounded x xs (subst (Leads f.trees r) is c.loop-at.invariant.leads) off in
     let grown : new ≡ old ++ (if name_eq x r.end.node then [] else part x) = elim c.if-ne.branch [
@@ -82,18 +88,22 @@ loop-at-preserved c =
           ap (λ v. v.items) w.text-is
           ∙ (w.in_ok-extend_from_slice.ensures.items
           ∙ (ap (λ ys. old ++ ys) w.text_part.ensures
-          ∙ ap (λ ys. old ++ ys) (sym (cond-false (name_eq x r.end.node) [] (part x) (name_eq-other x r.end.node (other_name f e.distinct c.in-Some.key points.end.0 stands.node c.requires.bounded.ends.end (sym w.if-ne.ensures)))))))
+          ∙ ap (λ ys. old ++ ys) (sym (cond-false (name_eq x r.end.node) [] (part x)
+          (name_eq-other x r.end.node
+          (other_name f e.distinct c.in-Some.key points.end.0 stands.node c.requires.bounded.ends.end (sym w.if-ne.ensures)))))))
       | else-ne w ↦
           ap (λ v. v.items) w.text-is
           ∙ (sym (append-nil old)
-          ∙ ap (λ ys. old ++ ys) (sym (cond-true (name_eq x r.end.node) [] (part x) (name_eq-from x r.end.node (ap (name_at f.names) (eqb-true c.in-Some.key points.end.0 (not-false _ (sym w.if-ne.ensures))))))))
+          ∙ ap (λ ys. old ++ ys) (sym (cond-true (name_eq x r.end.node) [] (part x)
+          (name_eq-from x r.end.node (ap (name_at f.names) (eqb-true c.in-Some.key points.end.0 (not-false _ (sym w.if-ne.ensures))))))))
     ] in
     record {
       stands = step.1;
       leads = subst (Leads f.trees r) step.0 next.1;
       left = ap (λ ys. new ++ contained_text f.trees r ys) (sym step.0)
           ∙ (ap (λ ys. ys ++ contained_text f.trees r xs) grown
-          ∙ (append_assoc old (if name_eq x r.end.node then [] else part x) (contained_text f.trees r xs) ∙ (ap (λ ys. old ++ ys) (sym (text-step f.trees r bounded x xs next.0)) ∙ left)));
+          ∙ (append_assoc old (if name_eq x r.end.node then [] else part x) (contained_text f.trees r xs) ∙
+          (ap (λ ys. old ++ ys) (sym (text-step f.trees r bounded x xs next.0)) ∙ left)));
     }
 
 pub returns-then-is_node : goal.returns-then-is_node
@@ -106,7 +116,8 @@ returns-then-is_node c =
     let xs = behind f.trees (name_at f.names c.root-top.result) x in
     let is = ap (λ o. from_node f.trees (name_at f.names c.root-top.result) (option_map (name_at f.names) o)) c.in-Some.is in
     let first : Some x ≡ first_of (nodes_after f.trees (root_of f.trees r.start.node) r.end) =
-    sym (ap (option_map (name_at f.names)) (c.is_node.ensures.0 c.if-is_node.true)) ∙ stop-is f e.once e.only points c.requires.bounded c.root-top.result c.root-top.ensures.value c.node_after-stop.result c.node_after-stop.ensures.value in
+    sym (ap (option_map (name_at f.names)) (c.is_node.ensures.0 c.if-is_node.true)) ∙ stop-is f e.once e.only points c.requires.bounded
+    c.root-top.result c.root-top.ensures.value c.node_after-stop.result c.node_after-stop.ensures.value in
     let none = stop-here f.trees r (is-bounded f e.once e.only points c.requires.bounded) x xs (subst (Leads f.trees r) is c.loop-at.invariant.leads) first in
     sym (append-nil c.loop-at.text.items)
     ∙ (ap (λ ys. c.loop-at.text.items ++ ys) (sym none) ∙ (ap (λ ys. c.loop-at.text.items ++ contained_text f.trees r ys) (sym is) ∙ c.loop-at.invariant.left))
@@ -116,4 +127,5 @@ returns-in_default c =
     let f = c.args.forest.now in
     let r = range_at_points f.names c.args.points.now in
     sym (append-nil c.loop-at.text.items)
-    ∙ (ap (λ o. c.loop-at.text.items ++ contained_text f.trees r (from_node f.trees (name_at f.names c.root-top.result) (option_map (name_at f.names) o))) (sym c.in_default.is) ∙ c.loop-at.invariant.left)
+    ∙ (ap (λ o. c.loop-at.text.items ++ contained_text f.trees r
+    (from_node f.trees (name_at f.names c.root-top.result) (option_map (name_at f.names) o))) (sym c.in_default.is) ∙ c.loop-at.invariant.left)

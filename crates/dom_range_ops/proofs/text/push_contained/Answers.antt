@@ -10,4 +10,6 @@ returns-then-is_before c =
     let f = c.args.forest.now in
     let e = c.nodes_stand_once.ensures in
     sym (append-nil c.args.text.now.items)
-    ∙ ap (λ xs. c.args.text.now.items ++ xs) (sym (text-reversed f.trees (range_at_points f.names c.args.points.now) (is-bounded f e.once e.only c.args.points.now c.requires) (sym c.if-is_before.ensures)))
+    ∙ ap (λ xs. c.args.text.now.items ++ xs)
+    (sym (text-reversed f.trees (range_at_points f.names c.args.points.now) (is-bounded f e.once e.only c.args.points.now c.requires)
+    (sym c.if-is_before.ensures)))

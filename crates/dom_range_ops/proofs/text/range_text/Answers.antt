@@ -15,8 +15,11 @@ text_between-requires c =
     let names = sym c.forest-forest.ensures.names in
     let node = λ (k : ℕ) (l : k < length c.args.doc.now.names). subst (λ (ns : List NodeName). k < length ns) names l in
     let r = some-of (range_at p c.args.number) c.requires.there in
-    let is : r.0 ≡ range_at_points f.names points = read-points p _ c.args.number r.0 _ _ r.1 c.range_points-points.ensures.value.0 ∙ ap (λ (ns : List NodeName). range_at_points ns points) names in
-    are-bounded f e.once e.only c.forest-forest.ensures.owned c.args.owner p.trees (c.forest-forest.ensures.trees c.args.owner) points r.0 is (c.requires.ends r.0 r.1)
+    let is : r.0 ≡ range_at_points f.names points =
+    read-points p _ c.args.number r.0 _ _ r.1 c.range_points-points.ensures.value.0 ∙
+    ap (λ (ns : List NodeName). range_at_points ns points) names in
+    are-bounded f e.once e.only c.forest-forest.ensures.owned c.args.owner p.trees (c.forest-forest.ensures.trees c.args.owner) points r.0 is
+    (c.requires.ends r.0 r.1)
     (node points.start.0 c.range_points-points.ensures.start_is_node) (node points.end.0 c.range_points-points.ensures.end_is_node)
     (within-at p c.args.number r.0 c.requires.bounds r.1).1 c.requires.bounds.leaves
 
@@ -29,6 +32,9 @@ returns c =
     let names = sym c.forest-forest.ensures.names in
     if-ok c.text_between.result
     (λ text is r there.
-    let same : r ≡ range_at_points f.names points = read-points p _ c.args.number r _ _ there c.range_points-points.ensures.value.0 ∙ ap (λ (ns : List NodeName). range_at_points ns points) names in
-    is ∙ text-points f e.once e.only c.forest-forest.ensures.owned c.args.owner p.trees (c.forest-forest.ensures.trees c.args.owner) points r same (c.requires.ends r there))
+    let same : r ≡ range_at_points f.names points =
+    read-points p _ c.args.number r _ _ there c.range_points-points.ensures.value.0 ∙
+    ap (λ (ns : List NodeName). range_at_points ns points) names in
+    is ∙ text-points f e.once e.only c.forest-forest.ensures.owned c.args.owner p.trees (c.forest-forest.ensures.trees c.args.owner) points r same
+    (c.requires.ends r there))
     c.text_between.ensures

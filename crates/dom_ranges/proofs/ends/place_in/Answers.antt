@@ -10,7 +10,8 @@ loop-low-preserved-then-le c =
     let middle = c.loop-low.low + (c.loop-low.high - c.loop-low.low) / 2 in
     let below : middle < c.loop-low.high = omega arith in
     let less : c.index-ends-middle.result.node ≤ c.args.node = search rules in
-    let read : (d : RangeEnd) → get_or es middle d ≡ c.index-ends-middle.result = λ d. get_or_default es middle d c.index-ends-middle.result (omega arith) ∙ sym c.index-ends-middle.is in
+    let read : (d : RangeEnd) → get_or es middle d ≡ c.index-ends-middle.result =
+    λ d. get_or_default es middle d c.index-ends-middle.result (omega arith) ∙ sym c.index-ends-middle.is in
     record {
       first = omega arith;
       order = omega arith;
@@ -25,7 +26,8 @@ loop-low-preserved c =
     let middle = c.loop-low.low + (c.loop-low.high - c.loop-low.low) / 2 in
     let below : middle < c.loop-low.high = omega arith in
     let more : c.args.node < c.index-ends-middle.result.node = search rules in
-    let read : (d : RangeEnd) → get_or es middle d ≡ c.index-ends-middle.result = λ d. get_or_default es middle d c.index-ends-middle.result (omega arith) ∙ sym c.index-ends-middle.is in
+    let read : (d : RangeEnd) → get_or es middle d ≡ c.index-ends-middle.result =
+    λ d. get_or_default es middle d c.index-ends-middle.result (omega arith) ∙ sym c.index-ends-middle.is in
     record {
       first = omega arith;
       order = omega arith;

@@ -13,5 +13,6 @@ returns-in_default-clause-below c i is =
 pub loop-index-preserved : goal.loop-index-preserved
 loop-index-preserved c =
     let e = c.nodes_stand_once.ensures in
-    let some = index-some c.args.forest.now e.once e.only c.loop-index.at c.loop-index.invariant.node c.prev.result c.prev.ensures.value c.in-Some.before c.in-Some.is in
+    let some = index-some c.args.forest.now e.once e.only c.loop-index.at c.loop-index.invariant.node c.prev.result c.prev.ensures.value
+    c.in-Some.before c.in-Some.is in
     record { node = c.prev.ensures.node c.in-Some.before c.in-Some.is; counted = omega (arith, some, c.loop-index.invariant.counted) }

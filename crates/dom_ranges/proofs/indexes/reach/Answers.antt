@@ -13,5 +13,6 @@ returns c =
     each-listed (IsUpTo c.args.node c.loop-i.reach) c.args.live.now c.args.ends.now c.requires.listed
     (λ k d b l e same here. elim (cases_lt k c.loop-i.i) [
       | inl m ↦ c.loop-i.invariant k d m l (sym same ∙ here) b e
-      | inr m ↦ absurd (true≢false (sym (c.part_of-part.ensures.all k d l (sym same ∙ here)) ∙ outside-part c.part_of-part.result k (inr (omega (arith, m, c.loop-i-test.false)))))
+      | inr m ↦ absurd (true≢false (sym (c.part_of-part.ensures.all k d l (sym same ∙ here)) ∙
+          outside-part c.part_of-part.result k (inr (omega (arith, m, c.loop-i-test.false)))))
     ])

@@ -6,4 +6,5 @@ use Rattle.dom_ranges.proofs.indexes.reach.Given as goal
 
 abbrev pub invariant-loop-i : goal.invariant-loop-i
 invariant-loop-i l =
-    (k : ℕ) (d : RangeEnd) → k < l.i → k < length l.ends → (get_or l.ends k d).node ≡ l.fn.node → ForSome (point_at l.live (get_or l.ends k d).slot (get_or l.ends k d).is_end) (λ b. b.offset ≤ l.reach)
+    (k : ℕ) (d : RangeEnd) → k < l.i → k < length l.ends → (get_or l.ends k d).node ≡ l.fn.node →
+    ForSome (point_at l.live (get_or l.ends k d).slot (get_or l.ends k d).is_end) (λ b. b.offset ≤ l.reach)

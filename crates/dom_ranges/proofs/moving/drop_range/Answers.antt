@@ -11,11 +11,13 @@ drop_end-requires-clause-there c =
 pub drop_end-requires-in-Some-clause-there : goal.drop_end-requires-in-Some-clause-there
 drop_end-requires-in-Some-clause-there c =
     let there : get c.args.live.now c.args.slot ≡ Some c.in-Some.points = sym c.in-Some.ensures.value in
-    listed-once-rest c.args.live.now c.args.ends.now.items c.drop_end.new.ends.items c.args.slot c.in-Some.points.start.0 c.in-Some.points.end.0 c.requires.listed (ap is_some there) c.drop_end.ensures.dropped
+    listed-once-rest c.args.live.now c.args.ends.now.items c.drop_end.new.ends.items c.args.slot c.in-Some.points.start.0 c.in-Some.points.end.0
+    c.requires.listed (ap is_some there) c.drop_end.ensures.dropped
     (listed-once c.args.live.now c.args.ends.now.items c.requires.listed c.args.slot true c.in-Some.points there)
 
 pub returns-in-Some-clause-listed : goal.returns-in-Some-clause-listed
 returns-in-Some-clause-listed c =
     let there : get c.args.live.now c.args.slot ≡ Some c.in-Some.points = sym c.in-Some.ensures.value in
-    IsListed-dropped c.args.live.now c.try_remove.new.self c.args.ends.now.items c.drop_end.new.ends.items c.drop_end-in-Some.new.ends.items c.args.slot c.in-Some.points.start.0 c.in-Some.points.end.0 c.requires.listed (ap is_some there) c.try_remove.ensures.updates
+    IsListed-dropped c.args.live.now c.try_remove.new.self c.args.ends.now.items c.drop_end.new.ends.items c.drop_end-in-Some.new.ends.items
+    c.args.slot c.in-Some.points.start.0 c.in-Some.points.end.0 c.requires.listed (ap is_some there) c.try_remove.ensures.updates
     c.drop_end.ensures.dropped c.drop_end-in-Some.ensures.dropped

@@ -12,7 +12,8 @@ bring-requires-clause-there c =
       | then-is_end w ↦ ap (λ t. t.0) w.node-is ∙ sym (ap (λ b. (end_of b c.in-Some.points).node) w.if-is_end.true)
       | else-is_end w ↦ ap (λ t. t.0) w.node-is ∙ sym (ap (λ b. (end_of b c.in-Some.points).node) w.if-is_end.false)
     ] in
-    subst (λ n. IsListedOnce c.args.ends.now (end_in c.args.slot c.args.is_end n)) (sym node_is) (listed-once c.args.live.now c.args.ends.now c.requires.listed c.args.slot c.args.is_end c.in-Some.points there)
+    subst (λ n. IsListedOnce c.args.ends.now (end_in c.args.slot c.args.is_end n)) (sym node_is)
+    (listed-once c.args.live.now c.args.ends.now c.requires.listed c.args.slot c.args.is_end c.in-Some.points there)
 
 pub returns-after-is_end-clause-listed : goal.returns-after-is_end-clause-listed
 returns-after-is_end-clause-listed c =
@@ -21,5 +22,7 @@ returns-after-is_end-clause-listed c =
       | then-is_end w ↦ ap (λ t. t.0) w.node-is ∙ sym (ap (λ b. (end_of b c.in-Some.points).node) w.if-is_end.true)
       | else-is_end w ↦ ap (λ t. t.0) w.node-is ∙ sym (ap (λ b. (end_of b c.in-Some.points).node) w.if-is_end.false)
     ] in
-    IsListed-put c.args.live.now c.put_point.new.live c.args.ends.now c.bring.new.ends c.args.slot c.args.is_end c.args.point.0 c.args.point.1 c.in-Some.points c.requires.listed there c.put_point.ensures.put c.put_point.ensures.others
-    (subst (λ n. HasChanged c.args.ends.now c.bring.new.ends (end_in c.args.slot c.args.is_end n ∷ []) (end_in c.args.slot c.args.is_end c.args.point.0 ∷ [])) node_is c.bring.ensures.brought)
+    IsListed-put c.args.live.now c.put_point.new.live c.args.ends.now c.bring.new.ends c.args.slot c.args.is_end c.args.point.0 c.args.point.1
+    c.in-Some.points c.requires.listed there c.put_point.ensures.put c.put_point.ensures.others
+    (subst (λ n. HasChanged c.args.ends.now c.bring.new.ends (end_in c.args.slot c.args.is_end n ∷ [])
+    (end_in c.args.slot c.args.is_end c.args.point.0 ∷ [])) node_is c.bring.ensures.brought)

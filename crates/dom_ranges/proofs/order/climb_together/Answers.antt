@@ -3,21 +3,27 @@ use Rattle.dom_ranges.proofs.Climbing.{depth-up, depth-root}
 use Rattle.dom_ranges.proofs.order.climb_together.Goals as goal
 
 pub returns-in_default-clause-root : goal.returns-in_default-clause-root
-returns-in_default-clause-root c = inl (depth-root c.args.forest.now c.nodes_stand_once.ensures.once c.nodes_stand_once.ensures.only c.up.low c.up.invariant.low_is_node c.in_default.ensures.value)
+returns-in_default-clause-root c = inl (depth-root c.args.forest.now c.nodes_stand_once.ensures.once c.nodes_stand_once.ensures.only c.up.low
+    c.up.invariant.low_is_node c.in_default.ensures.value)
 
 pub returns-in_default-parent-clause-root : goal.returns-in_default-parent-clause-root
-returns-in_default-parent-clause-root c = inr (depth-root c.args.forest.now c.nodes_stand_once.ensures.once c.nodes_stand_once.ensures.only c.up.other c.up.invariant.other_is_node c.in_default-parent.ensures.value)
+returns-in_default-parent-clause-root c =
+    inr (depth-root c.args.forest.now c.nodes_stand_once.ensures.once c.nodes_stand_once.ensures.only c.up.other c.up.invariant.other_is_node
+    c.in_default-parent.ensures.value)
 
 pub up-smaller : goal.up-smaller
 up-smaller c =
-    let up = depth-up c.args.forest.now c.nodes_stand_once.ensures.once c.nodes_stand_once.ensures.only c.up.low c.in-Some.above c.up.invariant.low_is_node c.in-Some.ensures.value in
+    let up = depth-up c.args.forest.now c.nodes_stand_once.ensures.once c.nodes_stand_once.ensures.only c.up.low c.in-Some.above
+    c.up.invariant.low_is_node c.in-Some.ensures.value in
     omega (arith, up)
 
 pub up-preserved : goal.up-preserved
 up-preserved c =
     let f = c.args.forest.now in
-    let up = depth-up f c.nodes_stand_once.ensures.once c.nodes_stand_once.ensures.only c.up.low c.in-Some.above c.up.invariant.low_is_node c.in-Some.ensures.value in
-    let over = depth-up f c.nodes_stand_once.ensures.once c.nodes_stand_once.ensures.only c.up.other c.in-Some-parent.beside c.up.invariant.other_is_node c.in-Some-parent.ensures.value in
+    let up = depth-up f c.nodes_stand_once.ensures.once c.nodes_stand_once.ensures.only c.up.low c.in-Some.above c.up.invariant.low_is_node
+    c.in-Some.ensures.value in
+    let over = depth-up f c.nodes_stand_once.ensures.once c.nodes_stand_once.ensures.only c.up.other c.in-Some-parent.beside
+    c.up.invariant.other_is_node c.in-Some-parent.ensures.value in
     record {
       low_is_node = c.in-Some.ensures.node c.in-Some.above refl;
       other_is_node = c.in-Some-parent.ensures.node c.in-Some-parent.beside refl;

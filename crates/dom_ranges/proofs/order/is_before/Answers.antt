@@ -1,4 +1,5 @@
-use Rattle.std.proofs.Common.{◌≡◌, inl, inr, ℕ, ◌<◌, ◌≤◌, ◌++◌, ◌∷◌, Bool, true, false, not, Option, Some, None, is_some, nat_lt, nat_le, refl, sym, ap, subst, ◌∙◌, arith}
+use Rattle.std.proofs.Common.{◌≡◌, inl, inr, ℕ, ◌<◌, ◌≤◌, ◌++◌, ◌∷◌, Bool, true, false, not, Option, Some, None, is_some, nat_lt, nat_le, refl, sym}
+use Rattle.std.proofs.Common.{ap, subst, ◌∙◌, arith}
 use Rattle.std.proofs.lemmas.Bool.{eqb-true, not-false, leb-true, ltb-true, le-leb, lt-ltb, false_from_ne_true}
 use Rattle.std.proofs.lemmas.List.{append_assoc}
 use Rattle.dom_model.specs.Tree.{index_of}
@@ -44,7 +45,8 @@ returns-then-ne c =
     let i = index_of f.trees (name_at f.names c.part-first_side.result.0) in
     let j = index_of f.trees (name_at f.names c.part-first_side.result.1) in
     c.comes_first.ensures
-    ∙ sym (before-beside f.trees (name_at f.names c.args.first.0) (name_at f.names c.args.second.0) c.args.first.1 c.args.second.1 b.path i j (b.first_rest ++ v.0) (b.second_rest ++ w.0)
+    ∙ sym (before-beside f.trees (name_at f.names c.args.first.0) (name_at f.names c.args.second.0) c.args.first.1 c.args.second.1 b.path i j
+    (b.first_rest ++ v.0) (b.second_rest ++ w.0)
     (v.1 ∙ (ap (λ path. path ++ v.0) b.first_path ∙ append_assoc b.path (i ∷ b.first_rest) v.0))
     (w.1 ∙ (ap (λ path. path ++ w.0) b.second_path ∙ append_assoc b.path (j ∷ b.second_rest) w.0))
     b.apart)
@@ -55,7 +57,8 @@ returns-in-Some-default c =
     let once = c.nodes_stand_once.ensures.once in
     let only = c.nodes_stand_once.ensures.only in
     let child = c.in-Some-default.child in
-    let same : c.climb-first_top.result.0 ≡ c.climb-second_top.result.0 = eqb-true c.climb-first_top.result.0 c.climb-second_top.result.0 (not-false _ (sym c.if-ne.ensures)) in
+    let same : c.climb-first_top.result.0 ≡ c.climb-second_top.result.0 =
+    eqb-true c.climb-first_top.result.0 c.climb-second_top.result.0 (not-false _ (sym c.if-ne.ensures)) in
     let reached : Reaches f c.args.first.0 c.climb-first_top.result.0 (Some child) =
     subst (Reaches f c.args.first.0 c.climb-first_top.result.0) c.in-Some-default.is-0 c.climb-first_top.ensures.reached in
     let deep = reached-deep f once only c.args.first.0 c.climb-first_top.result.0 child reached in
@@ -78,20 +81,27 @@ returns-in-None-Some c =
     let once = c.nodes_stand_once.ensures.once in
     let only = c.nodes_stand_once.ensures.only in
     let child = c.in-None-Some.child in
-    let same : c.climb-first_top.result.0 ≡ c.climb-second_top.result.0 = eqb-true c.climb-first_top.result.0 c.climb-second_top.result.0 (not-false _ (sym c.if-ne.ensures)) in
-    let here : c.args.first.0 ≡ c.climb-first_top.result.0 = subst (Reaches f c.args.first.0 c.climb-first_top.result.0) c.in-None-Some.is-0 c.climb-first_top.ensures.reached in
+    let same : c.climb-first_top.result.0 ≡ c.climb-second_top.result.0 =
+    eqb-true c.climb-first_top.result.0 c.climb-second_top.result.0 (not-false _ (sym c.if-ne.ensures)) in
+    let here : c.args.first.0 ≡ c.climb-first_top.result.0 =
+    subst (Reaches f c.args.first.0 c.climb-first_top.result.0) c.in-None-Some.is-0 c.climb-first_top.ensures.reached in
     let reached : Reaches f c.args.second.0 c.climb-second_top.result.0 (Some child) =
     subst (Reaches f c.args.second.0 c.climb-second_top.result.0) c.in-None-Some.is-1 c.climb-second_top.ensures.reached in
     let w = path-through f once only c.args.second.0 c.climb-second_top.result.0 child reached in
     let i = index_of f.trees (name_at f.names child) in
-    none_below c.is_none.result c.index_below-in-None-Some.result i c.args.first.1 c.is_none.ensures (c.index_below-in-None-Some.ensures.below, c.index_below-in-None-Some.ensures.none)
+    none_below c.is_none.result c.index_below-in-None-Some.result i c.args.first.1 c.is_none.ensures
+    (c.index_below-in-None-Some.ensures.below, c.index_below-in-None-Some.ensures.none)
     ∙ sym (before-down f.trees (name_at f.names c.args.first.0) (name_at f.names c.args.second.0) c.args.first.1 c.args.second.1 i w.0
     (w.1 ∙ ap (λ k. path_at f k ++ i ∷ w.0) (sym (here ∙ same))))
 
 pub returns-in-None-None : goal.returns-in-None-None
 returns-in-None-None c =
     let f = c.args.forest.now in
-    let same : c.climb-first_top.result.0 ≡ c.climb-second_top.result.0 = eqb-true c.climb-first_top.result.0 c.climb-second_top.result.0 (not-false _ (sym c.if-ne.ensures)) in
-    let first : c.args.first.0 ≡ c.climb-first_top.result.0 = subst (Reaches f c.args.first.0 c.climb-first_top.result.0) c.in-None-None.is-0 c.climb-first_top.ensures.reached in
-    let second : c.args.second.0 ≡ c.climb-second_top.result.0 = subst (Reaches f c.args.second.0 c.climb-second_top.result.0) c.in-None-None.is-1 c.climb-second_top.ensures.reached in
-    sym (before-same f.trees (name_at f.names c.args.first.0) (name_at f.names c.args.second.0) c.args.first.1 c.args.second.1 (ap (name_at f.names) (first ∙ (same ∙ sym second))))
+    let same : c.climb-first_top.result.0 ≡ c.climb-second_top.result.0 =
+    eqb-true c.climb-first_top.result.0 c.climb-second_top.result.0 (not-false _ (sym c.if-ne.ensures)) in
+    let first : c.args.first.0 ≡ c.climb-first_top.result.0 =
+    subst (Reaches f c.args.first.0 c.climb-first_top.result.0) c.in-None-None.is-0 c.climb-first_top.ensures.reached in
+    let second : c.args.second.0 ≡ c.climb-second_top.result.0 =
+    subst (Reaches f c.args.second.0 c.climb-second_top.result.0) c.in-None-None.is-1 c.climb-second_top.ensures.reached in
+    sym (before-same f.trees (name_at f.names c.args.first.0) (name_at f.names c.args.second.0) c.args.first.1 c.args.second.1
+    (ap (name_at f.names) (first ∙ (same ∙ sym second))))

@@ -11,27 +11,33 @@ pub returns-in_default-clause-beside : goal.returns-in_default-clause-beside
 returns-in_default-clause-beside c =
     let f = c.args.forest.now in
     let here = depth-root f c.nodes_stand_once.ensures.once c.nodes_stand_once.ensures.only c.up.low c.up.invariant.low_is_node c.in_default.ensures.value in
-    absurd (c.up.invariant.apart (roots-same f c.nodes_stand_once.ensures.once c.nodes_stand_once.ensures.only c.nodes_stand_once.ensures.distinct c.up.low c.up.other
+    absurd (c.up.invariant.apart (roots-same f c.nodes_stand_once.ensures.once c.nodes_stand_once.ensures.only c.nodes_stand_once.ensures.distinct
+    c.up.low c.up.other
     c.up.invariant.low_is_node c.up.invariant.other_is_node here (sym c.up.invariant.level ∙ here) c.up.invariant.one_tree))
 
 pub returns-in_default-parent-clause-beside : goal.returns-in_default-parent-clause-beside
 returns-in_default-parent-clause-beside c =
     let f = c.args.forest.now in
-    let here = depth-root f c.nodes_stand_once.ensures.once c.nodes_stand_once.ensures.only c.up.other c.up.invariant.other_is_node c.in_default-parent.ensures.value in
-    absurd (c.up.invariant.apart (roots-same f c.nodes_stand_once.ensures.once c.nodes_stand_once.ensures.only c.nodes_stand_once.ensures.distinct c.up.low c.up.other
+    let here = depth-root f c.nodes_stand_once.ensures.once c.nodes_stand_once.ensures.only c.up.other c.up.invariant.other_is_node
+    c.in_default-parent.ensures.value in
+    absurd (c.up.invariant.apart (roots-same f c.nodes_stand_once.ensures.once c.nodes_stand_once.ensures.only c.nodes_stand_once.ensures.distinct
+    c.up.low c.up.other
     c.up.invariant.low_is_node c.up.invariant.other_is_node (c.up.invariant.level ∙ here) here c.up.invariant.one_tree))
 
 pub returns-then-eq-clause-beside : goal.returns-then-eq-clause-beside
 returns-then-eq-clause-beside c =
     let f = c.args.forest.now in
     let same : c.in-Some.above ≡ c.in-Some-parent.beside = eqb-true c.in-Some.above c.in-Some-parent.beside (sym c.if-eq.ensures) in
-    beside-here f c.nodes_stand_once.ensures.once c.nodes_stand_once.ensures.only c.nodes_stand_once.ensures.distinct c.args.first c.args.second c.up.low c.up.other c.in-Some.above
-    c.up.invariant.first_path.0 c.up.invariant.second_path.0 c.up.invariant.low_is_node c.up.invariant.other_is_node c.up.invariant.apart c.in-Some.ensures.value
+    beside-here f c.nodes_stand_once.ensures.once c.nodes_stand_once.ensures.only c.nodes_stand_once.ensures.distinct c.args.first c.args.second
+    c.up.low c.up.other c.in-Some.above
+    c.up.invariant.first_path.0 c.up.invariant.second_path.0 c.up.invariant.low_is_node c.up.invariant.other_is_node c.up.invariant.apart
+    c.in-Some.ensures.value
     (ap (λ k. Some (name_at f.names k)) same ∙ c.in-Some-parent.ensures.value) c.up.invariant.first_path.1 c.up.invariant.second_path.1
 
 pub up-smaller : goal.up-smaller
 up-smaller c =
-    let up = depth-up c.args.forest.now c.nodes_stand_once.ensures.once c.nodes_stand_once.ensures.only c.up.low c.in-Some.above c.up.invariant.low_is_node c.in-Some.ensures.value in
+    let up = depth-up c.args.forest.now c.nodes_stand_once.ensures.once c.nodes_stand_once.ensures.only c.up.low c.in-Some.above
+    c.up.invariant.low_is_node c.in-Some.ensures.value in
     omega (arith, up)
 
 pub up-preserved : goal.up-preserved
@@ -58,5 +64,9 @@ up-preserved c =
           sym (first-through f once only c.up.low c.in-Some.above (i ∷ []) above_is_node low_path)
           ∙ (c.up.invariant.one_tree ∙ first-through f once only c.up.other c.in-Some-parent.beside (j ∷ []) beside_is_node other_path);
       first_path = (i ∷ xs, c.up.invariant.first_path.1 ∙ (ap (λ path. path ++ xs) low_path ∙ append_assoc (path_at f c.in-Some.above) (i ∷ []) xs));
-      second_path = (j ∷ ys, c.up.invariant.second_path.1 ∙ (ap (λ path. path ++ ys) other_path ∙ append_assoc (path_at f c.in-Some-parent.beside) (j ∷ []) ys));
+      second_path = (
+        j ∷ ys,
+        c.up.invariant.second_path.1 ∙
+            (ap (λ path. path ++ ys) other_path ∙ append_assoc (path_at f c.in-Some-parent.beside) (j ∷ []) ys),
+      );
     }

@@ -13,10 +13,13 @@ returns-in-Some-clause-moved c =
     let inside = is_inside f c.args.node in
     let index = index_of f.trees (name_at f.names c.args.node) in
     moves-alike (after_closing c.args.parent index) (after_removal nat_eq inside c.args.parent index) c.args.live.now c.close.new.live
-    (subst (λ (i : ℕ). Moves (after_closing c.args.parent i) c.args.live.now c.close.new.live) (c.index_before_ends.ensures.index c.in-Some.index c.in-Some.is) c.close.ensures.moved)
-    (each-listed (λ b. after_removal nat_eq inside c.args.parent index b ≡ after_closing c.args.parent index b) c.args.live.now c.args.ends.now c.requires.listed
+    (subst (λ (i : ℕ). Moves (after_closing c.args.parent i) c.args.live.now c.close.new.live)
+    (c.index_before_ends.ensures.index c.in-Some.index c.in-Some.is) c.close.ensures.moved)
+    (each-listed (λ b. after_removal nat_eq inside c.args.parent index b ≡ after_closing c.args.parent index b) c.args.live.now c.args.ends.now
+    c.requires.listed
     (λ k d b l e same.
-    removal-outside inside c.args.parent index b (subst (λ (n : ℕ). inside n ≡ false) (sym same) (c.part_inside-inside.ensures.all k d l (c.is_empty.ensures c.if-is_empty.true k)))))
+    removal-outside inside c.args.parent index b
+    (subst (λ (n : ℕ). inside n ≡ false) (sym same) (c.part_inside-inside.ensures.all k d l (c.is_empty.ensures c.if-is_empty.true k)))))
 
 pub returns-in_default-clause-moved : goal.returns-in_default-clause-moved
 returns-in_default-clause-moved c =
@@ -26,7 +29,8 @@ returns-in_default-clause-moved c =
     let outside : OfEach (λ b. after_removal nat_eq inside c.args.parent index b ≡ after_closing c.args.parent index b) c.args.live.now =
     each-listed (λ b. after_removal nat_eq inside c.args.parent index b ≡ after_closing c.args.parent index b) c.args.live.now c.args.ends.now c.requires.listed
     (λ k d b l e same.
-    removal-outside inside c.args.parent index b (subst (λ (n : ℕ). inside n ≡ false) (sym same) (c.part_inside-inside.ensures.all k d l (c.is_empty.ensures c.if-is_empty.true k)))) in
+    removal-outside inside c.args.parent index b
+    (subst (λ (n : ℕ). inside n ≡ false) (sym same) (c.part_inside-inside.ensures.all k d l (c.is_empty.ensures c.if-is_empty.true k)))) in
     moves-none (after_removal nat_eq inside c.args.parent index) c.args.live.now
     (λ slot p e.
     let a = outside slot p e in

@@ -36,7 +36,8 @@ loop-at-preserved c =
     let f = c.args.forest.now in
     let e = c.nodes_stand_once.ensures in
     let some : 0 < length c.args.ends.now = omega arith in
-    let step = following_step f e.once e.only c.args.top c.in-Some.key c.following-at.result (c.loop-at.invariant.stands some c.in-Some.key c.in-Some.is) c.following-at.ensures.value c.following-at.ensures.node in
+    let step = following_step f e.once e.only c.args.top c.in-Some.key c.following-at.result
+    (c.loop-at.invariant.stands some c.in-Some.key c.in-Some.is) c.following-at.ensures.value c.following-at.ensures.node in
     let key_is_node = (c.loop-at.invariant.stands some c.in-Some.key c.in-Some.is).node in
     record {
       stands = λ _. step.1;
@@ -44,7 +45,8 @@ loop-at-preserved c =
       within = c.around-part.ensures.within (length c.args.ends.now) c.loop-at.invariant.within c.part_of.ensures.within;
       ahead = λ k d l out i.
           next-from f c.args.top c.in-Some.key c.loop-at.at c.following-at.result c.in-Some.is step.0 (name_at f.names (get_or c.args.ends.now k d).node)
-          (λ same. true≢false (sym (c.around-part.ensures.second k (c.part_of.ensures.all k d l (e.distinct _ _ (c.requires.nodes k d l).1 key_is_node same))) ∙ out))
+          (λ same. true≢false (sym (c.around-part.ensures.second k
+          (c.part_of.ensures.all k d l (e.distinct _ _ (c.requires.nodes k d l).1 key_is_node same))) ∙ out))
           (c.loop-at.invariant.ahead k d l (false_from_ne_true _ (λ was. true≢false (sym (c.around-part.ensures.first k was) ∙ out))) i);
     }
 

@@ -11,7 +11,8 @@ returns-in-Some-clause-parts c =
     let text = c.args.text.now in
     let rest = drop (c.in-Some.comma + 1) text in
     part_at_comma text (take c.in-Some.comma text) rest (cut_at_first 44 text c.in-Some.comma c.in-Some.ensures)
-    ∙ ap (λ (x : List ℕ). take c.in-Some.comma text ∷ between_commas x) (sym (take_all (length text - (c.in-Some.comma + 1)) rest (omega (arith, length-drop (c.in-Some.comma + 1) text))))
+    ∙ ap (λ (x : List ℕ). take c.in-Some.comma text ∷ between_commas x)
+    (sym (take_all (length text - (c.in-Some.comma + 1)) rest (omega (arith, length-drop (c.in-Some.comma + 1) text))))
 
 pub returns-in-None-clause-parts : goal.returns-in-None-clause-parts
 returns-in-None-clause-parts c = part_without_comma c.args.text.now (none_found 44 c.args.text.now c.in-None.ensures)

@@ -12,7 +12,8 @@ use Rattle.dom_selectors.proofs.chain.chain_before.Goals as goal
 pub loop-at-init : goal.loop-at-init
 loop-at-init c =
     let f = c.args.forest.now in
-    let step = earlier_step f c.nodes_stand_once.ensures.once c.nodes_stand_once.ensures.only c.args.key c.element_before-at.result c.requires c.element_before-at.ensures.value in
+    let step = earlier_step f c.nodes_stand_once.ensures.once c.nodes_stand_once.ensures.only c.args.key c.element_before-at.result c.requires
+    c.element_before-at.ensures.value in
     record {
       node = c.element_before-at.ensures.node;
       above = step.1;
@@ -23,18 +24,21 @@ pub loop-at-smaller : goal.loop-at-smaller
 loop-at-smaller c =
     let f = c.args.forest.now in
     let node = c.loop-at.invariant.node c.in-Some.before c.in-Some.is in
-    let step = earlier_step f c.nodes_stand_once.ensures.once c.nodes_stand_once.ensures.only c.in-Some.before c.element_before-at-in-Some.result node c.element_before-at-in-Some.ensures.value in
+    let step = earlier_step f c.nodes_stand_once.ensures.once c.nodes_stand_once.ensures.only c.in-Some.before c.element_before-at-in-Some.result
+    node c.element_before-at-in-Some.ensures.value in
     earlier_less f c.in-Some.before c.loop-at.at c.element_before-at-in-Some.result c.in-Some.is step.0
 
 pub loop-at-preserved : goal.loop-at-preserved
 loop-at-preserved c =
     let f = c.args.forest.now in
     let node = c.loop-at.invariant.node c.in-Some.before c.in-Some.is in
-    let step = earlier_step f c.nodes_stand_once.ensures.once c.nodes_stand_once.ensures.only c.in-Some.before c.element_before-at-in-Some.result node c.element_before-at-in-Some.ensures.value in
+    let step = earlier_step f c.nodes_stand_once.ensures.once c.nodes_stand_once.ensures.only c.in-Some.before c.element_before-at-in-Some.result
+    node c.element_before-at-in-Some.ensures.value in
     record {
       node = c.element_before-at-in-Some.ensures.node;
       above = λ j e. step.1 j e ∙ c.loop-at.invariant.above c.in-Some.before c.in-Some.is;
-      left = earlier_passed f (complex_matches f.trees (complex_from c.args.first.now c.args.links.now)) c.in-Some.before c.loop-at.at c.element_before-at-in-Some.result c.in-Some.is c.in_default-chain_end.ensures.ends step.0 ∙ c.loop-at.invariant.left;
+      left = earlier_passed f (complex_matches f.trees (complex_from c.args.first.now c.args.links.now)) c.in-Some.before c.loop-at.at
+          c.element_before-at-in-Some.result c.in-Some.is c.in_default-chain_end.ensures.ends step.0 ∙ c.loop-at.invariant.left;
     }
 
 pub returns-in-Some-chain_end-clause-ends : goal.returns-in-Some-chain_end-clause-ends
@@ -42,7 +46,8 @@ returns-in-Some-chain_end-clause-ends c =
     let f = c.args.forest.now in
     let whole = complex_from c.args.first.now c.args.links.now in
     let end = c.in-Some-chain_end.end in
-    chain-before f.trees whole (complex_from c.args.first.now end.links.now) (name_at f.names c.args.key) (name_at f.names c.in-Some.before) (name_at f.names end.key)
+    chain-before f.trees whole (complex_from c.args.first.now end.links.now) (name_at f.names c.args.key) (name_at f.names c.in-Some.before)
+    (name_at f.names end.key)
     (c.loop-at.invariant.above c.in-Some.before c.in-Some.is)
     (sym (ap (λ o. list_any (complex_matches f.trees whole) (elements_upto f.trees (option_map (name_at f.names) o))) c.in-Some.is) ∙ c.loop-at.invariant.left)
     c.in-Some-chain_end.ensures.ends

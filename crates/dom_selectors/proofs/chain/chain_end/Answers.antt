@@ -22,7 +22,11 @@ searched h (inr e) = subst (λ g. IsSearched (combinator_view g)) (sym e) tt
 pub loop-last-init : goal.loop-last-init
 loop-last-init c =
     let f = c.args.forest.now in
-    record { node = c.requires; shorter = omega arith; leads = leads-same f.trees (complex_from c.args.first.now c.args.links.now) (name_at f.names c.args.key) }
+    record {
+      node = c.requires;
+      shorter = omega arith;
+      leads = leads-same f.trees (complex_from c.args.first.now c.args.links.now) (name_at f.names c.args.key);
+    }
 
 pub loop-last-preserved : goal.loop-last-preserved
 loop-last-preserved c =
@@ -34,8 +38,11 @@ loop-last-preserved c =
     let whole = complex_from c.args.first.now c.loop-last.rest.now in
     let left = complex_from c.args.first.now c.in-Some.left.now in
     let k = compound_view last.compound.items in
-    let is : whole ≡ joined left (combinator_view last.combinator) k = last-joined c.args.first.now c.loop-last.rest.now c.in-Some.left.now last c.in-Some.ensures.cases.0 in
-    let hit : compound_matches f.trees k x ≡ true = ap (λ ps. compound_matches f.trees (compound_view ps) x) (sym c.as_slice.ensures.value) ∙ (sym c.compound_matches.ensures ∙ c.if-not-compound_matches.false) in
+    let is : whole ≡ joined left (combinator_view last.combinator) k =
+    last-joined c.args.first.now c.loop-last.rest.now c.in-Some.left.now last c.in-Some.ensures.cases.0 in
+    let hit : compound_matches f.trees k x ≡ true =
+    ap (λ ps. compound_matches f.trees (compound_view ps) x) (sym c.as_slice.ensures.value) ∙
+    (sym c.compound_matches.ensures ∙ c.if-not-compound_matches.false) in
     let once = Once-forest f c.nodes_stand_once.ensures.once c.nodes_stand_once.ensures.only in
     let has = Has-forest f c.nodes_stand_once.ensures.once c.loop-last.at c.loop-last.invariant.node in
     let fewer : length c.in-Some.left.now < length c.loop-last.rest.now = omega (arith, c.in-Some.ensures.cases.1) in
@@ -45,14 +52,18 @@ loop-last-preserved c =
           record {
             node = w.parent-next.ensures.node c.in_ok-at.at to;
             shorter = omega (arith, fewer);
-            leads = leads-on f.trees all whole left (name_at f.names c.args.key) x z c.loop-last.invariant.leads (to_parent f.trees whole left k x once has hit z (is ∙ ap (λ h. joined left (combinator_view h) k) w.in-Child.is) (sym w.parent-next.ensures.value ∙ ap (option_map (name_at f.names)) to));
+            leads = leads-on f.trees all whole left (name_at f.names c.args.key) x z c.loop-last.invariant.leads
+                (to_parent f.trees whole left k x once has hit z (is ∙ ap (λ h. joined left (combinator_view h) k) w.in-Child.is)
+                (sym w.parent-next.ensures.value ∙ ap (option_map (name_at f.names)) to));
           }
       | in-Next w ↦
           let to : w.element_before-next.result ≡ Some c.in_ok-at.at = sym w.next-is ∙ c.in_ok-at.was in
           record {
             node = w.element_before-next.ensures.node c.in_ok-at.at to;
             shorter = omega (arith, fewer);
-            leads = leads-on f.trees all whole left (name_at f.names c.args.key) x z c.loop-last.invariant.leads (to_nearest f.trees whole left k x once has hit z (is ∙ ap (λ h. joined left (combinator_view h) k) w.in-Next.is) (sym w.element_before-next.ensures.value ∙ ap (option_map (name_at f.names)) to));
+            leads = leads-on f.trees all whole left (name_at f.names c.args.key) x z c.loop-last.invariant.leads
+                (to_nearest f.trees whole left k x once has hit z (is ∙ ap (λ h. joined left (combinator_view h) k) w.in-Next.is)
+                (sym w.element_before-next.ensures.value ∙ ap (option_map (name_at f.names)) to));
           }
     ]
 
@@ -64,7 +75,9 @@ returns-in-Descendant-clause-ends c =
     let whole = complex_from c.args.first.now c.loop-last.rest.now in
     let k = compound_view last.compound.items in
     let is = last-joined c.args.first.now c.loop-last.rest.now c.in-Some.left.now last c.in-Some.ensures.cases.0 in
-    let hit : compound_matches f.trees k x ≡ true = ap (λ ps. compound_matches f.trees (compound_view ps) x) (sym c.as_slice.ensures.value) ∙ (sym c.compound_matches.ensures ∙ c.if-not-compound_matches.false) in
+    let hit : compound_matches f.trees k x ≡ true =
+    ap (λ ps. compound_matches f.trees (compound_view ps) x) (sym c.as_slice.ensures.value) ∙
+    (sym c.compound_matches.ensures ∙ c.if-not-compound_matches.false) in
     chain-ends f.trees (complex_from c.args.first.now c.args.links.now) whole (name_at f.names c.args.key) x
     (Once-forest f c.nodes_stand_once.ensures.once c.nodes_stand_once.ensures.only)
     (Has-forest f c.nodes_stand_once.ensures.once c.loop-last.at c.loop-last.invariant.node)
@@ -79,7 +92,9 @@ returns-then-not-compound_matches-clause-ends c =
     let left = complex_from c.args.first.now c.in-Some.left.now in
     let k = compound_view last.compound.items in
     let is = last-joined c.args.first.now c.loop-last.rest.now c.in-Some.left.now last c.in-Some.ensures.cases.0 in
-    let miss : compound_matches f.trees k x ≡ false = ap (λ ps. compound_matches f.trees (compound_view ps) x) (sym c.as_slice.ensures.value) ∙ (sym c.compound_matches.ensures ∙ c.if-not-compound_matches.true) in
+    let miss : compound_matches f.trees k x ≡ false =
+    ap (λ ps. compound_matches f.trees (compound_view ps) x) (sym c.as_slice.ensures.value) ∙
+    (sym c.compound_matches.ensures ∙ c.if-not-compound_matches.true) in
     c.loop-last.invariant.leads.same ∙ (ap (λ d. complex_matches f.trees d x) is ∙ not_combined f.trees left (combinator_view last.combinator) k x miss)
 
 pub returns-in_err-at-clause-ends : goal.returns-in_err-at-clause-ends
@@ -90,13 +105,18 @@ returns-in_err-at-clause-ends c =
     let whole = complex_from c.args.first.now c.loop-last.rest.now in
     let left = complex_from c.args.first.now c.in-Some.left.now in
     let k = compound_view last.compound.items in
-    let is : whole ≡ joined left (combinator_view last.combinator) k = last-joined c.args.first.now c.loop-last.rest.now c.in-Some.left.now last c.in-Some.ensures.cases.0 in
-    let hit : compound_matches f.trees k x ≡ true = ap (λ ps. compound_matches f.trees (compound_view ps) x) (sym c.as_slice.ensures.value) ∙ (sym c.compound_matches.ensures ∙ c.if-not-compound_matches.false) in
+    let is : whole ≡ joined left (combinator_view last.combinator) k =
+    last-joined c.args.first.now c.loop-last.rest.now c.in-Some.left.now last c.in-Some.ensures.cases.0 in
+    let hit : compound_matches f.trees k x ≡ true =
+    ap (λ ps. compound_matches f.trees (compound_view ps) x) (sym c.as_slice.ensures.value) ∙
+    (sym c.compound_matches.ensures ∙ c.if-not-compound_matches.false) in
     let once = Once-forest f c.nodes_stand_once.ensures.once c.nodes_stand_once.ensures.only in
     let has = Has-forest f c.nodes_stand_once.ensures.once c.loop-last.at c.loop-last.invariant.node in
     let none : complex_matches f.trees whole x ≡ false = elim c.match-last.branch [
-      | in-Child w ↦ no_parent f.trees whole left k x once has hit (is ∙ ap (λ h. joined left (combinator_view h) k) w.in-Child.is) (sym w.parent-next.ensures.value ∙ ap (option_map (name_at f.names)) (sym w.next-is ∙ c.in_err-at.was))
-      | in-Next w ↦ no_nearest f.trees whole left k x once has hit (is ∙ ap (λ h. joined left (combinator_view h) k) w.in-Next.is) (sym w.element_before-next.ensures.value ∙ ap (option_map (name_at f.names)) (sym w.next-is ∙ c.in_err-at.was))
+      | in-Child w ↦ no_parent f.trees whole left k x once has hit (is ∙ ap (λ h. joined left (combinator_view h) k) w.in-Child.is)
+          (sym w.parent-next.ensures.value ∙ ap (option_map (name_at f.names)) (sym w.next-is ∙ c.in_err-at.was))
+      | in-Next w ↦ no_nearest f.trees whole left k x once has hit (is ∙ ap (λ h. joined left (combinator_view h) k) w.in-Next.is)
+          (sym w.element_before-next.ensures.value ∙ ap (option_map (name_at f.names)) (sym w.next-is ∙ c.in_err-at.was))
     ] in
     rw c.from_residual.ensures (c.loop-last.invariant.leads.same ∙ none)
 
@@ -116,4 +136,5 @@ returns-clause-ends c =
     (Once-forest f c.nodes_stand_once.ensures.once c.nodes_stand_once.ensures.only)
     (Has-forest f c.nodes_stand_once.ensures.once c.loop-last.at c.loop-last.invariant.node)
     c.loop-last.invariant.leads
-    (subst (λ d. StopsAt IsSearched f.trees d x) (sym (no-links c.args.first.now c.loop-last.rest.now c.in_default.ensures.cases)) (sym c.compound_matches-2.ensures ∙ c.if-not-compound_matches-2.false))
+    (subst (λ d. StopsAt IsSearched f.trees d x) (sym (no-links c.args.first.now c.loop-last.rest.now c.in_default.ensures.cases))
+    (sym c.compound_matches-2.ensures ∙ c.if-not-compound_matches-2.false))

@@ -7,7 +7,8 @@ use Rattle.dom_selectors.specs.Views.{part_view}
 use Rattle.dom_selectors.proofs.compounds.read_parts.Given as goal
 
 abbrev pub invariant-loop-parts : goal.invariant-loop-parts
-invariant-loop-parts l = behind_list (map part_view l.parts.items) (read_all read_part l.rest) ≡ behind_list (map part_view l.fn.parts.items) (read_all read_part l.units)
+invariant-loop-parts l = behind_list (map part_view l.parts.items) (read_all read_part l.rest) ≡ behind_list (map part_view l.fn.parts.items)
+    (read_all read_part l.units)
 
 abbrev pub decreases-loop-parts : goal.decreases-loop-parts
 decreases-loop-parts l = length l.rest

@@ -1,7 +1,7 @@
 use Rattle.std.proofs.Common.{sym, ◌∙◌}
 use Rattle.std.proofs.lemmas.Option.{same_Some}
 use Rattle.dom_selectors.proofs.SoundLists.{parsed_says}
-use Rattle.dom_selectors.proofs.CompleteLists.{said_parsed}
+use Rattle.dom_selectors.proofs.CompleteCombinators.{said_parsed}
 use Rattle.dom_selectors.proofs.grammar.texts_say_one_selector.Goals as goal
 
 pub returns-clause-said : goal.returns-clause-said

@@ -12,7 +12,8 @@ use Rattle.dom_selectors.proofs.Searches.{goes-above, none-above}
 use Rattle.dom_selectors.proofs.joined.complex_matches.Goals as goal
 
 -- its parts are those of the selector
-seen : (complex : Complex) (first : List Part) (links : List Link) → first ≡ complex.first.items → links ≡ complex.links.items → complex_view complex ≡ complex_from first links
+seen : (complex : Complex) (first : List Part) (links : List Link) → first ≡ complex.first.items → links ≡ complex.links.items →
+    complex_view complex ≡ complex_from first links
 seen complex first links e is = ap (λ ps. complex_from ps complex.links.items) (sym e) ∙ ap (complex_from first) (sym is)
 
 pub loop-left-init : goal.loop-left-init
@@ -21,7 +22,9 @@ loop-left-init c =
     let x = name_at f.names c.args.key in
     record {
       node = c.in-Some.ensures.node;
-      same = ap (λ d. complex_matches f.trees d x) (seen c.args.complex.now c.as_slice-first.result.now c.as_slice.result.now c.as_slice-first.ensures.value c.as_slice.ensures.value) ∙ c.in-Some.ensures.ends.same;
+      same = ap (λ d. complex_matches f.trees d x)
+          (seen c.args.complex.now c.as_slice-first.result.now c.as_slice.result.now c.as_slice-first.ensures.value c.as_slice.ensures.value) ∙
+          c.in-Some.ensures.ends.same;
       stops = c.in-Some.ensures.ends.stops;
     }
 
@@ -37,7 +40,9 @@ loop-left-preserved c =
       node = c.in-Some-segment_above.ensures.node;
       same =
           c.loop-left.invariant.same
-          ∙ goes-above f.trees (complex_from first end.links.now) (complex_from first c.in-Some-split_last.left.now) (complex_from first next.links.now) (combinator_view last.combinator) (compound_view last.compound.items) (name_at f.names end.key) (name_at f.names next.key) is c.loop-left.invariant.stops c.in-Some-segment_above.ensures.ends;
+          ∙ goes-above f.trees (complex_from first end.links.now) (complex_from first c.in-Some-split_last.left.now)
+          (complex_from first next.links.now) (combinator_view last.combinator) (compound_view last.compound.items) (name_at f.names end.key)
+          (name_at f.names next.key) is c.loop-left.invariant.stops c.in-Some-segment_above.ensures.ends;
       stops = c.in-Some-segment_above.ensures.ends.stops;
     }
 
@@ -49,7 +54,8 @@ returns-in_default-segment_above c =
     let last = c.in-Some-split_last.field-0-0.now in
     let is = last-joined first end.links.now c.in-Some-split_last.left.now last c.in-Some-split_last.ensures.cases.0 in
     sym (c.loop-left.invariant.same
-    ∙ none-above f.trees (complex_from first end.links.now) (complex_from first c.in-Some-split_last.left.now) (combinator_view last.combinator) (compound_view last.compound.items) (name_at f.names end.key) is c.loop-left.invariant.stops c.in_default-segment_above.ensures.ends)
+    ∙ none-above f.trees (complex_from first end.links.now) (complex_from first c.in-Some-split_last.left.now) (combinator_view last.combinator)
+    (compound_view last.compound.items) (name_at f.names end.key) is c.loop-left.invariant.stops c.in_default-segment_above.ensures.ends)
 
 pub returns : goal.returns
 returns c =
@@ -64,4 +70,6 @@ pub returns-in_default : goal.returns-in_default
 returns-in_default c =
     let f = c.args.forest.now in
     let x = name_at f.names c.args.key in
-    sym (ap (λ d. complex_matches f.trees d x) (seen c.args.complex.now c.as_slice-first.result.now c.as_slice.result.now c.as_slice-first.ensures.value c.as_slice.ensures.value) ∙ c.in_default.ensures.ends)
+    sym (ap (λ d. complex_matches f.trees d x)
+    (seen c.args.complex.now c.as_slice-first.result.now c.as_slice.result.now c.as_slice-first.ensures.value c.as_slice.ensures.value) ∙
+    c.in_default.ensures.ends)

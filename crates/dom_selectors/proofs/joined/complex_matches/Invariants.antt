@@ -9,7 +9,8 @@ use Rattle.dom_selectors.proofs.joined.complex_matches.Given as goal
 abbrev pub invariant-loop-left : goal.invariant-loop-left
 invariant-loop-left l = record {
   node : l.end.key < length l.forest.names;
-  same : complex_matches l.forest.trees (complex_view l.complex) (name_at l.forest.names l.fn.key) ≡ complex_matches l.forest.trees (complex_from l.first l.end.links.now) (name_at l.forest.names l.end.key);
+  same : complex_matches l.forest.trees (complex_view l.complex) (name_at l.forest.names l.fn.key) ≡ complex_matches l.forest.trees
+      (complex_from l.first l.end.links.now) (name_at l.forest.names l.end.key);
   stops : StopsAt IsDescendant l.forest.trees (complex_from l.first l.end.links.now) (name_at l.forest.names l.end.key);
 }
 

@@ -15,23 +15,29 @@ loop-at-init c =
     let f = c.args.forest.now in
     record {
       node = c.parent-at.ensures.node;
-      left = ap (list_any (complex_matches f.trees (complex_from c.args.first.now c.args.links.now))) (sym (above_step f c.nodes_stand_once.ensures.once c.nodes_stand_once.ensures.only c.args.key c.parent-at.result c.requires c.parent-at.ensures.value));
+      left = ap (list_any (complex_matches f.trees (complex_from c.args.first.now c.args.links.now)))
+          (sym (above_step f c.nodes_stand_once.ensures.once c.nodes_stand_once.ensures.only c.args.key c.parent-at.result c.requires
+          c.parent-at.ensures.value));
     }
 
 pub loop-at-smaller : goal.loop-at-smaller
 loop-at-smaller c =
     let f = c.args.forest.now in
     let node = c.loop-at.invariant.node c.in-Some.above c.in-Some.is in
-    above_less f c.in-Some.above c.loop-at.at c.parent-at-in-Some.result c.in-Some.is (above_step f c.nodes_stand_once.ensures.once c.nodes_stand_once.ensures.only c.in-Some.above c.parent-at-in-Some.result node c.parent-at-in-Some.ensures.value)
+    above_less f c.in-Some.above c.loop-at.at c.parent-at-in-Some.result c.in-Some.is
+    (above_step f c.nodes_stand_once.ensures.once c.nodes_stand_once.ensures.only c.in-Some.above c.parent-at-in-Some.result node
+    c.parent-at-in-Some.ensures.value)
 
 pub loop-at-preserved : goal.loop-at-preserved
 loop-at-preserved c =
     let f = c.args.forest.now in
     let node = c.loop-at.invariant.node c.in-Some.above c.in-Some.is in
-    let step = above_step f c.nodes_stand_once.ensures.once c.nodes_stand_once.ensures.only c.in-Some.above c.parent-at-in-Some.result node c.parent-at-in-Some.ensures.value in
+    let step = above_step f c.nodes_stand_once.ensures.once c.nodes_stand_once.ensures.only c.in-Some.above c.parent-at-in-Some.result node
+    c.parent-at-in-Some.ensures.value in
     record {
       node = c.parent-at-in-Some.ensures.node;
-      left = above_miss f (complex_matches f.trees (complex_from c.args.first.now c.args.links.now)) c.in-Some.above c.loop-at.at c.parent-at-in-Some.result c.in-Some.is c.in_default-segment_end.ensures.ends step ∙ c.loop-at.invariant.left;
+      left = above_miss f (complex_matches f.trees (complex_from c.args.first.now c.args.links.now)) c.in-Some.above c.loop-at.at
+          c.parent-at-in-Some.result c.in-Some.is c.in_default-segment_end.ensures.ends step ∙ c.loop-at.invariant.left;
     }
 
 pub returns-in-Some-segment_end-clause-ends : goal.returns-in-Some-segment_end-clause-ends
@@ -39,7 +45,8 @@ returns-in-Some-segment_end-clause-ends c =
     let f = c.args.forest.now in
     let whole = complex_from c.args.first.now c.args.links.now in
     let end = c.in-Some-segment_end.end in
-    segment-above f.trees whole (complex_from c.args.first.now end.links.now) (name_at f.names c.args.key) (name_at f.names c.in-Some.above) (name_at f.names end.key)
+    segment-above f.trees whole (complex_from c.args.first.now end.links.now) (name_at f.names c.args.key) (name_at f.names c.in-Some.above)
+    (name_at f.names end.key)
     (Once-forest f c.nodes_stand_once.ensures.once c.nodes_stand_once.ensures.only)
     (Has-forest f c.nodes_stand_once.ensures.once c.in-Some.above (c.loop-at.invariant.node c.in-Some.above c.in-Some.is))
     (sym (ap (λ o. list_any (complex_matches f.trees whole) (from_above f.trees (option_map (name_at f.names) o))) c.in-Some.is) ∙ c.loop-at.invariant.left)

@@ -26,7 +26,8 @@ loop-last-init c =
     record {
       node = c.in-Some.ensures.node;
       shorter = c.in-Some.ensures.shorter;
-      comes = comes-first f.trees (complex_from c.args.first.now c.args.links.now) (complex_from c.args.first.now end.links.now) (name_at f.names c.args.key) (name_at f.names end.key) c.in-Some.ensures.ends;
+      comes = comes-first f.trees (complex_from c.args.first.now c.args.links.now) (complex_from c.args.first.now end.links.now)
+          (name_at f.names c.args.key) (name_at f.names end.key) c.in-Some.ensures.ends;
     }
 
 pub loop-last-preserved : goal.loop-last-preserved
@@ -44,7 +45,9 @@ loop-last-preserved c =
     record {
       node = c.in-Some-chain_before.ensures.node;
       shorter = omega (arith, c.in-Some-split_last.ensures.cases.1, c.in-Some-chain_before.ensures.shorter);
-      comes = comes-before f.trees (complex_from c.args.first.now c.args.links.now) (complex_from c.args.first.now end.links.now) left (complex_from c.args.first.now next.links.now) (compound_view last.compound.items) (name_at f.names c.args.key) (name_at f.names end.key) (name_at f.names next.key)
+      comes = comes-before f.trees (complex_from c.args.first.now c.args.links.now) (complex_from c.args.first.now end.links.now) left
+          (complex_from c.args.first.now next.links.now) (compound_view last.compound.items) (name_at f.names c.args.key)
+          (name_at f.names end.key) (name_at f.names next.key)
           (Once-forest f c.nodes_stand_once.ensures.once c.nodes_stand_once.ensures.only)
           (is ∙ ap (λ h. joined left (combinator_view h) (compound_view last.compound.items)) its_later)
           c.loop-last.invariant.comes
@@ -64,7 +67,8 @@ returns-then-not-matches-clause-ends c =
     ] in
     let is = last-joined c.args.first.now end.links.now c.in-Some-split_last.left.now last c.in-Some-split_last.ensures.cases.0 in
     segment-ends f.trees (complex_from c.args.first.now c.args.links.now) whole (name_at f.names c.args.key) z c.loop-last.invariant.comes
-    (stops-white f.trees whole (complex_from c.args.first.now c.in-Some-split_last.left.now) (combinator_view last.combinator) (compound_view last.compound.items) z is (no_later last.combinator other) c.loop-last.invariant.comes.stops)
+    (stops-white f.trees whole (complex_from c.args.first.now c.in-Some-split_last.left.now) (combinator_view last.combinator)
+    (compound_view last.compound.items) z is (no_later last.combinator other) c.loop-last.invariant.comes.stops)
 
 pub returns-in_default-chain_before-clause-ends : goal.returns-in_default-chain_before-clause-ends
 returns-in_default-chain_before-clause-ends c =
@@ -77,7 +81,8 @@ returns-in_default-chain_before-clause-ends c =
       | in_default-matches w ↦ absurd (true≢false (sym c.if-not-matches.false ∙ w.matches-is))
     ] in
     let is = last-joined c.args.first.now end.links.now c.in-Some-split_last.left.now last c.in-Some-split_last.ensures.cases.0 in
-    none-before f.trees (complex_from c.args.first.now c.args.links.now) (complex_from c.args.first.now end.links.now) left (compound_view last.compound.items) (name_at f.names c.args.key) (name_at f.names end.key)
+    none-before f.trees (complex_from c.args.first.now c.args.links.now) (complex_from c.args.first.now end.links.now) left
+    (compound_view last.compound.items) (name_at f.names c.args.key) (name_at f.names end.key)
     (is ∙ ap (λ h. joined left (combinator_view h) (compound_view last.compound.items)) its_later)
     c.loop-last.invariant.comes
     c.in_default-chain_before.ensures.ends

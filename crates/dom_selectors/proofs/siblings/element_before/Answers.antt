@@ -16,23 +16,29 @@ loop-at-init c =
     let f = c.args.forest.now in
     record {
       node = c.prev-at.ensures.node;
-      left = ap (filter (λ y. is_element (kind_of f.trees y))) (sym (previous_step f c.nodes_stand_once.ensures.once c.nodes_stand_once.ensures.only c.args.key c.prev-at.result c.requires c.prev-at.ensures.value));
+      left = ap (filter (λ y. is_element (kind_of f.trees y)))
+          (sym (previous_step f c.nodes_stand_once.ensures.once c.nodes_stand_once.ensures.only c.args.key c.prev-at.result c.requires
+          c.prev-at.ensures.value));
     }
 
 pub loop-at-smaller : goal.loop-at-smaller
 loop-at-smaller c =
     let f = c.args.forest.now in
     let node = c.loop-at.invariant.node c.in-Some.before c.in-Some.is in
-    previous_less f c.in-Some.before c.loop-at.at c.prev-at-in-Some.result c.in-Some.is (previous_step f c.nodes_stand_once.ensures.once c.nodes_stand_once.ensures.only c.in-Some.before c.prev-at-in-Some.result node c.prev-at-in-Some.ensures.value)
+    previous_less f c.in-Some.before c.loop-at.at c.prev-at-in-Some.result c.in-Some.is
+    (previous_step f c.nodes_stand_once.ensures.once c.nodes_stand_once.ensures.only c.in-Some.before c.prev-at-in-Some.result node
+    c.prev-at-in-Some.ensures.value)
 
 pub loop-at-preserved : goal.loop-at-preserved
 loop-at-preserved c =
     let f = c.args.forest.now in
     let node = c.loop-at.invariant.node c.in-Some.before c.in-Some.is in
-    let step = previous_step f c.nodes_stand_once.ensures.once c.nodes_stand_once.ensures.only c.in-Some.before c.prev-at-in-Some.result node c.prev-at-in-Some.ensures.value in
+    let step = previous_step f c.nodes_stand_once.ensures.once c.nodes_stand_once.ensures.only c.in-Some.before c.prev-at-in-Some.result node
+    c.prev-at-in-Some.ensures.value in
     record {
       node = c.prev-at-in-Some.ensures.node;
-      left = passed_before f (λ y. is_element (kind_of f.trees y)) c.in-Some.before c.loop-at.at c.prev-at-in-Some.result c.in-Some.is (sym c.if-is_element.ensures) step ∙ c.loop-at.invariant.left;
+      left = passed_before f (λ y. is_element (kind_of f.trees y)) c.in-Some.before c.loop-at.at c.prev-at-in-Some.result c.in-Some.is
+          (sym c.if-is_element.ensures) step ∙ c.loop-at.invariant.left;
     }
 
 pub returns-then-is_element-clause-value : goal.returns-then-is_element-clause-value

@@ -16,23 +16,29 @@ loop-at-init c =
     let f = c.args.forest.now in
     record {
       node = c.next-at.ensures.node;
-      left = ap (filter (λ y. is_element (kind_of f.trees y))) (sym (next_step f c.nodes_stand_once.ensures.once c.nodes_stand_once.ensures.only c.args.key c.next-at.result c.requires c.next-at.ensures.value));
+      left = ap (filter (λ y. is_element (kind_of f.trees y)))
+          (sym (next_step f c.nodes_stand_once.ensures.once c.nodes_stand_once.ensures.only c.args.key c.next-at.result c.requires
+          c.next-at.ensures.value));
     }
 
 pub loop-at-smaller : goal.loop-at-smaller
 loop-at-smaller c =
     let f = c.args.forest.now in
     let node = c.loop-at.invariant.node c.in-Some.behind c.in-Some.is in
-    next_less f c.in-Some.behind c.loop-at.at c.next-at-in-Some.result c.in-Some.is (next_step f c.nodes_stand_once.ensures.once c.nodes_stand_once.ensures.only c.in-Some.behind c.next-at-in-Some.result node c.next-at-in-Some.ensures.value)
+    next_less f c.in-Some.behind c.loop-at.at c.next-at-in-Some.result c.in-Some.is
+    (next_step f c.nodes_stand_once.ensures.once c.nodes_stand_once.ensures.only c.in-Some.behind c.next-at-in-Some.result node
+    c.next-at-in-Some.ensures.value)
 
 pub loop-at-preserved : goal.loop-at-preserved
 loop-at-preserved c =
     let f = c.args.forest.now in
     let node = c.loop-at.invariant.node c.in-Some.behind c.in-Some.is in
-    let step = next_step f c.nodes_stand_once.ensures.once c.nodes_stand_once.ensures.only c.in-Some.behind c.next-at-in-Some.result node c.next-at-in-Some.ensures.value in
+    let step = next_step f c.nodes_stand_once.ensures.once c.nodes_stand_once.ensures.only c.in-Some.behind c.next-at-in-Some.result node
+    c.next-at-in-Some.ensures.value in
     record {
       node = c.next-at-in-Some.ensures.node;
-      left = passed_behind f (λ y. is_element (kind_of f.trees y)) c.in-Some.behind c.loop-at.at c.next-at-in-Some.result c.in-Some.is (sym c.if-is_element.ensures) step ∙ c.loop-at.invariant.left;
+      left = passed_behind f (λ y. is_element (kind_of f.trees y)) c.in-Some.behind c.loop-at.at c.next-at-in-Some.result c.in-Some.is
+          (sym c.if-is_element.ensures) step ∙ c.loop-at.invariant.left;
     }
 
 pub returns-then-is_element-clause-value : goal.returns-then-is_element-clause-value

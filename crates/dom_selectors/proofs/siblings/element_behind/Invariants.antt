@@ -11,7 +11,8 @@ use Rattle.dom_selectors.proofs.siblings.element_behind.Given as goal
 abbrev pub invariant-loop-at : goal.invariant-loop-at
 invariant-loop-at l = record {
   node : ForSome l.at (λ k. k < length l.forest.names);
-  left : filter (λ y. is_element (kind_of l.forest.trees y)) (from l.forest.trees (option_map (name_at l.forest.names) l.at)) ≡ elements_behind l.forest.trees (name_at l.forest.names l.fn.key);
+  left : filter (λ y. is_element (kind_of l.forest.trees y)) (from l.forest.trees (option_map (name_at l.forest.names) l.at)) ≡ elements_behind
+      l.forest.trees (name_at l.forest.names l.fn.key);
 }
 
 abbrev pub decreases-loop-at : goal.decreases-loop-at

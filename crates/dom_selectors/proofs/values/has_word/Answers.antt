@@ -5,15 +5,18 @@ use Rattle.dom_selectors.proofs.values.has_word.Goals as goal
 
 pub returns-then-is_same : goal.returns-then-is_same
 returns-then-is_same c =
-    sym (word_here c.args.word.now c.loop-behind.rest.now c.split_at.result.0.now c.split_at.result.1.now c.word_len.result c.word_len.ensures.count c.split_at.ensures.front c.split_at.ensures.back (sym c.is_same.ensures ∙ c.if-is_same.true))
+    sym (word_here c.args.word.now c.loop-behind.rest.now c.split_at.result.0.now c.split_at.result.1.now c.word_len.result
+    c.word_len.ensures.count c.split_at.ensures.front c.split_at.ensures.back (sym c.is_same.ensures ∙ c.if-is_same.true))
     ∙ c.loop-behind.invariant
 
 pub returns-in-empty : goal.returns-in-empty
 returns-in-empty c =
-    sym (word_ends c.args.word.now c.loop-behind.rest.now c.split_at.result.0.now c.split_at.result.1.now c.word_len.result c.word_len.ensures.count c.split_at.ensures.front c.split_at.ensures.back (sym c.is_same.ensures ∙ c.if-is_same.false) c.in-empty.len_below)
+    sym (word_ends c.args.word.now c.loop-behind.rest.now c.split_at.result.0.now c.split_at.result.1.now c.word_len.result
+    c.word_len.ensures.count c.split_at.ensures.front c.split_at.ensures.back (sym c.is_same.ensures ∙ c.if-is_same.false) c.in-empty.len_below)
     ∙ c.loop-behind.invariant
 
 pub loop-behind-preserved : goal.loop-behind-preserved
 loop-behind-preserved c =
-    word_behind c.args.word.now c.loop-behind.rest.now c.split_at.result.0.now c.split_at.result.1.now c.word_len.result c.word_len.ensures.count c.split_at.ensures.front c.split_at.ensures.back (sym c.is_same.ensures ∙ c.if-is_same.false) c.in-len1-up.len_at_least
+    word_behind c.args.word.now c.loop-behind.rest.now c.split_at.result.0.now c.split_at.result.1.now c.word_len.result c.word_len.ensures.count
+    c.split_at.ensures.front c.split_at.ensures.back (sym c.is_same.ensures ∙ c.if-is_same.false) c.in-len1-up.len_at_least
     ∙ c.loop-behind.invariant

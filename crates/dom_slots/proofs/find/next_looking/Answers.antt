@@ -22,7 +22,8 @@ loop-at-init c =
     let at = Has-forest f e.once c.args.child c.requires.node in
     let test : NodeName → Bool = λ y. looks_for c.args.name.now (node_in f.trees y) in
     let up = c.requires.parent.1 in
-    let step = next_sibling-step f (Once-forest f e.once e.only) x c.requires.parent.0 at up c.args.child record { node = c.requires.node; parent = up } at c.next-at.result c.next-at.ensures.value c.next-at.ensures.node in
+    let step = next_sibling-step f (Once-forest f e.once e.only) x c.requires.parent.0 at up c.args.child
+    record { node = c.requires.node; parent = up } at c.next-at.result c.next-at.ensures.value c.next-at.ensures.node in
     record { child = step.1; left = ap (λ xs. first_of (filter test xs)) (sym step.0) }
 
 pub looks_for-requires : goal.looks_for-requires
@@ -34,18 +35,22 @@ next-at-requires-in-Some c = (c.loop-at.invariant.child c.requires.parent.0 c.re
 -- the step behind a sibling
 behind : (c : After-next-at-in-Some)
     → (items_after name_eq (name_at c.args.forest.now.names c.in-Some.sibling) (siblings c.args.forest.now.trees (name_at c.args.forest.now.names c.args.child))
-    ≡ from_item (siblings c.args.forest.now.trees (name_at c.args.forest.now.names c.args.child)) (option_map (name_at c.args.forest.now.names) c.next-at-in-Some.result))
-    × ((g : NodeName) → parent_of c.args.forest.now.trees (name_at c.args.forest.now.names c.args.child) ≡ Some g → ForSome c.next-at-in-Some.result (IsChild c.args.forest.now g))
+    ≡ from_item (siblings c.args.forest.now.trees (name_at c.args.forest.now.names c.args.child))
+    (option_map (name_at c.args.forest.now.names) c.next-at-in-Some.result))
+    × ((g : NodeName) → parent_of c.args.forest.now.trees (name_at c.args.forest.now.names c.args.child) ≡ Some g →
+    ForSome c.next-at-in-Some.result (IsChild c.args.forest.now g))
 behind c =
     let f = c.args.forest.now in
     let e = c.nodes_stand_once.ensures in
     let up = c.requires.parent.1 in
     let child = c.loop-at.invariant.child c.requires.parent.0 up c.in-Some.sibling c.in-Some.is in
-    next_sibling-step f (Once-forest f e.once e.only) (name_at f.names c.args.child) c.requires.parent.0 (Has-forest f e.once c.args.child c.requires.node) up c.in-Some.sibling child (Has-forest f e.once c.in-Some.sibling child.node)
+    next_sibling-step f (Once-forest f e.once e.only) (name_at f.names c.args.child) c.requires.parent.0
+    (Has-forest f e.once c.args.child c.requires.node) up c.in-Some.sibling child (Has-forest f e.once c.in-Some.sibling child.node)
     c.next-at-in-Some.result c.next-at-in-Some.ensures.value c.next-at-in-Some.ensures.node
 
 pub loop-at-smaller : goal.loop-at-smaller
-loop-at-smaller c = length-next c.args.forest.now (siblings c.args.forest.now.trees (name_at c.args.forest.now.names c.args.child)) c.in-Some.sibling c.loop-at.at c.next-at-in-Some.result c.in-Some.is (behind c).0
+loop-at-smaller c = length-next c.args.forest.now (siblings c.args.forest.now.trees (name_at c.args.forest.now.names c.args.child))
+    c.in-Some.sibling c.loop-at.at c.next-at-in-Some.result c.in-Some.is (behind c).0
 
 pub loop-at-preserved : goal.loop-at-preserved
 loop-at-preserved c =
@@ -56,7 +61,8 @@ loop-at-preserved c =
     record {
       child = step.1;
       left = ap (λ xs. first_of (filter test xs)) (sym step.0)
-          ∙ (ap first_of (sym (filter-no test (name_at f.names c.in-Some.sibling) (items_after name_eq (name_at f.names c.in-Some.sibling) all) (sym c.if-looks_for.ensures)))
+          ∙ (ap first_of (sym (filter-no test (name_at f.names c.in-Some.sibling) (items_after name_eq (name_at f.names c.in-Some.sibling) all)
+          (sym c.if-looks_for.ensures)))
           ∙ (ap (λ o. first_of (filter test (from_item all (option_map (name_at f.names) o)))) (sym c.in-Some.is) ∙ c.loop-at.invariant.left));
     }
 
@@ -77,4 +83,5 @@ returns-clause-value c =
 
 pub returns-then-looks_for-clause-node : goal.returns-then-looks_for-clause-node
 returns-then-looks_for-clause-node c =
-    λ k e. subst (λ j. j < length c.args.forest.now.names) (same_Some c.in-Some.sibling k e) (c.loop-at.invariant.child c.requires.parent.0 c.requires.parent.1 c.in-Some.sibling c.in-Some.is).node
+    λ k e. subst (λ j. j < length c.args.forest.now.names) (same_Some c.in-Some.sibling k e)
+    (c.loop-at.invariant.child c.requires.parent.0 c.requires.parent.1 c.in-Some.sibling c.in-Some.is).node

@@ -26,17 +26,20 @@ pub loop-at-smaller : goal.loop-at-smaller
 loop-at-smaller c =
     let f = c.args.forest.now in
     let e = c.nodes_stand_once.ensures in
-    let step = following_step f e.once e.only c.args.top c.in-Some.key c.following-at.result (c.loop-at.invariant.stands c.in-Some.key c.in-Some.is) c.following-at.ensures.value c.following-at.ensures.node in
+    let step = following_step f e.once e.only c.args.top c.in-Some.key c.following-at.result
+    (c.loop-at.invariant.stands c.in-Some.key c.in-Some.is) c.following-at.ensures.value c.following-at.ensures.node in
     length-behind f c.args.top c.in-Some.key c.loop-at.at c.following-at.result c.in-Some.is step.0
 
 pub loop-at-preserved : goal.loop-at-preserved
 loop-at-preserved c =
     let f = c.args.forest.now in
     let e = c.nodes_stand_once.ensures in
-    let step = following_step f e.once e.only c.args.top c.in-Some.key c.following-at.result (c.loop-at.invariant.stands c.in-Some.key c.in-Some.is) c.following-at.ensures.value c.following-at.ensures.node in
+    let step = following_step f e.once e.only c.args.top c.in-Some.key c.following-at.result
+    (c.loop-at.invariant.stands c.in-Some.key c.in-Some.is) c.following-at.ensures.value c.following-at.ensures.node in
     record {
       stands = step.1;
-      left = left-behind f (λ y. has_slot_name c.args.name.now (node_in f.trees y)) c.args.top c.in-Some.key c.loop-at.at c.following-at.result c.in-Some.is (sym c.if-has_name.ensures) step.0 ∙ c.loop-at.invariant.left;
+      left = left-behind f (λ y. has_slot_name c.args.name.now (node_in f.trees y)) c.args.top c.in-Some.key c.loop-at.at c.following-at.result
+          c.in-Some.is (sym c.if-has_name.ensures) step.0 ∙ c.loop-at.invariant.left;
     }
 
 pub returns-then-has_name-clause-value : goal.returns-then-has_name-clause-value

@@ -11,7 +11,8 @@ use Rattle.dom_slots.proofs.find.slot_named.Given as goal
 abbrev pub invariant-loop-at : goal.invariant-loop-at
 invariant-loop-at l = record {
   stands : ForSome l.at (StandsIn l.forest l.top);
-  left : first_of (filter (λ y. has_slot_name l.name (node_in l.forest.trees y)) (from_node l.forest.trees (name_at l.forest.names l.top) (option_map (name_at l.forest.names) l.at)))
+  left : first_of (filter (λ y. has_slot_name l.name (node_in l.forest.trees y))
+      (from_node l.forest.trees (name_at l.forest.names l.top) (option_map (name_at l.forest.names) l.at)))
       ≡ first_of (filter (λ y. has_slot_name l.name (node_in l.forest.trees y)) (inclusive_descendants l.forest.trees (name_at l.forest.names l.top)));
 }
 

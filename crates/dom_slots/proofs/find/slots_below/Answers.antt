@@ -21,7 +21,8 @@ loop-at-init c =
     record {
       stands = stands-top f e.once e.only c.args.top c.requires (Some c.args.top) refl;
       nodes = subst (All (λ j. j < length f.names)) (sym c.new-keys.ensures.items) (λ k d h. absurd (omega arith));
-      left = ap (λ ks. map (name_at f.names) ks ++ filter (λ y. is_slot_element (node_in f.trees y)) (from_node f.trees (name_at f.names c.args.top) (Some (name_at f.names c.args.top)))) c.new-keys.ensures.items
+      left = ap (λ ks. map (name_at f.names) ks ++ filter (λ y. is_slot_element (node_in f.trees y))
+          (from_node f.trees (name_at f.names c.args.top) (Some (name_at f.names c.args.top)))) c.new-keys.ensures.items
           ∙ ap (filter (λ y. is_slot_element (node_in f.trees y))) (from-top f e.once e.only c.args.top c.requires);
     }
 
@@ -29,25 +30,31 @@ pub loop-at-smaller : goal.loop-at-smaller
 loop-at-smaller c =
     let f = c.args.forest.now in
     let e = c.nodes_stand_once.ensures in
-    let step = following_step f e.once e.only c.args.top c.in-Some.key c.following-at.result (c.loop-at.invariant.stands c.in-Some.key c.in-Some.is) c.following-at.ensures.value c.following-at.ensures.node in
+    let step = following_step f e.once e.only c.args.top c.in-Some.key c.following-at.result
+    (c.loop-at.invariant.stands c.in-Some.key c.in-Some.is) c.following-at.ensures.value c.following-at.ensures.node in
     length-behind f c.args.top c.in-Some.key c.loop-at.at c.following-at.result c.in-Some.is step.0
 
 pub loop-at-preserved : goal.loop-at-preserved
 loop-at-preserved c =
     let f = c.args.forest.now in
     let e = c.nodes_stand_once.ensures in
-    let step = following_step f e.once e.only c.args.top c.in-Some.key c.following-at.result (c.loop-at.invariant.stands c.in-Some.key c.in-Some.is) c.following-at.ensures.value c.following-at.ensures.node in
+    let step = following_step f e.once e.only c.args.top c.in-Some.key c.following-at.result
+    (c.loop-at.invariant.stands c.in-Some.key c.in-Some.is) c.following-at.ensures.value c.following-at.ensures.node in
     let test : NodeName → Bool = λ y. is_slot_element (node_in f.trees y) in
     let all = filter test (inclusive_descendants f.trees (name_at f.names c.args.top)) in
     let xs = behind f.trees (name_at f.names c.args.top) (name_at f.names c.in-Some.key) in
     let node = (c.loop-at.invariant.stands c.in-Some.key c.in-Some.is).node in
     let left : map (name_at f.names) c.loop-at.keys.items ++ filter test (name_at f.names c.in-Some.key ∷ xs) ≡ all =
-    ap (λ o. map (name_at f.names) c.loop-at.keys.items ++ filter test (from_node f.trees (name_at f.names c.args.top) (option_map (name_at f.names) o))) (sym c.in-Some.is) ∙ c.loop-at.invariant.left in
+    ap (λ o. map (name_at f.names) c.loop-at.keys.items ++
+    filter test (from_node f.trees (name_at f.names c.args.top) (option_map (name_at f.names) o))) (sym c.in-Some.is) ∙
+    c.loop-at.invariant.left in
     let new = c.if-is_slot.keys.items in
     let is : All (λ j. j < length f.names) new × (map (name_at f.names) new ++ filter test xs ≡ all) = elim c.if-is_slot.branch [
       | then-is_slot+in_ok-push w ↦
-          collect-yes f.names test c.loop-at.keys.items c.in-Some.key node xs all c.loop-at.invariant.nodes left new (ap (λ v. v.items) w.keys-is ∙ w.in_ok-push.ensures.items) (sym w.if-is_slot.ensures)
-      | else-is_slot w ↦ collect-no f.names test c.loop-at.keys.items c.in-Some.key node xs all c.loop-at.invariant.nodes left new (ap (λ v. v.items) w.keys-is) (sym w.if-is_slot.ensures)
+          collect-yes f.names test c.loop-at.keys.items c.in-Some.key node xs all c.loop-at.invariant.nodes left new
+          (ap (λ v. v.items) w.keys-is ∙ w.in_ok-push.ensures.items) (sym w.if-is_slot.ensures)
+      | else-is_slot w ↦ collect-no f.names test c.loop-at.keys.items c.in-Some.key node xs all c.loop-at.invariant.nodes left new
+          (ap (λ v. v.items) w.keys-is) (sym w.if-is_slot.ensures)
     ] in
     record { stands = step.1; nodes = is.0; left = ap (λ ys. map (name_at f.names) new ++ filter test ys) (sym step.0) ∙ is.1 }
 
@@ -57,5 +64,6 @@ returns-clause-value c =
     let e = c.nodes_stand_once.ensures in
     let test : NodeName → Bool = λ y. is_slot_element (node_in f.trees y) in
     sym (append-nil (map (name_at f.names) c.loop-at.keys.items))
-    ∙ (ap (λ o. map (name_at f.names) c.loop-at.keys.items ++ filter test (from_node f.trees (name_at f.names c.args.top) (option_map (name_at f.names) o))) (sym c.in_default.is)
+    ∙ (ap (λ o. map (name_at f.names) c.loop-at.keys.items ++
+    filter test (from_node f.trees (name_at f.names c.args.top) (option_map (name_at f.names) o))) (sym c.in_default.is)
     ∙ (c.loop-at.invariant.left ∙ sym (named-filter f.trees (Once-forest f e.once e.only) is_slot_element (name_at f.names c.args.top))))

@@ -11,7 +11,8 @@ abbrev pub invariant-loop-at : goal.invariant-loop-at
 invariant-loop-at l = record {
   stands : ForSome l.at (StandsIn l.forest l.top);
   nodes : All (λ k. k < length l.forest.names) l.keys.items;
-  left : map (name_at l.forest.names) l.keys.items ++ filter (λ y. is_slot_element (node_in l.forest.trees y)) (from_node l.forest.trees (name_at l.forest.names l.top) (option_map (name_at l.forest.names) l.at))
+  left : map (name_at l.forest.names) l.keys.items ++ filter (λ y. is_slot_element (node_in l.forest.trees y))
+      (from_node l.forest.trees (name_at l.forest.names l.top) (option_map (name_at l.forest.names) l.at))
       ≡ filter (λ y. is_slot_element (node_in l.forest.trees y)) (inclusive_descendants l.forest.trees (name_at l.forest.names l.top));
 }
 

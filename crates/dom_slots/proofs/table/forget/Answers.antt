@@ -12,9 +12,11 @@ loop-node-init c = λ k s. none_taken (is_in nat_eq s (items_or (get nat_eq c.ar
 
 pub loop-node-preserved : goal.loop-node-preserved
 loop-node-preserved c =
-    taken-more (λ k. items_or (get nat_eq c.args.slots.now k)) c.args.slot c.args.nodes.now c.loop-node.node-index c.node-item.result c.node-item.is c.loop-node-test.true (λ k. items_or (get nat_eq c.loop-node.slots k))
+    taken-more (λ k. items_or (get nat_eq c.args.slots.now k)) c.args.slot c.args.nodes.now c.loop-node.node-index c.node-item.result
+    c.node-item.is c.loop-node-test.true (λ k. items_or (get nat_eq c.loop-node.slots k))
     (λ k. items_or (get nat_eq c.take_from.new.lists k)) c.take_from.ensures.lists c.loop-node.invariant
 
 pub returns : goal.returns
 returns c =
-    subst (λ ks. AreTaken (λ k. items_or (get nat_eq c.args.slots.now k)) c.args.slot ks (λ k. items_or (get nat_eq c.loop-node.slots k))) (take_all c.loop-node.node-index c.args.nodes.now c.loop-node-test.false) c.loop-node.invariant
+    subst (λ ks. AreTaken (λ k. items_or (get nat_eq c.args.slots.now k)) c.args.slot ks (λ k. items_or (get nat_eq c.loop-node.slots k)))
+    (take_all c.loop-node.node-index c.args.nodes.now c.loop-node-test.false) c.loop-node.invariant

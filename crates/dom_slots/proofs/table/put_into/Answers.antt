@@ -16,7 +16,8 @@ returns-in_err-insert-in-Some-clause-err c =
     let new = c.insert.new.self in
     let found = c.in-Some.ensures.value in
     let updated = (c.get_mut.follows.holds new).3 (subst IsSome found refl) in
-    let lists = list-changed (λ xs. xs) c.args.slot new (get nat_eq c.args.lists.now) (get nat_eq (c.get_mut.follows.lender new)) updated.0 (c.in_err-insert-in-Some.ensures.items ∙ ap items_or found) in
+    let lists = list-changed (λ xs. xs) c.args.slot new (get nat_eq c.args.lists.now) (get nat_eq (c.get_mut.follows.lender new)) updated.0
+    (c.in_err-insert-in-Some.ensures.items ∙ ap items_or found) in
     on-err c.from_residual.result _ (λ k. lists k ∙ both (nat_eq c.args.slot k) (items_or (get nat_eq c.args.lists.now k)))
   where
     both : (b : Bool) (xs : List ℕ) → (if b then xs else xs) ≡ xs
@@ -27,5 +28,9 @@ pub returns-in_ok-insert-in-None-clause-ok : goal.returns-in_ok-insert-in-None-c
 returns-in_ok-insert-in-None-clause-ok c =
     let same = c.get_mut.follows.holds-at-none in
     let first : List ℕ → List ℕ = λ xs. insert_before xs c.args.node c.args.before in
-    list-changed first c.args.slot c.push.new.self (get nat_eq c.args.lists.now) (get nat_eq c.insert-in-None.new.self) (λ q. subst (λ m. get nat_eq c.insert-in-None.new.self q ≡ cond (nat_eq c.args.slot q) (Some c.push.new.self) (get nat_eq m q)) same (c.in_ok-insert-in-None.ensures.updates.0 q))
-    (c.in_ok-push-in-None.ensures.items ∙ (ap (λ xs. xs ++ c.args.node ∷ []) c.new-list.ensures.items ∙ (sym (first-inserted c.args.node c.args.before) ∙ ap (λ o. first (items_or o)) c.in-None.ensures.value)))
+    list-changed first c.args.slot c.push.new.self (get nat_eq c.args.lists.now) (get nat_eq c.insert-in-None.new.self)
+    (λ q. subst (λ m. get nat_eq c.insert-in-None.new.self q ≡ cond (nat_eq c.args.slot q) (Some c.push.new.self) (get nat_eq m q)) same
+    (c.in_ok-insert-in-None.ensures.updates.0 q))
+    (c.in_ok-push-in-None.ensures.items ∙
+    (ap (λ xs. xs ++ c.args.node ∷ []) c.new-list.ensures.items ∙
+    (sym (first-inserted c.args.node c.args.before) ∙ ap (λ o. first (items_or o)) c.in-None.ensures.value)))

@@ -18,9 +18,11 @@ loop-node-init c = λ k s. none_given (is_in nat_eq s (items_or (get nat_eq c.ar
 
 pub loop-node-preserved : goal.loop-node-preserved
 loop-node-preserved c =
-    given-more (λ k. items_or (get nat_eq c.args.slots.now k)) c.args.slot c.args.nodes.now c.loop-node.node-index c.node-item.result c.node-item.is c.loop-node-test.true (λ k. items_or (get nat_eq c.loop-node.slots k))
+    given-more (λ k. items_or (get nat_eq c.args.slots.now k)) c.args.slot c.args.nodes.now c.loop-node.node-index c.node-item.result
+    c.node-item.is c.loop-node-test.true (λ k. items_or (get nat_eq c.loop-node.slots k))
     (λ k. items_or (get nat_eq c.put_into.new.lists k)) c.in_ok-put_into.ensures.ok c.loop-node.invariant
 
 pub returns : goal.returns
 returns c =
-    subst (λ ks. AreGiven (λ k. items_or (get nat_eq c.args.slots.now k)) c.args.slot ks (λ k. items_or (get nat_eq c.loop-node.slots k))) (take_all c.loop-node.node-index c.args.nodes.now c.loop-node-test.false) c.loop-node.invariant
+    subst (λ ks. AreGiven (λ k. items_or (get nat_eq c.args.slots.now k)) c.args.slot ks (λ k. items_or (get nat_eq c.loop-node.slots k)))
+    (take_all c.loop-node.node-index c.args.nodes.now c.loop-node-test.false) c.loop-node.invariant

@@ -13,4 +13,5 @@ returns-in-Some-clause-lists c =
     let found = c.in-Some.ensures.value in
     let updated = (c.get_mut.follows.holds new).3 (subst IsSome found refl) in
     list-changed (without c.args.node) c.args.slot new (get nat_eq c.args.lists.now) (get nat_eq (c.get_mut.follows.lender new)) updated.0
-    (filter_same _ (λ x. not (x == c.args.node)) _ (λ x b f h. search rules) c.in-Some.list.now.items new.items c.retain.ensures.filtered ∙ ap (λ o. without c.args.node (items_or o)) found)
+    (filter_same _ (λ x. not (x == c.args.node)) _ (λ x b f h. search rules) c.in-Some.list.now.items new.items c.retain.ensures.filtered ∙
+    ap (λ o. without c.args.node (items_or o)) found)

@@ -7,12 +7,15 @@ pub loop-at-preserved-in_ok-extend_from_slice : goal.loop-at-preserved-in_ok-ext
 loop-at-preserved-in_ok-extend_from_slice c =
     let line = c.split_at.result.0.now in
     let front = c.loop-at.lines.items in
-    let step = kept_by-first c.args.prefix.now c.loop-at.rest.now line c.split_at.result.1.now c.in-Some.at c.in-Some.ensures.some c.split_at.ensures.front c.split_at.ensures.back (sym c.starts_with.ensures.value ∙ c.if-starts_with.true) in
-    c.loop-at.invariant ∙ ap (λ x. front ++ x) step ∙ sym (append_assoc front line _) ∙ ap (λ x. x ++ kept_by c.args.prefix.now c.split_at.result.1.now) (sym c.in_ok-extend_from_slice.ensures.items)
+    let step = kept_by-first c.args.prefix.now c.loop-at.rest.now line c.split_at.result.1.now c.in-Some.at c.in-Some.ensures.some
+    c.split_at.ensures.front c.split_at.ensures.back (sym c.starts_with.ensures.value ∙ c.if-starts_with.true) in
+    c.loop-at.invariant ∙ ap (λ x. front ++ x) step ∙ sym (append_assoc front line _) ∙
+    ap (λ x. x ++ kept_by c.args.prefix.now c.split_at.result.1.now) (sym c.in_ok-extend_from_slice.ensures.items)
 
 pub loop-at-preserved : goal.loop-at-preserved
 loop-at-preserved c =
-    let step = kept_by-later c.args.prefix.now c.loop-at.rest.now c.split_at.result.0.now c.split_at.result.1.now c.in-Some.at c.in-Some.ensures.some c.split_at.ensures.front c.split_at.ensures.back (sym c.starts_with.ensures.value ∙ c.if-starts_with.false) in
+    let step = kept_by-later c.args.prefix.now c.loop-at.rest.now c.split_at.result.0.now c.split_at.result.1.now c.in-Some.at
+    c.in-Some.ensures.some c.split_at.ensures.front c.split_at.ensures.back (sym c.starts_with.ensures.value ∙ c.if-starts_with.false) in
     c.loop-at.invariant ∙ ap (λ x. c.loop-at.lines.items ++ x) step
 
 pub returns : goal.returns

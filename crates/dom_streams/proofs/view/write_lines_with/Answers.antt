@@ -10,24 +10,32 @@ use Rattle.dom_streams.proofs.view.write_lines_with.Goals as goal
 pub loop-at-preserved : goal.loop-at-preserved
 loop-at-preserved g c =
     let i = c.loop-at.invariant in
-    let step = kept_by-later c.args.prefix.now c.loop-at.rest.now c.split_at.result.0.now c.split_at.result.1.now c.in-Some.at c.in-Some.ensures.some c.split_at.ensures.front c.split_at.ensures.back (sym c.starts_with.ensures.value ∙ c.if-starts_with.false) in
+    let step = kept_by-later c.args.prefix.now c.loop-at.rest.now c.split_at.result.0.now c.split_at.result.1.now c.in-Some.at
+    c.in-Some.ensures.some c.split_at.ensures.front c.split_at.ensures.back (sym c.starts_with.ensures.value ∙ c.if-starts_with.false) in
     (i.0, i.1 ∙ ap (λ x. i.0 ++ x) step, i.2, i.3)
 
 pub loop-at-preserved-in_ok-write_all_to : goal.loop-at-preserved-in_ok-write_all_to
 loop-at-preserved-in_ok-write_all_to g c =
     let i = c.loop-at.invariant in
     let line = c.split_at.result.0.now in
-    let step = kept_by-first c.args.prefix.now c.loop-at.rest.now line c.split_at.result.1.now c.in-Some.at c.in-Some.ensures.some c.split_at.ensures.front c.split_at.ensures.back (sym c.starts_with.ensures.value ∙ c.if-starts_with.true) in
-    (i.0 ++ line, i.1 ∙ ap (λ x. i.0 ++ x) step ∙ sym (append_assoc i.0 line _), Appends-trans _ _ _ i.0 line i.2 c.in_ok-write_all_to.ensures.1, c.in_ok-write_all_to.ensures.0 ∙ i.3)
+    let step = kept_by-first c.args.prefix.now c.loop-at.rest.now line c.split_at.result.1.now c.in-Some.at c.in-Some.ensures.some
+    c.split_at.ensures.front c.split_at.ensures.back (sym c.starts_with.ensures.value ∙ c.if-starts_with.true) in (
+      i.0 ++ line,
+      i.1 ∙ ap (λ x. i.0 ++ x) step ∙ sym (append_assoc i.0 line _),
+      Appends-trans _ _ _ i.0 line i.2 c.in_ok-write_all_to.ensures.1,
+      c.in_ok-write_all_to.ensures.0 ∙ i.3,
+    )
 
 pub returns-in_err-write_all_to : goal.returns-in_err-write_all_to
 returns-in_err-write_all_to g c =
     let i = c.loop-at.invariant in
     let line = c.split_at.result.0.now in
-    let step = kept_by-first c.args.prefix.now c.loop-at.rest.now line c.split_at.result.1.now c.in-Some.at c.in-Some.ensures.some c.split_at.ensures.front c.split_at.ensures.back (sym c.starts_with.ensures.value ∙ c.if-starts_with.true) in
+    let step = kept_by-first c.args.prefix.now c.loop-at.rest.now line c.split_at.result.1.now c.in-Some.at c.in-Some.ensures.some
+    c.split_at.ensures.front c.split_at.ensures.back (sym c.starts_with.ensures.value ∙ c.if-starts_with.true) in
     let p = err_from_is_err_and c.from_residual.result c.from_residual.ensures.1 in
     rw (p.1, p.2)
-    (stops_between _ _ _ _ _ _ _ _ i.0 line (kept_by c.args.prefix.now c.split_at.result.1.now) ⊥ ⊥ i.3 i.2 (i.1 ∙ ap (λ x. i.0 ++ x) step ∙ sym (append_assoc i.0 line _)) (λ x. x) c.in_err-write_all_to.ensures)
+    (stops_between _ _ _ _ _ _ _ _ i.0 line (kept_by c.args.prefix.now c.split_at.result.1.now) ⊥ ⊥ i.3 i.2
+    (i.1 ∙ ap (λ x. i.0 ++ x) step ∙ sym (append_assoc i.0 line _)) (λ x. x) c.in_err-write_all_to.ensures)
 
 pub returns : goal.returns
 returns g c =

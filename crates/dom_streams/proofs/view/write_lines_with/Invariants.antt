@@ -5,7 +5,8 @@ use Rattle.dom_streams.proofs.ViewLaws.{kept_by}
 use Rattle.dom_streams.proofs.view.write_lines_with.Given as goal
 
 abbrev pub invariant-loop-at : goal.invariant-loop-at
-invariant-loop-at g l = (front : List ℕ) × (kept_by l.prefix l.fn.text ≡ front ++ kept_by l.prefix l.rest) × Appends (g.W.Sink.contents l.fn.sink) (g.W.Sink.contents l.sink) front
+invariant-loop-at g l = (front : List ℕ) × (kept_by l.prefix l.fn.text ≡ front ++ kept_by l.prefix l.rest) ×
+    Appends (g.W.Sink.contents l.fn.sink) (g.W.Sink.contents l.sink) front
     × (g.W.Sink.failures l.sink ≡ g.W.Sink.failures l.fn.sink)
 
 abbrev pub decreases-loop-at : goal.decreases-loop-at

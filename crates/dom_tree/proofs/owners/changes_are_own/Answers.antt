@@ -1,4 +1,4 @@
-use Rattle.dom_tree.proofs.OwnChanges.{added, taken, put, changed_node, changed_subtree}
+use Rattle.dom_tree.proofs.OwnPlacings.{added, taken, put, changed_node, changed_subtree}
 use Rattle.dom_tree.proofs.owners.changes_are_own.Goals as goal
 
 pub returns-clause-added : goal.returns-clause-added

@@ -20,7 +20,9 @@ returns-in-Some c =
     let names = c.self.inside.doc.names in
     let is : name_at names c.in-Some.key ≡ named (part_of w c.args.owner) s = rw (← c.self.view_is) at (c.find.ensures.found c.in-Some.key c.in-Some.is).1 in
     let here = ap (λ (ns : List NodeName). name_at ns c.in-Some.key) c.forest.ensures.names ∙ is in
-    let same = ap (λ (n : Node). n.document) (ap (node_in c.forest.result.now.trees) here ∙ node_own c.forest.result.now.trees w c.forest.ensures.owned c.forest.ensures.trees c.args.owner s) in
+    let same = ap (λ (n : Node). n.document)
+    (ap (node_in c.forest.result.now.trees) here ∙ node_own c.forest.result.now.trees w c.forest.ensures.owned c.forest.ensures.trees
+    c.args.owner s) in
     let value = ap (λ (ns : List NodeName). option_map (name_at ns) c.document.result) (sym c.forest.ensures.names) ∙ c.document.ensures.value ∙ same in
     rw (← c.self.view_is) (record { value = value; node = λ k e. rw (c.forest.ensures.names) at (c.document.ensures.node k e) })
 

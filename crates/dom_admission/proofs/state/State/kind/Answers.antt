@@ -16,9 +16,11 @@ pub returns-in-Some : goal.returns-in-Some
 returns-in-Some c =
     let w = c.self.inside.doc.world in
     let s = spelled_view c.args.node in
-    let is : name_at c.self.inside.doc.names c.in-Some.key ≡ named (part_of w c.args.owner) s = rw (← c.self.view_is) at (c.find.ensures.found c.in-Some.key c.in-Some.is).1 in
+    let is : name_at c.self.inside.doc.names c.in-Some.key ≡ named (part_of w c.args.owner) s =
+    rw (← c.self.view_is) at (c.find.ensures.found c.in-Some.key c.in-Some.is).1 in
     let here = ap (λ (names : List NodeName). name_at names c.in-Some.key) c.forest.ensures.names ∙ is in
-    rw (← c.self.view_is) (c.kind.ensures ∙ ap (kind_of c.forest.result.now.trees) here ∙ ap (λ (n : Node). n.kind) (node_own c.forest.result.now.trees w c.forest.ensures.owned c.forest.ensures.trees c.args.owner s))
+    rw (← c.self.view_is) (c.kind.ensures ∙ ap (kind_of c.forest.result.now.trees) here ∙
+    ap (λ (n : Node). n.kind) (node_own c.forest.result.now.trees w c.forest.ensures.owned c.forest.ensures.trees c.args.owner s))
 
 pub returns-in-None : goal.returns-in-None
 returns-in-None c =

@@ -10,7 +10,10 @@ pub returns-clause-sound : goal.returns-clause-sound
 returns-clause-sound c =
     elim c.match-read.branch [
       | in-Ok+in_ok-command-in-Ok w ↦
-          subst IsSound (sym w.self-is) (line_sound c.args.self.now w.command.new.self (model_command w.in-Ok.line.owner (command_view w.in-Ok.line.command)) c.requires w.in_ok-command-in-Ok.ensures.world w.in_ok-command-in-Ok.ensures.listeners)
+          subst IsSound (sym w.self-is) (line_sound c.args.self.now w.command.new.self
+          (model_command w.in-Ok.line.owner (command_view w.in-Ok.line.command)) c.requires w.in_ok-command-in-Ok.ensures.world
+          w.in_ok-command-in-Ok.ensures.listeners)
       | in-Err+in_ok-no_command-in-Err w ↦
-          subst IsSound (sym w.self-is) (line_sound c.args.self.now w.no_command.new.self (refused_view w.in-Err.owner) c.requires w.in_ok-no_command-in-Err.ensures.world w.in_ok-no_command-in-Err.ensures.listeners)
+          subst IsSound (sym w.self-is) (line_sound c.args.self.now w.no_command.new.self (refused_view w.in-Err.owner) c.requires
+          w.in_ok-no_command-in-Err.ensures.world w.in_ok-no_command-in-Err.ensures.listeners)
     ]

@@ -44,8 +44,10 @@ open_turn-requires-clause-owner_is_there c =
     let s = c.self.inside.state in
     let o = c.args.owner in
     let said = Command.dispatch (spelled_view c.args.target) (event_view c.args.event) (option_map spelled_view c.args.related) in
-    let none : refusal s.world o said ≡ None = passed (refusal s.world o said) (sym (c.admit_event.ensures.refusal (event_view c.args.event)) ∙ c.in_ok-admit_event.was) in
-    subst (λ (m : MachineNow). is_there m.world o ≡ true) c.self.view_is (there-heard (own_listeners s.names c.self.inside.listeners) s.world o ∙ unrefused_there s.world o said none)
+    let none : refusal s.world o said ≡ None =
+    passed (refusal s.world o said) (sym (c.admit_event.ensures.refusal (event_view c.args.event)) ∙ c.in_ok-admit_event.was) in
+    subst (λ (m : MachineNow). is_there m.world o ≡ true) c.self.view_is
+    (there-heard (own_listeners s.names c.self.inside.listeners) s.world o ∙ unrefused_there s.world o said none)
 
 pub returns-clause-handled : goal.returns-clause-handled
 returns-clause-handled c =
@@ -74,5 +76,6 @@ returns-clause-handled c =
     let d = dispatch_in opened.world (name_at opened.names c.key-target.result) (option_map (name_at opened.names) init.related) (event_words init) in
     let same : d ≡ dispatch_in (opening_turn m.world o) (named p x) (option_map (named p) related) e =
     λ j. dispatch_in (c.open_turn.ensures.world j) (target j) (other j) (c.event_init.ensures.words j) in
-    dispatch_handled m.world o x e related d none same c.fire.new.self.world c.args.out.now.items c.fire.new.out.items c.put_reply.new.out.items c.in_ok-answer.answer
+    dispatch_handled m.world o x e related d none same c.fire.new.self.world c.args.out.now.items c.fire.new.out.items c.put_reply.new.out.items
+    c.in_ok-answer.answer
     c.in_ok-answer.ensures.world c.in_ok-answer.ensures.text c.in_ok-answer.ensures.answer c.in_ok-put_reply.ensures.ok

@@ -39,8 +39,10 @@ returns-clause-handled c =
     let reply = says o (replied nothing) ∷ [] in
     let at = seen_at s ls m c.self.view_is c.requires in (
       subst (λ (n : MachineNow). refusal n.world o Command.end_turn ≡ None) c.self.view_is
-          (passed-heard (own_listeners s.names ls) s.world (fits-own s.names s.world c.names_tell_nodes.ensures.there ls at) o Command.end_turn [] naming-end_turn (sym c.admit.ensures ∙ c.in_ok-admit.was) refl),
+          (passed-heard (own_listeners s.names ls) s.world (fits-own s.names s.world c.names_tell_nodes.ensures.there ls at) o Command.end_turn []
+          naming-end_turn (sym c.admit.ensures ∙ c.in_ok-admit.was) refl),
       c.in_ok-close_turn.ensures.world,
-      c.in_ok-put_reply.ensures.ok ∙ ap (λ (x : List ℕ). x ++ output_text reply) c.in_ok-close_turn.ensures.text ∙ append_assoc c.args.out.now.items (output_text (ending_turn m.world).1) (output_text reply)
+      c.in_ok-put_reply.ensures.ok ∙ ap (λ (x : List ℕ). x ++ output_text reply) c.in_ok-close_turn.ensures.text ∙
+          append_assoc c.args.out.now.items (output_text (ending_turn m.world).1) (output_text reply)
           ∙ ap (λ (x : List ℕ). c.args.out.now.items ++ x) (sym (output_text-append (ending_turn m.world).1 reply)),
     )

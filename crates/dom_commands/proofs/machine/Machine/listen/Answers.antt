@@ -47,13 +47,17 @@ returns-clause-handled c =
     let now = listened nat_eq k (listener_view c.args.words) ls in
     let at = seen_at s ls c.args.self.now c.self.view_is c.requires in
     let sound = subst IsSound (sym c.self.view_is) c.requires in
-    let Done : MachineNow → List NodeName → List (Listener ℕ) → Type 0 = λ m names ms. IsHandled o said m.world (heard (own_listeners names ms) end) before after r in
+    let Done : MachineNow → List NodeName → List (Listener ℕ) → Type 0 =
+    λ m names ms. IsHandled o said m.world (heard (own_listeners names ms) end) before after r in
     let done : Done (machine_now s ls) s.names now =
-    listen_handled s.names ls s.world c.names_tell_nodes.ensures.distinct c.names_tell_nodes.ensures.there at sound.reached o (spelled_view c.args.node) k c.key-node.ensures.node c.key-node.ensures.name
-    (Any c.args.node ∷ []) (sym c.admit.ensures ∙ c.in_ok-admit.was) (listener_view c.args.words) (naming-listen c.args.node (listener_view c.args.words)) end before after r c.accept.ensures.done in
+    listen_handled s.names ls s.world c.names_tell_nodes.ensures.distinct c.names_tell_nodes.ensures.there at sound.reached o
+    (spelled_view c.args.node) k c.key-node.ensures.node c.key-node.ensures.name
+    (Any c.args.node ∷ []) (sym c.admit.ensures ∙ c.in_ok-admit.was) (listener_view c.args.words)
+    (naming-listen c.args.node (listener_view c.args.words)) end before after r c.accept.ensures.done in
     subst (λ (m : MachineNow). Done m c.accept.new.self.names c.listen.new.self) c.self.view_is
     (subst (λ (names : List NodeName). Done (machine_now s ls) names c.listen.new.self) (sym c.accept.ensures.names)
-    (subst (λ (ms : List (Listener ℕ)). Done (machine_now s ls) s.names ms) (sym (c.in_ok-listen.ensures.ok ∙ ap (λ v. listened nat_eq k v ls) c.listener_init.ensures)) done))
+    (subst (λ (ms : List (Listener ℕ)). Done (machine_now s ls) s.names ms)
+    (sym (c.in_ok-listen.ensures.ok ∙ ap (λ v. listened nat_eq k v ls) c.listener_init.ensures)) done))
 
 pub returns-clause-listeners : goal.returns-clause-listeners
 returns-clause-listeners c =
@@ -63,5 +67,6 @@ returns-clause-listeners c =
     let at = seen_at s ls c.args.self.now c.self.view_is c.requires in
     always_at (machine_now c.accept.new.self c.listen.new.self) c.accept.result
     (subst (λ (names : List NodeName). AllByRecursion (IsListenerAt names) c.listen.new.self) (sym c.accept.ensures.names)
-    (subst (λ (ms : List (Listener ℕ)). AllByRecursion (IsListenerAt s.names) ms) (sym (c.in_ok-listen.ensures.ok ∙ ap (λ v. listened nat_eq k v ls) c.listener_init.ensures))
+    (subst (λ (ms : List (Listener ℕ)). AllByRecursion (IsListenerAt s.names) ms)
+    (sym (c.in_ok-listen.ensures.ok ∙ ap (λ v. listened nat_eq k v ls) c.listener_init.ensures))
     (at-listened s.names c.names_tell_nodes.ensures.distinct ls at k c.key-node.ensures.node (listener_view c.args.words))))

@@ -8,12 +8,14 @@ use Rattle.dom_commands.proofs.machine.Machine.notify.Goals as goal
 
 pub tell_observers-requires : goal.tell_observers-requires
 tell_observers-requires c =
-    told_there c.self.inside.state c.take_signals.new.state c.take_signals.new.state c.self.inside.listeners c.args.self.now c.self.view_is c.requires.sound c.names_tell_nodes.ensures.there c.args.owner c.requires.there
+    told_there c.self.inside.state c.take_signals.new.state c.take_signals.new.state c.self.inside.listeners c.args.self.now c.self.view_is
+    c.requires.sound c.names_tell_nodes.ensures.there c.args.owner c.requires.there
     c.in_ok-slots.ensures.names c.in_ok-slots.ensures.world
 
 pub signal_slots-requires-clause-sound : goal.signal_slots-requires-clause-sound
 signal_slots-requires-clause-sound c =
-    told_is_sound c.self.inside.state c.take_signals.new.state c.tell_observers.new.state c.self.inside.listeners c.args.self.now c.self.view_is c.requires.sound c.names_tell_nodes.ensures.there c.args.owner c.requires.there
+    told_is_sound c.self.inside.state c.take_signals.new.state c.tell_observers.new.state c.self.inside.listeners c.args.self.now c.self.view_is
+    c.requires.sound c.names_tell_nodes.ensures.there c.args.owner c.requires.there
     c.in_ok-slots.ensures.names c.in_ok-slots.ensures.world c.in_ok-tell_observers.ensures.names c.in_ok-tell_observers.ensures.world
 
 pub returns-clause-text : goal.returns-clause-text
@@ -28,10 +30,15 @@ returns-clause-text c =
     let names = c.in_ok-slots.ensures.names in
     let world = c.in_ok-slots.ensures.world in
     let there = c.names_tell_nodes.ensures.there in
-    let told = told_world s t u ls m c.self.view_is c.requires.sound there o c.requires.there names world c.in_ok-tell_observers.ensures.names c.in_ok-tell_observers.ensures.world in
-    let are = told_slots s t u ls m c.self.view_is c.requires.sound there o c.requires.there names world c.in_ok-tell_observers.ensures.names c.in_ok-tell_observers.ensures.world c.in_ok-slots.slots.items c.in_ok-slots.ensures.keys in
-    notify_text m.world (machine_now u ls).world o told (map (name_at u.names) c.as_slice.result.now) (ap (map (name_at u.names)) c.as_slice.ensures.value ∙ are) text c.tell_observers.new.out.items c.signal_slots.new.out.items
-    (c.in_ok-tell_observers.ensures.text ∙ ap (λ (os : List Output). text ++ output_text os) (told_lines s t u ls m c.self.view_is c.requires.sound there o c.requires.there names world)) c.signal_slots.result c.signal_slots.ensures.text
+    let told = told_world s t u ls m c.self.view_is c.requires.sound there o c.requires.there names world c.in_ok-tell_observers.ensures.names
+    c.in_ok-tell_observers.ensures.world in
+    let are = told_slots s t u ls m c.self.view_is c.requires.sound there o c.requires.there names world c.in_ok-tell_observers.ensures.names
+    c.in_ok-tell_observers.ensures.world c.in_ok-slots.slots.items c.in_ok-slots.ensures.keys in
+    notify_text m.world (machine_now u ls).world o told (map (name_at u.names) c.as_slice.result.now)
+    (ap (map (name_at u.names)) c.as_slice.ensures.value ∙ are) text c.tell_observers.new.out.items c.signal_slots.new.out.items
+    (c.in_ok-tell_observers.ensures.text ∙ ap (λ (os : List Output). text ++ output_text os)
+    (told_lines s t u ls m c.self.view_is c.requires.sound there o c.requires.there names world)) c.signal_slots.result
+    c.signal_slots.ensures.text
 
 pub returns-clause-world : goal.returns-clause-world
 returns-clause-world c =
@@ -44,6 +51,9 @@ returns-clause-world c =
     let names = c.in_ok-slots.ensures.names in
     let world = c.in_ok-slots.ensures.world in
     let there = c.names_tell_nodes.ensures.there in
-    let told = told_world s t u ls m c.self.view_is c.requires.sound there o c.requires.there names world c.in_ok-tell_observers.ensures.names c.in_ok-tell_observers.ensures.world in
-    let are = told_slots s t u ls m c.self.view_is c.requires.sound there o c.requires.there names world c.in_ok-tell_observers.ensures.names c.in_ok-tell_observers.ensures.world c.in_ok-slots.slots.items c.in_ok-slots.ensures.keys in
-    notify_world m.world (machine_now u ls).world o told (map (name_at u.names) c.as_slice.result.now) (ap (map (name_at u.names)) c.as_slice.ensures.value ∙ are) c.signal_slots.new.self.world c.signal_slots.result c.signal_slots.ensures.world
+    let told = told_world s t u ls m c.self.view_is c.requires.sound there o c.requires.there names world c.in_ok-tell_observers.ensures.names
+    c.in_ok-tell_observers.ensures.world in
+    let are = told_slots s t u ls m c.self.view_is c.requires.sound there o c.requires.there names world c.in_ok-tell_observers.ensures.names
+    c.in_ok-tell_observers.ensures.world c.in_ok-slots.slots.items c.in_ok-slots.ensures.keys in
+    notify_world m.world (machine_now u ls).world o told (map (name_at u.names) c.as_slice.result.now)
+    (ap (map (name_at u.names)) c.as_slice.ensures.value ∙ are) c.signal_slots.new.self.world c.signal_slots.result c.signal_slots.ensures.world

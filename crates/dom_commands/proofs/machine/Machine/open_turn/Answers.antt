@@ -10,4 +10,5 @@ returns-clause-sound c =
     let ls = c.self.inside.listeners in
     let t = c.open_turn.new.self in
     let o = c.args.owner in
-    subst (λ (m : MachineNow). is_there m.world o ≡ true → IsSound m → IsSound (machine_now t ls)) c.self.view_is (opened_sound s t ls o c.open_turn.ensures.names c.open_turn.ensures.world) c.requires.owner_is_there c.requires.sound
+    subst (λ (m : MachineNow). is_there m.world o ≡ true → IsSound m → IsSound (machine_now t ls)) c.self.view_is
+    (opened_sound s t ls o c.open_turn.ensures.names c.open_turn.ensures.world) c.requires.owner_is_there c.requires.sound

@@ -31,7 +31,8 @@ returns-in_err-admit-clause-handled c =
     rw (p.1, p.2)
     (subst (λ (m : MachineNow). IsHandled o said m.world m.world text text (Err f)) c.self.view_is
     (stopped-heard (own_listeners s.names ls) s.world (fits-own s.names s.world c.names_tell_nodes.ensures.there ls at) o said text f
-    (refused s.world o said (Any c.args.node ∷ []) text f (naming-unlisten c.args.node c.args.event.now c.args.label.now c.args.capture) (sym c.admit.ensures ∙ c.in_err-admit.was))))
+    (refused s.world o said (Any c.args.node ∷ []) text f (naming-unlisten c.args.node c.args.event.now c.args.label.now c.args.capture)
+    (sym c.admit.ensures ∙ c.in_err-admit.was))))
 
 pub returns-clause-handled : goal.returns-clause-handled
 returns-clause-handled c =
@@ -47,10 +48,13 @@ returns-clause-handled c =
     let now = unlistened nat_eq k c.args.event.now c.args.label.now c.args.capture ls in
     let at = seen_at s ls c.args.self.now c.self.view_is c.requires in
     let sound = subst IsSound (sym c.self.view_is) c.requires in
-    let Done : MachineNow → List NodeName → List (Listener ℕ) → Type 0 = λ m names ms. IsHandled o said m.world (heard (own_listeners names ms) end) before after r in
+    let Done : MachineNow → List NodeName → List (Listener ℕ) → Type 0 =
+    λ m names ms. IsHandled o said m.world (heard (own_listeners names ms) end) before after r in
     let done : Done (machine_now s ls) s.names now =
-    unlisten_handled s.names ls s.world c.names_tell_nodes.ensures.distinct c.names_tell_nodes.ensures.there at sound.reached o (spelled_view c.args.node) k c.key-node.ensures.node c.key-node.ensures.name
-    (Any c.args.node ∷ []) (sym c.admit.ensures ∙ c.in_ok-admit.was) c.args.event.now c.args.label.now c.args.capture (naming-unlisten c.args.node c.args.event.now c.args.label.now c.args.capture) end before after r c.accept.ensures.done in
+    unlisten_handled s.names ls s.world c.names_tell_nodes.ensures.distinct c.names_tell_nodes.ensures.there at sound.reached o
+    (spelled_view c.args.node) k c.key-node.ensures.node c.key-node.ensures.name
+    (Any c.args.node ∷ []) (sym c.admit.ensures ∙ c.in_ok-admit.was) c.args.event.now c.args.label.now c.args.capture
+    (naming-unlisten c.args.node c.args.event.now c.args.label.now c.args.capture) end before after r c.accept.ensures.done in
     subst (λ (m : MachineNow). Done m c.accept.new.self.names c.unlisten.new.self) c.self.view_is
     (subst (λ (names : List NodeName). Done (machine_now s ls) names c.unlisten.new.self) (sym c.accept.ensures.names)
     (subst (λ (ms : List (Listener ℕ)). Done (machine_now s ls) s.names ms) (sym (c.unlisten.ensures)) done))

@@ -9,7 +9,8 @@ use Rattle.dom_path.specs.Stands.{view_in}
 use Rattle.dom_dispatch.specs.Dispatches.{event_words, dispatching_in, IsOwnLine}
 use Rattle.dom_dispatch.proofs.Visiting.{bubbled-more, view-is}
 use Rattle.dom_dispatch.proofs.listeners.Listeners.bubble.Goals as goal
-use Rattle.dom_dispatch.proofs.listeners.Listeners.bubble.Goals.{then-event+in_ok-visit, then-event-via-then-event, then-event-via-else-event+then-eq, else-event+else-eq}
+use Rattle.dom_dispatch.proofs.listeners.Listeners.bubble.Goals.{then-event+in_ok-visit, then-event-via-then-event, then-event-via-else-event+then-eq}
+use Rattle.dom_dispatch.proofs.listeners.Listeners.bubble.Goals.{else-event+else-eq}
 
 pub loop-at-preserved : goal.loop-at-preserved
 loop-at-preserved c =
@@ -30,15 +31,18 @@ loop-at-preserved c =
             | then-event-via-then-event w' ↦ search (rules, tests)
             | then-event-via-else-event+then-eq w' ↦ search (rules, tests)
           ] in
-          (λ j. dispatching_in (w.self-is j) (w.so_far-is j)) ∙ w.in_ok-visit.ensures.visit v at ∙ sym (cond-true (test v) (step before (visit_of nat_eq false v)) before passes)
+          (λ j. dispatching_in (w.self-is j) (w.so_far-is j)) ∙ w.in_ok-visit.ensures.visit v at ∙
+          sym (cond-true (test v) (step before (visit_of nat_eq false v)) before passes)
       | else-event+else-eq w ↦
           let fails : test v ≡ false = search (rules, tests) in
           (λ j. dispatching_in (w.self-is j) (w.so_far-is j)) ∙ sym (cond-false (test v) (step before (visit_of nat_eq false v)) before fails)
     ] in
     record {
-      visits = bubbled-more step (visit_of nat_eq false) test path.views i v at (dispatching_in c.args.self.now c.args.so_far.now) before (dispatching_in c.if-event.self c.if-event.so_far) c.loop-at.invariant.visits after;
+      visits = bubbled-more step (visit_of nat_eq false) test path.views i v at (dispatching_in c.args.self.now c.args.so_far.now) before
+          (dispatching_in c.if-event.self c.if-event.so_far) c.loop-at.invariant.visits after;
       owners = elim c.if-event.branch [
-        | then-event+in_ok-visit w ↦ subst (λ p. AllByRecursion (IsOwnLine c.args.forest.now.names) p.lines.items) (sym w.so_far-is) w.in_ok-visit.ensures.owners
+        | then-event+in_ok-visit w ↦ subst (λ p. AllByRecursion (IsOwnLine c.args.forest.now.names) p.lines.items) (sym w.so_far-is)
+            w.in_ok-visit.ensures.owners
         | else-event+else-eq w ↦ subst (λ p. AllByRecursion (IsOwnLine c.args.forest.now.names) p.lines.items) (sym w.so_far-is) c.loop-at.invariant.owners
       ];
     }

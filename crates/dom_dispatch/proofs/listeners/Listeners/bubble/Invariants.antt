@@ -7,6 +7,7 @@ use Rattle.dom_dispatch.proofs.listeners.Listeners.bubble.Given as goal
 
 abbrev pub invariant-loop-at : goal.invariant-loop-at
 invariant-loop-at l = record {
-  visits : dispatching_in l.self l.so_far ≡ fold (visited nat_eq (event_words l.event)) (dispatching_in l.fn.self l.fn.so_far) (map (visit_of nat_eq false) (filter (λ v. l.event.bubbles || is_at_target nat_eq v) (take l.at l.path.views)));
+  visits : dispatching_in l.self l.so_far ≡ fold (visited nat_eq (event_words l.event)) (dispatching_in l.fn.self l.fn.so_far)
+      (map (visit_of nat_eq false) (filter (λ v. l.event.bubbles || is_at_target nat_eq v) (take l.at l.path.views)));
   owners : AllByRecursion (IsOwnLine l.forest.names) l.so_far.lines.items;
 }

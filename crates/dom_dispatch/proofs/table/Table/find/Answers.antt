@@ -38,6 +38,9 @@ returns-clause-there c =
     let p : Listener ℕ → Bool = is_listener nat_eq c.args.node c.args.event.now c.args.label.now c.args.capture in
     let es = c.args.self.now.entries.items in
     let narrow : (l : Listener ℕ) → p l ≡ true → nat_eq l.node c.args.node ≡ true =
-    λ l h. and-first (nat_eq l.node c.args.node) (text_eq l.words.event c.args.event.now && (text_eq l.words.label c.args.label.now && beq l.words.capture c.args.capture)) h in
-    let all : take c.loop-at.at c.of-places.result.now ≡ places_from c.args.node 0 es = take_all c.loop-at.at c.of-places.result.now (omega (arith, c.loop-at-test.false)) ∙ c.of-places.ensures ∙ c.requires.indexed c.args.node in
+    λ l h. and-first (nat_eq l.node c.args.node)
+    (text_eq l.words.event c.args.event.now && (text_eq l.words.label c.args.label.now && beq l.words.capture c.args.capture)) h in
+    let all : take c.loop-at.at c.of-places.result.now ≡ places_from c.args.node 0 es =
+    take_all c.loop-at.at c.of-places.result.now (omega (arith, c.loop-at-test.false)) ∙ c.of-places.ensures ∙
+    c.requires.indexed c.args.node in
     sym (sym (picked-any c.args.node p narrow es) ∙ sym (ap (λ ps. list_any p (listeners_in (picked es ps))) all) ∙ c.loop-at.invariant)

@@ -14,7 +14,8 @@ loop-entry-preserved c =
     let inv = c.loop-entry.invariant in
     let done = filter is_some (take i es) in
     let same : length c.deref-entry-items.result.now ≡ length es = ap length c.deref-entry-items.ensures.value in
-    let next = closed-next es i o (omega (arith, same, c.loop-entry-test.true)) (subst (λ xs. o ≡ get_or xs i o) c.deref-entry-items.ensures.value c.entry-item.is) in
+    let next = closed-next es i o (omega (arith, same, c.loop-entry-test.true))
+    (subst (λ xs. o ≡ get_or xs i o) c.deref-entry-items.ensures.value c.entry-item.is) in
     elim c.match-entry.branch [
       | in-Some+in_ok-reserve w ↦
           let e = w.in-Some.entry in

@@ -19,4 +19,5 @@ returns-clause-indexed c = λ k.
 pub returns-clause-ok : goal.returns-clause-ok
 returns-clause-ok c =
     let after = Some c.args.entry ∷ [] in
-    ap present c.push_reserved.ensures.items ∙ filter_map-append (λ o. o) c.make_room.new.self.entries.items after ∙ ap (λ xs. xs ++ c.args.entry ∷ []) c.make_room.ensures.present
+    ap present c.push_reserved.ensures.items ∙ filter_map-append (λ o. o) c.make_room.new.self.entries.items after ∙
+    ap (λ xs. xs ++ c.args.entry ∷ []) c.make_room.ensures.present

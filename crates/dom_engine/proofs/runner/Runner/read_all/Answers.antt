@@ -18,21 +18,44 @@ returns-in_err-n-clause-stops g c =
     let p = err_from_is_err_and c.from_residual.result c.from_residual.ensures.1 in
     let few = length-take c.min-room.result c.loop-left.buffer in
     rw (p.1, p.2)
-    (stops-one_read _ i.0 _ c.args.self.now.view _ _ _ _ _ _ _ _ _ _ _ i.1 (omega (arith, c.min-room.ensures, few)) (omega (arith, c.min-room.ensures, few, i.3)) i.2 c.in_err-n.ensures.stops)
+    (stops-one_read _ i.0 _ c.args.self.now.view _ _ _ _ _ _ _ _ _ _ _ i.1 (omega (arith, c.min-room.ensures, few))
+    (omega (arith, c.min-room.ensures, few, i.3)) i.2 c.in_err-n.ensures.stops)
 
 pub returns-then-n-eq0-clause-read : goal.returns-then-n-eq0-clause-read
 returns-then-n-eq0-clause-read g c =
     let i = c.loop-left.invariant in
     let e = c.in_ok-n.ensures in
-    let bytes = take c.in_ok-n.n c.take_read.new.buffer in
-    (i.0 ++ bytes, read-more i.0 bytes _ _ _ _ _ _ _ _ _ _ _ _ i.1 i.2 e.consumed e.splitter e.world e.written, e.end c.if-n-eq0.true, omega (arith, i.3, e.bound.1, c.if-n-eq0.true, length-append i.0 bytes))
+    let bytes = take c.in_ok-n.n c.take_read.new.buffer in (
+      i.0 ++ bytes,
+      read-more i.0 bytes _ _ _ _ _ _ _ _ _ _ _ _ i.1 i.2 e.consumed e.splitter e.world e.written,
+      e.end c.if-n-eq0.true,
+      omega
+          (arith, i.3, e.bound.1, c.if-n-eq0.true, length-append i.0 bytes),
+    )
 
 pub loop-left-preserved : goal.loop-left-preserved
 loop-left-preserved g c =
     let i = c.loop-left.invariant in
     let e = c.in_ok-n.ensures in
-    let bytes = take c.in_ok-n.n c.take_read.new.buffer in
-    (i.0 ++ bytes, read-more i.0 bytes _ _ _ _ _ _ _ _ _ _ _ _ i.1 i.2 e.consumed e.splitter e.world e.written, e.view ∙ i.2, omega (arith, i.3, e.bound.0, e.bound.1, length-append i.0 bytes, c.take_read.auto.buffer, c.min-room.ensures, length-take c.min-room.result c.loop-left.buffer), e.reads ∙ i.4, e.writes ∙ i.5)
+    let bytes = take c.in_ok-n.n c.take_read.new.buffer in (
+      i.0 ++ bytes,
+      read-more i.0 bytes _ _ _ _ _ _ _ _ _ _ _ _ i.1 i.2 e.consumed e.splitter e.world e.written,
+      e.view ∙
+          i.2,
+      omega (
+        arith,
+        i.3,
+        e.bound.0,
+        e.bound.1,
+        length-append i.0 bytes,
+        c.take_read.auto.buffer,
+        c.min-room.ensures,
+        length-take
+            c.min-room.result c.loop-left.buffer,
+      ),
+      e.reads ∙ i.4,
+      e.writes ∙ i.5,
+    )
 
 pub returns-clause-stops : goal.returns-clause-stops
 returns-clause-stops g c =

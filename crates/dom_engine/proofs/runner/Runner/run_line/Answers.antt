@@ -18,4 +18,5 @@ returns-clause-written g c =
     ends_as c.write.result _ _ _ _ _ _ ⊥ _ (ap (viewed c.args.self.now.view) text) absurd c.write.ensures
 
 pub returns-clause-world : goal.returns-clause-world
-returns-clause-world g c = on_ok c.write.result (ap (λ s. s.world) c.in_ok-text.ensures.world ∙ sym (world_after-one c.args.self.now.session.world c.args.line.now))
+returns-clause-world g c = on_ok c.write.result
+    (ap (λ s. s.world) c.in_ok-text.ensures.world ∙ sym (world_after-one c.args.self.now.session.world c.args.line.now))

@@ -8,4 +8,5 @@ abbrev pub invariant-loop-line : goal.invariant-loop-line
 invariant-loop-line g l =
     let done = map (λ line. line.items) (take l.line-index l.lines) in
     (l.self.session.world ≡ world_after l.fn.self.session.world done) × (l.self.splitter ≡ l.fn.self.splitter) × (l.self.view ≡ l.fn.self.view)
-    × (g.W.Sink.failures l.sink ≡ g.W.Sink.failures l.fn.sink) × Appends (g.W.Sink.contents l.fn.sink) (g.W.Sink.contents l.sink) (shown l.fn.self.view l.fn.self.session.world done)
+    × (g.W.Sink.failures l.sink ≡ g.W.Sink.failures l.fn.sink) ×
+    Appends (g.W.Sink.contents l.fn.sink) (g.W.Sink.contents l.sink) (shown l.fn.self.view l.fn.self.session.world done)

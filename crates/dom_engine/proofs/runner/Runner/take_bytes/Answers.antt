@@ -37,4 +37,5 @@ returns-in_err-take_piece-clause-written g c =
     let p = err_from_is_err_and c.from_residual.result c.from_residual.ensures.1 in
     let whole = piece-behind _ i.0 c.loop-rest.rest.now piece later c.piece_len.result i.1 c.split_at.ensures.front c.split_at.ensures.back in
     rw (p.1, p.2)
-    (lines_between _ _ _ _ _ _ _ _ _ _ _ _ _ _ _ i.3 (fed-around kept c.loop-rest.self.splitter c.args.bytes.now i.0 piece later i.2 whole) i.4 i.5 c.in_err-take_piece.ensures.written)
+    (lines_between _ _ _ _ _ _ _ _ _ _ _ _ _ _ _ i.3 (fed-around kept c.loop-rest.self.splitter c.args.bytes.now i.0 piece later i.2 whole) i.4
+    i.5 c.in_err-take_piece.ensures.written)

@@ -9,7 +9,9 @@ use Rattle.dom_engine.proofs.runner.Runner.take_bytes.Given as goal
 abbrev pub invariant-loop-rest : goal.invariant-loop-rest
 invariant-loop-rest g l = (passed : List ℕ) × (l.fn.bytes ≡ passed ++ l.rest) × (l.self.splitter ≡ (fed l.fn.self.splitter passed).rest)
     × Behind l.fn.self.view l.fn.self.session.world (fed l.fn.self.splitter passed).finished l.self.view l.self.session.world
-    × (g.W.Sink.failures l.sink ≡ g.W.Sink.failures l.fn.sink) × Appends (g.W.Sink.contents l.fn.sink) (g.W.Sink.contents l.sink) (shown l.fn.self.view l.fn.self.session.world (fed l.fn.self.splitter passed).finished)
+    × (g.W.Sink.failures l.sink ≡ g.W.Sink.failures l.fn.sink) ×
+    Appends (g.W.Sink.contents l.fn.sink) (g.W.Sink.contents l.sink)
+    (shown l.fn.self.view l.fn.self.session.world (fed l.fn.self.splitter passed).finished)
 
 abbrev pub decreases-loop-rest : goal.decreases-loop-rest
 decreases-loop-rest g l = length l.rest

@@ -15,6 +15,7 @@ returns-clause-refused c r =
 pub returns-clause-ready : goal.returns-clause-ready
 returns-clause-ready c =
     let d = c.args.self.now in
-    plan-call c.self.inside.parts c.args.self.now c.adopt.new.parts c.self.view_is (record { alone = c.laws.ensures.alone; parts = c.laws.ensures.parts; stand = c.laws.ensures.stand }) c.args.node
+    plan-call c.self.inside.parts c.args.self.now c.adopt.new.parts c.self.view_is
+    (record { alone = c.laws.ensures.alone; parts = c.laws.ensures.parts; stand = c.laws.ensures.stand }) c.args.node
     c.requires.node_is_node (λ a. adopting (name_in a c.args.document) (name_in a c.args.node)) c.adopt.result c.adopt.ensures.world
     (λ l i r. ready-adopting _ i r (name_in d c.args.document) (name_in d c.args.node) (l.stand c.args.node c.requires.node_is_node))

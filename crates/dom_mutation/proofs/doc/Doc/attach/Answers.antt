@@ -17,4 +17,5 @@ returns-clause-refused c r =
 pub returns-clause-ready : goal.returns-clause-ready
 returns-clause-ready c =
     λ h. if-done c.attach.result
-    (λ w. subst AreReady (sym (subst (λ (a : DocState). c.attach.new.self.world ≡ (attaching a.world Page (name_in a c.args.host)).0) c.self.view_is w)) (ready-attaching c.args.self.now.world Page (name_in c.args.self.now c.args.host) h)) c.attach.ensures.world
+    (λ w. subst AreReady (sym (subst (λ (a : DocState). c.attach.new.self.world ≡ (attaching a.world Page (name_in a c.args.host)).0)
+    c.self.view_is w)) (ready-attaching c.args.self.now.world Page (name_in c.args.self.now c.args.host) h)) c.attach.ensures.world

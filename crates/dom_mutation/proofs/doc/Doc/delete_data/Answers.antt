@@ -16,6 +16,8 @@ returns-clause-state c =
 pub returns-clause-ready : goal.returns-clause-ready
 returns-clause-ready c h data_node =
     let d = c.args.self.now in
-    plan-call c.self.inside.parts c.args.self.now c.delete_data.new.parts c.self.view_is (record { alone = c.laws.ensures.alone; parts = c.laws.ensures.parts; stand = c.laws.ensures.stand }) c.args.node
-    c.requires (λ a. replacing_data (name_in a c.args.node) c.args.offset c.args.count []) c.delete_data.result (if-done c.delete_data.result (ap (λ (s : DocState). s.world)) c.delete_data.ensures)
+    plan-call c.self.inside.parts c.args.self.now c.delete_data.new.parts c.self.view_is
+    (record { alone = c.laws.ensures.alone; parts = c.laws.ensures.parts; stand = c.laws.ensures.stand }) c.args.node
+    c.requires (λ a. replacing_data (name_in a c.args.node) c.args.offset c.args.count []) c.delete_data.result
+    (if-done c.delete_data.result (ap (λ (s : DocState). s.world)) c.delete_data.ensures)
     (λ l i r. ready-data _ i r (name_in d c.args.node) c.args.offset c.args.count [] data_node) h

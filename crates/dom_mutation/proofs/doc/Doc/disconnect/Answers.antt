@@ -7,5 +7,6 @@ use Rattle.dom_mutation.proofs.doc.Doc.disconnect.Goals as goal
 
 pub returns-clause-ready : goal.returns-clause-ready
 returns-clause-ready c =
-    table-call c.self.inside.parts c.args.self.now c.disconnect.new.self c.self.view_is c.args.owner (Command.disconnect c.args.number) [] (nothing) c.disconnect.ensures.world
+    table-call c.self.inside.parts c.args.self.now c.disconnect.new.self c.self.view_is c.args.owner (Command.disconnect c.args.number) []
+    (nothing) c.disconnect.ensures.world
     (λ r. disconnect-ready _ r c.args.number)

@@ -17,8 +17,11 @@ returns-clause-ready c h opened plain =
     let d = c.args.self.now in
     let parent = c.args.parent in
     let node = c.args.node in
-    plan-call c.self.inside.parts c.args.self.now c.insert.new.parts c.self.view_is (record { alone = c.laws.ensures.alone; parts = c.laws.ensures.parts; stand = c.laws.ensures.stand }) parent
-    c.requires.parent_is_node (λ a. inserting observed (name_in a node) (name_in a parent) (option_map (name_in a) c.args.child)) c.insert.result (if-done c.insert.result (ap (λ (s : DocState). s.world)) c.insert.ensures)
+    plan-call c.self.inside.parts c.args.self.now c.insert.new.parts c.self.view_is
+    (record { alone = c.laws.ensures.alone; parts = c.laws.ensures.parts; stand = c.laws.ensures.stand }) parent
+    c.requires.parent_is_node (λ a. inserting observed (name_in a node) (name_in a parent) (option_map (name_in a) c.args.child)) c.insert.result
+    (if-done c.insert.result (ap (λ (s : DocState). s.world)) c.insert.ensures)
     (λ l i r. ready-inserting _ i r (name_in d node) (name_in d parent) (option_map (name_in d) c.args.child)
-    (stands-in d node (owner_in d parent) l c.requires.may_move.node c.requires.may_move.owner) (l.stand parent c.requires.parent_is_node) c.requires.may_move.not_above opened
+    (stands-in d node (owner_in d parent) l c.requires.may_move.node c.requires.may_move.owner) (l.stand parent c.requires.parent_is_node)
+    c.requires.may_move.not_above opened
     (subst (λ (o : Owner). is_shadow (kind_of (part_of d.world o).trees (name_in d node)) ≡ false) c.requires.may_move.owner plain)) h

@@ -8,5 +8,7 @@ use Rattle.dom_mutation.proofs.doc.Doc.iter_make.Goals as goal
 
 pub returns-clause-ready : goal.returns-clause-ready
 returns-clause-ready c =
-    table-answered c.self.inside.parts c.args.self.now c.iter_make.new.self c.self.view_is c.args.owner (Command.iterator_new (own (name_in c.self.inside.parts c.args.root).number) (filter_of c.args.filter)) c.iter_make.result an_iterator c.iter_make.ensures.world
+    table-answered c.self.inside.parts c.args.self.now c.iter_make.new.self c.self.view_is c.args.owner
+    (Command.iterator_new (own (name_in c.self.inside.parts c.args.root).number) (filter_of c.args.filter)) c.iter_make.result an_iterator
+    c.iter_make.ensures.world
     (λ r. iterator_new-ready _ r (own (name_in c.self.inside.parts c.args.root).number) (filter_of c.args.filter))

@@ -8,5 +8,6 @@ use Rattle.dom_mutation.proofs.doc.Doc.iter_next.Goals as goal
 
 pub returns-clause-ready : goal.returns-clause-ready
 returns-clause-ready c =
-    table-call c.self.inside.parts c.args.self.now c.iter_next.new.self c.self.view_is c.args.owner (Command.iterator_next c.args.number) [] (node_or_null (option_map (name_in c.self.inside.parts) c.iter_next.result)) c.iter_next.ensures.world
+    table-call c.self.inside.parts c.args.self.now c.iter_next.new.self c.self.view_is c.args.owner (Command.iterator_next c.args.number) []
+    (node_or_null (option_map (name_in c.self.inside.parts) c.iter_next.result)) c.iter_next.ensures.world
     (λ r. iterator_next-ready _ r c.args.number)

@@ -12,5 +12,7 @@ use Rattle.dom_mutation.proofs.doc.Doc.notify.Goals as goal
 pub returns-clause-ready : goal.returns-clause-ready
 returns-clause-ready c =
     λ h. if-done c.notify.result
-    (λ w. subst AreReady (sym (subst (λ (a : DocState). c.notify.new.self.world ≡ with_part a.world (notified (part_of a.world c.args.owner))) c.self.view_is w))
-    (ready-written c.args.self.now.world (notified (part_of c.args.self.now.world c.args.owner)) c.args.owner (owner-part_of c.args.self.now.world c.args.owner) (notified-ready _ (h c.args.owner)) h)) c.notify.ensures.world
+    (λ w. subst AreReady (sym (subst (λ (a : DocState). c.notify.new.self.world ≡ with_part a.world (notified (part_of a.world c.args.owner)))
+    c.self.view_is w))
+    (ready-written c.args.self.now.world (notified (part_of c.args.self.now.world c.args.owner)) c.args.owner
+    (owner-part_of c.args.self.now.world c.args.owner) (notified-ready _ (h c.args.owner)) h)) c.notify.ensures.world

@@ -9,5 +9,6 @@ use Rattle.dom_mutation.proofs.doc.Doc.observe.Goals as goal
 pub returns-clause-ready : goal.returns-clause-ready
 returns-clause-ready c =
     let x = own (name_in c.self.inside.parts c.args.node).number in
-    table-done c.self.inside.parts c.args.self.now c.observe.new.self c.self.view_is c.args.owner (Command.observe c.args.number x (words_of c.args.options)) c.observe.result nothing c.observe.ensures.world
+    table-done c.self.inside.parts c.args.self.now c.observe.new.self c.self.view_is c.args.owner
+    (Command.observe c.args.number x (words_of c.args.options)) c.observe.result nothing c.observe.ensures.world
     (λ r. observe-ready _ r c.args.number x (words_of c.args.options))

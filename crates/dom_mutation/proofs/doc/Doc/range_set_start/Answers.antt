@@ -16,5 +16,7 @@ returns-clause-ready c =
     λ h. within-done c.range_set_start.result (past_end (part_of b.world o) (name_in b c.args.node) c.args.offset) c.range_set_start.ensures.refused
     (λ low m. table-call b c.args.self.now c.range_set_start.new.self c.self.view_is o (Command.range_start c.args.number x c.args.offset) [] nothing m
     (λ r. range_start-ready _ r c.args.number x c.args.offset (c.laws.ensures.parts o)
-    (named-there b c.args.self.now c.self.view_is (record { alone = c.laws.ensures.alone; parts = c.laws.ensures.parts; stand = c.laws.ensures.stand }) o c.args.node c.requires.node_is_node c.requires.own)
+    (named-there b c.args.self.now c.self.view_is
+    (record { alone = c.laws.ensures.alone; parts = c.laws.ensures.parts; stand = c.laws.ensures.stand }) o c.args.node
+    c.requires.node_is_node c.requires.own)
     (named-within b c.args.self.now c.self.view_is o c.args.node c.args.offset c.requires.own low)) h) c.range_set_start.ensures.world

@@ -7,6 +7,7 @@ use Rattle.dom_mutation.proofs.doc.Doc.remove.Goals as goal
 pub returns-clause-ready : goal.returns-clause-ready
 returns-clause-ready c =
     let d = c.args.self.now in
-    plan-call c.self.inside.parts c.args.self.now c.remove.new.parts c.self.view_is (record { alone = c.laws.ensures.alone; parts = c.laws.ensures.parts; stand = c.laws.ensures.stand }) c.args.node
+    plan-call c.self.inside.parts c.args.self.now c.remove.new.parts c.self.view_is
+    (record { alone = c.laws.ensures.alone; parts = c.laws.ensures.parts; stand = c.laws.ensures.stand }) c.args.node
     c.requires (λ a. removing observed (name_in a c.args.node)) c.remove.result c.remove.ensures.world
     (λ l i r. ready-removing _ i r (name_in d c.args.node))

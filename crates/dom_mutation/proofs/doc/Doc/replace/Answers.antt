@@ -19,8 +19,10 @@ returns-clause-ready c =
     let d = c.args.self.now in
     let parent = c.args.parent in
     let node = c.args.node in
-    tested-call c.self.inside.parts c.args.self.now c.replace.new.parts c.self.view_is (record { alone = c.laws.ensures.alone; parts = c.laws.ensures.parts; stand = c.laws.ensures.stand }) parent
+    tested-call c.self.inside.parts c.args.self.now c.replace.new.parts c.self.view_is
+    (record { alone = c.laws.ensures.alone; parts = c.laws.ensures.parts; stand = c.laws.ensures.stand }) parent
     c.requires.parent_is_node (λ a. replacing (name_in a parent) (name_in a node) (name_in a c.args.child)) c.replace.result
-    (λ a. replacement_refusal (trees_in a parent) (name_in a parent) (name_in a node) (name_in a c.args.child)) c.replace.ensures.refused c.replace.ensures.world
+    (λ a. replacement_refusal (trees_in a parent) (name_in a parent) (name_in a node) (name_in a c.args.child)) c.replace.ensures.refused
+    c.replace.ensures.world
     (λ none l i r. ready-replacing _ i r (name_in d parent) (name_in d node) (name_in d c.args.child)
     (stands-in d node (owner_in d parent) l c.requires.node_is_node c.requires.node_owner) (l.stand parent c.requires.parent_is_node) none)

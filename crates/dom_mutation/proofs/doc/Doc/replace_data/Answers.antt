@@ -25,11 +25,15 @@ returns-clause-unchanged c =
 pub returns-clause-world : goal.returns-clause-world
 returns-clause-world c =
     let x = c.args.node in
-    subst (λ (d : DocState). OnOk c.replace_data.result (c.replace_data.new.parts.world ≡ made (owner_in d x) (replacing_data (name_in d x) c.args.offset c.args.count c.args.data.items) d.world)) c.self.view_is c.replace_data.ensures.world
+    subst (λ (d : DocState). OnOk c.replace_data.result
+    (c.replace_data.new.parts.world ≡ made (owner_in d x) (replacing_data (name_in d x) c.args.offset c.args.count c.args.data.items)
+    d.world)) c.self.view_is c.replace_data.ensures.world
 
 pub returns-clause-ready : goal.returns-clause-ready
 returns-clause-ready c =
     let d = c.args.self.now in
-    plan-call c.self.inside.parts c.args.self.now c.replace_data.new.parts c.self.view_is (record { alone = c.laws.ensures.alone; parts = c.laws.ensures.parts; stand = c.laws.ensures.stand }) c.args.node
-    c.requires.node_is_node (λ a. replacing_data (name_in a c.args.node) c.args.offset c.args.count c.args.data.items) c.replace_data.result c.replace_data.ensures.world
+    plan-call c.self.inside.parts c.args.self.now c.replace_data.new.parts c.self.view_is
+    (record { alone = c.laws.ensures.alone; parts = c.laws.ensures.parts; stand = c.laws.ensures.stand }) c.args.node
+    c.requires.node_is_node (λ a. replacing_data (name_in a c.args.node) c.args.offset c.args.count c.args.data.items) c.replace_data.result
+    c.replace_data.ensures.world
     (λ l i r. ready-data _ i r (name_in d c.args.node) c.args.offset c.args.count c.args.data.items c.requires.has_data)

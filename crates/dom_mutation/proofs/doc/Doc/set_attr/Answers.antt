@@ -16,6 +16,7 @@ returns-clause-world c =
 pub returns-clause-ready : goal.returns-clause-ready
 returns-clause-ready c =
     let d = c.args.self.now in
-    plan-call c.self.inside.parts c.args.self.now c.set_attr.new.parts c.self.view_is (record { alone = c.laws.ensures.alone; parts = c.laws.ensures.parts; stand = c.laws.ensures.stand }) c.args.node
+    plan-call c.self.inside.parts c.args.self.now c.set_attr.new.parts c.self.view_is
+    (record { alone = c.laws.ensures.alone; parts = c.laws.ensures.parts; stand = c.laws.ensures.stand }) c.args.node
     c.requires (λ a. setting_attribute (name_in a c.args.node) c.args.name.now c.args.value.items) c.set_attr.result c.set_attr.ensures.world
     (λ l i r. ready-attribute _ i r (name_in d c.args.node) c.args.name.now c.args.value.items)

@@ -17,6 +17,7 @@ returns-clause-world c =
 pub returns-clause-ready : goal.returns-clause-ready
 returns-clause-ready c =
     let d = c.args.self.now in
-    plan-call c.self.inside.parts c.args.self.now c.set_data.new.parts c.self.view_is (record { alone = c.laws.ensures.alone; parts = c.laws.ensures.parts; stand = c.laws.ensures.stand }) c.args.node
+    plan-call c.self.inside.parts c.args.self.now c.set_data.new.parts c.self.view_is
+    (record { alone = c.laws.ensures.alone; parts = c.laws.ensures.parts; stand = c.laws.ensures.stand }) c.args.node
     c.requires.node_is_node (λ a. replacing_all_data (name_in a c.args.node) c.args.data.items) c.set_data.result c.set_data.ensures.world
     (λ l i r. ready-data _ i r (name_in d c.args.node) 0 (length_of (trees_in d c.args.node) (name_in d c.args.node)) c.args.data.items c.requires.has_data)

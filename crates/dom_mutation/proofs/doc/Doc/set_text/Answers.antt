@@ -7,6 +7,7 @@ use Rattle.dom_mutation.proofs.doc.Doc.set_text.Goals as goal
 pub returns-clause-ready : goal.returns-clause-ready
 returns-clause-ready c =
     let d = c.args.self.now in
-    plan-call c.self.inside.parts c.args.self.now c.set_text.new.parts c.self.view_is (record { alone = c.laws.ensures.alone; parts = c.laws.ensures.parts; stand = c.laws.ensures.stand }) c.args.node
+    plan-call c.self.inside.parts c.args.self.now c.set_text.new.parts c.self.view_is
+    (record { alone = c.laws.ensures.alone; parts = c.laws.ensures.parts; stand = c.laws.ensures.stand }) c.args.node
     c.requires.node_is_node (λ a. setting_text (name_in a c.args.node) c.args.data.items) c.set_text.result c.set_text.ensures.world
     (λ l i r. ready-text _ i r (name_in d c.args.node) c.args.data.items (l.stand c.args.node c.requires.node_is_node))

@@ -8,5 +8,7 @@ use Rattle.dom_mutation.proofs.doc.Doc.take_records.Goals as goal
 
 pub returns-clause-ready : goal.returns-clause-ready
 returns-clause-ready c =
-    table-call c.self.inside.parts c.args.self.now c.take_records.new.self c.self.view_is c.args.owner (Command.take c.args.number) (map (λ r. recorded c.args.number (change_in c.self.inside.parts r)) c.take_records.result.items) (a_count (length c.take_records.result.items)) c.take_records.ensures.world
+    table-call c.self.inside.parts c.args.self.now c.take_records.new.self c.self.view_is c.args.owner (Command.take c.args.number)
+    (map (λ r. recorded c.args.number (change_in c.self.inside.parts r)) c.take_records.result.items)
+    (a_count (length c.take_records.result.items)) c.take_records.ensures.world
     (λ r. take-ready _ r c.args.number)

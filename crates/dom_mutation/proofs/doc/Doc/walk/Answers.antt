@@ -8,5 +8,6 @@ use Rattle.dom_mutation.proofs.doc.Doc.walk.Goals as goal
 
 pub returns-clause-ready : goal.returns-clause-ready
 returns-clause-ready c =
-    table-call c.self.inside.parts c.args.self.now c.walk.new.self c.self.view_is c.args.owner (Command.walk c.args.number c.args.step) [] (node_or_null (option_map (name_in c.self.inside.parts) c.walk.result)) c.walk.ensures.world
+    table-call c.self.inside.parts c.args.self.now c.walk.new.self c.self.view_is c.args.owner (Command.walk c.args.number c.args.step) []
+    (node_or_null (option_map (name_in c.self.inside.parts) c.walk.result)) c.walk.ensures.world
     (λ r. walk-ready _ r c.args.number c.args.step)

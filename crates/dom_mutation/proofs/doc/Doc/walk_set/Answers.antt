@@ -8,5 +8,6 @@ use Rattle.dom_mutation.proofs.doc.Doc.walk_set.Goals as goal
 
 pub returns-clause-ready : goal.returns-clause-ready
 returns-clause-ready c =
-    table-call c.self.inside.parts c.args.self.now c.walk_set.new.self c.self.view_is c.args.owner (Command.walker_set c.args.number (own (name_in c.self.inside.parts c.args.current).number)) [] (nothing) c.walk_set.ensures.world
+    table-call c.self.inside.parts c.args.self.now c.walk_set.new.self c.self.view_is c.args.owner
+    (Command.walker_set c.args.number (own (name_in c.self.inside.parts c.args.current).number)) [] (nothing) c.walk_set.ensures.world
     (λ r. walker_set-ready _ r c.args.number (own (name_in c.self.inside.parts c.args.current).number))

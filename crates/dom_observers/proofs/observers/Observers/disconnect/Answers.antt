@@ -9,8 +9,10 @@ pub returns-in_default : goal.returns-in_default
 returns-in_default c =
     let r : Inside = record { tables = c.get_mut.follows.lender-at-none; alloc = c.self.inside.alloc } in
     record {
-      value = sym (below_none c.args.observer) ∙ ap (λ (t : TablesOf ℕ). ltb c.args.observer (length t.record_queues)) (sym (had-none c.self.inside c.args.self.now c.args.owner c.self.view_is c.in_default.ensures.value));
-      tables = kept-changes c.args.owner c.args.self.now (all_tables r) (untouched c.self.inside r c.args.self.now c.self.view_is c.get_mut.follows.holds-at-none);
+      value = sym (below_none c.args.observer) ∙ ap (λ (t : TablesOf ℕ). ltb c.args.observer (length t.record_queues))
+          (sym (had-none c.self.inside c.args.self.now c.args.owner c.self.view_is c.in_default.ensures.value));
+      tables = kept-changes c.args.owner c.args.self.now (all_tables r)
+          (untouched c.self.inside r c.args.self.now c.self.view_is c.get_mut.follows.holds-at-none);
     }
 
 pub returns : goal.returns
@@ -21,5 +23,6 @@ returns c =
       value = c.disconnect.ensures.value ∙ ap (λ (t : TablesOf ℕ). ltb c.args.observer (length t.record_queues)) (sym there);
       tables =
           rewritten c.self.inside r c.args.self.now c.args.owner c.in-Some.table.now c.disconnect.new.self
-          (λ t. cond c.disconnect.result (disconnected c.args.observer t) t) c.self.view_is c.in-Some.ensures.value (λ some. ((c.get_mut.follows.holds c.disconnect.new.self).3 some).0) c.disconnect.ensures.tables;
+          (λ t. cond c.disconnect.result (disconnected c.args.observer t) t) c.self.view_is c.in-Some.ensures.value
+          (λ some. ((c.get_mut.follows.holds c.disconnect.new.self).3 some).0) c.disconnect.ensures.tables;
     }

@@ -7,8 +7,10 @@ use Rattle.dom_observers.proofs.observers.Observers.has.Goals as goal
 pub returns-in-Some : goal.returns-in-Some
 returns-in-Some c =
     c.has.ensures
-    ∙ ap (λ (t : TablesOf ℕ). is_some (slice_get t.record_queues c.args.observer)) (sym (had c.self.inside c.args.self.now c.args.owner c.in-Some.table.now c.self.view_is c.in-Some.ensures.value))
+    ∙ ap (λ (t : TablesOf ℕ). is_some (slice_get t.record_queues c.args.observer))
+    (sym (had c.self.inside c.args.self.now c.args.owner c.in-Some.table.now c.self.view_is c.in-Some.ensures.value))
 
 pub returns-in-None : goal.returns-in-None
 returns-in-None c =
-    ap (λ (t : TablesOf ℕ). is_some (slice_get t.record_queues c.args.observer)) (sym (had-none c.self.inside c.args.self.now c.args.owner c.self.view_is c.in-None.ensures.value))
+    ap (λ (t : TablesOf ℕ). is_some (slice_get t.record_queues c.args.observer))
+    (sym (had-none c.self.inside c.args.self.now c.args.owner c.self.view_is c.in-None.ensures.value))

@@ -7,7 +7,8 @@ use Rattle.dom_observers.proofs.observers.Observers.is_watched.Goals as goal
 pub returns-in-Some : goal.returns-in-Some
 returns-in-Some c =
     ap not c.has_no_registration.ensures
-    ∙ ap (λ (t : TablesOf ℕ). not (is_empty t.registrations)) (sym (had c.self.inside c.args.self.now c.args.owner c.in-Some.table.now c.self.view_is c.in-Some.ensures.value))
+    ∙ ap (λ (t : TablesOf ℕ). not (is_empty t.registrations))
+    (sym (had c.self.inside c.args.self.now c.args.owner c.in-Some.table.now c.self.view_is c.in-Some.ensures.value))
 
 pub returns-in-None : goal.returns-in-None
 returns-in-None c =

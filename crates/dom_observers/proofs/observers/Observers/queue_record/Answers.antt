@@ -42,7 +42,8 @@ returns-in_default-clause-tables c =
     let o = c.name-owner.result.owner in
     let all = c.args.self.now in
     let r : Inside = record { tables = c.get_mut.follows.lender-at-none; alloc = c.self.inside.alloc } in
-    moved (λ p. ChangesTables p (told nat_eq path ch (tables_of all p)) all (all_tables r)) names c.name-owner.result k (target_of ch) c.name-owner.ensures.at c.target-target.ensures
+    moved (λ p. ChangesTables p (told nat_eq path ch (tables_of all p)) all (all_tables r)) names c.name-owner.result k (target_of ch)
+    c.name-owner.ensures.at c.target-target.ensures
     (untouched-changes c.self.inside r all o (told nat_eq path ch) c.self.view_is c.in_default.ensures.value c.get_mut.follows.holds-at-none
     (not_told path ch no_tables (interested-none path [] ch refl)))
 
@@ -55,7 +56,8 @@ returns-clause-taken c =
     let o = c.name-owner.result.owner in
     let all = c.args.self.now in
     let there = had c.self.inside all o c.in-Some.table.now c.self.view_is c.in-Some.ensures.value in
-    moved (λ p. IfOk c.queue_record.result (λ taken. taken ≡ is_taken nat_eq path (tables_of all p) ch)) names c.name-owner.result k (target_of ch) c.name-owner.ensures.at c.target-target.ensures
+    moved (λ p. IfOk c.queue_record.result (λ taken. taken ≡ is_taken nat_eq path (tables_of all p) ch)) names c.name-owner.result k
+    (target_of ch) c.name-owner.ensures.at c.target-target.ensures
     (subst (λ (t : TablesOf ℕ). IfOk c.queue_record.result (λ taken. taken ≡ is_taken nat_eq path t ch)) (sym there) c.queue_record.ensures.taken)
 
 pub returns-clause-tables : goal.returns-clause-tables
@@ -68,7 +70,10 @@ returns-clause-tables c =
     let rule = told nat_eq (path_keys c.args.forest.now (target_of ch)) ch in
     let t = c.in-Some.table.now in
     let r : Inside = record { tables = c.get_mut.follows.lender c.queue_record.new.self; alloc = c.self.inside.alloc } in
-    let step : table_of c.queue_record.new.self ≡ rule (table_of t) → ChangesTables (name_at names (target_of ch)).owner (rule (tables_of all (name_at names (target_of ch)).owner)) all (all_tables r) =
-    λ e. moved (λ p. ChangesTables p (rule (tables_of all p)) all (all_tables r)) names c.name-owner.result k (target_of ch) c.name-owner.ensures.at c.target-target.ensures
-    (rewritten c.self.inside r all o t c.queue_record.new.self rule c.self.view_is c.in-Some.ensures.value (λ some. ((c.get_mut.follows.holds c.queue_record.new.self).3 some).0) e) in
+    let step : table_of c.queue_record.new.self ≡ rule (table_of t) →
+    ChangesTables (name_at names (target_of ch)).owner (rule (tables_of all (name_at names (target_of ch)).owner)) all (all_tables r) =
+    λ e. moved (λ p. ChangesTables p (rule (tables_of all p)) all (all_tables r)) names c.name-owner.result k (target_of ch)
+    c.name-owner.ensures.at c.target-target.ensures
+    (rewritten c.self.inside r all o t c.queue_record.new.self rule c.self.view_is c.in-Some.ensures.value
+    (λ some. ((c.get_mut.follows.holds c.queue_record.new.self).3 some).0) e) in
     on_ok_weaker c.queue_record.result step c.queue_record.ensures.tables

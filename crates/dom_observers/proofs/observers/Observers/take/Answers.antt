@@ -7,12 +7,14 @@ use Rattle.dom_observers.proofs.observers.Observers.take.Goals as goal
 
 pub returns-in_default-clause-records : goal.returns-in_default-clause-records
 returns-in_default-clause-records c =
-    ap (λ (t : TablesOf ℕ). slice_get t.record_queues c.args.observer) (sym (had-none c.self.inside c.args.self.now c.args.owner c.self.view_is c.in_default.ensures.value))
+    ap (λ (t : TablesOf ℕ). slice_get t.record_queues c.args.observer)
+    (sym (had-none c.self.inside c.args.self.now c.args.owner c.self.view_is c.in_default.ensures.value))
 
 pub returns-in_default-clause-tables : goal.returns-in_default-clause-tables
 returns-in_default-clause-tables c =
     let r : Inside = record { tables = c.get_mut.follows.lender-at-none; alloc = c.self.inside.alloc } in
-    untouched-changes c.self.inside r c.args.self.now c.args.owner (emptied c.args.observer) c.self.view_is c.in_default.ensures.value c.get_mut.follows.holds-at-none refl
+    untouched-changes c.self.inside r c.args.self.now c.args.owner (emptied c.args.observer) c.self.view_is c.in_default.ensures.value
+    c.get_mut.follows.holds-at-none refl
 
 pub returns : goal.returns
 returns c =

@@ -10,6 +10,7 @@ use Rattle.dom_observers.proofs.options.Options.let_pass.Goals as goal
 pub returns-in-Some : goal.returns-in-Some
 returns-in-Some c =
     let names = c.in-Some.names.items in
-    any_from_yields_List (λ n. text_eq c.args.name.now (string_bytes n)) _ _ _ c.any.ensures.ran (YieldsList-from_slice names cc) (λ x b q k. search (rules, tests))
+    any_from_yields_List (λ n. text_eq c.args.name.now (string_bytes n)) _ _ _ c.any.ensures.ran (YieldsList-from_slice names cc)
+    (λ x b q k. search (rules, tests))
     ∙ (sym (list_any_of_map (text_eq c.args.name.now) string_bytes names)
     ∙ ap (λ filter. option_map_or (is_in text_eq c.args.name.now) (option_map (λ list. map string_bytes list.items) filter) true) (sym c.in-Some.is))

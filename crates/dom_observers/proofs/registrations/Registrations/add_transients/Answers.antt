@@ -14,7 +14,8 @@ use Rattle.dom_observers.proofs.registrations.Registrations.add_transients.Goals
 use Rattle.dom_observers.proofs.registrations.Registrations.add_transients.Goals.{then-has_above+in_ok-copy_on, else-has_above}
 
 -- the copies of the whole walk are those of the rule
-walked : (node : ℕ) (path : List ℕ) (rs now copies : List (Registration ℕ)) (i : ℕ) → length path ≤ i → rs ≡ now → copies ≡ fold (copied_on node rs) [] (take i path) → copies ≡ transients_for eqb node path now
+walked : (node : ℕ) (path : List ℕ) (rs now copies : List (Registration ℕ)) (i : ℕ) → length path ≤ i → rs ≡ now →
+    copies ≡ fold (copied_on node rs) [] (take i path) → copies ≡ transients_for eqb node path now
 walked node path rs now copies i long view is =
     is
     ∙ (ap (fold (copied_on node rs) []) (take_all i path long)
@@ -34,7 +35,9 @@ loop-above-preserved c =
           ∙ (w.in_ok-copy_on.ensures ∙ ap (λ items. copied_on c.args.node (map registration_of items) before x) w.as_slice.ensures.value)
       | else-has_above w ↦
           ap (λ copies. map registration_of copies.items) w.copies-is
-          ∙ sym (copied_on-none c.args.node rs before x (unnoted-above i.watched rs x (noted-view i.watched i.list.items rs refl c.self.invariant) (sym c.has_above.ensures ∙ w.if-has_above.false)))
+          ∙ sym (copied_on-none c.args.node rs before x
+          (unnoted-above i.watched rs x (noted-view i.watched i.list.items rs refl c.self.invariant)
+          (sym c.has_above.ensures ∙ w.if-has_above.false)))
     ] in
     here
     ∙ (ap (λ copies. f copies x) c.loop-above.invariant
@@ -49,8 +52,10 @@ returns-then-is_empty-clause-ok c =
     let rs = c.args.self.now in
     let copies = c.loop-above.copies in
     let none = eqb-true copies.len 0 (sym c.is_empty.ensures ∙ c.if-is_empty.true) in
-    let whole = walked c.args.node c.args.path.now (map registration_of c.self.inside.list.items) c.args.self.now (map registration_of copies.items) c.loop-above.above-index (omega arith) c.self.view_is c.loop-above.invariant in
-    sym (ap (λ more. rs ++ more) (sym whole ∙ ap (map registration_of) (nil_from_length copies.items (let ok = copies.ok.0 in omega (arith, ok, none)))) ∙ append-nil rs)
+    let whole = walked c.args.node c.args.path.now (map registration_of c.self.inside.list.items) c.args.self.now
+    (map registration_of copies.items) c.loop-above.above-index (omega arith) c.self.view_is c.loop-above.invariant in
+    sym (ap (λ more. rs ++ more) (sym whole ∙
+    ap (map registration_of) (nil_from_length copies.items (let ok = copies.ok.0 in omega (arith, ok, none)))) ∙ append-nil rs)
 
 pub invariant_of-self-in_err-append : goal.invariant_of-self-in_err-append
 invariant_of-self-in_err-append c =
@@ -62,7 +67,8 @@ invariant_of-self-2 c =
     let i = c.self.inside in
     let new = c.add.new.self in
     let copies = c.loop-above.copies.items in
-    let whole = walked c.args.node c.args.path.now (map registration_of i.list.items) c.args.self.now (map registration_of copies) c.loop-above.above-index (omega arith) c.self.view_is c.loop-above.invariant in
+    let whole = walked c.args.node c.args.path.now (map registration_of i.list.items) c.args.self.now (map registration_of copies)
+    c.loop-above.above-index (omega arith) c.self.view_is c.loop-above.invariant in
     subst (AreNoted new) (sym c.in_ok-append.ensures.items)
     (All-append (λ r. IsNoted new (registration_of r)) i.list.items copies
     (noted-more i.watched new i.list.items c.add.ensures.keeps c.self.invariant)
@@ -72,7 +78,8 @@ pub returns-clause-ok : goal.returns-clause-ok
 returns-clause-ok c =
     let i = c.self.inside in
     let copies = c.loop-above.copies.items in
-    let whole = walked c.args.node c.args.path.now (map registration_of i.list.items) c.args.self.now (map registration_of copies) c.loop-above.above-index (omega arith) c.self.view_is c.loop-above.invariant in
+    let whole = walked c.args.node c.args.path.now (map registration_of i.list.items) c.args.self.now (map registration_of copies)
+    c.loop-above.above-index (omega arith) c.self.view_is c.loop-above.invariant in
     ap (map registration_of) c.in_ok-append.ensures.items
     ∙ (map-append registration_of i.list.items copies
     ∙ (ap (λ rs. rs ++ map registration_of copies) c.self.view_is ∙ ap (λ more. c.args.self.now ++ more) whole))

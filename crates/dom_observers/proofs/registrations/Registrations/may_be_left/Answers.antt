@@ -9,7 +9,8 @@ pub returns-then-not-is_empty : goal.returns-then-not-is_empty
 returns-then-not-is_empty c =
     let i = c.self.inside in
     let rs = c.args.self.now in
-    λ e node. copies-unnoted i.watched rs (path_keys c.args.forest.now c.args.parent) node (noted-view i.watched i.list.items rs c.self.view_is c.self.invariant) (sym c.covers.ensures ∙ e)
+    λ e node. copies-unnoted i.watched rs (path_keys c.args.forest.now c.args.parent) node
+    (noted-view i.watched i.list.items rs c.self.view_is c.self.invariant) (sym c.covers.ensures ∙ e)
 
 pub returns-else-not-is_empty : goal.returns-else-not-is_empty
 returns-else-not-is_empty c =

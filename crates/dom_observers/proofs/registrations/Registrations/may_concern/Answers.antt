@@ -10,7 +10,8 @@ pub returns-else-has : goal.returns-else-has
 returns-else-has c =
     let i = c.self.inside in
     let rs = c.args.self.now in
-    λ e change on. interested-unnoted i.watched rs (path_keys c.args.forest.now c.args.target) change (noted-view i.watched i.list.items rs c.self.view_is c.self.invariant)
+    λ e change on. interested-unnoted i.watched rs (path_keys c.args.forest.now c.args.target) change
+    (noted-view i.watched i.list.items rs c.self.view_is c.self.invariant)
     (ap (λ k. is_in eqb k i.watched.targets.keys) on ∙ (sym c.has.ensures ∙ c.if-has.false)) (sym c.covers.ensures ∙ e)
 
 pub returns-else-not-is_empty : goal.returns-else-not-is_empty

@@ -11,12 +11,14 @@ pub invariant_of-self : goal.invariant_of-self
 invariant_of-self c =
     let i = c.self.inside in
     let test = λ (r : Registration ℕ). not (eqb r.observer c.args.observer) in
-    let kept = filter_same _ (λ r. test (registration_of r)) _ (λ x b q k. (search (rules, tests), search (rules, tests))) i.list.items c.retain.new.self.items c.retain.ensures.filtered in
+    let kept = filter_same _ (λ r. test (registration_of r)) _ (λ x b q k. (search (rules, tests), search (rules, tests))) i.list.items
+    c.retain.new.self.items c.retain.ensures.filtered in
     noted-filter i.watched (λ r. test (registration_of r)) i.list.items c.retain.new.self.items kept c.self.invariant
 
 pub returns : goal.returns
 returns c =
     let i = c.self.inside in
     let test = λ (r : Registration ℕ). not (eqb r.observer c.args.observer) in
-    let kept = filter_same _ (λ r. test (registration_of r)) _ (λ x b q k. (search (rules, tests), search (rules, tests))) i.list.items c.retain.new.self.items c.retain.ensures.filtered in
+    let kept = filter_same _ (λ r. test (registration_of r)) _ (λ x b q k. (search (rules, tests), search (rules, tests))) i.list.items
+    c.retain.new.self.items c.retain.ensures.filtered in
     ap (map registration_of) kept ∙ (filter_of_map test registration_of i.list.items ∙ ap (filter test) c.self.view_is)

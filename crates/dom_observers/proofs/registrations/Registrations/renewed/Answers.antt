@@ -15,7 +15,8 @@ loop-registered-preserved c =
     let g = with_options nat_eq c.args.observer c.args.node (words_of c.args.options.now.value) in
     let item = registration_of c.registered-item.result in
     let before = map registration_of c.loop-registered.renewed.items in
-    let at = subst (λ xs. c.registered-item.result ≡ get_or xs c.loop-registered.registered-index c.registered-item.result) c.deref-registered-items.ensures.value c.registered-item.is in
+    let at = subst (λ xs. c.registered-item.result ≡ get_or xs c.loop-registered.registered-index c.registered-item.result)
+    c.deref-registered-items.ensures.value c.registered-item.is in
     let same : length c.deref-registered-items.result.now ≡ length items = ap length c.deref-registered-items.ensures.value in
     let here : map registration_of c.if-not-stems_from.renewed.items ≡ before ++ map g (cond (p item) (item ∷ []) []) =
     elim c.if-not-stems_from.branch [
@@ -31,7 +32,8 @@ loop-registered-preserved c =
     ] in
     here
     ∙ (ap (λ rs. rs ++ map g (cond (p item) (item ∷ []) [])) c.loop-registered.invariant
-    ∙ sym (subst (λ rs. map g (filter p (take (c.loop-registered.registered-index + 1) rs)) ≡ map g (filter p (take c.loop-registered.registered-index rs)) ++ map g (cond (p item) (item ∷ []) [])) c.self.view_is
+    ∙ sym (subst (λ rs. map g (filter p (take (c.loop-registered.registered-index + 1) rs)) ≡ map g
+    (filter p (take c.loop-registered.registered-index rs)) ++ map g (cond (p item) (item ∷ []) [])) c.self.view_is
     (filter-view_more p g registration_of items c.loop-registered.registered-index c.registered-item.result (omega (arith, same)) at)))
 
 pub returns : goal.returns

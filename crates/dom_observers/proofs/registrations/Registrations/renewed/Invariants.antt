@@ -7,4 +7,5 @@ use Rattle.dom_observers.proofs.registrations.Registrations.renewed.Given as goa
 abbrev pub invariant-loop-registered : goal.invariant-loop-registered
 invariant-loop-registered l =
     map registration_of l.renewed.items
-    ≡ map (with_options nat_eq l.observer l.node (words_of l.options.value)) (filter (λ r. not ((r.observer == l.observer) && stems_from nat_eq l.node r.source)) (take l.registered-index l.self))
+    ≡ map (with_options nat_eq l.observer l.node (words_of l.options.value))
+    (filter (λ r. not ((r.observer == l.observer) && stems_from nat_eq l.node r.source)) (take l.registered-index l.self))

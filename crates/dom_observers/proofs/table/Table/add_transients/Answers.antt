@@ -10,7 +10,8 @@ pub returns-then-not-may_be_left : goal.returns-then-not-may_be_left
 returns-then-not-may_be_left c =
     let t : TablesOf ℕ = table_of c.args.self.now in
     let path = path_keys c.args.forest.now c.args.parent in
-    let none = subst (λ rs. transients_for nat_eq c.args.node path rs ≡ []) c.in_ok-refresh.ensures (c.may_be_left.ensures c.if-not-may_be_left.true c.args.node) in
+    let none = subst (λ rs. transients_for nat_eq c.args.node path rs ≡ []) c.in_ok-refresh.ensures
+    (c.may_be_left.ensures c.if-not-may_be_left.true c.args.node) in
     ap (λ (rs : List (Registration ℕ)). record t { registrations = rs }) c.in_ok-refresh.ensures ∙ sym (none_left c.args.node path t none)
 
 pub returns : goal.returns

@@ -14,7 +14,10 @@ returns-in_ok-push-in-Some c =
     let t : TablesOf ℕ = table_of c.args.self.now in
     let queues = c.args.self.now.queues.items in
     let there : queue_at t.record_queues c.args.observer ≡ map change_of c.in-Some.queue.now.items =
-    ap (λ o. unwrap_or o []) (slice_get-map (λ queue. map change_of queue.items) queues c.args.observer ∙ ap (option_map (λ queue. map change_of queue.items)) (slice_get_read queues c.args.self.now.queues.len c.args.observer c.in-Some.queue.now c.args.self.now.queues.ok.0 (c.in-Some.ensures.variant.0 refl) c.in-Some.ensures.value)) in
+    ap (λ o. unwrap_or o []) (slice_get-map (λ queue. map change_of queue.items) queues c.args.observer ∙
+    ap (option_map (λ queue. map change_of queue.items))
+    (slice_get_read queues c.args.self.now.queues.len c.args.observer c.in-Some.queue.now c.args.self.now.queues.ok.0
+    (c.in-Some.ensures.variant.0 refl) c.in-Some.ensures.value)) in
     ap (λ (list : List (List (Change ℕ))). record t { record_queues = list })
     (map-set (λ queue. map change_of queue.items) queues c.args.observer c.push.new.self
     ∙ ap (set t.record_queues c.args.observer)
@@ -26,7 +29,8 @@ pub returns-in-None : goal.returns-in-None
 returns-in-None c =
     let t : TablesOf ℕ = table_of c.args.self.now in
     let past : length c.args.self.now.queues.items ≤ c.args.observer =
-    elim (cases_lt c.args.observer (length c.args.self.now.queues.items)) [ inl short ↦ absurd (false≢true (c.in-None.ensures.variant.1 (omega (arith, short)))) | inr long ↦ long ] in
+    elim (cases_lt c.args.observer (length c.args.self.now.queues.items))
+    [ inl short ↦ absurd (false≢true (c.in-None.ensures.variant.1 (omega (arith, short)))) | inr long ↦ long ] in
     sym (ap (λ (queues : List (List (Change ℕ))). record t { record_queues = queues })
     (set_past t.record_queues c.args.observer (queue_at t.record_queues c.args.observer ++ change_of c.args.entry ∷ [])
     (let same = length-map c.args.self.now.queues.items (λ queue. map change_of queue.items) in omega (arith, same, past))))

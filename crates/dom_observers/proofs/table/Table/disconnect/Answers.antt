@@ -12,13 +12,15 @@ use Rattle.dom_observers.proofs.table.Table.disconnect.Goals as goal
 pub returns-then-is_none-clause-tables : goal.returns-then-is_none-clause-tables
 returns-then-is_none-clause-tables c =
     let t : TablesOf ℕ = table_of c.args.self.now in
-    let gone = none_from (slice_get t.record_queues c.args.observer) (ap is_some (sym c.take.ensures.records) ∙ (is_some-map (λ v. map change_of v.items) c.take.result ∙ c.if-is_none.ensures)) in
+    let gone = none_from (slice_get t.record_queues c.args.observer)
+    (ap is_some (sym c.take.ensures.records) ∙ (is_some-map (λ v. map change_of v.items) c.take.result ∙ c.if-is_none.ensures)) in
     c.take.ensures.tables ∙ ap (λ (queues : List (List (Change ℕ))). record t { record_queues = queues }) (set-none t.record_queues c.args.observer [] gone)
 
 pub returns-clause-value : goal.returns-clause-value
 returns-clause-value c =
     let t : TablesOf ℕ = table_of c.args.self.now in
-    let there = there_from t.record_queues c.args.observer (ap is_some (sym c.take.ensures.records) ∙ (is_some-map (λ v. map change_of v.items) c.take.result ∙ c.if-is_none.ensures)) in
+    let there = there_from t.record_queues c.args.observer
+    (ap is_some (sym c.take.ensures.records) ∙ (is_some-map (λ v. map change_of v.items) c.take.result ∙ c.if-is_none.ensures)) in
     sym (lt-ltb _ _ there)
 
 pub returns-clause-tables : goal.returns-clause-tables

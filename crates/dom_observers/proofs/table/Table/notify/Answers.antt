@@ -42,7 +42,8 @@ loop-observer-preserved c =
     let apart = subst (IsDistinct eqb) (sym c.as_slice-observer-items.ensures.keys) c.as_slice-observer-items.ensures.unique in
     let had : map change_of records.items ≡ queue_at t.record_queues k =
     ap (λ v. map change_of v.items) c.unwrap_or-records.ensures
-    ∙ (unwrapped c.take.result c.new-in-loop-observer.result (table_of c.loop-observer.self).record_queues k c.take.ensures.records c.new-in-loop-observer.ensures.items
+    ∙ (unwrapped c.take.result c.new-in-loop-observer.result (table_of c.loop-observer.self).record_queues k c.take.ensures.records
+    c.new-in-loop-observer.ensures.items
     ∙ (ap (λ queues. queue_at queues k) l.queues
     ∙ queue_at-emptied t.record_queues (take i items) k (not_before items i apart (omega arith)))) in
     record {
@@ -63,7 +64,8 @@ pub returns-clause-notices : goal.returns-clause-notices
 returns-clause-notices c =
     let items = c.as_slice-observer-items.result.now in
     let t = table_of c.args.self.now in
-    let all = take_all c.loop-observer.observer-index items (omega arith) ∙ (c.as_slice-observer-items.ensures.keys ∙ ap (λ s. s.keys) c.replace-pending.ensures.value) in
+    let all = take_all c.loop-observer.observer-index items (omega arith) ∙
+    (c.as_slice-observer-items.ensures.keys ∙ ap (λ s. s.keys) c.replace-pending.ensures.value) in
     c.loop-observer.invariant.listed ∙ ap (map (noticed t.record_queues)) all
 
 pub returns-clause-tables : goal.returns-clause-tables
@@ -73,7 +75,8 @@ returns-clause-tables c =
     let l = c.loop-observer.invariant in
     let same = ap (λ s. s.keys) c.replace-pending.ensures.value in
     let all = take_all c.loop-observer.observer-index items (omega arith) ∙ (c.as_slice-observer-items.ensures.keys ∙ same) in
-    let rs = c.remove_transients.ensures ∙ (ap (without_transients c.replace-pending.result.keys) l.registrations ∙ ap (λ ks. without_transients ks t.registrations) same) in
+    let rs = c.remove_transients.ensures ∙
+    (ap (without_transients c.replace-pending.result.keys) l.registrations ∙ ap (λ ks. without_transients ks t.registrations) same) in
     let queues = l.queues ∙ ap (fold emptying t.record_queues) all in
     ap (λ list. built list (table_of c.loop-observer.self).record_queues (table_of c.loop-observer.self).pending) rs
     ∙ (ap (λ list. built (without_transients t.pending t.registrations) list (table_of c.loop-observer.self).pending) queues

@@ -9,7 +9,8 @@ abbrev pub invariant-loop-observer : goal.invariant-loop-observer
 invariant-loop-observer l =
     record {
       registrations : (table_of l.self).registrations ≡ (table_of l.initial.self).registrations;
-      queues : (table_of l.self).record_queues ≡ fold (λ queues k. set queues k []) (table_of l.initial.self).record_queues (take l.observer-index l.observer-items);
+      queues : (table_of l.self).record_queues ≡ fold (λ queues k. set queues k []) (table_of l.initial.self).record_queues
+          (take l.observer-index l.observer-items);
       pending : (table_of l.self).pending ≡ [];
       listed : map notice_of l.notices.items ≡ map (λ k. (k, queue_at (table_of l.initial.self).record_queues k)) (take l.observer-index l.observer-items);
     }

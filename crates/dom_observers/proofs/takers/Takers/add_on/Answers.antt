@@ -17,9 +17,13 @@ loop-registered-preserved c =
     let more = and_found before item.observer (asks_for_old item.options (change_of c.args.change.now)) in
     let here : found_of c.if-fits.self ≡ f before item =
     elim c.if-fits.branch [
-      | then-fits+in_ok-add w ↦ ap found_of w.self-is ∙ (w.in_ok-add.ensures ∙ (ap (and_found before item.observer) (w.ask_for_old.ensures ∙ ap (λ o. asks_for_old (words_of o) (change_of c.args.change.now)) w.deref.ensures) ∙ sym (cond-true test more before (sym c.fits.ensures ∙ w.if-fits.true))))
+      | then-fits+in_ok-add w ↦ ap found_of w.self-is ∙
+          (w.in_ok-add.ensures ∙ (ap (and_found before item.observer)
+          (w.ask_for_old.ensures ∙ ap (λ o. asks_for_old (words_of o) (change_of c.args.change.now)) w.deref.ensures) ∙
+          sym (cond-true test more before (sym c.fits.ensures ∙ w.if-fits.true))))
       | else-fits w ↦ ap found_of w.self-is ∙ sym (cond-false test more before (sym c.fits.ensures ∙ w.if-fits.false))
     ] in
     here
     ∙ (ap (λ b. f b item) c.loop-registered.invariant
-    ∙ sym (fold-view_more f registration_of (found_of c.args.self.now) c.args.registrations.now c.loop-registered.registered-index c.registered-item.result (omega arith) c.registered-item.is))
+    ∙ sym (fold-view_more f registration_of (found_of c.args.self.now) c.args.registrations.now c.loop-registered.registered-index
+    c.registered-item.result (omega arith) c.registered-item.is))

@@ -11,14 +11,16 @@ loop-at-preserved c =
     let f = c.args.forest.now in
     let sought = c.args.self.now.above.keys in
     let done = subst (HasPassed f c.args.key sought) c.in-Some.is c.loop-at.invariant in
-    passes-more f c.nodes_stand_once.ensures.once c.nodes_stand_once.ensures.only c.args.key c.in-Some.node sought c.parent-at.result done (sym c.if-has_above.ensures) c.parent-at.ensures.value c.parent-at.ensures.node
+    passes-more f c.nodes_stand_once.ensures.once c.nodes_stand_once.ensures.only c.args.key c.in-Some.node sought c.parent-at.result done
+    (sym c.if-has_above.ensures) c.parent-at.ensures.value c.parent-at.ensures.node
 
 pub loop-at-smaller : goal.loop-at-smaller
 loop-at-smaller c =
     let f = c.args.forest.now in
     let done = subst (HasPassed f c.args.key c.args.self.now.above.keys) c.in-Some.is c.loop-at.invariant in
     subst (λ at. length (above f c.parent-at.result) < length (above f at)) (sym c.in-Some.is)
-    (climbs-fewer f c.nodes_stand_once.ensures.once c.nodes_stand_once.ensures.only c.in-Some.node c.parent-at.result (done.climbed.next c.in-Some.node refl) c.parent-at.ensures.value)
+    (climbs-fewer f c.nodes_stand_once.ensures.once c.nodes_stand_once.ensures.only c.in-Some.node c.parent-at.result
+    (done.climbed.next c.in-Some.node refl) c.parent-at.ensures.value)
 
 pub returns-then-has_above : goal.returns-then-has_above
 returns-then-has_above c =

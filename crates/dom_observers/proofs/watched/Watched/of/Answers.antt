@@ -24,7 +24,8 @@ loop-registered-preserved c =
     (All-weaker (λ r. IsNoted before (registration_of r)) noted (λ r. c.in_ok-add.ensures.keeps (registration_of r)) (take i items) c.loop-registered.invariant)
     (subst noted c.registered-item.is
     (noted-added before after item.node (words_of item.options.value).subtree (registration_of item) c.in_ok-add.ensures.targets
-    (c.in_ok-add.ensures.above ∙ ap (λ (o : Options). cond o.subtree (append_once eqb before.above.keys item.node) before.above.keys) c.deref.ensures) refl refl))
+    (c.in_ok-add.ensures.above ∙ ap (λ (o : Options). cond o.subtree (append_once eqb before.above.keys item.node) before.above.keys)
+    c.deref.ensures) refl refl))
 
 pub returns : goal.returns
 returns c =

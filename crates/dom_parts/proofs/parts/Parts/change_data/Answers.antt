@@ -12,15 +12,20 @@ use Rattle.dom_parts.proofs.parts.Parts.change_data.Goals as goal
 
 pub returns-in_err-text-clause-whole : goal.returns-in_err-text-clause-whole
 returns-in_err-text-clause-whole c start all =
-    let same = shown c.self.inside.forest c.self.invariant c.self.view_is (λ ts x. (node_in ts x).text) (λ ns. c.text.result.now) c.args.node c.text.ensures (λ r. ap (λ n. n.text) r.node) in
+    let same = shown c.self.inside.forest c.self.invariant c.self.view_is (λ ts x. (node_in ts x).text) (λ ns. c.text.result.now) c.args.node
+    c.text.ensures (λ r. ap (λ n. n.text) r.node) in
     absurd (true≢false (sym (c.in_err-text.ensures.whole start (subst (λ (units : List ℕ). length units ≤ c.args.count) (sym same) all))))
 
 pub on_replace_data-requires : goal.on_replace_data-requires
 on_replace_data-requires c =
     let f = c.self.inside.forest in
-    data_asks f c.self.invariant c.self.view_is c.nodes_stand_once.ensures.once c.nodes_stand_once.ensures.only c.args.node c.args.offset c.args.count c.args.data.items c.requires.node_is_node c.requires.may_come c.requires.there (let fits = c.ranges.offset in omega arith)
-    (subst (λ (units : List ℕ). length units < 2 ^ 64) (c.in_ok-text.ensures.items ∙ ap (replaced c.args.offset c.args.count c.args.data.items) c.text.ensures) (let ok = c.in_ok-text.text.ok in let small = c.in_ok-text.text.small in omega (arith, ok.0, ok.1, small)))
-    (sym c.text.ensures ∙ shown f c.self.invariant c.self.view_is (λ ts x. (node_in ts x).text) (λ ns. c.text.result.now) c.args.node c.text.ensures (λ r. ap (λ n. n.text) r.node))
+    data_asks f c.self.invariant c.self.view_is c.nodes_stand_once.ensures.once c.nodes_stand_once.ensures.only c.args.node c.args.offset
+    c.args.count c.args.data.items c.requires.node_is_node c.requires.may_come c.requires.there (let fits = c.ranges.offset in omega arith)
+    (subst (λ (units : List ℕ). length units < 2 ^ 64)
+    (c.in_ok-text.ensures.items ∙ ap (replaced c.args.offset c.args.count c.args.data.items) c.text.ensures)
+    (let ok = c.in_ok-text.text.ok in let small = c.in_ok-text.text.small in omega (arith, ok.0, ok.1, small)))
+    (sym c.text.ensures ∙ shown f c.self.invariant c.self.view_is (λ ts x. (node_in ts x).text) (λ ns. c.text.result.now) c.args.node
+    c.text.ensures (λ r. ap (λ n. n.text) r.node))
     c.len-size.result (let len = c.len-size.ensures in omega (arith, len, c.args.data.ok.0))
 
 pub invariant_of-self : goal.invariant_of-self
@@ -28,25 +33,39 @@ invariant_of-self c =
     let f = c.self.inside.forest in
     let x = name_at f.names c.args.node in
     let h = with_data_replaced c.args.offset c.args.count c.args.data.items in
-    let once = c.nodes_stand_once.ensures.once c.args.node (known f c.self.invariant c.self.view_is (λ e. c.args.node < length e.names) c.requires.node_is_node) in
-    data_held f c.self.invariant c.self.view_is c.nodes_stand_once.ensures.once c.nodes_stand_once.ensures.only c.args.node c.args.offset c.args.count c.args.data.items c.requires.node_is_node c.requires.may_come c.requires.there (let fits = c.ranges.offset in omega arith)
-    (subst (λ (units : List ℕ). length units < 2 ^ 64) (c.in_ok-text.ensures.items ∙ ap (replaced c.args.offset c.args.count c.args.data.items) c.text.ensures) (let ok = c.in_ok-text.text.ok in let small = c.in_ok-text.text.small in omega (arith, ok.0, ok.1, small)))
-    (sym c.text.ensures ∙ shown f c.self.invariant c.self.view_is (λ ts x. (node_in ts x).text) (λ ns. c.text.result.now) c.args.node c.text.ensures (λ r. ap (λ n. n.text) r.node))
+    let once = c.nodes_stand_once.ensures.once c.args.node
+    (known f c.self.invariant c.self.view_is (λ e. c.args.node < length e.names) c.requires.node_is_node) in
+    data_held f c.self.invariant c.self.view_is c.nodes_stand_once.ensures.once c.nodes_stand_once.ensures.only c.args.node c.args.offset
+    c.args.count c.args.data.items c.requires.node_is_node c.requires.may_come c.requires.there (let fits = c.ranges.offset in omega arith)
+    (subst (λ (units : List ℕ). length units < 2 ^ 64)
+    (c.in_ok-text.ensures.items ∙ ap (replaced c.args.offset c.args.count c.args.data.items) c.text.ensures)
+    (let ok = c.in_ok-text.text.ok in let small = c.in_ok-text.text.small in omega (arith, ok.0, ok.1, small)))
+    (sym c.text.ensures ∙ shown f c.self.invariant c.self.view_is (λ ts x. (node_in ts x).text) (λ ns. c.text.result.now) c.args.node
+    c.text.ensures (λ r. ap (λ n. n.text) r.node))
     c.len-size.result (let len = c.len-size.ensures in omega (arith, len, c.args.data.ok.0))
     c.nodes_stand_once.ensures.distinct c.on_replace_data.new.self c.on_replace_data.ensures c.set_data.new.self c.set_data.ensures.names
-    (c.set_data.ensures.trees ∙ ap (λ units. change_node (with_text units) x f.trees) (c.in_ok-text.ensures.items ∙ ap (replaced c.args.offset c.args.count c.args.data.items) c.text.ensures)
+    (c.set_data.ensures.trees ∙ ap (λ units. change_node (with_text units) x f.trees)
+    (c.in_ok-text.ensures.items ∙ ap (replaced c.args.offset c.args.count c.args.data.items) c.text.ensures)
     ∙ data_changed x c.args.offset c.args.count c.args.data.items f.trees (omega (arith, once)))
-    (slots-recast f (named_trees f.names (change_node h x f.trees)) c.self.inside.slots _ (keeps_if (λ n. name_eq n.name x) h record { name = λ n. refl; kind = λ n. refl; element = λ n. refl; attributes = λ n. refl }) refl refl c.self.invariant.signals.slots)
+    (slots-recast f (named_trees f.names (change_node h x f.trees)) c.self.inside.slots _
+    (keeps_if (λ n. name_eq n.name x) h record { name = λ n. refl; kind = λ n. refl; element = λ n. refl; attributes = λ n. refl }) refl refl
+    c.self.invariant.signals.slots)
 
 pub returns-clause-ok : goal.returns-clause-ok
 returns-clause-ok c =
     let f = c.self.inside.forest in
     let x = name_at f.names c.args.node in
-    let once = c.nodes_stand_once.ensures.once c.args.node (known f c.self.invariant c.self.view_is (λ e. c.args.node < length e.names) c.requires.node_is_node) in
-    data_state f c.self.invariant c.self.view_is c.nodes_stand_once.ensures.once c.nodes_stand_once.ensures.only c.args.node c.args.offset c.args.count c.args.data.items c.requires.node_is_node c.requires.may_come c.requires.there (let fits = c.ranges.offset in omega arith)
-    (subst (λ (units : List ℕ). length units < 2 ^ 64) (c.in_ok-text.ensures.items ∙ ap (replaced c.args.offset c.args.count c.args.data.items) c.text.ensures) (let ok = c.in_ok-text.text.ok in let small = c.in_ok-text.text.small in omega (arith, ok.0, ok.1, small)))
-    (sym c.text.ensures ∙ shown f c.self.invariant c.self.view_is (λ ts x. (node_in ts x).text) (λ ns. c.text.result.now) c.args.node c.text.ensures (λ r. ap (λ n. n.text) r.node))
+    let once = c.nodes_stand_once.ensures.once c.args.node
+    (known f c.self.invariant c.self.view_is (λ e. c.args.node < length e.names) c.requires.node_is_node) in
+    data_state f c.self.invariant c.self.view_is c.nodes_stand_once.ensures.once c.nodes_stand_once.ensures.only c.args.node c.args.offset
+    c.args.count c.args.data.items c.requires.node_is_node c.requires.may_come c.requires.there (let fits = c.ranges.offset in omega arith)
+    (subst (λ (units : List ℕ). length units < 2 ^ 64)
+    (c.in_ok-text.ensures.items ∙ ap (replaced c.args.offset c.args.count c.args.data.items) c.text.ensures)
+    (let ok = c.in_ok-text.text.ok in let small = c.in_ok-text.text.small in omega (arith, ok.0, ok.1, small)))
+    (sym c.text.ensures ∙ shown f c.self.invariant c.self.view_is (λ ts x. (node_in ts x).text) (λ ns. c.text.result.now) c.args.node
+    c.text.ensures (λ r. ap (λ n. n.text) r.node))
     c.len-size.result (let len = c.len-size.ensures in omega (arith, len, c.args.data.ok.0))
     c.nodes_stand_once.ensures.distinct c.on_replace_data.new.self c.on_replace_data.ensures c.set_data.new.self c.set_data.ensures.names
-    (c.set_data.ensures.trees ∙ ap (λ units. change_node (with_text units) x f.trees) (c.in_ok-text.ensures.items ∙ ap (replaced c.args.offset c.args.count c.args.data.items) c.text.ensures)
+    (c.set_data.ensures.trees ∙ ap (λ units. change_node (with_text units) x f.trees)
+    (c.in_ok-text.ensures.items ∙ ap (replaced c.args.offset c.args.count c.args.data.items) c.text.ensures)
     ∙ data_changed x c.args.offset c.args.count c.args.data.items f.trees (omega (arith, once)))

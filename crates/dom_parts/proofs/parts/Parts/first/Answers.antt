@@ -4,12 +4,13 @@ use Rattle.std.specs.Option.{option_map}
 use Rattle.dom_model.specs.Tree.{children_of}
 use Rattle.dom_tree.specs.Forest.{name_at}
 use Rattle.dom_parts.specs.Doc.{owner_in}
-use Rattle.dom_parts.proofs.Own.{first_near}
+use Rattle.dom_parts.proofs.OwnNodes.{first_near}
 use Rattle.dom_parts.proofs.Shown.{shown}
 use Rattle.dom_parts.proofs.parts.Parts.first.Goals as goal
 
 pub returns-clause-value : goal.returns-clause-value
-returns-clause-value c = shown c.self.inside.forest c.self.invariant c.self.view_is (λ ts x. first_of (children_of ts x)) (λ ns. option_map (name_at ns) c.first.result) c.args.node c.first.ensures.value (λ r. ap (λ xs. first_of xs) r.children)
+returns-clause-value c = shown c.self.inside.forest c.self.invariant c.self.view_is (λ ts x. first_of (children_of ts x))
+    (λ ns. option_map (name_at ns) c.first.result) c.args.node c.first.ensures.value (λ r. ap (λ xs. first_of xs) r.children)
 
 pub returns-clause-owner : goal.returns-clause-owner
 returns-clause-owner c k e =

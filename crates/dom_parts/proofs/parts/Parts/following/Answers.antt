@@ -4,7 +4,7 @@ use Rattle.dom_model.specs.Tree.{inclusive_descendants, is_inclusive_ancestor}
 use Rattle.dom_model.specs.World.{part_of}
 use Rattle.dom_tree.specs.Forest.{name_at}
 use Rattle.dom_parts.specs.Doc.{DocState, name_in, owner_in, trees_in}
-use Rattle.dom_parts.proofs.Own.{owner_below}
+use Rattle.dom_parts.proofs.OwnNodes.{owner_below}
 use Rattle.dom_parts.proofs.Shown.{known, read_there, shown}
 use Rattle.dom_parts.proofs.parts.Parts.following.Goals as goal
 
@@ -22,24 +22,32 @@ returns-clause-value c =
     let f = c.self.inside.forest in
     let d = c.args.self.now in
     let y = name_at f.names c.args.node in
-    shown f c.self.invariant c.self.view_is (λ ts x. first_of (items_after name_eq y (inclusive_descendants ts x))) (λ ns. option_map (name_at ns) c.following.result) c.args.top c.following.ensures.value
+    shown f c.self.invariant c.self.view_is (λ ts x. first_of (items_after name_eq y (inclusive_descendants ts x)))
+    (λ ns. option_map (name_at ns) c.following.result) c.args.top c.following.ensures.value
     (λ r. ap (λ zs. first_of (items_after name_eq y zs)) r.inside)
-    ∙ ap (λ z. first_of (items_after name_eq z (inclusive_descendants (trees_in d c.args.top) (name_in d c.args.top)))) (ap (λ (e : DocState). name_in e c.args.node) c.self.view_is)
+    ∙ ap (λ z. first_of (items_after name_eq z (inclusive_descendants (trees_in d c.args.top) (name_in d c.args.top))))
+    (ap (λ (e : DocState). name_in e c.args.node) c.self.view_is)
 
 pub returns-clause-within : goal.returns-clause-within
 returns-clause-within c k is =
     let f = c.self.inside.forest in
     let d = c.args.self.now in
     let x = name_at f.names c.args.top in
-    let below : (name_at f.names k).owner ≡ x.owner = owner_below f.trees c.self.invariant.owned x.owner x (name_at f.names k) refl (c.following.ensures.within k is) in
+    let below : (name_at f.names k).owner ≡ x.owner =
+    owner_below f.trees c.self.invariant.owned x.owner x (name_at f.names k) refl (c.following.ensures.within k is) in
     let own : owner_in d c.args.top ≡ owner_in d k = subst (λ (e : DocState). owner_in e c.args.top ≡ owner_in e k) c.self.view_is (sym below) in
     ap (λ o. is_inclusive_ancestor (part_of d.world o).trees (name_in d c.args.top) (name_in d k)) own
     ∙ ap (λ z. is_inclusive_ancestor (trees_in d k) z (name_in d k)) (sym (ap (λ (e : DocState). name_in e c.args.top) c.self.view_is))
-    ∙ sym (shown f c.self.invariant c.self.view_is (λ ts y. is_inclusive_ancestor ts x y) (λ ns. true) k (sym (c.following.ensures.within k is)) (λ r. ap (is_in name_eq x) r.path))
+    ∙ sym (shown f c.self.invariant c.self.view_is (λ ts y. is_inclusive_ancestor ts x y) (λ ns. true) k (sym (c.following.ensures.within k is))
+    (λ r. ap (is_in name_eq x) r.path))
 
 pub returns-clause-node : goal.returns-clause-node
 returns-clause-node c k is =
     let f = c.self.inside.forest in
     let x = name_at f.names c.args.top in
-    let own : (name_at f.names k).owner ≡ x.owner = owner_below f.trees c.self.invariant.owned x.owner x (name_at f.names k) refl (c.following.ensures.within k is) in
-    (subst (λ (e : DocState). k < length e.names) c.self.view_is (c.following.ensures.node k is), subst (λ (e : DocState). owner_in e k ≡ owner_in e c.args.top) c.self.view_is own)
+    let own : (name_at f.names k).owner ≡ x.owner =
+    owner_below f.trees c.self.invariant.owned x.owner x (name_at f.names k) refl (c.following.ensures.within k is) in (
+      subst (λ (e : DocState). k < length e.names) c.self.view_is (c.following.ensures.node k is),
+      subst
+          (λ (e : DocState). owner_in e k ≡ owner_in e c.args.top) c.self.view_is own,
+    )

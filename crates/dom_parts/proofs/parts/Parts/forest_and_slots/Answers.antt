@@ -17,4 +17,5 @@ pub returns-clause-shown : goal.returns-clause-shown
 returns-clause-shown c =
     let f = c.self.inside.forest in
     subst (λ (d : DocState). IsShownBy (shadows f c.self.inside.slots.hosts) d.world) c.self.view_is
-    (world_shown (contents f.names f.trees (all_tables c.self.inside)) c.self.inside.slots.hosts (are_hosts f.names f.trees (all_tables c.self.inside) c.self.invariant))
+    (world_shown (contents f.names f.trees (all_tables c.self.inside)) c.self.inside.slots.hosts
+    (are_hosts f.names f.trees (all_tables c.self.inside) c.self.invariant))

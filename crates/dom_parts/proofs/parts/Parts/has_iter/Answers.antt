@@ -7,7 +7,8 @@ use Rattle.dom_parts.proofs.parts.Parts.has_iter.Goals as goal
 pub returns-in-Some : goal.returns-in-Some
 returns-in-Some c =
     let at = ap (λ (ts : List KeyedTables). table_of ts c.args.owner) c.deref.ensures.value in
-    c.has_iter.ensures ∙ iterator_there c.self.inside.forest (all_tables c.self.inside) c.self.view_is c.args.owner c.args.number (Some c.in-Some.tables.now) ((rw c.in-Some.is at c.table_of.ensures) ∙ at)
+    c.has_iter.ensures ∙ iterator_there c.self.inside.forest (all_tables c.self.inside) c.self.view_is c.args.owner c.args.number
+    (Some c.in-Some.tables.now) ((rw c.in-Some.is at c.table_of.ensures) ∙ at)
 
 pub returns-in-None : goal.returns-in-None
 returns-in-None c =

@@ -14,4 +14,6 @@ pub returns : goal.returns
 returns c =
     let f = c.self.inside.forest in
     subst (λ (d : DocState). c.is_some.result ≡ is_there d.world c.args.owner) c.self.view_is
-    (c.is_some.ensures ∙ (some_mapped _ c.table_of.result ∙ (ap is_some (c.table_of.ensures ∙ ap (λ (ts : List KeyedTables). table_of ts c.args.owner) c.deref.ensures.value) ∙ there_is f.names f.trees (all_tables c.self.inside) c.args.owner)))
+    (c.is_some.ensures ∙ (some_mapped _ c.table_of.result ∙
+    (ap is_some (c.table_of.ensures ∙ ap (λ (ts : List KeyedTables). table_of ts c.args.owner) c.deref.ensures.value) ∙
+    there_is f.names f.trees (all_tables c.self.inside) c.args.owner)))

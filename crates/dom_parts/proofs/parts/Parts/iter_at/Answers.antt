@@ -12,29 +12,45 @@ use Rattle.dom_parts.proofs.parts.Parts.iter_at.Goals as goal
 pub index-tables-requires : goal.index-tables-requires
 index-tables-requires c =
     let f = c.self.inside.forest in
-    let less : c.place_of.result < length (all_tables c.self.inside).each = place_there f c.self.invariant c.self.view_is c.args.owner (there_iter f c.self.invariant c.self.view_is c.args.owner c.args.number c.requires) c.place_of.result c.place_of.ensures in
+    let less : c.place_of.result < length (all_tables c.self.inside).each =
+    place_there f c.self.invariant c.self.view_is c.args.owner
+    (there_iter f c.self.invariant c.self.view_is c.args.owner c.args.number c.requires) c.place_of.result c.place_of.ensures in
     omega (arith, c.self.inside.tables.ok.0)
 
 pub iter_at-requires : goal.iter_at-requires
 iter_at-requires c =
     let f = c.self.inside.forest in
-    iter_there f c.self.invariant c.self.view_is c.args.owner (there_iter f c.self.invariant c.self.view_is c.args.owner c.args.number c.requires) c.place_of.result c.place_of.ensures c.index-tables.result.now c.index-tables.ensures c.args.number c.requires
+    iter_there f c.self.invariant c.self.view_is c.args.owner (there_iter f c.self.invariant c.self.view_is c.args.owner c.args.number c.requires)
+    c.place_of.result c.place_of.ensures c.index-tables.result.now c.index-tables.ensures c.args.number c.requires
 
 pub returns-clause-node : goal.returns-clause-node
 returns-clause-node c =
     let f = c.self.inside.forest in
     let there = there_iter f c.self.invariant c.self.view_is c.args.owner c.args.number c.requires in
     let t = c.index-tables.result.now in
-    let item = item_there (slice_get t.iterators c.args.number) (iter_there f c.self.invariant c.self.view_is c.args.owner there c.place_of.result c.place_of.ensures t c.index-tables.ensures c.args.number c.requires) in
-    let h = (c.self.invariant.own c.args.owner t (at f c.self.invariant c.self.view_is c.args.owner there c.place_of.result c.place_of.ensures t c.index-tables.ensures)).iterators c.args.number item.0 item.1 in
-    name_known f c.self.invariant c.self.view_is c.args.owner c.iter_at.result.0 (subst (λ j. j < length f.names) (sym (ap (λ (p : ℕ × Bool). p.0) (c.iter_at.ensures item.0 item.1))) h.stands.reference.node)
+    let item = item_there (slice_get t.iterators c.args.number)
+    (iter_there f c.self.invariant c.self.view_is c.args.owner there c.place_of.result c.place_of.ensures t c.index-tables.ensures
+    c.args.number c.requires) in
+    let h = (c.self.invariant.own c.args.owner t
+    (at f c.self.invariant c.self.view_is c.args.owner there c.place_of.result c.place_of.ensures t c.index-tables.ensures)).iterators
+    c.args.number item.0 item.1 in
+    name_known f c.self.invariant c.self.view_is c.args.owner c.iter_at.result.0
+    (subst (λ j. j < length f.names) (sym (ap (λ (p : ℕ × Bool). p.0) (c.iter_at.ensures item.0 item.1))) h.stands.reference.node)
 
 pub returns-clause-value : goal.returns-clause-value
 returns-clause-value c =
     let f = c.self.inside.forest in
     let there = there_iter f c.self.invariant c.self.view_is c.args.owner c.args.number c.requires in
     let t = c.index-tables.result.now in
-    let item = item_there (slice_get t.iterators c.args.number) (iter_there f c.self.invariant c.self.view_is c.args.owner there c.place_of.result c.place_of.ensures t c.index-tables.ensures c.args.number c.requires) in
-    reads f c.self.invariant c.self.view_is c.args.owner there c.place_of.result c.place_of.ensures t c.index-tables.ensures (λ ns. Command.iterator_at c.args.number) (λ ns. reference (name_at ns c.iter_at.result.0) c.iter_at.result.1)
-    (at_effect f.names f.trees (all_tables c.self.inside) c.self.invariant c.args.owner t (at f c.self.invariant c.self.view_is c.args.owner there c.place_of.result c.place_of.ensures t c.index-tables.ensures) c.args.number item.0 item.1
-    ∙ ap (λ (p : ℕ × Bool). Effect.tables (with_own f.names f.trees (all_tables c.self.inside) c.self.invariant c.args.owner t (at f c.self.invariant c.self.view_is c.args.owner there c.place_of.result c.place_of.ensures t c.index-tables.ensures) t) [] (reference (name_at f.names p.0) p.1)) (sym (c.iter_at.ensures item.0 item.1)))
+    let item = item_there (slice_get t.iterators c.args.number)
+    (iter_there f c.self.invariant c.self.view_is c.args.owner there c.place_of.result c.place_of.ensures t c.index-tables.ensures
+    c.args.number c.requires) in
+    reads f c.self.invariant c.self.view_is c.args.owner there c.place_of.result c.place_of.ensures t c.index-tables.ensures
+    (λ ns. Command.iterator_at c.args.number) (λ ns. reference (name_at ns c.iter_at.result.0) c.iter_at.result.1)
+    (at_effect f.names f.trees (all_tables c.self.inside) c.self.invariant c.args.owner t
+    (at f c.self.invariant c.self.view_is c.args.owner there c.place_of.result c.place_of.ensures t c.index-tables.ensures) c.args.number
+    item.0 item.1
+    ∙ ap (λ (p : ℕ × Bool). Effect.tables
+    (with_own f.names f.trees (all_tables c.self.inside) c.self.invariant c.args.owner t
+    (at f c.self.invariant c.self.view_is c.args.owner there c.place_of.result c.place_of.ensures t c.index-tables.ensures) t) []
+    (reference (name_at f.names p.0) p.1)) (sym (c.iter_at.ensures item.0 item.1)))

@@ -12,7 +12,9 @@ use Rattle.dom_parts.proofs.parts.Parts.iter_next.Goals as goal
 pub index_mut-tables-requires : goal.index_mut-tables-requires
 index_mut-tables-requires c =
     let f = c.self.inside.forest in
-    let less : c.place_of.result < length (all_tables c.self.inside).each = place_there f c.self.invariant c.self.view_is c.args.owner (there_iter f c.self.invariant c.self.view_is c.args.owner c.args.number c.requires) c.place_of.result c.place_of.ensures in
+    let less : c.place_of.result < length (all_tables c.self.inside).each =
+    place_there f c.self.invariant c.self.view_is c.args.owner
+    (there_iter f c.self.invariant c.self.view_is c.args.owner c.args.number c.requires) c.place_of.result c.place_of.ensures in
     omega (arith, c.self.inside.tables.ok.0)
 
 pub iter_next-requires-clause-there : goal.iter_next-requires-clause-there
@@ -20,7 +22,8 @@ iter_next-requires-clause-there c =
     let f = c.self.inside.forest in
     let there = there_iter f c.self.invariant c.self.view_is c.args.owner c.args.number c.requires in
     let t = c.index_mut-tables.result.now in
-    iter_there f c.self.invariant c.self.view_is c.args.owner there c.place_of.result c.place_of.ensures t c.index_mut-tables.ensures.value c.args.number c.requires
+    iter_there f c.self.invariant c.self.view_is c.args.owner there c.place_of.result c.place_of.ensures t c.index_mut-tables.ensures.value
+    c.args.number c.requires
 
 pub iter_next-requires-clause-iterators : goal.iter_next-requires-clause-iterators
 iter_next-requires-clause-iterators c =
@@ -34,17 +37,25 @@ invariant_of-self c =
     let f = c.self.inside.forest in
     let there = there_iter f c.self.invariant c.self.view_is c.args.owner c.args.number c.requires in
     let t = c.index_mut-tables.result.now in
-    let item = item_there (slice_get t.iterators c.args.number) (iter_there f c.self.invariant c.self.view_is c.args.owner there c.place_of.result c.place_of.ensures t c.index_mut-tables.ensures.value c.args.number c.requires) in
-    held_written f c.self.invariant c.self.view_is c.args.owner there c.place_of.result c.place_of.ensures t c.index_mut-tables.ensures.value c.iter_next.new.self (record t { iterators = slice_set t.iterators c.args.number (iterator_at item.0 false c.iter_next.result) }) (c.iter_next.ensures.state item.0 item.1)
-    (iter_moved f c.self.invariant c.self.view_is c.args.owner there c.place_of.result c.place_of.ensures t c.index_mut-tables.ensures.value c.args.number item.0 false c.iter_next.result item.1 (c.iter_next.ensures.kept item.0 item.1))
+    let item = item_there (slice_get t.iterators c.args.number)
+    (iter_there f c.self.invariant c.self.view_is c.args.owner there c.place_of.result c.place_of.ensures t
+    c.index_mut-tables.ensures.value c.args.number c.requires) in
+    held_written f c.self.invariant c.self.view_is c.args.owner there c.place_of.result c.place_of.ensures t c.index_mut-tables.ensures.value
+    c.iter_next.new.self (record t { iterators = slice_set t.iterators c.args.number (iterator_at item.0 false c.iter_next.result) })
+    (c.iter_next.ensures.state item.0 item.1)
+    (iter_moved f c.self.invariant c.self.view_is c.args.owner there c.place_of.result c.place_of.ensures t c.index_mut-tables.ensures.value
+    c.args.number item.0 false c.iter_next.result item.1 (c.iter_next.ensures.kept item.0 item.1))
 
 pub returns-clause-node : goal.returns-clause-node
 returns-clause-node c j e =
     let f = c.self.inside.forest in
     let there = there_iter f c.self.invariant c.self.view_is c.args.owner c.args.number c.requires in
     let t = c.index_mut-tables.result.now in
-    let item = item_there (slice_get t.iterators c.args.number) (iter_there f c.self.invariant c.self.view_is c.args.owner there c.place_of.result c.place_of.ensures t c.index_mut-tables.ensures.value c.args.number c.requires) in
-    let kept : IsIteratorOf f (iterator_at item.0 false (Some j)) = subst (λ r. IsIteratorOf f (iterator_at item.0 false r)) e (c.iter_next.ensures.kept item.0 item.1) in
+    let item = item_there (slice_get t.iterators c.args.number)
+    (iter_there f c.self.invariant c.self.view_is c.args.owner there c.place_of.result c.place_of.ensures t
+    c.index_mut-tables.ensures.value c.args.number c.requires) in
+    let kept : IsIteratorOf f (iterator_at item.0 false (Some j)) =
+    subst (λ r. IsIteratorOf f (iterator_at item.0 false r)) e (c.iter_next.ensures.kept item.0 item.1) in
     name_known f c.self.invariant c.self.view_is c.args.owner j kept.reference.node
 
 pub returns-clause-world : goal.returns-clause-world
@@ -52,7 +63,13 @@ returns-clause-world c =
     let f = c.self.inside.forest in
     let there = there_iter f c.self.invariant c.self.view_is c.args.owner c.args.number c.requires in
     let t = c.index_mut-tables.result.now in
-    let item = item_there (slice_get t.iterators c.args.number) (iter_there f c.self.invariant c.self.view_is c.args.owner there c.place_of.result c.place_of.ensures t c.index_mut-tables.ensures.value c.args.number c.requires) in
-    writes f c.self.invariant c.self.view_is c.args.owner there c.place_of.result c.place_of.ensures t c.index_mut-tables.ensures.value c.iter_next.new.self (record t { iterators = slice_set t.iterators c.args.number (iterator_at item.0 false c.iter_next.result) }) (c.iter_next.ensures.state item.0 item.1)
+    let item = item_there (slice_get t.iterators c.args.number)
+    (iter_there f c.self.invariant c.self.view_is c.args.owner there c.place_of.result c.place_of.ensures t
+    c.index_mut-tables.ensures.value c.args.number c.requires) in
+    writes f c.self.invariant c.self.view_is c.args.owner there c.place_of.result c.place_of.ensures t c.index_mut-tables.ensures.value
+    c.iter_next.new.self (record t { iterators = slice_set t.iterators c.args.number (iterator_at item.0 false c.iter_next.result) })
+    (c.iter_next.ensures.state item.0 item.1)
     (λ ns. Command.iterator_next c.args.number) (λ ns. node_or_null (option_map (name_at ns) c.iter_next.result))
-    (next_effect f.names f.trees (all_tables c.self.inside) c.self.invariant c.args.owner t (at f c.self.invariant c.self.view_is c.args.owner there c.place_of.result c.place_of.ensures t c.index_mut-tables.ensures.value) c.args.number item.0 c.iter_next.result item.1 (c.iter_next.ensures.value item.0 item.1))
+    (next_effect f.names f.trees (all_tables c.self.inside) c.self.invariant c.args.owner t
+    (at f c.self.invariant c.self.view_is c.args.owner there c.place_of.result c.place_of.ensures t c.index_mut-tables.ensures.value)
+    c.args.number item.0 c.iter_next.result item.1 (c.iter_next.ensures.value item.0 item.1))

@@ -50,9 +50,11 @@ returns-clause-limited c o =
 pub returns-clause-parts : goal.returns-clause-parts
 returns-clause-parts c o =
     let f = c.self.inside.forest in
-    subst (λ (e : DocState). IsPart (part_of e.world o)) c.self.view_is (part_everywhere f c.self.invariant c.nodes_stand_once.ensures.once c.nodes_stand_once.ensures.only o)
+    subst (λ (e : DocState). IsPart (part_of e.world o)) c.self.view_is
+    (part_everywhere f c.self.invariant c.nodes_stand_once.ensures.once c.nodes_stand_once.ensures.only o)
 
 pub returns-clause-stand : goal.returns-clause-stand
 returns-clause-stand c k k< =
     let f = c.self.inside.forest in
-    sym (shown f c.self.invariant c.self.view_is has_node (λ ns. true) k (sym (c.nodes_stand_once.ensures.present k (known f c.self.invariant c.self.view_is (λ e. k < length e.names) k<))) (λ r. r.presence))
+    sym (shown f c.self.invariant c.self.view_is has_node (λ ns. true) k
+    (sym (c.nodes_stand_once.ensures.present k (known f c.self.invariant c.self.view_is (λ e. k < length e.names) k<))) (λ r. r.presence))

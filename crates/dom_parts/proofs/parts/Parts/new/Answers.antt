@@ -8,7 +8,7 @@ use Rattle.dom_tree.specs.declared.data.NodeData.{NodeData}
 use Rattle.dom_cursors.specs.OwnTables.{KeyedTables, no_keyed_tables}
 use Rattle.dom_parts.specs.AllTables.{no_slots, tables_of}
 use Rattle.dom_slots.specs.Kept.{SlotsNow}
-use Rattle.dom_parts.proofs.Held.{first_held}
+use Rattle.dom_parts.proofs.HeldNodes.{first_held}
 use Rattle.dom_observers.specs.Tables.{no_tables as no_observers}
 use Rattle.dom_observers.specs.Owners.{tables_of as observers_of}
 use Rattle.dom_model.specs.World.{Task}
@@ -23,7 +23,9 @@ invariant_of-result c =
     let signalled = c.new-signalled.result.items in
     let ranges = c.new-ranges.result in
     first_held c.add.new.self (tables_of c.push.new.self.items seen tasks slots signalled ranges) (node_from [] (node_of Page 0) first) refl record {
-      all = ap (λ (ts : List KeyedTables). tables_of ts seen tasks slots signalled ranges) (c.in-Ok.ensures.items ∙ ap (λ (ts : List KeyedTables). ts ++ c.new-4.result ∷ []) c.new-tables.ensures.items ∙ ap (λ (t : KeyedTables). t ∷ []) c.new-4.ensures)
+      all = ap (λ (ts : List KeyedTables). tables_of ts seen tasks slots signalled ranges)
+          (c.in-Ok.ensures.items ∙ ap (λ (ts : List KeyedTables). ts ++ c.new-4.result ∷ []) c.new-tables.ensures.items ∙
+          ap (λ (t : KeyedTables). t ∷ []) c.new-4.ensures)
           ∙ (λ j. tables_of (no_keyed_tables ∷ []) (λ o. c.new-observers.ensures o j) tasks slots signalled ranges)
           ∙ ap (λ (ts : List Task). tables_of (no_keyed_tables ∷ []) (λ o. no_observers) ts slots signalled ranges) c.new-queue.ensures
           ∙ ap (λ (s : SlotsNow). tables_of (no_keyed_tables ∷ []) (λ o. no_observers) [] s signalled ranges) c.new-slots.ensures.value

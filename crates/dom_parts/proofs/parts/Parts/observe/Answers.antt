@@ -10,15 +10,21 @@ use Rattle.dom_parts.proofs.parts.Parts.observe.Goals as goal
 pub invariant_of-self : goal.invariant_of-self
 invariant_of-self c =
     let f = c.self.inside.forest in
-    observed_held f c.self.invariant c.self.view_is c.args.owner (there_by f c.self.invariant c.self.view_is c.args.owner c.args.number c.requires.there) (tables_of c.observe.new.self) c.args.number c.args.node
-    (known f c.self.invariant c.self.view_is (λ e. c.args.node < length e.names) c.requires.node_is_node) (known f c.self.invariant c.self.view_is (λ e. owner_in e c.args.node ≡ c.args.owner) c.requires.own) (words_of c.args.options)
+    observed_held f c.self.invariant c.self.view_is c.args.owner
+    (there_by f c.self.invariant c.self.view_is c.args.owner c.args.number c.requires.there) (tables_of c.observe.new.self) c.args.number
+    c.args.node
+    (known f c.self.invariant c.self.view_is (λ e. c.args.node < length e.names) c.requires.node_is_node)
+    (known f c.self.invariant c.self.view_is (λ e. owner_in e c.args.node ≡ c.args.owner) c.requires.own) (words_of c.args.options)
     c.observe.result c.observe.ensures.err c.observe.ensures.tables
 
 pub returns-clause-world : goal.returns-clause-world
 returns-clause-world c =
     let f = c.self.inside.forest in
-    observed_world f c.self.invariant c.self.view_is c.args.owner (there_by f c.self.invariant c.self.view_is c.args.owner c.args.number c.requires.there) (tables_of c.observe.new.self) c.args.number c.args.node
-    (known f c.self.invariant c.self.view_is (λ e. c.args.node < length e.names) c.requires.node_is_node) (known f c.self.invariant c.self.view_is (λ e. owner_in e c.args.node ≡ c.args.owner) c.requires.own) (words_of c.args.options)
+    observed_world f c.self.invariant c.self.view_is c.args.owner
+    (there_by f c.self.invariant c.self.view_is c.args.owner c.args.number c.requires.there) (tables_of c.observe.new.self) c.args.number
+    c.args.node
+    (known f c.self.invariant c.self.view_is (λ e. c.args.node < length e.names) c.requires.node_is_node)
+    (known f c.self.invariant c.self.view_is (λ e. owner_in e c.args.node ≡ c.args.owner) c.requires.own) (words_of c.args.options)
     c.nodes_stand_once.ensures.distinct c.observe.result c.observe.ensures.tables
 
 pub returns-clause-no_kind : goal.returns-clause-no_kind
@@ -26,14 +32,17 @@ returns-clause-no_kind c =
     let f = c.self.inside.forest in
     let queues = (tables_of c.self.inside.observers c.args.owner).record_queues in
     refused_known f c.self.invariant c.self.view_is c.args.owner (nat_lt c.args.number (length queues))
-    (within queues c.args.number (observer_is f c.self.invariant c.self.view_is c.args.owner c.args.number ∙ c.requires.there)) c.observe.result c.observe.ensures.no_kind
+    (within queues c.args.number (observer_is f c.self.invariant c.self.view_is c.args.owner c.args.number ∙ c.requires.there)) c.observe.result
+    c.observe.ensures.no_kind
 
 pub returns-clause-other : goal.returns-clause-other
 returns-clause-other c =
     let f = c.self.inside.forest in
     let queues = (tables_of c.self.inside.observers c.args.owner).record_queues in
     faults_known f c.self.invariant c.self.view_is c.args.owner (nat_lt c.args.number (length queues))
-    (within queues c.args.number (observer_is f c.self.invariant c.self.view_is c.args.owner c.args.number ∙ c.requires.there)) c.observe.result c.observe.ensures.unknown c.observe.ensures.other
+    (within queues c.args.number (observer_is f c.self.invariant c.self.view_is c.args.owner c.args.number ∙ c.requires.there)) c.observe.result
+    c.observe.ensures.unknown c.observe.ensures.other
 
 pub returns-clause-err : goal.returns-clause-err
-returns-clause-err c = same_if c.self.inside.forest c.self.invariant c.self.view_is c.args.owner (tables_of c.observe.new.self) c.observe.result c.observe.ensures.err
+returns-clause-err c = same_if c.self.inside.forest c.self.invariant c.self.view_is c.args.owner (tables_of c.observe.new.self) c.observe.result
+    c.observe.ensures.err

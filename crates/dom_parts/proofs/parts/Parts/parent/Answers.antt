@@ -3,12 +3,13 @@ use Rattle.std.specs.Option.{option_map}
 use Rattle.dom_model.specs.Tree.{parent_of}
 use Rattle.dom_tree.specs.Forest.{name_at}
 use Rattle.dom_parts.specs.Doc.{owner_in}
-use Rattle.dom_parts.proofs.Own.{parent_near}
+use Rattle.dom_parts.proofs.OwnNodes.{parent_near}
 use Rattle.dom_parts.proofs.Shown.{shown}
 use Rattle.dom_parts.proofs.parts.Parts.parent.Goals as goal
 
 pub returns-clause-value : goal.returns-clause-value
-returns-clause-value c = shown c.self.inside.forest c.self.invariant c.self.view_is parent_of (λ ns. option_map (name_at ns) c.parent.result) c.args.node c.parent.ensures.value (λ r. r.parent)
+returns-clause-value c = shown c.self.inside.forest c.self.invariant c.self.view_is parent_of (λ ns. option_map (name_at ns) c.parent.result)
+    c.args.node c.parent.ensures.value (λ r. r.parent)
 
 pub returns-clause-owner : goal.returns-clause-owner
 returns-clause-owner c k e =

@@ -3,12 +3,13 @@ use Rattle.std.specs.Option.{option_map}
 use Rattle.dom_model.specs.Tree.{previous_sibling}
 use Rattle.dom_tree.specs.Forest.{name_at}
 use Rattle.dom_parts.specs.Doc.{owner_in}
-use Rattle.dom_parts.proofs.Own.{previous_near}
+use Rattle.dom_parts.proofs.OwnNodes.{previous_near}
 use Rattle.dom_parts.proofs.Shown.{shown}
 use Rattle.dom_parts.proofs.parts.Parts.prev.Goals as goal
 
 pub returns-clause-value : goal.returns-clause-value
-returns-clause-value c = shown c.self.inside.forest c.self.invariant c.self.view_is previous_sibling (λ ns. option_map (name_at ns) c.prev.result) c.args.node c.prev.ensures.value (λ r. r.before)
+returns-clause-value c = shown c.self.inside.forest c.self.invariant c.self.view_is previous_sibling (λ ns. option_map (name_at ns) c.prev.result)
+    c.args.node c.prev.ensures.value (λ r. r.before)
 
 pub returns-clause-owner : goal.returns-clause-owner
 returns-clause-owner c k e =

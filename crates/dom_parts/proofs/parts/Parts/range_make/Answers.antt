@@ -11,24 +11,32 @@ use Rattle.dom_parts.proofs.parts.Parts.range_make.Goals as goal
 pub invariant_of-self : goal.invariant_of-self
 invariant_of-self c =
     let f = c.self.inside.forest in
-    let is_first : name_at f.names c.args.first ≡ node_of c.args.owner 0 = known f c.self.invariant c.self.view_is (λ e. name_in e c.args.first ≡ node_of c.args.owner 0) c.requires.is_first in
-    let there = subst (λ o. is_there (world_from f.names f.trees (all_tables c.self.inside)) o ≡ true) (ap (λ (x : NodeName). x.owner) is_first) (owner_there f c.self.invariant c.self.view_is c.args.first c.requires.first_is_node) in
-    make_held f c.self.invariant c.self.view_is c.args.owner there c.make.new.self c.args.first (known f c.self.invariant c.self.view_is (λ e. c.args.first < length e.names) c.requires.first_is_node) is_first
+    let is_first : name_at f.names c.args.first ≡ node_of c.args.owner 0 =
+    known f c.self.invariant c.self.view_is (λ e. name_in e c.args.first ≡ node_of c.args.owner 0) c.requires.is_first in
+    let there = subst (λ o. is_there (world_from f.names f.trees (all_tables c.self.inside)) o ≡ true) (ap (λ (x : NodeName). x.owner) is_first)
+    (owner_there f c.self.invariant c.self.view_is c.args.first c.requires.first_is_node) in
+    make_held f c.self.invariant c.self.view_is c.args.owner there c.make.new.self c.args.first
+    (known f c.self.invariant c.self.view_is (λ e. c.args.first < length e.names) c.requires.first_is_node) is_first
     c.make.result c.make.ensures.made c.make.ensures.limit c.make.ensures.err
 
 pub returns-clause-world : goal.returns-clause-world
 returns-clause-world c =
     let f = c.self.inside.forest in
-    let is_first : name_at f.names c.args.first ≡ node_of c.args.owner 0 = known f c.self.invariant c.self.view_is (λ e. name_in e c.args.first ≡ node_of c.args.owner 0) c.requires.is_first in
-    let there = subst (λ o. is_there (world_from f.names f.trees (all_tables c.self.inside)) o ≡ true) (ap (λ (x : NodeName). x.owner) is_first) (owner_there f c.self.invariant c.self.view_is c.args.first c.requires.first_is_node) in
-    make_makes f c.self.invariant c.self.view_is c.args.owner there c.make.new.self c.args.first (known f c.self.invariant c.self.view_is (λ e. c.args.first < length e.names) c.requires.first_is_node) is_first
+    let is_first : name_at f.names c.args.first ≡ node_of c.args.owner 0 =
+    known f c.self.invariant c.self.view_is (λ e. name_in e c.args.first ≡ node_of c.args.owner 0) c.requires.is_first in
+    let there = subst (λ o. is_there (world_from f.names f.trees (all_tables c.self.inside)) o ≡ true) (ap (λ (x : NodeName). x.owner) is_first)
+    (owner_there f c.self.invariant c.self.view_is c.args.first c.requires.first_is_node) in
+    make_makes f c.self.invariant c.self.view_is c.args.owner there c.make.new.self c.args.first
+    (known f c.self.invariant c.self.view_is (λ e. c.args.first < length e.names) c.requires.first_is_node) is_first
     c.make.result c.make.ensures.made c.make.ensures.number
 
 pub returns-clause-limit : goal.returns-clause-limit
 returns-clause-limit c =
     let f = c.self.inside.forest in
-    let is_first : name_at f.names c.args.first ≡ node_of c.args.owner 0 = known f c.self.invariant c.self.view_is (λ e. name_in e c.args.first ≡ node_of c.args.owner 0) c.requires.is_first in
-    let there = subst (λ o. is_there (world_from f.names f.trees (all_tables c.self.inside)) o ≡ true) (ap (λ (x : NodeName). x.owner) is_first) (owner_there f c.self.invariant c.self.view_is c.args.first c.requires.first_is_node) in
+    let is_first : name_at f.names c.args.first ≡ node_of c.args.owner 0 =
+    known f c.self.invariant c.self.view_is (λ e. name_in e c.args.first ≡ node_of c.args.owner 0) c.requires.is_first in
+    let there = subst (λ o. is_there (world_from f.names f.trees (all_tables c.self.inside)) o ≡ true) (ap (λ (x : NodeName). x.owner) is_first)
+    (owner_there f c.self.invariant c.self.view_is c.args.first c.requires.first_is_node) in
     range_limit f c.self.invariant c.self.view_is c.args.owner there c.make.ensures.limit
 
 pub returns-clause-err : goal.returns-clause-err

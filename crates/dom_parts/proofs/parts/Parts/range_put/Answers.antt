@@ -9,12 +9,16 @@ write-requires c = range_is c.self.inside.forest c.self.invariant c.self.view_is
 
 pub invariant_of-self : goal.invariant_of-self
 invariant_of-self c =
-    put_held c.self.inside.forest c.self.invariant c.self.view_is c.args.owner c.args.number c.requires.there (range_from c.args.points)
-    (record { node = c.requires.start_is_node; owner = c.requires.own_start; fits = search rules }, record { node = c.requires.end_is_node; owner = c.requires.own_end; fits = search rules })
+    put_held c.self.inside.forest c.self.invariant c.self.view_is c.args.owner c.args.number c.requires.there (range_from c.args.points) (
+      record { node = c.requires.start_is_node; owner = c.requires.own_start; fits = search rules },
+      record { node = c.requires.end_is_node; owner = c.requires.own_end; fits = search rules },
+    )
     c.write.new.self c.write.ensures
 
 pub returns : goal.returns
 returns c =
-    put_made c.self.inside.forest c.self.invariant c.self.view_is c.args.owner c.args.number c.requires.there (range_from c.args.points)
-    (record { node = c.requires.start_is_node; owner = c.requires.own_start; fits = search rules }, record { node = c.requires.end_is_node; owner = c.requires.own_end; fits = search rules })
+    put_made c.self.inside.forest c.self.invariant c.self.view_is c.args.owner c.args.number c.requires.there (range_from c.args.points) (
+      record { node = c.requires.start_is_node; owner = c.requires.own_start; fits = search rules },
+      record { node = c.requires.end_is_node; owner = c.requires.own_end; fits = search rules },
+    )
     c.write.new.self c.write.ensures

@@ -7,13 +7,16 @@ use Rattle.dom_parts.proofs.Roots.{documents_are_held, documents_are_set}
 use Rattle.dom_parts.proofs.parts.Parts.set_document.Goals as goal
 
 -- the trees after all
-all_set : (doc node : ℕ) (tops roots : List ℕ) (f g h : NamedTrees) → h.trees ≡ fold (under_each (name_at g.names doc)) g.trees (map (name_at g.names) tops) → g.names ≡ f.names → g.trees ≡ under_each (name_at f.names doc) f.trees (name_at f.names node) → tops ≡ roots
+all_set : (doc node : ℕ) (tops roots : List ℕ) (f g h : NamedTrees) →
+    h.trees ≡ fold (under_each (name_at g.names doc)) g.trees (map (name_at g.names) tops) → g.names ≡ f.names →
+    g.trees ≡ under_each (name_at f.names doc) f.trees (name_at f.names node) → tops ≡ roots
     → h.trees ≡ fold (under_each (name_at f.names doc)) (under_each (name_at f.names doc) f.trees (name_at f.names node)) (map (name_at f.names) roots)
 all_set doc node tops roots f g h set names trees same =
     set
     ∙ (ap (λ (ns : List NodeName). fold (under_each (name_at ns doc)) g.trees (map (name_at ns) tops)) names
     ∙ (ap (λ (ts : Trees). fold (under_each (name_at f.names doc)) ts (map (name_at f.names) tops)) trees
-    ∙ ap (λ (ks : List ℕ). fold (under_each (name_at f.names doc)) (under_each (name_at f.names doc) f.trees (name_at f.names node)) (map (name_at f.names) ks)) same))
+    ∙ ap (λ (ks : List ℕ). fold (under_each (name_at f.names doc)) (under_each (name_at f.names doc) f.trees (name_at f.names node))
+    (map (name_at f.names) ks)) same))
 
 pub set_each-requires-clause-tops_are_nodes : goal.set_each-requires-clause-tops_are_nodes
 set_each-requires-clause-tops_are_nodes c =
@@ -22,12 +25,16 @@ set_each-requires-clause-tops_are_nodes c =
 
 pub invariant_of-self : goal.invariant_of-self
 invariant_of-self c =
-    documents_are_held c.self.inside.forest c.self.invariant c.self.view_is c.args.node c.args.document c.requires.node_is_node c.in_ok-roots.roots.items c.in_ok-roots.ensures.names c.in_ok-roots.ensures.nodes
+    documents_are_held c.self.inside.forest c.self.invariant c.self.view_is c.args.node c.args.document c.requires.node_is_node
+    c.in_ok-roots.roots.items c.in_ok-roots.ensures.names c.in_ok-roots.ensures.nodes
     c.set_each.new.forest (c.set_each.ensures.names ∙ c.set_documents.ensures.names)
-    (all_set c.args.document c.args.node c.as_slice.result.now c.in_ok-roots.roots.items c.self.inside.forest c.set_documents.new.forest c.set_each.new.forest c.set_each.ensures.trees c.set_documents.ensures.names c.set_documents.ensures.trees c.as_slice.ensures.value)
+    (all_set c.args.document c.args.node c.as_slice.result.now c.in_ok-roots.roots.items c.self.inside.forest c.set_documents.new.forest
+    c.set_each.new.forest c.set_each.ensures.trees c.set_documents.ensures.names c.set_documents.ensures.trees c.as_slice.ensures.value)
 
 pub returns : goal.returns
 returns c =
-    documents_are_set c.self.inside.forest c.self.invariant c.self.view_is c.args.node c.args.document c.requires.node_is_node c.in_ok-roots.roots.items c.in_ok-roots.ensures.names c.in_ok-roots.ensures.nodes
+    documents_are_set c.self.inside.forest c.self.invariant c.self.view_is c.args.node c.args.document c.requires.node_is_node
+    c.in_ok-roots.roots.items c.in_ok-roots.ensures.names c.in_ok-roots.ensures.nodes
     c.set_each.new.forest (c.set_each.ensures.names ∙ c.set_documents.ensures.names)
-    (all_set c.args.document c.args.node c.as_slice.result.now c.in_ok-roots.roots.items c.self.inside.forest c.set_documents.new.forest c.set_each.new.forest c.set_each.ensures.trees c.set_documents.ensures.names c.set_documents.ensures.trees c.as_slice.ensures.value)
+    (all_set c.args.document c.args.node c.as_slice.result.now c.in_ok-roots.roots.items c.self.inside.forest c.set_documents.new.forest
+    c.set_each.new.forest c.set_each.ensures.trees c.set_documents.ensures.names c.set_documents.ensures.trees c.as_slice.ensures.value)

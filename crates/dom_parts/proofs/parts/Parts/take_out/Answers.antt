@@ -23,7 +23,8 @@ on_ok (Err e) other h = absurd (other e refl)
 pub unreachable-requires : goal.unreachable-requires
 unreachable-requires c =
     let f = c.self.inside.forest in
-    true≢false (sym (known f c.self.invariant c.self.view_is (λ e. is_some (parent_of (trees_in e c.args.node) (name_in e c.args.node)) ≡ true) c.requires.has_parent)
+    true≢false (sym (known f c.self.invariant c.self.view_is (λ e. is_some (parent_of (trees_in e c.args.node) (name_in e c.args.node)) ≡ true)
+    c.requires.has_parent)
     ∙ ap is_some (sym (read_there f c.self.invariant c.self.view_is parent_of c.args.node (λ r. r.parent)))
     ∙ ap is_some (sym c.parent.ensures.value) ∙ ap (λ m. is_some (option_map (name_at f.names) m)) c.in_default.is)
 
@@ -35,7 +36,8 @@ invariant_of-self c =
 pub leave-requires-clause-iterators : goal.leave-requires-clause-iterators
 leave-requires-clause-iterators c k i e =
     let f = c.self.inside.forest in
-    let at = table_read f c.self.invariant c.self.view_is c.args.node c.requires.node_is_node c.place_of.result c.index_mut-tables.result.now (c.place_of.ensures ∙ ap (λ n. place_of n.owner) (sym c.name-owner.ensures.at)) c.index_mut-tables.ensures.value in
+    let at = table_read f c.self.invariant c.self.view_is c.args.node c.requires.node_is_node c.place_of.result c.index_mut-tables.result.now
+    (c.place_of.ensures ∙ ap (λ n. place_of n.owner) (sym c.name-owner.ensures.at)) c.index_mut-tables.ensures.value in
     ((c.self.invariant.own (name_at f.names c.args.node).owner c.index_mut-tables.result.now at).iterators k i e).stands
 
 pub on_remove-requires-clause-ends : goal.on_remove-requires-clause-ends
@@ -45,7 +47,8 @@ pub index_mut-tables-requires : goal.index_mut-tables-requires
 index_mut-tables-requires c =
     let f = c.self.inside.forest in
     let place = c.place_of.ensures ∙ ap (λ n. place_of n.owner) (sym c.name-owner.ensures.at) in
-    let within = (table_there f.names f.trees (all_tables c.self.inside) (name_at f.names c.args.node).owner (owner_there f c.self.invariant c.self.view_is c.args.node c.requires.node_is_node)).0 in
+    let within = (table_there f.names f.trees (all_tables c.self.inside) (name_at f.names c.args.node).owner
+    (owner_there f c.self.invariant c.self.view_is c.args.node c.requires.node_is_node)).0 in
     omega arith
 
 pub settle-requires : goal.settle-requires
@@ -58,26 +61,46 @@ pub invariant_of-self-2 : goal.invariant_of-self-2
 invariant_of-self-2 c =
     let f = c.self.inside.forest in
     let place = c.place_of.ensures ∙ ap (λ n. place_of n.owner) (sym c.name-owner.ensures.at) in
-    let at = table_read f c.self.invariant c.self.view_is c.args.node c.requires.node_is_node c.place_of.result c.index_mut-tables.result.now place c.index_mut-tables.ensures.value in
-    removal_held f c.self.invariant c.self.view_is c.args.node c.requires.node_is_node c.iterators_stay.ensures c.nodes_stand_once.ensures.once c.nodes_stand_once.ensures.only c.nodes_stand_once.ensures.distinct
+    let at = table_read f c.self.invariant c.self.view_is c.args.node c.requires.node_is_node c.place_of.result c.index_mut-tables.result.now
+    place c.index_mut-tables.ensures.value in
+    removal_held f c.self.invariant c.self.view_is c.args.node c.requires.node_is_node c.iterators_stay.ensures c.nodes_stand_once.ensures.once
+    c.nodes_stand_once.ensures.only c.nodes_stand_once.ensures.distinct
     c.in-Some.parent (c.parent.ensures.node c.in-Some.parent c.in-Some.is) c.in-Some.ensures.value
     c.index_mut-tables.result.now c.leave.new.self at c.leave.ensures.iterators c.leave.ensures.walkers
     (observers_of c.transient.new.self) (on_ok c.transient.result c.in_default-transient.not-Err c.transient.ensures) c.on_remove.new.self
     (c.on_remove.ensures.child c.in-Some.parent (c.parent.ensures.node c.in-Some.parent c.in-Some.is) (sym c.in-Some.ensures.value)) c.place_of.result place
     c.unlink-done.new.forest c.settle.new.forest (signal_tables c.unlink-done.new.slots c.unlink-done.new.signalled.items c.unlink-done.new.queue)
-    (tables_of c.settle.new.tables.items (observers_of c.settle.new.observers) c.settle.new.queue c.settle.new.slots c.settle.new.signalled.items c.settle.new.ranges) c.unlink-done.result c.settle.result c.unlink-done.ensures.names c.unlink-done.ensures.trees c.unlink-done.ensures.signals
-    record { result = c.settle.ensures.result; forest = c.settle.ensures.forest; tables = c.settle.ensures.tables; empty = c.settle.ensures.empty; first = c.settle.ensures.first }
+    (tables_of c.settle.new.tables.items (observers_of c.settle.new.observers) c.settle.new.queue c.settle.new.slots c.settle.new.signalled.items
+    c.settle.new.ranges) c.unlink-done.result c.settle.result c.unlink-done.ensures.names c.unlink-done.ensures.trees
+    c.unlink-done.ensures.signals
+    record {
+      result = c.settle.ensures.result;
+      forest = c.settle.ensures.forest;
+      tables = c.settle.ensures.tables;
+      empty = c.settle.ensures.empty;
+      first = c.settle.ensures.first;
+    }
 
 pub returns : goal.returns
 returns c =
     let f = c.self.inside.forest in
     let place = c.place_of.ensures ∙ ap (λ n. place_of n.owner) (sym c.name-owner.ensures.at) in
-    let at = table_read f c.self.invariant c.self.view_is c.args.node c.requires.node_is_node c.place_of.result c.index_mut-tables.result.now place c.index_mut-tables.ensures.value in
-    removal_state f c.self.invariant c.self.view_is c.args.node c.requires.node_is_node c.iterators_stay.ensures c.nodes_stand_once.ensures.once c.nodes_stand_once.ensures.only c.nodes_stand_once.ensures.distinct
+    let at = table_read f c.self.invariant c.self.view_is c.args.node c.requires.node_is_node c.place_of.result c.index_mut-tables.result.now
+    place c.index_mut-tables.ensures.value in
+    removal_state f c.self.invariant c.self.view_is c.args.node c.requires.node_is_node c.iterators_stay.ensures c.nodes_stand_once.ensures.once
+    c.nodes_stand_once.ensures.only c.nodes_stand_once.ensures.distinct
     c.in-Some.parent (c.parent.ensures.node c.in-Some.parent c.in-Some.is) c.in-Some.ensures.value
     c.index_mut-tables.result.now c.leave.new.self at c.leave.ensures.iterators c.leave.ensures.walkers
     (observers_of c.transient.new.self) (on_ok c.transient.result c.in_default-transient.not-Err c.transient.ensures) c.on_remove.new.self
     (c.on_remove.ensures.child c.in-Some.parent (c.parent.ensures.node c.in-Some.parent c.in-Some.is) (sym c.in-Some.ensures.value)) c.place_of.result place
     c.unlink-done.new.forest c.settle.new.forest (signal_tables c.unlink-done.new.slots c.unlink-done.new.signalled.items c.unlink-done.new.queue)
-    (tables_of c.settle.new.tables.items (observers_of c.settle.new.observers) c.settle.new.queue c.settle.new.slots c.settle.new.signalled.items c.settle.new.ranges) c.unlink-done.result c.settle.result c.unlink-done.ensures.names c.unlink-done.ensures.trees c.unlink-done.ensures.signals
-    record { result = c.settle.ensures.result; forest = c.settle.ensures.forest; tables = c.settle.ensures.tables; empty = c.settle.ensures.empty; first = c.settle.ensures.first }
+    (tables_of c.settle.new.tables.items (observers_of c.settle.new.observers) c.settle.new.queue c.settle.new.slots c.settle.new.signalled.items
+    c.settle.new.ranges) c.unlink-done.result c.settle.result c.unlink-done.ensures.names c.unlink-done.ensures.trees
+    c.unlink-done.ensures.signals
+    record {
+      result = c.settle.ensures.result;
+      forest = c.settle.ensures.forest;
+      tables = c.settle.ensures.tables;
+      empty = c.settle.ensures.empty;
+      first = c.settle.ensures.first;
+    }

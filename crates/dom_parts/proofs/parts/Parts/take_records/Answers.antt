@@ -12,14 +12,17 @@ unreachable-requires c =
 pub invariant_of-self : goal.invariant_of-self
 invariant_of-self c =
     let f = c.self.inside.forest in
-    taken_held f c.self.invariant c.self.view_is c.args.owner (there_by f c.self.invariant c.self.view_is c.args.owner c.args.number c.requires) (tables_of c.take.new.self) c.args.number c.in-Some.records.items c.in-Some.ensures.records c.in-Some.ensures.tables
+    taken_held f c.self.invariant c.self.view_is c.args.owner (there_by f c.self.invariant c.self.view_is c.args.owner c.args.number c.requires)
+    (tables_of c.take.new.self) c.args.number c.in-Some.records.items c.in-Some.ensures.records c.in-Some.ensures.tables
 
 pub returns-clause-nodes : goal.returns-clause-nodes
 returns-clause-nodes c =
     let f = c.self.inside.forest in
-    taken_nodes f c.self.invariant c.self.view_is c.args.owner (there_by f c.self.invariant c.self.view_is c.args.owner c.args.number c.requires) (tables_of c.take.new.self) c.args.number c.in-Some.records.items c.in-Some.ensures.records c.in-Some.ensures.tables
+    taken_nodes f c.self.invariant c.self.view_is c.args.owner (there_by f c.self.invariant c.self.view_is c.args.owner c.args.number c.requires)
+    (tables_of c.take.new.self) c.args.number c.in-Some.records.items c.in-Some.ensures.records c.in-Some.ensures.tables
 
 pub returns-clause-world : goal.returns-clause-world
 returns-clause-world c =
     let f = c.self.inside.forest in
-    taken_world f c.self.invariant c.self.view_is c.args.owner (there_by f c.self.invariant c.self.view_is c.args.owner c.args.number c.requires) (tables_of c.take.new.self) c.args.number c.in-Some.records.items c.in-Some.ensures.records c.in-Some.ensures.tables
+    taken_world f c.self.invariant c.self.view_is c.args.owner (there_by f c.self.invariant c.self.view_is c.args.owner c.args.number c.requires)
+    (tables_of c.take.new.self) c.args.number c.in-Some.records.items c.in-Some.ensures.records c.in-Some.ensures.tables

@@ -12,7 +12,8 @@ other_slots-requires c = subst (All (λ k. k < length c.self.inside.forest.names
 
 pub invariant_of-self : goal.invariant_of-self
 invariant_of-self c =
-    rest_held c.self.inside.forest c.self.invariant c.self.view_is c.args.owner c.in_ok-others.others.items (c.in_ok-others.ensures ∙ ap (filter (is_other_key c.self.inside.forest.names c.args.owner)) c.as_slice-2.ensures.value)
+    rest_held c.self.inside.forest c.self.invariant c.self.view_is c.args.owner c.in_ok-others.others.items
+    (c.in_ok-others.ensures ∙ ap (filter (is_other_key c.self.inside.forest.names c.args.owner)) c.as_slice-2.ensures.value)
 
 pub returns-clause-keys : goal.returns-clause-keys
 returns-clause-keys c =
@@ -21,9 +22,11 @@ returns-clause-keys c =
 
 pub returns-clause-nodes : goal.returns-clause-nodes
 returns-clause-nodes c =
-    subst (All (λ k. k < length c.args.self.now.names)) (sym (c.in_ok-own.ensures ∙ ap (filter (is_key_of c.self.inside.forest.names c.args.owner)) c.as_slice.ensures.value))
+    subst (All (λ k. k < length c.args.self.now.names))
+    (sym (c.in_ok-own.ensures ∙ ap (filter (is_key_of c.self.inside.forest.names c.args.owner)) c.as_slice.ensures.value))
     (taken_nodes c.self.inside.forest c.self.invariant c.self.view_is c.args.owner)
 
 pub returns-clause-rest : goal.returns-clause-rest
 returns-clause-rest c =
-    rest_state c.self.inside.forest c.self.invariant c.self.view_is c.args.owner c.in_ok-others.others.items (c.in_ok-others.ensures ∙ ap (filter (is_other_key c.self.inside.forest.names c.args.owner)) c.as_slice-2.ensures.value)
+    rest_state c.self.inside.forest c.self.invariant c.self.view_is c.args.owner c.in_ok-others.others.items
+    (c.in_ok-others.ensures ∙ ap (filter (is_other_key c.self.inside.forest.names c.args.owner)) c.as_slice-2.ensures.value)

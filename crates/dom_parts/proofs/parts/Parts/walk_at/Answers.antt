@@ -12,29 +12,44 @@ use Rattle.dom_parts.proofs.parts.Parts.walk_at.Goals as goal
 pub index-tables-requires : goal.index-tables-requires
 index-tables-requires c =
     let f = c.self.inside.forest in
-    let less : c.place_of.result < length (all_tables c.self.inside).each = place_there f c.self.invariant c.self.view_is c.args.owner (there_walk f c.self.invariant c.self.view_is c.args.owner c.args.number c.requires) c.place_of.result c.place_of.ensures in
+    let less : c.place_of.result < length (all_tables c.self.inside).each =
+    place_there f c.self.invariant c.self.view_is c.args.owner
+    (there_walk f c.self.invariant c.self.view_is c.args.owner c.args.number c.requires) c.place_of.result c.place_of.ensures in
     omega (arith, c.self.inside.tables.ok.0)
 
 pub walker_at-requires : goal.walker_at-requires
 walker_at-requires c =
     let f = c.self.inside.forest in
-    walk_there f c.self.invariant c.self.view_is c.args.owner (there_walk f c.self.invariant c.self.view_is c.args.owner c.args.number c.requires) c.place_of.result c.place_of.ensures c.index-tables.result.now c.index-tables.ensures c.args.number c.requires
+    walk_there f c.self.invariant c.self.view_is c.args.owner (there_walk f c.self.invariant c.self.view_is c.args.owner c.args.number c.requires)
+    c.place_of.result c.place_of.ensures c.index-tables.result.now c.index-tables.ensures c.args.number c.requires
 
 pub returns-clause-node : goal.returns-clause-node
 returns-clause-node c =
     let f = c.self.inside.forest in
     let there = there_walk f c.self.invariant c.self.view_is c.args.owner c.args.number c.requires in
     let t = c.index-tables.result.now in
-    let item = item_there (slice_get t.walkers c.args.number) (walk_there f c.self.invariant c.self.view_is c.args.owner there c.place_of.result c.place_of.ensures t c.index-tables.ensures c.args.number c.requires) in
-    let h = (c.self.invariant.own c.args.owner t (at f c.self.invariant c.self.view_is c.args.owner there c.place_of.result c.place_of.ensures t c.index-tables.ensures)).walkers c.args.number item.0 item.1 in
-    name_known f c.self.invariant c.self.view_is c.args.owner c.walker_at.result (subst (λ j. j < length f.names) (sym (c.walker_at.ensures item.0 item.1)) h.stands.current)
+    let item = item_there (slice_get t.walkers c.args.number)
+    (walk_there f c.self.invariant c.self.view_is c.args.owner there c.place_of.result c.place_of.ensures t c.index-tables.ensures
+    c.args.number c.requires) in
+    let h = (c.self.invariant.own c.args.owner t
+    (at f c.self.invariant c.self.view_is c.args.owner there c.place_of.result c.place_of.ensures t c.index-tables.ensures)).walkers
+    c.args.number item.0 item.1 in
+    name_known f c.self.invariant c.self.view_is c.args.owner c.walker_at.result
+    (subst (λ j. j < length f.names) (sym (c.walker_at.ensures item.0 item.1)) h.stands.current)
 
 pub returns-clause-value : goal.returns-clause-value
 returns-clause-value c =
     let f = c.self.inside.forest in
     let there = there_walk f c.self.invariant c.self.view_is c.args.owner c.args.number c.requires in
     let t = c.index-tables.result.now in
-    let item = item_there (slice_get t.walkers c.args.number) (walk_there f c.self.invariant c.self.view_is c.args.owner there c.place_of.result c.place_of.ensures t c.index-tables.ensures c.args.number c.requires) in
-    reads f c.self.invariant c.self.view_is c.args.owner there c.place_of.result c.place_of.ensures t c.index-tables.ensures (λ ns. Command.walker_at c.args.number) (λ ns. a_node (name_at ns c.walker_at.result))
-    (walk_at_effect f.names f.trees (all_tables c.self.inside) c.self.invariant c.args.owner t (at f c.self.invariant c.self.view_is c.args.owner there c.place_of.result c.place_of.ensures t c.index-tables.ensures) c.args.number item.0 item.1
-    ∙ ap (λ j. Effect.tables (with_own f.names f.trees (all_tables c.self.inside) c.self.invariant c.args.owner t (at f c.self.invariant c.self.view_is c.args.owner there c.place_of.result c.place_of.ensures t c.index-tables.ensures) t) [] (a_node (name_at f.names j))) (sym (c.walker_at.ensures item.0 item.1)))
+    let item = item_there (slice_get t.walkers c.args.number)
+    (walk_there f c.self.invariant c.self.view_is c.args.owner there c.place_of.result c.place_of.ensures t c.index-tables.ensures
+    c.args.number c.requires) in
+    reads f c.self.invariant c.self.view_is c.args.owner there c.place_of.result c.place_of.ensures t c.index-tables.ensures
+    (λ ns. Command.walker_at c.args.number) (λ ns. a_node (name_at ns c.walker_at.result))
+    (walk_at_effect f.names f.trees (all_tables c.self.inside) c.self.invariant c.args.owner t
+    (at f c.self.invariant c.self.view_is c.args.owner there c.place_of.result c.place_of.ensures t c.index-tables.ensures) c.args.number
+    item.0 item.1
+    ∙ ap (λ j. Effect.tables (with_own f.names f.trees (all_tables c.self.inside) c.self.invariant c.args.owner t
+    (at f c.self.invariant c.self.view_is c.args.owner there c.place_of.result c.place_of.ensures t c.index-tables.ensures) t) []
+    (a_node (name_at f.names j))) (sym (c.walker_at.ensures item.0 item.1)))

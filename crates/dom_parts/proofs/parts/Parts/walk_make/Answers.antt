@@ -10,38 +10,51 @@ pub index_mut-tables-requires : goal.index_mut-tables-requires
 index_mut-tables-requires c =
     let f = c.self.inside.forest in
     let own_root = known f c.self.invariant c.self.view_is (λ e. owner_in e c.args.root ≡ c.args.owner) c.requires.own in
-    let there = subst (λ o. is_there (world_from f.names f.trees (all_tables c.self.inside)) o ≡ true) own_root (owner_there f c.self.invariant c.self.view_is c.args.root c.requires.root_is_node) in
-    let less : c.place_of.result < length (all_tables c.self.inside).each = place_there f c.self.invariant c.self.view_is c.args.owner there c.place_of.result c.place_of.ensures in
+    let there = subst (λ o. is_there (world_from f.names f.trees (all_tables c.self.inside)) o ≡ true) own_root
+    (owner_there f c.self.invariant c.self.view_is c.args.root c.requires.root_is_node) in
+    let less : c.place_of.result < length (all_tables c.self.inside).each =
+    place_there f c.self.invariant c.self.view_is c.args.owner there c.place_of.result c.place_of.ensures in
     omega (arith, c.self.inside.tables.ok.0)
 
 pub add_walker-requires : goal.add_walker-requires
 add_walker-requires c =
     let f = c.self.inside.forest in
     let own_root = known f c.self.invariant c.self.view_is (λ e. owner_in e c.args.root ≡ c.args.owner) c.requires.own in
-    let there = subst (λ o. is_there (world_from f.names f.trees (all_tables c.self.inside)) o ≡ true) own_root (owner_there f c.self.invariant c.self.view_is c.args.root c.requires.root_is_node) in
+    let there = subst (λ o. is_there (world_from f.names f.trees (all_tables c.self.inside)) o ≡ true) own_root
+    (owner_there f c.self.invariant c.self.view_is c.args.root c.requires.root_is_node) in
     let t = c.index_mut-tables.result.now in
-    (c.self.invariant.own c.args.owner t (at f c.self.invariant c.self.view_is c.args.owner there c.place_of.result c.place_of.ensures t c.index_mut-tables.ensures.value)).few_walkers
+    (c.self.invariant.own c.args.owner t
+    (at f c.self.invariant c.self.view_is c.args.owner there c.place_of.result c.place_of.ensures t c.index_mut-tables.ensures.value)).few_walkers
 
 pub invariant_of-self : goal.invariant_of-self
 invariant_of-self c =
     let f = c.self.inside.forest in
     let own_root = known f c.self.invariant c.self.view_is (λ e. owner_in e c.args.root ≡ c.args.owner) c.requires.own in
-    let there = subst (λ o. is_there (world_from f.names f.trees (all_tables c.self.inside)) o ≡ true) own_root (owner_there f c.self.invariant c.self.view_is c.args.root c.requires.root_is_node) in
+    let there = subst (λ o. is_there (world_from f.names f.trees (all_tables c.self.inside)) o ≡ true) own_root
+    (owner_there f c.self.invariant c.self.view_is c.args.root c.requires.root_is_node) in
     let t = c.index_mut-tables.result.now in
-    walk_made f c.self.invariant c.self.view_is c.args.owner there c.place_of.result c.place_of.ensures t c.index_mut-tables.ensures.value c.args.root (filter_of c.args.filter) own_root (known f c.self.invariant c.self.view_is (λ e. c.args.root < length e.names) c.requires.root_is_node) c.add_walker.new.self c.add_walker.result c.add_walker.ensures.added c.add_walker.ensures.limit c.add_walker.ensures.err
+    walk_made f c.self.invariant c.self.view_is c.args.owner there c.place_of.result c.place_of.ensures t c.index_mut-tables.ensures.value
+    c.args.root (filter_of c.args.filter) own_root
+    (known f c.self.invariant c.self.view_is (λ e. c.args.root < length e.names) c.requires.root_is_node) c.add_walker.new.self
+    c.add_walker.result c.add_walker.ensures.added c.add_walker.ensures.limit c.add_walker.ensures.err
 
 pub returns-clause-world : goal.returns-clause-world
 returns-clause-world c =
     let f = c.self.inside.forest in
     let own_root = known f c.self.invariant c.self.view_is (λ e. owner_in e c.args.root ≡ c.args.owner) c.requires.own in
-    let there = subst (λ o. is_there (world_from f.names f.trees (all_tables c.self.inside)) o ≡ true) own_root (owner_there f c.self.invariant c.self.view_is c.args.root c.requires.root_is_node) in
+    let there = subst (λ o. is_there (world_from f.names f.trees (all_tables c.self.inside)) o ≡ true) own_root
+    (owner_there f c.self.invariant c.self.view_is c.args.root c.requires.root_is_node) in
     let t = c.index_mut-tables.result.now in
-    walk_made_writes f c.self.invariant c.self.view_is c.args.owner there c.place_of.result c.place_of.ensures t c.index_mut-tables.ensures.value c.args.root (filter_of c.args.filter) own_root c.add_walker.new.self c.add_walker.result c.add_walker.ensures.added c.add_walker.ensures.number
+    walk_made_writes f c.self.invariant c.self.view_is c.args.owner there c.place_of.result c.place_of.ensures t c.index_mut-tables.ensures.value
+    c.args.root (filter_of c.args.filter) own_root c.add_walker.new.self c.add_walker.result c.add_walker.ensures.added
+    c.add_walker.ensures.number
 
 pub returns-clause-limit : goal.returns-clause-limit
 returns-clause-limit c =
     let f = c.self.inside.forest in
     let own_root = known f c.self.invariant c.self.view_is (λ e. owner_in e c.args.root ≡ c.args.owner) c.requires.own in
-    let there = subst (λ o. is_there (world_from f.names f.trees (all_tables c.self.inside)) o ≡ true) own_root (owner_there f c.self.invariant c.self.view_is c.args.root c.requires.root_is_node) in
+    let there = subst (λ o. is_there (world_from f.names f.trees (all_tables c.self.inside)) o ≡ true) own_root
+    (owner_there f c.self.invariant c.self.view_is c.args.root c.requires.root_is_node) in
     let t = c.index_mut-tables.result.now in
-    walk_limit f c.self.invariant c.self.view_is c.args.owner there c.place_of.result c.place_of.ensures t c.index_mut-tables.ensures.value c.add_walker.ensures.limit
+    walk_limit f c.self.invariant c.self.view_is c.args.owner there c.place_of.result c.place_of.ensures t c.index_mut-tables.ensures.value
+    c.add_walker.ensures.limit

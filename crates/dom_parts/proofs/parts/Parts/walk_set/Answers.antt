@@ -12,7 +12,9 @@ use Rattle.dom_parts.proofs.parts.Parts.walk_set.Goals as goal
 pub index_mut-tables-requires : goal.index_mut-tables-requires
 index_mut-tables-requires c =
     let f = c.self.inside.forest in
-    let less : c.place_of.result < length (all_tables c.self.inside).each = place_there f c.self.invariant c.self.view_is c.args.owner (there_walk f c.self.invariant c.self.view_is c.args.owner c.args.number c.requires.there) c.place_of.result c.place_of.ensures in
+    let less : c.place_of.result < length (all_tables c.self.inside).each =
+    place_there f c.self.invariant c.self.view_is c.args.owner
+    (there_walk f c.self.invariant c.self.view_is c.args.owner c.args.number c.requires.there) c.place_of.result c.place_of.ensures in
     omega (arith, c.self.inside.tables.ok.0)
 
 pub set_walker-requires : goal.set_walker-requires
@@ -20,27 +22,42 @@ set_walker-requires c =
     let f = c.self.inside.forest in
     let there = there_walk f c.self.invariant c.self.view_is c.args.owner c.args.number c.requires.there in
     let t = c.index_mut-tables.result.now in
-    walk_there f c.self.invariant c.self.view_is c.args.owner there c.place_of.result c.place_of.ensures t c.index_mut-tables.ensures.value c.args.number c.requires.there
+    walk_there f c.self.invariant c.self.view_is c.args.owner there c.place_of.result c.place_of.ensures t c.index_mut-tables.ensures.value
+    c.args.number c.requires.there
 
 pub invariant_of-self : goal.invariant_of-self
 invariant_of-self c =
     let f = c.self.inside.forest in
     let there = there_walk f c.self.invariant c.self.view_is c.args.owner c.args.number c.requires.there in
     let t = c.index_mut-tables.result.now in
-    let item = item_there (slice_get t.walkers c.args.number) (walk_there f c.self.invariant c.self.view_is c.args.owner there c.place_of.result c.place_of.ensures t c.index_mut-tables.ensures.value c.args.number c.requires.there) in
-    let kept = (c.self.invariant.own c.args.owner t (at f c.self.invariant c.self.view_is c.args.owner there c.place_of.result c.place_of.ensures t c.index_mut-tables.ensures.value)).walkers c.args.number item.0 item.1 in
+    let item = item_there (slice_get t.walkers c.args.number)
+    (walk_there f c.self.invariant c.self.view_is c.args.owner there c.place_of.result c.place_of.ensures t
+    c.index_mut-tables.ensures.value c.args.number c.requires.there) in
+    let kept = (c.self.invariant.own c.args.owner t
+    (at f c.self.invariant c.self.view_is c.args.owner there c.place_of.result c.place_of.ensures t
+    c.index_mut-tables.ensures.value)).walkers c.args.number item.0 item.1 in
     let current = known f c.self.invariant c.self.view_is (λ e. c.args.current < length e.names) c.requires.current_is_node in
     let own_current = known f c.self.invariant c.self.view_is (λ e. owner_in e c.args.current ≡ c.args.owner) c.requires.own in
-    held_written f c.self.invariant c.self.view_is c.args.owner there c.place_of.result c.place_of.ensures t c.index_mut-tables.ensures.value c.set_walker.new.self (record t { walkers = slice_set t.walkers c.args.number (record item.0 { current = c.args.current }) }) (c.set_walker.ensures item.0 item.1)
-    (walk_moved f c.self.invariant c.self.view_is c.args.owner there c.place_of.result c.place_of.ensures t c.index_mut-tables.ensures.value c.args.number item.0 (record item.0 { current = c.args.current }) item.1 (record { stands = record { root = kept.stands.root; current = current }; own = kept.own; own_current = own_current }))
+    held_written f c.self.invariant c.self.view_is c.args.owner there c.place_of.result c.place_of.ensures t c.index_mut-tables.ensures.value
+    c.set_walker.new.self (record t { walkers = slice_set t.walkers c.args.number (record item.0 { current = c.args.current }) })
+    (c.set_walker.ensures item.0 item.1)
+    (walk_moved f c.self.invariant c.self.view_is c.args.owner there c.place_of.result c.place_of.ensures t c.index_mut-tables.ensures.value
+    c.args.number item.0 (record item.0 { current = c.args.current }) item.1
+    (record { stands = record { root = kept.stands.root; current = current }; own = kept.own; own_current = own_current }))
 
 pub returns-clause-world : goal.returns-clause-world
 returns-clause-world c =
     let f = c.self.inside.forest in
     let there = there_walk f c.self.invariant c.self.view_is c.args.owner c.args.number c.requires.there in
     let t = c.index_mut-tables.result.now in
-    let item = item_there (slice_get t.walkers c.args.number) (walk_there f c.self.invariant c.self.view_is c.args.owner there c.place_of.result c.place_of.ensures t c.index_mut-tables.ensures.value c.args.number c.requires.there) in
+    let item = item_there (slice_get t.walkers c.args.number)
+    (walk_there f c.self.invariant c.self.view_is c.args.owner there c.place_of.result c.place_of.ensures t
+    c.index_mut-tables.ensures.value c.args.number c.requires.there) in
     let own_current = known f c.self.invariant c.self.view_is (λ e. owner_in e c.args.current ≡ c.args.owner) c.requires.own in
-    writes f c.self.invariant c.self.view_is c.args.owner there c.place_of.result c.place_of.ensures t c.index_mut-tables.ensures.value c.set_walker.new.self (record t { walkers = slice_set t.walkers c.args.number (record item.0 { current = c.args.current }) }) (c.set_walker.ensures item.0 item.1)
+    writes f c.self.invariant c.self.view_is c.args.owner there c.place_of.result c.place_of.ensures t c.index_mut-tables.ensures.value
+    c.set_walker.new.self (record t { walkers = slice_set t.walkers c.args.number (record item.0 { current = c.args.current }) })
+    (c.set_walker.ensures item.0 item.1)
     (λ ns. Command.walker_set c.args.number (own (name_at ns c.args.current).number)) (λ ns. nothing)
-    (walk_set_effect f.names f.trees (all_tables c.self.inside) c.self.invariant c.args.owner t (at f c.self.invariant c.self.view_is c.args.owner there c.place_of.result c.place_of.ensures t c.index_mut-tables.ensures.value) c.args.number item.0 c.args.current item.1 own_current)
+    (walk_set_effect f.names f.trees (all_tables c.self.inside) c.self.invariant c.args.owner t
+    (at f c.self.invariant c.self.view_is c.args.owner there c.place_of.result c.place_of.ensures t c.index_mut-tables.ensures.value)
+    c.args.number item.0 c.args.current item.1 own_current)

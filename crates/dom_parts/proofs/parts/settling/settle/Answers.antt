@@ -30,7 +30,8 @@ returns-then-is_err-clause-first c =
     let tasks = c.new-then-is_err-6.result in
     if_err c.args.done record {
       all = ap (λ (ts : List KeyedTables). tables_of (slice_set ts 0 c.new-then-is_err.result) seen tasks slots signalled ranges) c.truncate.ensures.items
-          ∙ (ap (λ (ts : List KeyedTables). tables_of ts seen tasks slots signalled ranges) (first_written c.args.tables.now.items c.new-then-is_err.result c.requires)
+          ∙ (ap (λ (ts : List KeyedTables). tables_of ts seen tasks slots signalled ranges)
+          (first_written c.args.tables.now.items c.new-then-is_err.result c.requires)
           ∙ (ap (λ (t : KeyedTables). tables_of (t ∷ []) seen tasks slots signalled ranges) c.new-then-is_err.ensures
           ∙ ((λ j. tables_of (no_keyed_tables ∷ []) (λ o. c.new-then-is_err-2.ensures o j) tasks slots signalled ranges)
           ∙ (ap (λ (ts : List Task). tables_of (no_keyed_tables ∷ []) (λ o. no_observers) ts slots signalled ranges) c.new-then-is_err-6.ensures

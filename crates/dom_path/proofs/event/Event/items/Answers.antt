@@ -19,9 +19,11 @@ loop-next-preserved c =
     let x = c.in-Some.at in
     let so_far = subst (IsTrack f hosts t r e.composed trees items) c.in-Some.is c.loop-next.invariant.track in
     let item = subst (IsItemOf f hosts t r trees) (sym c.item.ensures)
-    (item-made f hosts c.nodes_stand_once.ensures.distinct trees c.loop-next.invariant.are e.target e.related x c.loop-next.invariant.event (so_far.place x refl)) in
+    (item-made f hosts c.nodes_stand_once.ensures.distinct trees c.loop-next.invariant.are e.target e.related x c.loop-next.invariant.event
+    (so_far.place x refl)) in
     record {
-      track = track-more f hosts t r e.composed trees new items x c.item.result c.push.new.self.items c.in_ok-next.next so_far c.in_ok-next.ensures.grown c.in_ok-push.ensures.ok item
+      track = track-more f hosts t r e.composed trees new items x c.item.result c.push.new.self.items c.in_ok-next.next so_far
+          c.in_ok-next.ensures.grown c.in_ok-push.ensures.ok item
           (ap (λ (i : Item). i.node) c.item.ensures) (ap (λ (i : Item). i.slot_in_closed) c.item.ensures)
           c.in_ok-next.ensures.stands c.in_ok-next.ensures.value c.in_ok-next.ensures.entered;
       are = c.in_ok-next.ensures.trees;
@@ -32,5 +34,6 @@ pub returns-clause-way : goal.returns-clause-way
 returns-clause-way c =
     let f = c.args.forest.now in
     let e = c.args.self.now in
-    track-last f c.args.slots.now.hosts (name_at f.names e.target.node) (related_name f.names e.related) e.composed c.loop-next.trees c.loop-next.items.items c.loop-next.next c.in_default.is
+    track-last f c.args.slots.now.hosts (name_at f.names e.target.node) (related_name f.names e.related) e.composed c.loop-next.trees
+    c.loop-next.items.items c.loop-next.next c.in_default.is
     c.loop-next.invariant.track

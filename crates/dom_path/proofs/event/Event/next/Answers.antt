@@ -31,7 +31,8 @@ returns-then-ends_before-clause-value c = λ depth hosted.
     let y = name_at f.names x.node in
     let event = event-kept f hosts c.args.trees.now new e.target e.related c.in_ok-above.ensures.grown c.requires.event in
     let ends : ends_at (shadows f hosts) depth t r y ≡ true =
-    sym (ends-named f hosts c.nodes_stand_once.ensures.distinct new c.in_ok-above.ensures.trees depth hosted e.target e.related x event.at_target event.at_related
+    sym (ends-named f hosts c.nodes_stand_once.ensures.distinct new c.in_ok-above.ensures.trees depth hosted e.target e.related x event.at_target
+    event.at_related
     (c.in_ok-above.ensures.stands x c.in-Some.is)) ∙ sym c.if-ends_before.ensures in
     let both : Some (name_at f.names c.at-top.result.root) ≡ Some (root_of f.trees t) =
     ap (option_map (λ (a : Tree). name_at f.names a.root)) (sym c.at-top.ensures) ∙ c.requires.event.at_target.tree depth hosted in
@@ -39,7 +40,8 @@ returns-then-ends_before-clause-value c = λ depth hosted.
     let up : Some y ≡ event_parent_at (shadows f hosts) e.composed (name_at f.names c.at-top.result.root) (name_at f.names c.args.at.now.node) =
     ap (option_map (λ (a : Stand). name_at f.names a.node)) (sym c.in-Some.is) ∙ c.in_ok-above.ensures.value in
     sym (ap (λ (b : Bool). if b then None else Some y) ends)
-    ∙ ap (option_and_then (unless_ended (shadows f hosts) depth t r)) (up ∙ ap (λ top. event_parent_at (shadows f hosts) e.composed top (name_at f.names c.args.at.now.node)) top)
+    ∙ ap (option_and_then (unless_ended (shadows f hosts) depth t r))
+    (up ∙ ap (λ top. event_parent_at (shadows f hosts) e.composed top (name_at f.names c.args.at.now.node)) top)
 
 pub returns-clause-value : goal.returns-clause-value
 returns-clause-value c = λ depth hosted.
@@ -53,7 +55,8 @@ returns-clause-value c = λ depth hosted.
     let y = name_at f.names x.node in
     let event = event-kept f hosts c.args.trees.now new e.target e.related c.in_ok-above.ensures.grown c.requires.event in
     let ends : ends_at (shadows f hosts) depth t r y ≡ false =
-    sym (ends-named f hosts c.nodes_stand_once.ensures.distinct new c.in_ok-above.ensures.trees depth hosted e.target e.related x event.at_target event.at_related
+    sym (ends-named f hosts c.nodes_stand_once.ensures.distinct new c.in_ok-above.ensures.trees depth hosted e.target e.related x event.at_target
+    event.at_related
     (c.in_ok-above.ensures.stands x c.in-Some.is)) ∙ sym c.if-ends_before.ensures in
     let both : Some (name_at f.names c.at-top.result.root) ≡ Some (root_of f.trees t) =
     ap (option_map (λ (a : Tree). name_at f.names a.root)) (sym c.at-top.ensures) ∙ c.requires.event.at_target.tree depth hosted in
@@ -61,4 +64,5 @@ returns-clause-value c = λ depth hosted.
     let up : Some y ≡ event_parent_at (shadows f hosts) e.composed (name_at f.names c.at-top.result.root) (name_at f.names c.args.at.now.node) =
     ap (option_map (λ (a : Stand). name_at f.names a.node)) (sym c.in-Some.is) ∙ c.in_ok-above.ensures.value in
     sym (ap (λ (b : Bool). if b then None else Some y) ends)
-    ∙ ap (option_and_then (unless_ended (shadows f hosts) depth t r)) (up ∙ ap (λ top. event_parent_at (shadows f hosts) e.composed top (name_at f.names c.args.at.now.node)) top)
+    ∙ ap (option_and_then (unless_ended (shadows f hosts) depth t r))
+    (up ∙ ap (λ top. event_parent_at (shadows f hosts) e.composed top (name_at f.names c.args.at.now.node)) top)

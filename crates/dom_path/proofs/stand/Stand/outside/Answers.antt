@@ -18,7 +18,8 @@ returns-in_err-host-clause-value c =
     ∙ host-named f.names c.nodes_stand_once.ensures.distinct c.args.slots.now.hosts c.requires.slots.hosts c.args.self.now.node c.requires.stands.node
 
 pub in_tree-requires : goal.in_tree-requires
-in_tree-requires c = host-node c.args.forest.now.names c.args.slots.now.hosts c.requires.slots.hosts c.args.self.now.node c.in_ok-host.host (sym c.in_ok-host.ensures)
+in_tree-requires c = host-node c.args.forest.now.names c.args.slots.now.hosts c.requires.slots.hosts c.args.self.now.node c.in_ok-host.host
+    (sym c.in_ok-host.ensures)
 
 pub returns-clause-stands : goal.returns-clause-stands
 returns-clause-stands c = λ x e.
@@ -28,12 +29,16 @@ returns-clause-stands c = λ x e.
     let host = c.in_ok-host.host in
     let trees = c.args.trees.now in
     let e' = c.nodes_stand_once.ensures in
-    let named = sym (host-named f.names e'.distinct hosts c.requires.slots.hosts self.node c.requires.stands.node) ∙ ap (option_map (name_at f.names)) (sym c.in_ok-host.ensures) in
+    let named = sym (host-named f.names e'.distinct hosts c.requires.slots.hosts self.node c.requires.stands.node) ∙
+    ap (option_map (name_at f.names)) (sym c.in_ok-host.ensures) in
     let same : c.in_tree.result ≡ x = cc in
     subst (IsStand f hosts trees) same
     (stand-made f hosts trees c.in_tree.result host c.at-tree.result.outer c.in_tree.ensures.node c.in_tree.ensures.tree c.in_tree.ensures.shadow
-    (host-node f.names hosts c.requires.slots.hosts self.node host (sym c.in_ok-host.ensures)) (let below = (c.requires.trees.nested self.tree c.at-tree.result c.at-tree.ensures).within in let w = c.requires.stands.within in omega (arith, below, w))
-    (tree-outside f hosts (Once-forest f e'.once e'.only) trees self c.at-tree.result host c.requires.trees c.requires.stands (Has-forest f e'.once self.node c.requires.stands.node) c.at-tree.ensures named))
+    (host-node f.names hosts c.requires.slots.hosts self.node host (sym c.in_ok-host.ensures))
+    (let below = (c.requires.trees.nested self.tree c.at-tree.result c.at-tree.ensures).within in let w = c.requires.stands.within in omega
+    (arith, below, w))
+    (tree-outside f hosts (Once-forest f e'.once e'.only) trees self c.at-tree.result host c.requires.trees c.requires.stands
+    (Has-forest f e'.once self.node c.requires.stands.node) c.at-tree.ensures named))
 
 pub returns-clause-value : goal.returns-clause-value
 returns-clause-value c =

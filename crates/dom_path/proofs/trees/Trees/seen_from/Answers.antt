@@ -31,7 +31,9 @@ loop-host-preserved c =
     let same : trees ≡ self = c.as_slice-trees.ensures ∙ c.self.view_is in
     let nested : AreNested self = subst AreNested c.self.view_is c.self.invariant in
     let hidden : hiding_host self viewer place ≡ Some c.in-Some.host = sym c.hiding_host.ensures ∙ c.in-Some.is in
-    let at : slice_get self place ≡ Some t = subst (λ ts. slice_get ts place ≡ Some t) same (slice_get_read trees (length trees) place t refl c.loop-host.invariant.0 c.index-trees-place.is) in
+    let at : slice_get self place ≡ Some t =
+    subst (λ ts. slice_get ts place ≡ Some t) same
+    (slice_get_read trees (length trees) place t refl c.loop-host.invariant.0 c.index-trees-place.is) in
     let below = outer-below self nested viewer place c.in-Some.host hidden in
     let is = outer-is self place t at in
     let read : t.outer ≡ (slice_index_or trees place t).outer = ap (λ (x : Tree). x.outer) c.index-trees-place.is in

@@ -16,7 +16,8 @@ returns-then-behind c =
     let p = name_at f.names c.args.point.0 in
     let n = c.args.point.1 in
     let kids = children_of f.trees p in
-    let run = ap (map whole_item) (run-behind f.trees (Once-forest f e.once e.only) p (Has-forest f e.once c.args.point.0 c.requires) n (option_map (name_at f.names) c.child_at-first_behind.result) c.child_at-first_behind.ensures.value)
+    let run = ap (map whole_item) (run-behind f.trees (Once-forest f e.once e.only) p (Has-forest f e.once c.args.point.0 c.requires) n
+    (option_map (name_at f.names) c.child_at-first_behind.result) c.child_at-first_behind.ensures.value)
     ∙ ap (λ b. map whole_item (if b then drop n kids else take n kids)) (sym c.if-behind.true) in
     on_ok_weaker c.push_siblings.result (subst (Adds f.names c.args.pieces.now.items c.push_siblings.new.pieces.items) run) c.push_siblings.ensures
 
@@ -28,6 +29,8 @@ returns c =
     let n = c.args.point.1 in
     let kids = children_of f.trees p in
     let run = ap (map whole_item)
-    (run-before f.trees (Once-forest f e.once e.only) p (Has-forest f e.once c.args.point.0 c.requires) n (option_map (name_at f.names) c.first.result) (option_map (name_at f.names) c.child_at-first_behind.result) c.first.ensures.value c.child_at-first_behind.ensures.value)
+    (run-before f.trees (Once-forest f e.once e.only) p (Has-forest f e.once c.args.point.0 c.requires) n
+    (option_map (name_at f.names) c.first.result) (option_map (name_at f.names) c.child_at-first_behind.result) c.first.ensures.value
+    c.child_at-first_behind.ensures.value)
     ∙ ap (λ b. map whole_item (if b then drop n kids else take n kids)) (sym c.if-behind.false) in
     on_ok_weaker c.push_siblings-2.result (subst (Adds f.names c.args.pieces.now.items c.push_siblings-2.new.pieces.items) run) c.push_siblings-2.ensures

@@ -19,7 +19,8 @@ returns-then-is_before c =
     let r = range_at_points f.names c.args.points.now in
     let old = c.args.pieces.now.items in
     let kids = children_of f.trees (common_ancestor f.trees r) in
-    subst (Adds f.names old old) (sym (ap (map whole_item) (filter-none (is_contained f.trees r) kids (λ z i. none-contained f.trees r (sym c.if-is_before.ensures) z)))) (adds-none f.names old)
+    subst (Adds f.names old old) (sym (ap (map whole_item)
+    (filter-none (is_contained f.trees r) kids (λ z i. none-contained f.trees r (sym c.if-is_before.ensures) z)))) (adds-none f.names old)
 
 pub returns : goal.returns
 returns c =
@@ -35,5 +36,6 @@ returns c =
     let run = ap (λ o. map whole_item (up_to o (from_sibling f.trees from))) c.first_from-until.ensures.value
     ∙ (ap (λ o. map whole_item (up_to (first_from f.trees r.end end_path) (from_sibling f.trees o))) c.first_behind-from.ensures.value
     ∙ ap (map whole_item)
-    (run-is f.trees r (is-range f e.once e.only points c.requires.spanned) w.top w.above start_path end_path (part-at f e.once e.only points c.requires.spanned c.args.start_path.now c.args.end_path.now w) (sym c.if-is_before.ensures))) in
+    (run-is f.trees r (is-range f e.once e.only points c.requires.spanned) w.top w.above start_path end_path
+    (part-at f e.once e.only points c.requires.spanned c.args.start_path.now c.args.end_path.now w) (sym c.if-is_before.ensures))) in
     on_ok_weaker c.push_siblings.result (subst (Adds f.names old c.push_siblings.new.pieces.items) run) c.push_siblings.ensures

@@ -10,7 +10,11 @@ pub loop-at-init : goal.loop-at-init
 loop-at-init c =
     let f = c.args.forest.now in
     let path = c.args.path.now in
-    record { within = omega arith; added = subst (Adds f.names c.args.pieces.now.items c.args.pieces.now.items) (sym (heads-last f.trees f.names path c.args.before (length path - 1) (omega arith))) (adds-none f.names c.args.pieces.now.items) }
+    record {
+      within = omega arith;
+      added = subst (Adds f.names c.args.pieces.now.items c.args.pieces.now.items)
+          (sym (heads-last f.trees f.names path c.args.before (length path - 1) (omega arith))) (adds-none f.names c.args.pieces.now.items);
+    }
 
 pub loop-at-preserved : goal.loop-at-preserved
 loop-at-preserved c =
@@ -27,8 +31,10 @@ loop-at-preserved c =
       within = omega (arith, le);
       added = subst (Adds f.names c.args.pieces.now.items c.push_head.new.pieces.items)
           (heads-keys f.trees f.names path c.args.before i j c.index-path-at.result c.index-path-at-in-loop-at.result (omega (arith, at_node, up)) up
-          (c.index-path-at.is ∙ get_or_default_zero path j c.index-path-at.result at_node) (c.index-path-at-in-loop-at.is ∙ get_or_default_zero path i c.index-path-at-in-loop-at.result at_child))
-          (adds-on f.names c.args.pieces.now.items c.loop-at.pieces.items c.push_head.new.pieces.items (heads f.trees c.args.before (map (name_at f.names) (drop j path))) _ c.loop-at.invariant.added c.in_ok-push_head.ensures);
+          (c.index-path-at.is ∙ get_or_default_zero path j c.index-path-at.result at_node)
+          (c.index-path-at-in-loop-at.is ∙ get_or_default_zero path i c.index-path-at-in-loop-at.result at_child))
+          (adds-on f.names c.args.pieces.now.items c.loop-at.pieces.items c.push_head.new.pieces.items
+          (heads f.trees c.args.before (map (name_at f.names) (drop j path))) _ c.loop-at.invariant.added c.in_ok-push_head.ensures);
     }
 
 pub returns : goal.returns
@@ -36,4 +42,5 @@ returns c =
     let f = c.args.forest.now in
     let few = c.loop-at-test.false in
     let none : c.loop-at.at - 1 ≡ 0 = omega (arith, few) in
-    subst (λ k. Adds f.names c.args.pieces.now.items c.loop-at.pieces.items (heads f.trees c.args.before (map (name_at f.names) (drop k c.args.path.now)))) none c.loop-at.invariant.added
+    subst (λ k. Adds f.names c.args.pieces.now.items c.loop-at.pieces.items
+    (heads f.trees c.args.before (map (name_at f.names) (drop k c.args.path.now)))) none c.loop-at.invariant.added

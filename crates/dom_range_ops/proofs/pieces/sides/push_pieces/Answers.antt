@@ -21,10 +21,12 @@ returns c =
     let start_path = map (name_at f.names) c.args.start_path.now in
     let end_path = map (name_at f.names) c.args.end_path.now in
     let old = c.args.pieces.now.items in
-    let all = items-apart f.trees r (is-range f e.once e.only points c.requires.spanned) w.top w.above start_path end_path (part-at f e.once e.only points c.requires.spanned c.args.start_path.now c.args.end_path.now w) in
+    let all = items-apart f.trees r (is-range f e.once e.only points c.requires.spanned) w.top w.above start_path end_path
+    (part-at f e.once e.only points c.requires.spanned c.args.start_path.now c.args.end_path.now w) in
     let contained = map whole_item (filter (is_contained f.trees r) (children_of f.trees (common_ancestor f.trees r))) in
     on_ok_weaker c.push_side-2.result
     (λ h. subst (Adds f.names old c.push_side-2.new.pieces.items) (sym all)
     (adds-on f.names old c.push_side.new.pieces.items c.push_side-2.new.pieces.items (side_items f.trees r.start true start_path) _ c.in_ok-push_side.ensures
-    (adds-on f.names c.push_side.new.pieces.items c.push_between.new.pieces.items c.push_side-2.new.pieces.items contained (side_items f.trees r.end false end_path) c.in_ok-push_between.ensures h)))
+    (adds-on f.names c.push_side.new.pieces.items c.push_between.new.pieces.items c.push_side-2.new.pieces.items contained
+    (side_items f.trees r.end false end_path) c.in_ok-push_between.ensures h)))
     c.push_side-2.ensures

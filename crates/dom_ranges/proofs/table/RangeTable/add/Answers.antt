@@ -18,25 +18,30 @@ on_err (Err e) P p = p
 pub returns-in_err-reserve-clause-err : goal.returns-in_err-reserve-clause-err
 returns-in_err-reserve-clause-err c =
     on_err c.from_residual.result _ (λ o. ranges-shown c.self.inside.live c.reserve.new.self _
-    (Shows-same c.self.inside.live c.self.inside.live c.self.inside.numbers c.reserve.new.self _ (Shows-view c.self.inside.live c.self.inside.numbers _ c.self.view_is) (λ s. refl) c.reserve.ensures.slots) o)
+    (Shows-same c.self.inside.live c.self.inside.live c.self.inside.numbers c.reserve.new.self _
+    (Shows-view c.self.inside.live c.self.inside.numbers _ c.self.view_is) (λ s. refl) c.reserve.ensures.slots) o)
 
 pub returns-in_err-reserve-2-clause-err : goal.returns-in_err-reserve-2-clause-err
 returns-in_err-reserve-2-clause-err c =
     on_err c.from_residual-in_err-reserve-2.result _ (λ o. ranges-shown c.self.inside.live c.reserve.new.self _
-    (Shows-same c.self.inside.live c.self.inside.live c.self.inside.numbers c.reserve.new.self _ (Shows-view c.self.inside.live c.self.inside.numbers _ c.self.view_is) (λ s. refl) c.reserve.ensures.slots) o)
+    (Shows-same c.self.inside.live c.self.inside.live c.self.inside.numbers c.reserve.new.self _
+    (Shows-view c.self.inside.live c.self.inside.numbers _ c.self.view_is) (λ s. refl) c.reserve.ensures.slots) o)
 
 pub invariant_of-self-in_err-slot : goal.invariant_of-self-in_err-slot
 invariant_of-self-in_err-slot c =
     let same = λ (s : ℕ). ap (λ (t : Slab Points). get t s) c.in_err-slot.ensures.err in (
-      IsHeld-same c.self.inside.live c.insert.new.self c.self.inside.numbers c.reserve.new.self (λ s. (λ i. subst IsSome (same s) i, λ i. subst IsSome (sym (same s)) i)) c.reserve.ensures.slots c.self.invariant.0,
-      subst (IsListed c.insert.new.self) (sym c.reserve-2.ensures.items) (IsListed-same c.self.inside.live c.insert.new.self c.self.inside.ends.items same c.self.invariant.1),
+      IsHeld-same c.self.inside.live c.insert.new.self c.self.inside.numbers c.reserve.new.self
+          (λ s. (λ i. subst IsSome (same s) i, λ i. subst IsSome (sym (same s)) i)) c.reserve.ensures.slots c.self.invariant.0,
+      subst (IsListed c.insert.new.self) (sym c.reserve-2.ensures.items)
+          (IsListed-same c.self.inside.live c.insert.new.self c.self.inside.ends.items same c.self.invariant.1),
       subst IsSortedByNode (sym c.reserve-2.ensures.items) c.self.invariant.2,
     )
 
 pub returns-in_err-slot-clause-err : goal.returns-in_err-slot-clause-err
 returns-in_err-slot-clause-err c =
     on_err c.from_residual-in_err-slot.result _ (λ o. ranges-shown c.insert.new.self c.reserve.new.self _
-    (Shows-same c.self.inside.live c.insert.new.self c.self.inside.numbers c.reserve.new.self _ (Shows-view c.self.inside.live c.self.inside.numbers _ c.self.view_is)
+    (Shows-same c.self.inside.live c.insert.new.self c.self.inside.numbers c.reserve.new.self _
+    (Shows-view c.self.inside.live c.self.inside.numbers _ c.self.view_is)
     (λ s. ap (λ (t : Slab Points). get t s) c.in_err-slot.ensures.err) c.reserve.ensures.slots) o)
 
 -- the number that is given
@@ -48,7 +53,8 @@ counted c =
 -- the lists with their room
 roomy : (c : goal.After-list_range) → Shows c.self.inside.live c.reserve.new.self c.args.self.now × IsHeld c.self.inside.live c.reserve.new.self
 roomy c = (
-  Shows-same c.self.inside.live c.self.inside.live c.self.inside.numbers c.reserve.new.self _ (Shows-view c.self.inside.live c.self.inside.numbers _ c.self.view_is) (λ s. refl) c.reserve.ensures.slots,
+  Shows-same c.self.inside.live c.self.inside.live c.self.inside.numbers c.reserve.new.self _
+      (Shows-view c.self.inside.live c.self.inside.numbers _ c.self.view_is) (λ s. refl) c.reserve.ensures.slots,
   IsHeld-same c.self.inside.live c.self.inside.live c.self.inside.numbers c.reserve.new.self (λ s. (λ i. i, λ i. i)) c.reserve.ensures.slots c.self.invariant.0,
 )
 
@@ -58,13 +64,17 @@ overflow_cast-result c = omega (arith, counted c)
 -- what holds of the slots and the lists
 held-then : (c : goal.After-list_range) → IsHeld c.insert.new.self c.push.new.self
 held-then c =
-    IsHeld-pushed c.self.inside.live c.insert.new.self c.reserve.new.self c.push.new.self c.in_ok-slot.slot c.args.owner _ (roomy c).1 c.in_ok-slot.ensures.was_vacant c.in_ok-slot.ensures.updates c.push.ensures
+    IsHeld-pushed c.self.inside.live c.insert.new.self c.reserve.new.self c.push.new.self c.in_ok-slot.slot c.args.owner _ (roomy c).1
+    c.in_ok-slot.ensures.was_vacant c.in_ok-slot.ensures.updates c.push.ensures
 
 pub invariant_of-self-2 : goal.invariant_of-self-2
 invariant_of-self-2 c = (
   held-then c,
-  IsListed-added c.self.inside.live c.insert.new.self c.self.inside.ends.items c.list_range.new.ends.items c.in_ok-slot.slot c.args.node _ c.self.invariant.1 c.in_ok-slot.ensures.was_vacant c.in_ok-slot.ensures.updates refl refl
-      (subst (λ (xs : List RangeEnd). IsPermutation (xs ++ end_in c.in_ok-slot.slot false c.args.node ∷ end_in c.in_ok-slot.slot true c.args.node ∷ []) c.list_range.new.ends.items) c.reserve-2.ensures.items c.list_range.ensures.listed),
+  IsListed-added c.self.inside.live c.insert.new.self c.self.inside.ends.items c.list_range.new.ends.items c.in_ok-slot.slot c.args.node _
+      c.self.invariant.1 c.in_ok-slot.ensures.was_vacant c.in_ok-slot.ensures.updates refl refl
+      (subst (λ (xs : List RangeEnd). IsPermutation
+      (xs ++ end_in c.in_ok-slot.slot false c.args.node ∷ end_in c.in_ok-slot.slot true c.args.node ∷ []) c.list_range.new.ends.items)
+      c.reserve-2.ensures.items c.list_range.ensures.listed),
   c.list_range.ensures.sorted,
 )
 
@@ -73,5 +83,6 @@ returns-clause-number c = counted c
 
 pub returns-clause-made : goal.returns-clause-made
 returns-clause-made c =
-    ranges-pushed c.self.inside.live c.insert.new.self c.reserve.new.self c.push.new.self c.in_ok-slot.slot c.args.owner _ (roomy c).1 c.in_ok-slot.ensures.was_vacant c.in_ok-slot.ensures.updates c.push.ensures
+    ranges-pushed c.self.inside.live c.insert.new.self c.reserve.new.self c.push.new.self c.in_ok-slot.slot c.args.owner _ (roomy c).1
+    c.in_ok-slot.ensures.was_vacant c.in_ok-slot.ensures.updates c.push.ensures
     c.args.self.now (roomy c).0

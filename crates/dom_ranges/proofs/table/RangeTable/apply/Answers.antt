@@ -27,13 +27,17 @@ move_ends-requires-clause-all g c =
 
 pub move_ends-requires-clause-can_move : goal.move_ends-requires-clause-can_move
 move_ends-requires-clause-can_move g c =
-    each-held (g.C.Change.can_move c.args.change.now) c.self.inside.live c.self.inside.numbers _ (Shows-view c.self.inside.live c.self.inside.numbers _ c.self.view_is) c.self.invariant.0 c.requires.can_move
+    each-held (g.C.Change.can_move c.args.change.now) c.self.inside.live c.self.inside.numbers _
+    (Shows-view c.self.inside.live c.self.inside.numbers _ c.self.view_is) c.self.invariant.0 c.requires.can_move
 
 pub returns : goal.returns
 returns g c =
-    ranges-moved (map_ends (g.C.Change.rule c.args.change.now)) c.self.inside.live c.move_ends.new.live c.self.inside.numbers _ (Shows-view c.self.inside.live c.self.inside.numbers _ c.self.view_is) c.move_ends.ensures.moved
+    ranges-moved (map_ends (g.C.Change.rule c.args.change.now)) c.self.inside.live c.move_ends.new.live c.self.inside.numbers _
+    (Shows-view c.self.inside.live c.self.inside.numbers _ c.self.view_is) c.move_ends.ensures.moved
 
 pub invariant_of-self : goal.invariant_of-self
 invariant_of-self g c =
-    kept-moved (g.C.Change.rule c.args.change.now) c.self.inside.live c.move_ends.new.live c.self.inside.numbers _ c.move_ends.new.ends c.move_ends.ensures.moved c.self.invariant.0 c.move_ends.ensures.listed c.move_ends.ensures.sorted
-    (written-back c.self.inside.ends.items c.move_ends.new.ends c.self.inside.ends.len (c.move_ends.auto.ends ∙ ap (length {A = RangeEnd}) c.as_mut_slice-ends.ensures.value) (omega (arith, c.self.inside.ends.ok.0)))
+    kept-moved (g.C.Change.rule c.args.change.now) c.self.inside.live c.move_ends.new.live c.self.inside.numbers _ c.move_ends.new.ends
+    c.move_ends.ensures.moved c.self.invariant.0 c.move_ends.ensures.listed c.move_ends.ensures.sorted
+    (written-back c.self.inside.ends.items c.move_ends.new.ends c.self.inside.ends.len
+    (c.move_ends.auto.ends ∙ ap (length {A = RangeEnd}) c.as_mut_slice-ends.ensures.value) (omega (arith, c.self.inside.ends.ok.0)))

@@ -7,5 +7,6 @@ use Rattle.dom_ranges.proofs.table.RangeTable.index_among.Goals as goal
 
 pub returns : goal.returns
 returns c =
-    each-shown (IsNear c.args.parent (index_of c.args.forest.now.trees (name_at c.args.forest.now.names c.args.child)) c.index_among_ends.result) c.self.inside.live c.self.inside.numbers _
+    each-shown (IsNear c.args.parent (index_of c.args.forest.now.trees (name_at c.args.forest.now.names c.args.child)) c.index_among_ends.result)
+    c.self.inside.live c.self.inside.numbers _
     (Shows-view c.self.inside.live c.self.inside.numbers _ c.self.view_is) c.index_among_ends.ensures

@@ -7,5 +7,6 @@ use Rattle.dom_ranges.proofs.table.RangeTable.index_before.Goals as goal
 
 pub returns-clause-none : goal.returns-clause-none
 returns-clause-none c is =
-    each-shown (IsUpTo c.args.parent (index_of c.args.forest.now.trees (name_at c.args.forest.now.names c.args.child))) c.self.inside.live c.self.inside.numbers _
+    each-shown (IsUpTo c.args.parent (index_of c.args.forest.now.trees (name_at c.args.forest.now.names c.args.child))) c.self.inside.live
+    c.self.inside.numbers _
     (Shows-view c.self.inside.live c.self.inside.numbers _ c.self.view_is) (c.index_before_ends.ensures.none is)

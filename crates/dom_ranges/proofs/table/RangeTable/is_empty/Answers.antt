@@ -11,4 +11,5 @@ use Rattle.dom_ranges.proofs.table.RangeTable.is_empty.Goals as goal
 pub returns : goal.returns
 returns c is o k =
     range_in-held c.self.inside.live c.self.inside.numbers _ (Shows-view c.self.inside.live c.self.inside.numbers _ c.self.view_is) o k
-    ∙ none-kept c.self.inside.live (eqb-true (slab_len c.self.inside.live) 0 (sym c.is_empty.ensures ∙ is)) (option_flatten (slice_get (slots_of c.self.inside.numbers o) k))
+    ∙ none-kept c.self.inside.live (eqb-true (slab_len c.self.inside.live) 0 (sym c.is_empty.ensures ∙ is))
+    (option_flatten (slice_get (slots_of c.self.inside.numbers o) k))

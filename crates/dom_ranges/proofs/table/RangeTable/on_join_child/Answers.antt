@@ -22,7 +22,8 @@ pub returns : goal.returns
 returns c o =
     let index = index_of c.args.forest.now.trees (name_at c.args.forest.now.names c.args.next) in
     c.on_join.ensures o
-    ∙ ends-alike (after_join nat_eq c.args.first c.args.size c.args.next c.args.parent c.index_among-index.result) (after_join nat_eq c.args.first c.args.size c.args.next c.args.parent index) (ranges_of c.args.self.now o)
+    ∙ ends-alike (after_join nat_eq c.args.first c.args.size c.args.next c.args.parent c.index_among-index.result)
+    (after_join nat_eq c.args.first c.args.size c.args.next c.args.parent index) (ranges_of c.args.self.now o)
     (λ k r e.
     let near = c.index_among-index.ensures o k r e in (
       join-near c.args.first c.args.size c.args.next c.args.parent index c.index_among-index.result r.start near.0,

@@ -19,7 +19,8 @@ pub returns-in_default-clause-table : goal.returns-in_default-clause-table
 returns-in_default-clause-table c = not_there c.args.self.now c.args.owner c.args.number (absent c)
 
 pub clear-requires : goal.clear-requires
-clear-requires c = slice_get_within (slots_of c.self.inside.numbers c.args.owner) c.args.number _ (slot-under c.self.inside.numbers c.args.owner c.args.number c.in-Some.slot c.in-Some.ensures)
+clear-requires c = slice_get_within (slots_of c.self.inside.numbers c.args.owner) c.args.number _
+    (slot-under c.self.inside.numbers c.args.owner c.args.number c.in-Some.slot c.in-Some.ensures)
 
 -- the slot stands under the number
 under : (c : goal.After-drop_range) → StandsUnder c.self.inside.numbers c.in-Some.slot c.args.owner c.args.number
@@ -27,18 +28,21 @@ under c = slot-under c.self.inside.numbers c.args.owner c.args.number c.in-Some.
 
 pub invariant_of-self : goal.invariant_of-self
 invariant_of-self c = (
-  IsHeld-cleared c.self.inside.live c.drop_range.new.live c.self.inside.numbers c.clear.new.self c.in-Some.slot c.args.number c.args.owner c.self.invariant.0 (under c) c.drop_range.ensures.updates c.clear.ensures,
+  IsHeld-cleared c.self.inside.live c.drop_range.new.live c.self.inside.numbers c.clear.new.self c.in-Some.slot c.args.number c.args.owner
+      c.self.invariant.0 (under c) c.drop_range.ensures.updates c.clear.ensures,
   c.drop_range.ensures.listed,
   c.drop_range.ensures.sorted,
 )
 
 pub returns-clause-there : goal.returns-clause-there
 returns-clause-there c =
-    sym (ap is_some (range_in-held c.self.inside.live c.self.inside.numbers _ (Shows-view c.self.inside.live c.self.inside.numbers _ c.self.view_is) c.args.owner c.args.number
+    sym (ap is_some (range_in-held c.self.inside.live c.self.inside.numbers _
+    (Shows-view c.self.inside.live c.self.inside.numbers _ c.self.view_is) c.args.owner c.args.number
     ∙ ap (range_kept c.self.inside.live) (sym c.in-Some.ensures))
     ∙ is_some-kept (get c.self.inside.live c.in-Some.slot) (c.self.invariant.0.held c.args.owner c.args.number c.in-Some.slot (under c)))
 
 pub returns-clause-table : goal.returns-clause-table
 returns-clause-table c =
-    ranges-cleared c.self.inside.live c.drop_range.new.live c.self.inside.numbers c.clear.new.self c.in-Some.slot c.args.number c.args.owner c.self.invariant.0 (under c) c.drop_range.ensures.updates c.clear.ensures
+    ranges-cleared c.self.inside.live c.drop_range.new.live c.self.inside.numbers c.clear.new.self c.in-Some.slot c.args.number c.args.owner
+    c.self.invariant.0 (under c) c.drop_range.ensures.updates c.clear.ensures
     c.args.self.now (Shows-view c.self.inside.live c.self.inside.numbers _ c.self.view_is)

@@ -11,19 +11,41 @@ use Rattle.dom_ranges.proofs.table.RangeTable.write.Goals as goal
 
 pub returns-in-Some : goal.returns-in-Some
 returns-in-Some c =
-    let u : Updates c.self.inside.live c.put_end-in-Some.new.live c.in-Some.slot (Some c.args.points) = (record { changed = c.put_end-in-Some.ensures.put ∙ (ap (option_map (with_end_at true c.args.points.end.0 c.args.points.end.1)) c.put_end.ensures.put ∙ both-put (get c.self.inside.live c.in-Some.slot) c.args.points (c.self.invariant.0.held c.args.owner c.args.number c.in-Some.slot (slot-under c.self.inside.numbers c.args.owner c.args.number c.in-Some.slot c.in-Some.ensures))); others = λ s off. c.put_end-in-Some.ensures.others s off ∙ c.put_end.ensures.others s off }) in
-    ranges-written c.self.inside.live c.put_end-in-Some.new.live c.self.inside.numbers _ c.in-Some.slot c.args.number c.args.owner _ (Shows-view c.self.inside.live c.self.inside.numbers _ c.self.view_is)
+    let u : Updates c.self.inside.live c.put_end-in-Some.new.live c.in-Some.slot (Some c.args.points) =
+    (record {
+      changed = c.put_end-in-Some.ensures.put ∙
+          (ap (option_map (with_end_at true c.args.points.end.0 c.args.points.end.1)) c.put_end.ensures.put ∙
+          both-put (get c.self.inside.live c.in-Some.slot) c.args.points
+          (c.self.invariant.0.held c.args.owner c.args.number c.in-Some.slot
+          (slot-under c.self.inside.numbers c.args.owner c.args.number c.in-Some.slot c.in-Some.ensures)));
+      others = λ s off. c.put_end-in-Some.ensures.others s off ∙ c.put_end.ensures.others s off;
+    }) in
+    ranges-written c.self.inside.live c.put_end-in-Some.new.live c.self.inside.numbers _ c.in-Some.slot c.args.number c.args.owner _
+    (Shows-view c.self.inside.live c.self.inside.numbers _ c.self.view_is)
     c.self.invariant.0 (slot-under c.self.inside.numbers c.args.owner c.args.number c.in-Some.slot c.in-Some.ensures) u
 
 pub put_end-requires-clause-held : goal.put_end-requires-clause-held
-put_end-requires-clause-held c = c.self.invariant.0.held c.args.owner c.args.number c.in-Some.slot (slot-under c.self.inside.numbers c.args.owner c.args.number c.in-Some.slot c.in-Some.ensures)
+put_end-requires-clause-held c = c.self.invariant.0.held c.args.owner c.args.number c.in-Some.slot
+    (slot-under c.self.inside.numbers c.args.owner c.args.number c.in-Some.slot c.in-Some.ensures)
 
 pub invariant_of-self : goal.invariant_of-self
 invariant_of-self c =
-    let u : Updates c.self.inside.live c.put_end-in-Some.new.live c.in-Some.slot (Some c.args.points) = (record { changed = c.put_end-in-Some.ensures.put ∙ (ap (option_map (with_end_at true c.args.points.end.0 c.args.points.end.1)) c.put_end.ensures.put ∙ both-put (get c.self.inside.live c.in-Some.slot) c.args.points (c.self.invariant.0.held c.args.owner c.args.number c.in-Some.slot (slot-under c.self.inside.numbers c.args.owner c.args.number c.in-Some.slot c.in-Some.ensures))); others = λ s off. c.put_end-in-Some.ensures.others s off ∙ c.put_end.ensures.others s off }) in
-    let back = sym (written-back c.self.inside.ends.items c.put_end-in-Some.new.ends c.self.inside.ends.len (c.put_end-in-Some.auto.ends ∙ (c.put_end.auto.ends ∙ ap (length {A = RangeEnd}) c.as_mut_slice-ends.ensures.value)) (omega (arith, c.self.inside.ends.ok.0))) in (
+    let u : Updates c.self.inside.live c.put_end-in-Some.new.live c.in-Some.slot (Some c.args.points) =
+    (record {
+      changed = c.put_end-in-Some.ensures.put ∙
+          (ap (option_map (with_end_at true c.args.points.end.0 c.args.points.end.1)) c.put_end.ensures.put ∙
+          both-put (get c.self.inside.live c.in-Some.slot) c.args.points
+          (c.self.invariant.0.held c.args.owner c.args.number c.in-Some.slot
+          (slot-under c.self.inside.numbers c.args.owner c.args.number c.in-Some.slot c.in-Some.ensures)));
+      others = λ s off. c.put_end-in-Some.ensures.others s off ∙ c.put_end.ensures.others s off;
+    }) in
+    let back = sym (written-back c.self.inside.ends.items c.put_end-in-Some.new.ends c.self.inside.ends.len
+    (c.put_end-in-Some.auto.ends ∙ (c.put_end.auto.ends ∙ ap (length {A = RangeEnd}) c.as_mut_slice-ends.ensures.value))
+    (omega (arith, c.self.inside.ends.ok.0))) in (
       IsHeld-same c.self.inside.live c.put_end-in-Some.new.live c.self.inside.numbers c.self.inside.numbers
-          (HoldSame-written c.self.inside.live c.put_end-in-Some.new.live c.in-Some.slot c.args.points u (c.self.invariant.0.held c.args.owner c.args.number c.in-Some.slot (slot-under c.self.inside.numbers c.args.owner c.args.number c.in-Some.slot c.in-Some.ensures))) (λ o. refl) c.self.invariant.0,
+          (HoldSame-written c.self.inside.live c.put_end-in-Some.new.live c.in-Some.slot c.args.points u
+          (c.self.invariant.0.held c.args.owner c.args.number c.in-Some.slot
+          (slot-under c.self.inside.numbers c.args.owner c.args.number c.in-Some.slot c.in-Some.ensures))) (λ o. refl) c.self.invariant.0,
       subst (IsListed c.put_end-in-Some.new.live) back c.put_end-in-Some.ensures.listed,
       subst IsSortedByNode back c.put_end-in-Some.ensures.sorted,
     )

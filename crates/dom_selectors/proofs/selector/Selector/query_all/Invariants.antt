@@ -12,7 +12,9 @@ abbrev pub invariant-loop-at : goal.invariant-loop-at
 invariant-loop-at l = record {
   stands : ForSome l.at (StandsIn l.forest l.top);
   nodes : All (λ k. k < length l.forest.names) l.found.items;
-  all : map (name_at l.forest.names) l.found.items ++ filter (selector_matches l.forest.trees (selector_view l.self)) (from_node l.forest.trees (name_at l.forest.names l.top) (option_map (name_at l.forest.names) l.at)) ≡ query_all l.forest.trees (selector_view l.self) (name_at l.forest.names l.top);
+  all : map (name_at l.forest.names) l.found.items ++ filter (selector_matches l.forest.trees (selector_view l.self))
+      (from_node l.forest.trees (name_at l.forest.names l.top) (option_map (name_at l.forest.names) l.at)) ≡ query_all l.forest.trees
+      (selector_view l.self) (name_at l.forest.names l.top);
 }
 
 abbrev pub decreases-loop-at : goal.decreases-loop-at

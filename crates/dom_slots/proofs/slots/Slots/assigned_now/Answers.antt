@@ -9,7 +9,8 @@ use Rattle.dom_slots.proofs.Hosted.{host-named, host-node}
 use Rattle.dom_slots.proofs.slots.Slots.assigned_now.Goals as goal
 
 pub assigned_under-requires-clause-host_is_node : goal.assigned_under-requires-clause-host_is_node
-assigned_under-requires-clause-host_is_node c = host-node c.args.forest.now.names c.args.self.now.hosts c.requires.hosts c.root.result c.in-Some.host (sym c.host_of.ensures ∙ c.in-Some.is)
+assigned_under-requires-clause-host_is_node c =
+    host-node c.args.forest.now.names c.args.self.now.hosts c.requires.hosts c.root.result c.in-Some.host (sym c.host_of.ensures ∙ c.in-Some.is)
 
 pub returns-in-Some-clause-value : goal.returns-in-Some-clause-value
 returns-in-Some-clause-value c =
@@ -17,9 +18,12 @@ returns-in-Some-clause-value c =
     let hosts = c.args.self.now.hosts in
     let y = name_at f.names c.args.slot in
     let hosted : option_map (name_at f.names) c.host_of.result ≡ host_named f.names hosts (root_of f.trees y) =
-    ap (option_map (name_at f.names)) c.host_of.ensures ∙ (host-named f.names c.nodes_stand_once.ensures.distinct hosts c.requires.hosts c.root.result c.root.ensures.node ∙ ap (host_named f.names hosts) c.root.ensures.value) in
+    ap (option_map (name_at f.names)) c.host_of.ensures ∙
+    (host-named f.names c.nodes_stand_once.ensures.distinct hosts c.requires.hosts c.root.result c.root.ensures.node ∙
+    ap (host_named f.names hosts) c.root.ensures.value) in
     subst (λ xs. IfOk c.assigned_under.result (λ keys. map (name_at f.names) keys.items ≡ xs))
-    (ap (λ o. option_map_or (assigned_under (shadows f hosts) y) o []) (ap (option_map (name_at f.names)) (sym c.in-Some.is) ∙ hosted)) c.assigned_under.ensures.value
+    (ap (λ o. option_map_or (assigned_under (shadows f hosts) y) o []) (ap (option_map (name_at f.names)) (sym c.in-Some.is) ∙ hosted))
+    c.assigned_under.ensures.value
 
 pub returns-in-None-clause-value : goal.returns-in-None-clause-value
 returns-in-None-clause-value c =
@@ -27,5 +31,8 @@ returns-in-None-clause-value c =
     let hosts = c.args.self.now.hosts in
     let y = name_at f.names c.args.slot in
     let hosted : option_map (name_at f.names) c.host_of.result ≡ host_named f.names hosts (root_of f.trees y) =
-    ap (option_map (name_at f.names)) c.host_of.ensures ∙ (host-named f.names c.nodes_stand_once.ensures.distinct hosts c.requires.hosts c.root.result c.root.ensures.node ∙ ap (host_named f.names hosts) c.root.ensures.value) in
-    ap (map (name_at f.names)) c.new.ensures.items ∙ ap (λ o. option_map_or (assigned_under (shadows f hosts) y) o []) (ap (option_map (name_at f.names)) (sym c.in-None.is) ∙ hosted)
+    ap (option_map (name_at f.names)) c.host_of.ensures ∙
+    (host-named f.names c.nodes_stand_once.ensures.distinct hosts c.requires.hosts c.root.result c.root.ensures.node ∙
+    ap (host_named f.names hosts) c.root.ensures.value) in
+    ap (map (name_at f.names)) c.new.ensures.items ∙ ap (λ o. option_map_or (assigned_under (shadows f hosts) y) o [])
+    (ap (option_map (name_at f.names)) (sym c.in-None.is) ∙ hosted)

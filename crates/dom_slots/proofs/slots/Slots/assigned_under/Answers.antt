@@ -23,11 +23,14 @@ loop-at-init c =
     let h = name_at f.names c.args.host in
     let e = c.nodes_stand_once.ensures in
     let test : NodeName → Bool = is_assigned_at (shadows f c.args.self.now.hosts) (name_at f.names c.args.slot) in
-    let step = first_step f (Once-forest f e.once e.only) h (Has-forest f e.once c.args.host c.requires.host_is_node) c.first-at.result c.first-at.ensures.value c.first-at.ensures.node in
+    let step = first_step f (Once-forest f e.once e.only) h (Has-forest f e.once c.args.host c.requires.host_is_node) c.first-at.result
+    c.first-at.ensures.value c.first-at.ensures.node in
     record {
       child = step.1;
       nodes = subst (All (λ j. j < length f.names)) (sym c.new-keys.ensures.items) (λ k d i. absurd (omega arith));
-      left = ap (λ ks. map (name_at f.names) ks ++ filter test (from_item (children_of f.trees h) (option_map (name_at f.names) c.first-at.result))) c.new-keys.ensures.items ∙ ap (filter test) step.0;
+      left = ap (λ ks. map (name_at f.names) ks ++
+          filter test (from_item (children_of f.trees h) (option_map (name_at f.names) c.first-at.result))) c.new-keys.ensures.items ∙
+          ap (filter test) step.0;
     }
 
 pub looks_for-requires : goal.looks_for-requires
@@ -43,7 +46,8 @@ loop-at-smaller c =
     let e = c.nodes_stand_once.ensures in
     let k = c.in-Some.child in
     let child = c.loop-at.invariant.child k c.in-Some.is in
-    let step = next_step f (Once-forest f e.once e.only) h (Has-forest f e.once c.args.host c.requires.host_is_node) k child (Has-forest f e.once k child.node) c.next-at.result c.next-at.ensures.value c.next-at.ensures.node in
+    let step = next_step f (Once-forest f e.once e.only) h (Has-forest f e.once c.args.host c.requires.host_is_node) k child
+    (Has-forest f e.once k child.node) c.next-at.result c.next-at.ensures.value c.next-at.ensures.node in
     length-next f (children_of f.trees h) k c.loop-at.at c.next-at.result c.in-Some.is step.0
 
 pub loop-at-preserved : goal.loop-at-preserved
@@ -53,12 +57,14 @@ loop-at-preserved c =
     let e = c.nodes_stand_once.ensures in
     let k = c.in-Some.child in
     let child = c.loop-at.invariant.child k c.in-Some.is in
-    let step = next_step f (Once-forest f e.once e.only) h (Has-forest f e.once c.args.host c.requires.host_is_node) k child (Has-forest f e.once k child.node) c.next-at.result c.next-at.ensures.value c.next-at.ensures.node in
+    let step = next_step f (Once-forest f e.once e.only) h (Has-forest f e.once c.args.host c.requires.host_is_node) k child
+    (Has-forest f e.once k child.node) c.next-at.result c.next-at.ensures.value c.next-at.ensures.node in
     let test : NodeName → Bool = is_assigned_at (shadows f c.args.self.now.hosts) (name_at f.names c.args.slot) in
     let all = filter test (children_of f.trees h) in
     let xs = items_after name_eq (name_at f.names k) (children_of f.trees h) in
     let left : map (name_at f.names) c.loop-at.keys.items ++ filter test (name_at f.names k ∷ xs) ≡ all =
-    ap (λ o. map (name_at f.names) c.loop-at.keys.items ++ filter test (from_item (children_of f.trees h) (option_map (name_at f.names) o))) (sym c.in-Some.is) ∙ c.loop-at.invariant.left in
+    ap (λ o. map (name_at f.names) c.loop-at.keys.items ++ filter test (from_item (children_of f.trees h) (option_map (name_at f.names) o)))
+    (sym c.in-Some.is) ∙ c.loop-at.invariant.left in
     let new = c.if-looks_for.keys.items in
     let s = shadows f c.args.self.now.hosts in
     let y = name_at f.names c.args.slot in
@@ -69,8 +75,10 @@ loop-at-preserved c =
     ∙ (ap (λ b. b && looks_for own n) c.if-not-is_first.ensures ∙ sym (assigned-first s (Once-forest f e.once e.only) h y (name_at f.names k) child.parent)) in
     let is : All (λ j. j < length f.names) new × (map (name_at f.names) new ++ filter test xs ≡ all) = elim c.if-looks_for.branch [
       | then-looks_for+in_ok-push w ↦
-          collect-yes f.names test c.loop-at.keys.items k child.node xs all c.loop-at.invariant.nodes left new (ap (λ v. v.items) w.keys-is ∙ w.in_ok-push.ensures.items) (sym (w.if-looks_for.ensures ∙ tested))
-      | else-looks_for w ↦ collect-no f.names test c.loop-at.keys.items k child.node xs all c.loop-at.invariant.nodes left new (ap (λ v. v.items) w.keys-is) (sym (w.if-looks_for.ensures ∙ tested))
+          collect-yes f.names test c.loop-at.keys.items k child.node xs all c.loop-at.invariant.nodes left new
+          (ap (λ v. v.items) w.keys-is ∙ w.in_ok-push.ensures.items) (sym (w.if-looks_for.ensures ∙ tested))
+      | else-looks_for w ↦ collect-no f.names test c.loop-at.keys.items k child.node xs all c.loop-at.invariant.nodes left new
+          (ap (λ v. v.items) w.keys-is) (sym (w.if-looks_for.ensures ∙ tested))
     ] in
     record { child = step.1; nodes = is.0; left = ap (λ ys. map (name_at f.names) new ++ filter test ys) (sym step.0) ∙ is.1 }
 
@@ -80,7 +88,8 @@ returns-clause-value c =
     let h = name_at f.names c.args.host in
     let test : NodeName → Bool = is_assigned_at (shadows f c.args.self.now.hosts) (name_at f.names c.args.slot) in
     sym (append-nil (map (name_at f.names) c.loop-at.keys.items))
-    ∙ (ap (λ o. map (name_at f.names) c.loop-at.keys.items ++ filter test (from_item (children_of f.trees h) (option_map (name_at f.names) o))) (sym c.in_default.is) ∙ c.loop-at.invariant.left)
+    ∙ (ap (λ o. map (name_at f.names) c.loop-at.keys.items ++ filter test (from_item (children_of f.trees h) (option_map (name_at f.names) o)))
+    (sym c.in_default.is) ∙ c.loop-at.invariant.left)
 
 pub returns-then-not-is_first-clause-value : goal.returns-then-not-is_first-clause-value
 returns-then-not-is_first-clause-value c =

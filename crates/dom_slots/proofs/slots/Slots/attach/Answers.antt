@@ -16,7 +16,8 @@ use Rattle.dom_slots.proofs.Attaching.{same_assigned, bare_unassigned}
 use Rattle.dom_slots.proofs.slots.Slots.attach.Goals as goal
 
 -- one host more
-hosts_more : (names : List NodeName) (hosts : List ShadowHost) (h : ShadowHost) → HostsAreNodes names hosts → h.host < length names → h.root < length names → HostsAreNodes names (hosts ++ h ∷ [])
+hosts_more : (names : List NodeName) (hosts : List ShadowHost) (h : ShadowHost) → HostsAreNodes names hosts → h.host < length names →
+    h.root < length names → HostsAreNodes names (hosts ++ h ∷ [])
 hosts_more names [] h nodes host root = (host, root, tt)
 hosts_more names (g ∷ hosts) h nodes host root = (nodes.0, nodes.1, hosts_more names hosts h nodes.2 host root)
 
@@ -28,7 +29,8 @@ invariant_of-self-2 c =
     root-absent c.args.host es (ap (λ (s : SlotsNow). root_of_host s.hosts c.args.host) c.self.view_is ∙ c.requires.new_host) in
     let roots : c.reserve.new.self.entries ≡ by_root es = c.reserve.ensures.entries ∙ c.self.invariant in
     let root_absent : lookup (nat_eq c.args.root) c.reserve.new.self.entries ≡ None =
-    ap (lookup (nat_eq c.args.root)) roots ∙ (lookup-host c.args.root es ∙ (ap (λ (s : SlotsNow). host_of_root s.hosts c.args.root) c.self.view_is ∙ c.requires.new_root)) in
+    ap (lookup (nat_eq c.args.root)) roots ∙
+    (lookup-host c.args.root es ∙ (ap (λ (s : SlotsNow). host_of_root s.hosts c.args.root) c.self.view_is ∙ c.requires.new_root)) in
     c.in_ok-insert-2.ensures.entries ∙ (insert_entry-new nat_eq c.reserve.new.self c.args.root c.args.host root_absent
     ∙ (ap (λ xs. xs ++ (c.args.root, c.args.host) ∷ []) roots
     ∙ (sym (map-append (λ (e : ℕ × Attached). (e.1.root, e.0)) es ((c.args.host, attached) ∷ []))
@@ -53,7 +55,8 @@ returns-clause-slots c =
     let once = Once-forest f stands.once stands.only in
     let table : IsTableOf f (old.hosts ++ h ∷ []) old.table = record {
       nodes = slots.table.nodes;
-      lists = λ k node. slots.table.lists k node ∙ same_assigned f.names f.trees old.hosts h bare (λ y is. bare_unassigned f once old.hosts (name_at f.names c.args.root) bare y is) (name_at f.names k);
+      lists = λ k node. slots.table.lists k node ∙ same_assigned f.names f.trees old.hosts h bare
+          (λ y is. bare_unassigned f once old.hosts (name_at f.names c.args.root) bare y is) (name_at f.names k);
       beyond = slots.table.beyond;
     } in
     record {

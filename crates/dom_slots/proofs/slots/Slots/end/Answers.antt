@@ -1,4 +1,5 @@
-use Rattle.std.proofs.Common.{◌≡◌, ℕ, Bool, true, Option, Some, Result, Ok, Err, List, [], ◌∷◌, Vec, Global, length, map, filter, refl, sym, ap, subst, ◌∙◌, arith}
+use Rattle.std.proofs.Common.{◌≡◌, ℕ, Bool, true, Option, Some, Result, Ok, Err, List, [], ◌∷◌, Vec, Global, length, map, filter, refl, sym, ap}
+use Rattle.std.proofs.Common.{subst, ◌∙◌, arith}
 use Rattle.std.specs.Prelude.{IfOk}
 use Rattle.std.specs.Option.{option_map}
 use Rattle.std.proofs.lemmas.Option.{same_Some}
@@ -44,7 +45,8 @@ both (Ok x) P Q p q = (p, q)
 both (Err e) P Q p q = tt
 
 -- what is renewed at the end of a step that was begun
-module _ (was : Trees) (f : NamedTrees) (s : SlotsNow) (b : BegunStep) (h : IsEndOf was f s b) (stands : StandsOnce f) {E : Type 0} (result : Result (Vec ℕ Global) E) (new : SlotsNow) where
+module _ (was : Trees) (f : NamedTrees) (s : SlotsNow) (b : BegunStep) (h : IsEndOf was f s b) (stands : StandsOnce f) {E : Type 0}
+    (result : Result (Vec ℕ Global) E) (new : SlotsNow) where
   abbrev p : NodeName → Bool
   p = is_changed_at (shadow_trees f.names was s.hosts) (shadows f s.hosts)
 
@@ -63,15 +65,20 @@ module _ (was : Trees) (f : NamedTrees) (s : SlotsNow) (b : BegunStep) (h : IsEn
   StillButFor hs table e = MovesNone f hs e.step → IsButFor f hs table e.slot e.step
 
   -- by what is held
-  held : (R : List ShadowHost → SlotTable → BegunStep → Vec ℕ Global → Type 0) (Q : List ShadowHost → SlotTable → BegunStep → Type 0) (hosts : List ShadowHost) (table : SlotTable) (d : BegunStep) → hosts ≡ s.hosts → table ≡ s.table → d ≡ b
+  held : (R : List ShadowHost → SlotTable → BegunStep → Vec ℕ Global → Type 0) (Q : List ShadowHost → SlotTable → BegunStep → Type 0)
+      (hosts : List ShadowHost) (table : SlotTable) (d : BegunStep) → hosts ≡ s.hosts → table ≡ s.table → d ≡ b
       → (Q hosts table d → AreRenewed f hosts p table [] [] table [] → IfOk result (R hosts table d)) → Q s.hosts s.table b → IfOk result (R s.hosts s.table b)
   held R Q hosts table d hosts_are table_is same told given =
-      let known : Q hosts table d = subst (λ hs. Q hs table d) (sym hosts_are) (subst (λ t. Q s.hosts t d) (sym table_is) (subst (Q s.hosts s.table) (sym same) given)) in
-      let start = subst (λ hs. AreRenewed f hs p table [] [] table []) (sym hosts_are) (subst (λ t. AreRenewed f s.hosts p t [] [] t []) (sym table_is) (none-renewed was f s b h stands)) in
-      subst (λ e. IfOk result (R s.hosts s.table e)) same (subst (λ t. IfOk result (R s.hosts t d)) table_is (subst (λ hs. IfOk result (R hs table d)) hosts_are (told known start)))
+      let known : Q hosts table d = subst (λ hs. Q hs table d) (sym hosts_are)
+      (subst (λ t. Q s.hosts t d) (sym table_is) (subst (Q s.hosts s.table) (sym same) given)) in
+      let start = subst (λ hs. AreRenewed f hs p table [] [] table []) (sym hosts_are)
+      (subst (λ t. AreRenewed f s.hosts p t [] [] t []) (sym table_is) (none-renewed was f s b h stands)) in
+      subst (λ e. IfOk result (R s.hosts s.table e)) same
+      (subst (λ t. IfOk result (R s.hosts t d)) table_is (subst (λ hs. IfOk result (R hs table d)) hosts_are (told known start)))
 
   -- where the table is that of the trees now, these are its slots
-  slots_are : (hosts : List ShadowHost) → hosts ≡ s.hosts → IfOk result (λ keys. IsTableOf f s.hosts new.table) → IfOk result (λ keys. new.hosts ≡ hosts) → IfOk result (λ keys. AreSlotsOf f new)
+  slots_are : (hosts : List ShadowHost) → hosts ≡ s.hosts → IfOk result (λ keys. IsTableOf f s.hosts new.table) →
+      IfOk result (λ keys. new.hosts ≡ hosts) → IfOk result (λ keys. AreSlotsOf f new)
   slots_are hosts hosts_are table stay =
       IfOk-weaker result (λ keys. IsTableOf f s.hosts new.table × (new.hosts ≡ hosts)) (λ keys. AreSlotsOf f new)
       (λ keys w.
@@ -96,7 +103,8 @@ module _ (c : After-moved_signals) where
 
   module _ (was : Trees) (b : BegunStep) (h : IsEndOf was c.args.forest.now c.args.self.now b) where
     same : begun_in c.in-Some.begun ≡ b
-    same = begun-same c.take.result c.in-Some.begun b c.in-Some.is (ap (option_map begun_in) c.take.ensures.value ∙ (ap (λ (t : SlotsNow). t.begun) c.self.view_is ∙ h.begun))
+    same = begun-same c.take.result c.in-Some.begun b c.in-Some.is
+        (ap (option_map begun_in) c.take.ensures.value ∙ (ap (λ (t : SlotsNow). t.begun) c.self.view_is ∙ h.begun))
 
     apart : is_apart (shadows f s.hosts) (name_at f.names (step_node b.step)) (option_map (name_at f.names) b.left) ≡ true
     apart = begun-apart f (hosts_in c.self.inside.hosts.entries) s.hosts (begun_in c.in-Some.begun) b hosts_are same c.if-is_apart.ensures
@@ -105,12 +113,15 @@ module _ (c : After-moved_signals) where
     renewed =
         let result = c.moved_signals.result in
         let new = c.moved_signals.new.self in
-        held was f s b h stands result new (Own was f s b h stands result new) (ButFor was f s b h stands result new) (hosts_in c.self.inside.hosts.entries) c.self.inside.table (begun_in c.in-Some.begun) hosts_are
-        (ap (λ (t : SlotsNow). t.table) c.self.view_is) same (c.moved_signals.ensures.renewed (is_changed_at (shadow_trees f.names was s.hosts) (shadows f s.hosts)))
+        held was f s b h stands result new (Own was f s b h stands result new) (ButFor was f s b h stands result new)
+        (hosts_in c.self.inside.hosts.entries) c.self.inside.table (begun_in c.in-Some.begun) hosts_are
+        (ap (λ (t : SlotsNow). t.table) c.self.view_is) same
+        (c.moved_signals.ensures.renewed (is_changed_at (shadow_trees f.names was s.hosts) (shadows f s.hosts)))
         (apart-but-for was f s b h stands apart c.nodes_stand_once.ensures.distinct)
 
 pub returns-in-Some-clause-value : goal.returns-in-Some-clause-value
-returns-in-Some-clause-value c = λ was b h. IfOk-weaker c.moved_signals.result _ _ (λ keys r. apart-keys was (f c) (s c) b h (stands c) (apart c was b h) c.moved_signals.new.self.table keys.items r) (renewed c was b h)
+returns-in-Some-clause-value c = λ was b h. IfOk-weaker c.moved_signals.result _ _
+    (λ keys r. apart-keys was (f c) (s c) b h (stands c) (apart c was b h) c.moved_signals.new.self.table keys.items r) (renewed c was b h)
 
 pub returns-in-Some-clause-nodes : goal.returns-in-Some-clause-nodes
 returns-in-Some-clause-nodes c = IfOk-weaker c.moved_signals.result _ _ (λ keys r. r.keys_nodes) (renewed c c.requires.0 c.requires.1 c.requires.2)
@@ -122,7 +133,9 @@ returns-in-Some-clause-slots c =
     let h = c.requires.2 in
     let new = c.moved_signals.new.self in
     slots_are was (f c) (s c) b h (stands c) c.moved_signals.result new (hosts_in c.self.inside.hosts.entries) (hosts_are c)
-    (IfOk-weaker c.moved_signals.result _ (λ keys. IsTableOf (f c) c.args.self.now.hosts new.table) (λ keys r. apart-table was (f c) (s c) b h (stands c) (apart c was b h) new.table keys.items r) (renewed c was b h)) c.moved_signals.ensures.hosts
+    (IfOk-weaker c.moved_signals.result _ (λ keys. IsTableOf (f c) c.args.self.now.hosts new.table)
+    (λ keys r. apart-table was (f c) (s c) b h (stands c) (apart c was b h) new.table keys.items r) (renewed c was b h))
+    c.moved_signals.ensures.hosts
 
 -- ---- a step inside of one
 
@@ -140,24 +153,31 @@ module _ (c : After-inside_signals) where
   hosts_in_are = ap (λ (t : SlotsNow). t.hosts) c.self.view_is
 
   inside_renewed : (was : Trees) (b : BegunStep) (h : IsEndOf was c.args.forest.now c.args.self.now b)
-      → IfOk c.inside_signals.result (Inside was f_in s_in b h stands_in c.inside_signals.result c.inside_signals.new.self c.args.self.now.hosts c.args.self.now.table b)
+      → IfOk c.inside_signals.result (Inside was f_in s_in b h stands_in c.inside_signals.result c.inside_signals.new.self c.args.self.now.hosts
+      c.args.self.now.table b)
   inside_renewed was b h =
       let result = c.inside_signals.result in
       let new = c.inside_signals.new.self in
-      held was f_in s_in b h stands_in result new (Inside was f_in s_in b h stands_in result new) (StillButFor was f_in s_in b h stands_in result new) (hosts_in c.self.inside.hosts.entries) c.self.inside.table (begun_in c.in-Some.begun) hosts_in_are
+      held was f_in s_in b h stands_in result new (Inside was f_in s_in b h stands_in result new)
+      (StillButFor was f_in s_in b h stands_in result new) (hosts_in c.self.inside.hosts.entries) c.self.inside.table
+      (begun_in c.in-Some.begun) hosts_in_are
       (ap (λ (t : SlotsNow). t.table) c.self.view_is)
-      (begun-same c.take.result c.in-Some.begun b c.in-Some.is (ap (option_map begun_in) c.take.ensures.value ∙ (ap (λ (t : SlotsNow). t.begun) c.self.view_is ∙ h.begun)))
-      (c.inside_signals.ensures.renewed (is_changed_at (shadow_trees f_in.names was s_in.hosts) (shadows f_in s_in.hosts))) (inside-but-for was f_in s_in b h stands_in c.nodes_stand_once.ensures.distinct)
+      (begun-same c.take.result c.in-Some.begun b c.in-Some.is
+      (ap (option_map begun_in) c.take.ensures.value ∙ (ap (λ (t : SlotsNow). t.begun) c.self.view_is ∙ h.begun)))
+      (c.inside_signals.ensures.renewed (is_changed_at (shadow_trees f_in.names was s_in.hosts) (shadows f_in s_in.hosts)))
+      (inside-but-for was f_in s_in b h stands_in c.nodes_stand_once.ensures.distinct)
 
 pub returns-in-Some-2-clause-value : goal.returns-in-Some-2-clause-value
-returns-in-Some-2-clause-value c = λ was b h. IfOk-weaker c.inside_signals.result _ _ (λ keys r. inside-keys was (f_in c) (s_in c) b h (stands_in c) c.inside_signals.new.self.table keys.items r) (inside_renewed c was b h)
+returns-in-Some-2-clause-value c = λ was b h. IfOk-weaker c.inside_signals.result _ _
+    (λ keys r. inside-keys was (f_in c) (s_in c) b h (stands_in c) c.inside_signals.new.self.table keys.items r) (inside_renewed c was b h)
 
 pub returns-in-Some-2-clause-nodes : goal.returns-in-Some-2-clause-nodes
 returns-in-Some-2-clause-nodes c =
     let was = c.requires.0 in
     let b = c.requires.1 in
     let h = c.requires.2 in
-    IfOk-weaker c.inside_signals.result _ _ (λ keys r. inside-nodes was (f_in c) (s_in c) b h (stands_in c) c.inside_signals.new.self.table keys.items r) (inside_renewed c was b h)
+    IfOk-weaker c.inside_signals.result _ _
+    (λ keys r. inside-nodes was (f_in c) (s_in c) b h (stands_in c) c.inside_signals.new.self.table keys.items r) (inside_renewed c was b h)
 
 pub returns-in-Some-2-clause-slots : goal.returns-in-Some-2-clause-slots
 returns-in-Some-2-clause-slots c =
@@ -166,13 +186,17 @@ returns-in-Some-2-clause-slots c =
     let h = c.requires.2 in
     let new = c.inside_signals.new.self in
     slots_are was (f_in c) (s_in c) b h (stands_in c) c.inside_signals.result new (hosts_in c.self.inside.hosts.entries) (hosts_in_are c)
-    (IfOk-weaker c.inside_signals.result _ (λ keys. IsTableOf (f_in c) c.args.self.now.hosts new.table) (λ keys r. inside-table was (f_in c) (s_in c) b h (stands_in c) new.table keys.items r) (inside_renewed c was b h)) c.inside_signals.ensures.hosts
+    (IfOk-weaker c.inside_signals.result _ (λ keys. IsTableOf (f_in c) c.args.self.now.hosts new.table)
+    (λ keys r. inside-table was (f_in c) (s_in c) b h (stands_in c) new.table keys.items r) (inside_renewed c was b h))
+    c.inside_signals.ensures.hosts
 
 pub returns-then-is_empty-clause-value : goal.returns-then-is_empty-clause-value
 returns-then-is_empty-clause-value c =
     λ was b h.
     let f = c.args.forest.now in
     let none : length c.self.inside.hosts.entries ≡ 0 = c.if-is_empty.ensures.0 refl in
-    let hosts_are : c.args.self.now.hosts ≡ [] = sym (ap (λ (t : SlotsNow). t.hosts) c.self.view_is) ∙ ap hosts_in (length-zero c.self.inside.hosts.entries none) in
+    let hosts_are : c.args.self.now.hosts ≡ [] =
+    sym (ap (λ (t : SlotsNow). t.hosts) c.self.view_is) ∙ ap hosts_in (length-zero c.self.inside.hosts.entries none) in
     ap (map (name_at f.names)) c.new.ensures.items
-    ∙ (hostless-signals f.names was f.trees b.step b.left ∙ ap (λ hs. step_signals f.names (shadow_trees f.names was hs) (shadow_trees f.names f.trees hs) b.step b.left) (sym hosts_are))
+    ∙ (hostless-signals f.names was f.trees b.step b.left ∙
+    ap (λ hs. step_signals f.names (shadow_trees f.names was hs) (shadow_trees f.names f.trees hs) b.step b.left) (sym hosts_are))

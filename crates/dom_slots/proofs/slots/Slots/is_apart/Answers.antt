@@ -20,14 +20,19 @@ returns-then-is_outside c =
     let hosted : option_map (name_at f.names) c.host_of.result ≡ host_named f.names hosts x =
     ap (option_map (name_at f.names)) c.host_of.ensures
     ∙ (ap (λ k. option_map (name_at f.names) (host_of_root hosts k)) c.node-node.ensures
-    ∙ host-named f.names c.nodes_stand_once.ensures.distinct hosts c.requires.hosts (step_node c.args.step) (node-within f.names c.args.step c.requires.nodes)) in
+    ∙ host-named f.names c.nodes_stand_once.ensures.distinct hosts c.requires.hosts (step_node c.args.step)
+    (node-within f.names c.args.step c.requires.nodes)) in
     let last = is_outside (shadows f hosts) (parent_of f.trees x) in
     let up : c.is_outside-then-is_outside.result ≡ last =
-    c.is_outside-then-is_outside.ensures ∙ (ap (is_outside (shadows f hosts)) c.parent.ensures.value ∙ ap (λ k. is_outside (shadows f hosts) (parent_of f.trees (name_at f.names k))) c.node-node.ensures) in
+    c.is_outside-then-is_outside.ensures ∙
+    (ap (is_outside (shadows f hosts)) c.parent.ensures.value ∙ ap (λ k. is_outside (shadows f hosts) (parent_of f.trees (name_at f.names k)))
+    c.node-node.ensures) in
     elim c.if-is_none.branch [
       | then-is_none w ↦
-          let first : is_none (host_named f.names hosts x) ≡ true = sym (is_none-named (name_at f.names) c.host_of.result _ c.is_none.result c.is_none.ensures hosted) ∙ w.if-is_none.true in
-          let second : is_outside (shadows f hosts) (option_map (name_at f.names) c.args.left) ≡ true = sym w.is_outside.ensures ∙ (sym w.value-is ∙ c.if-is_outside.true) in
+          let first : is_none (host_named f.names hosts x) ≡ true =
+          sym (is_none-named (name_at f.names) c.host_of.result _ c.is_none.result c.is_none.ensures hosted) ∙ w.if-is_none.true in
+          let second : is_outside (shadows f hosts) (option_map (name_at f.names) c.args.left) ≡ true =
+          sym w.is_outside.ensures ∙ (sym w.value-is ∙ c.if-is_outside.true) in
           up ∙ all-three (is_none (host_named f.names hosts x)) (is_outside (shadows f hosts) (option_map (name_at f.names) c.args.left)) last first second
       | else-is_none w ↦ absurd (true≢false (sym c.if-is_outside.true ∙ (w.value-is ∙ w.if-is_none.false)))
     ]
@@ -40,12 +45,14 @@ returns-else-is_outside c =
     let hosted : option_map (name_at f.names) c.host_of.result ≡ host_named f.names hosts x =
     ap (option_map (name_at f.names)) c.host_of.ensures
     ∙ (ap (λ k. option_map (name_at f.names) (host_of_root hosts k)) c.node-node.ensures
-    ∙ host-named f.names c.nodes_stand_once.ensures.distinct hosts c.requires.hosts (step_node c.args.step) (node-within f.names c.args.step c.requires.nodes)) in
+    ∙ host-named f.names c.nodes_stand_once.ensures.distinct hosts c.requires.hosts (step_node c.args.step)
+    (node-within f.names c.args.step c.requires.nodes)) in
     let last = is_outside (shadows f hosts) (parent_of f.trees x) in
     elim c.if-is_none.branch [
       | then-is_none w ↦
           c.if-is_outside.false
-          ∙ second-fails (is_none (host_named f.names hosts x)) (is_outside (shadows f hosts) (option_map (name_at f.names) c.args.left)) last (sym w.is_outside.ensures ∙ (sym w.value-is ∙ c.if-is_outside.false))
+          ∙ second-fails (is_none (host_named f.names hosts x)) (is_outside (shadows f hosts) (option_map (name_at f.names) c.args.left)) last
+          (sym w.is_outside.ensures ∙ (sym w.value-is ∙ c.if-is_outside.false))
       | else-is_none w ↦
           c.if-is_outside.false
           ∙ ap (λ b. b && (is_outside (shadows f hosts) (option_map (name_at f.names) c.args.left) && last))

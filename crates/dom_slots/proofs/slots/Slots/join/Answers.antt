@@ -34,14 +34,20 @@ returns-clause-renewed c =
     let under = c.is_of_parent.ensures c.if-not-is_of_parent.false in
     let at = Has-forest f e.once node c.requires.node in
     let own = sym c.requires.own ∙ ap (option_map (name_at f.names)) c.in-Some.is in
-    let is = c.next_looking-before.ensures.value ∙ ap (λ a. first_of (filter (λ z. looks_for a (node_in f.trees z)) (items_after name_eq x (siblings f.trees x)))) c.slot_name.ensures in
-    let names = joined f once e.distinct s.hosts node k under.0 at under.2 under.1 own list (r.nodes k) (right k c.in-Some.is) before c.next_looking-before.ensures.node is in
-    let within = joined-inside f once e.distinct s.hosts node k under.0 at under.2 under.1 own list (r.nodes k) (right k c.in-Some.is) before c.next_looking-before.ensures.node is c.requires.node in
-    let off = not-listed f once e.distinct s.hosts node k under.0 at under.2 under.1 own list (r.nodes k) (right k c.in-Some.is) before c.next_looking-before.ensures.node is in
+    let is = c.next_looking-before.ensures.value ∙
+    ap (λ a. first_of (filter (λ z. looks_for a (node_in f.trees z)) (items_after name_eq x (siblings f.trees x)))) c.slot_name.ensures in
+    let names = joined f once e.distinct s.hosts node k under.0 at under.2 under.1 own list (r.nodes k) (right k c.in-Some.is) before
+    c.next_looking-before.ensures.node is in
+    let within = joined-inside f once e.distinct s.hosts node k under.0 at under.2 under.1 own list (r.nodes k) (right k c.in-Some.is) before
+    c.next_looking-before.ensures.node is c.requires.node in
+    let off = not-listed f once e.distinct s.hosts node k under.0 at under.2 under.1 own list (r.nodes k) (right k c.in-Some.is) before
+    c.next_looking-before.ensures.node is in
     let differs : true ≡ not (list_eq nat_eq list new) = inserted-differs node before list off in
     let lists = λ (j : ℕ). c.in_ok-put.ensures j ∙ ap (λ (t : SlotTable). if nat_eq k j then insert_before (list_of t j) node before else list_of t j) tables in
     on_ok_weaker c.add_once.result
     (λ (told_is : c.add_once.new.signals.items ≡ append_once nat_eq keys k).
-    subst (λ o. AreRenewed f s.hosts p old (done ++ option_to_list (option_map (name_at f.names) o)) (told ++ filter p (option_to_list (option_map (name_at f.names) o))) c.put.new.self c.add_once.new.signals.items) (sym c.in-Some.is)
-    (renewed-more f e.distinct s.hosts p old done told s.table keys r k (c.requires.slot k c.in-Some.is) new names within c.put.new.self (at-slot (λ xs. insert_before xs node before) k s.table c.put.new.self lists) c.add_once.new.signals.items
+    subst (λ o. AreRenewed f s.hosts p old (done ++ option_to_list (option_map (name_at f.names) o))
+    (told ++ filter p (option_to_list (option_map (name_at f.names) o))) c.put.new.self c.add_once.new.signals.items) (sym c.in-Some.is)
+    (renewed-more f e.distinct s.hosts p old done told s.table keys r k (c.requires.slot k c.in-Some.is) new names within c.put.new.self
+    (at-slot (λ xs. insert_before xs node before) k s.table c.put.new.self lists) c.add_once.new.signals.items
     (told_is ∙ ap (λ b. if b then append_once nat_eq keys k else keys) differs))) c.add_once.ensures

@@ -24,8 +24,10 @@ returns-then-eq-clause-renewed c =
     let own = c.slot_now-slot.ensures.value ∙ ap (λ k. slot_at (shadows f s.hosts) (name_at f.names k)) c.node-node.ensures in
     let same : c.slot_now-slot.result ≡ slot = same-option c.slot_now-slot.result slot (sym c.eq.ensures ∙ c.if-eq.true) in
     let still = sym c.is_move.ensures ∙ c.if-is_move.false in
-    subst (λ keys. AreRenewed f s.hosts p s.table (own_slots f s.hosts slot step) (filter p (own_slots f s.hosts slot step)) s.table keys) (sym c.new.ensures.items)
-    (both-stay f c.nodes_stand_once.ensures.distinct s.hosts step (node-within f.names step c.requires.nodes) slot c.slot_now-slot.result c.slot_now-slot.ensures.node own c.requires.slot p s.table
+    subst (λ keys. AreRenewed f s.hosts p s.table (own_slots f s.hosts slot step) (filter p (own_slots f s.hosts slot step)) s.table keys)
+    (sym c.new.ensures.items)
+    (both-stay f c.nodes_stand_once.ensures.distinct s.hosts step (node-within f.names step c.requires.nodes) slot c.slot_now-slot.result
+    c.slot_now-slot.ensures.node own c.requires.slot p s.table
     (but.stays still (ap (option_map (name_at f.names)) (sym same) ∙ own)) start)
 
 pub returns-clause-renewed : goal.returns-clause-renewed
@@ -49,12 +51,16 @@ returns-clause-renewed c =
     let left = c.leave.new.self.table in
     let first : AreRenewed f s.hosts p s.table mine (filter p mine) left c.leave.new.signals.items =
     c.in_ok-leave.ensures.renewed p s.table [] []
-    (λ k was. ap (λ n. map name (without n (list_of s.table k))) node_is ∙ leaves-right f distinct s.hosts step node slot new c.slot_now-slot.ensures.node own s.table but start.nodes apart c.requires.slot k was)
+    (λ k was. ap (λ n. map name (without n (list_of s.table k))) node_is ∙ leaves-right f distinct s.hosts step node slot new
+    c.slot_now-slot.ensures.node own s.table but start.nodes apart c.requires.slot k was)
     (subst (AreRenewed f s.hosts p s.table [] [] s.table) (sym c.new-signals.ensures.items) start) in
     let right : (k : ℕ) → new ≡ Some k → map name (list_of left k) ≡ names_but (name c.node-node.result) (assigned_at (shadows f hs) (name k)) =
     λ k now.
-    joins-right f distinct s.hosts step node slot new c.slot_now-slot.ensures.node own s.table but start.nodes apart c.requires.slot p (filter p mine) left c.leave.new.signals.items first k now
-    ∙ (ap (λ n. names_but (name n) (assigned_at (shadows f s.hosts) (name k))) (sym node_is) ∙ ap (λ hosts. names_but (name c.node-node.result) (assigned_at (shadows f hosts) (name k))) (sym same)) in
-    let second = c.in_ok-join.ensures.renewed p s.table mine (filter p mine) right (subst (λ hosts. AreRenewed f hosts p s.table mine (filter p mine) left c.leave.new.signals.items) (sym same) first) in
+    joins-right f distinct s.hosts step node slot new c.slot_now-slot.ensures.node own s.table but start.nodes apart c.requires.slot p
+    (filter p mine) left c.leave.new.signals.items first k now
+    ∙ (ap (λ n. names_but (name n) (assigned_at (shadows f s.hosts) (name k))) (sym node_is) ∙
+    ap (λ hosts. names_but (name c.node-node.result) (assigned_at (shadows f hosts) (name k))) (sym same)) in
+    let second = c.in_ok-join.ensures.renewed p s.table mine (filter p mine) right
+    (subst (λ hosts. AreRenewed f hosts p s.table mine (filter p mine) left c.leave.new.signals.items) (sym same) first) in
     both-slots f distinct s.hosts step node slot new c.slot_now-slot.ensures.node own p s.table c.join.new.self.table c.join.new.signals.items
     (subst (λ hosts. AreRenewed f hosts p s.table (mine ++ its) (filter p mine ++ filter p its) c.join.new.self.table c.join.new.signals.items) same second)

@@ -23,12 +23,15 @@ returns-clause-renewed c =
     let first : AreRenewed f hosts p old a (filter p a) c.renew.new.self.table c.renew.new.signals.items =
     c.in_ok-renew.ensures.renewed p old [] [] (subst (AreRenewed f hosts p old [] [] c.args.self.now.table) (sym c.new-signals.ensures.items) r) in
     let second : AreRenewed f c.renew.new.self.hosts p old (a ++ b) (filter p a ++ filter p b) table keys =
-    c.in_ok-renew-2.ensures.renewed p old a (filter p a) (subst (λ hs. AreRenewed f hs p old a (filter p a) c.renew.new.self.table c.renew.new.signals.items) (sym c.in_ok-renew.ensures.hosts) first) in
+    c.in_ok-renew-2.ensures.renewed p old a (filter p a)
+    (subst (λ hs. AreRenewed f hs p old a (filter p a) c.renew.new.self.table c.renew.new.signals.items) (sym c.in_ok-renew.ensures.hosts)
+    first) in
     let both : AreRenewed f hosts p old (a ++ b) (filter p (a ++ b)) table keys =
     subst (λ hs. AreRenewed f hs p old (a ++ b) (filter p (a ++ b)) table keys) c.in_ok-renew.ensures.hosts
     (subst (λ xs. AreRenewed f c.renew.new.self.hosts p old (a ++ b) xs table keys) (sym (filter-append p a b)) second) in
     let own : a ++ b ≡ option_to_list (option_map name c.args.begun.slot) ++ option_to_list (slot_at (shadows f hosts) (name (step_node c.args.begun.step))) =
     ap (λ xs. xs ++ b) (ap (map name) (listed c.args.begun.slot c.as_slice.result.now c.as_slice.ensures) ∙ listed-named f.names c.args.begun.slot)
-    ∙ ap (λ xs. option_to_list (option_map name c.args.begun.slot) ++ xs) (ap (map name) (listed c.slot_now-slot.result c.as_slice-2.result.now c.as_slice-2.ensures) ∙ (listed-named f.names c.slot_now-slot.result
+    ∙ ap (λ xs. option_to_list (option_map name c.args.begun.slot) ++ xs)
+    (ap (map name) (listed c.slot_now-slot.result c.as_slice-2.result.now c.as_slice-2.ensures) ∙ (listed-named f.names c.slot_now-slot.result
     ∙ (ap option_to_list c.slot_now-slot.ensures.value ∙ ap (λ k. option_to_list (slot_at (shadows f hosts) (name k))) c.node.ensures))) in
     subst (λ xs. AreRenewed f hosts p old xs (filter p xs) table keys) own both

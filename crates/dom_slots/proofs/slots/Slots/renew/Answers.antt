@@ -11,23 +11,31 @@ use Rattle.dom_slots.proofs.slots.Slots.renew.Goals as goal
 module _ (f : NamedTrees) (hosts : List ShadowHost) (p : NodeName → Bool) (old : SlotTable) (done told : List NodeName) where
   -- before the first
   none_yet : (table : SlotTable) (keys : List ℕ) → AreRenewed f hosts p old done told table keys → AreRenewed f hosts p old (done ++ []) (told ++ []) table keys
-  none_yet table keys r = subst (λ ds. AreRenewed f hosts p old ds (told ++ []) table keys) (sym (append-nil done)) (subst (λ ts. AreRenewed f hosts p old done ts table keys) (sym (append-nil told)) r)
+  none_yet table keys r = subst (λ ds. AreRenewed f hosts p old ds (told ++ []) table keys) (sym (append-nil done))
+      (subst (λ ts. AreRenewed f hosts p old done ts table keys) (sym (append-nil told)) r)
 
   -- one more
   one_more : (slots : List ℕ) (i s : ℕ) → s ≡ get_or slots i s → i < length slots → (table : SlotTable) (keys : List ℕ)
-      → AreRenewed f hosts p old ((done ++ map (name_at f.names) (take i slots)) ++ name_at f.names s ∷ []) ((told ++ filter p (map (name_at f.names) (take i slots))) ++ filter p (name_at f.names s ∷ [])) table keys
+      → AreRenewed f hosts p old ((done ++ map (name_at f.names) (take i slots)) ++ name_at f.names s ∷ [])
+      ((told ++ filter p (map (name_at f.names) (take i slots))) ++ filter p (name_at f.names s ∷ [])) table keys
       → AreRenewed f hosts p old (done ++ map (name_at f.names) (take (i + 1) slots)) (told ++ filter p (map (name_at f.names) (take (i + 1) slots))) table keys
   one_more slots i s at within table keys r =
       let longer : map (name_at f.names) (take (i + 1) slots) ≡ map (name_at f.names) (take i slots) ++ name_at f.names s ∷ [] =
-      ap (map (name_at f.names)) (take_more slots i s within ∙ ap (λ j. take i slots ++ j ∷ []) (sym at)) ∙ map-append (name_at f.names) (take i slots) (s ∷ []) in
+      ap (map (name_at f.names)) (take_more slots i s within ∙ ap (λ j. take i slots ++ j ∷ []) (sym at)) ∙
+      map-append (name_at f.names) (take i slots) (s ∷ []) in
       subst (λ xs. AreRenewed f hosts p old (done ++ xs) (told ++ filter p xs) table keys) (sym longer)
       (subst (λ ts. AreRenewed f hosts p old (done ++ (map (name_at f.names) (take i slots) ++ name_at f.names s ∷ [])) ts table keys)
-      (append_assoc told (filter p (map (name_at f.names) (take i slots))) (filter p (name_at f.names s ∷ [])) ∙ ap (λ ys. told ++ ys) (sym (filter-append p (map (name_at f.names) (take i slots)) (name_at f.names s ∷ []))))
+      (append_assoc told (filter p (map (name_at f.names) (take i slots))) (filter p (name_at f.names s ∷ [])) ∙
+      ap (λ ys. told ++ ys) (sym (filter-append p (map (name_at f.names) (take i slots)) (name_at f.names s ∷ []))))
       (subst (λ ds. AreRenewed f hosts p old ds ((told ++ filter p (map (name_at f.names) (take i slots))) ++ filter p (name_at f.names s ∷ [])) table keys)
       (append_assoc done (map (name_at f.names) (take i slots)) (name_at f.names s ∷ [])) r))
 
 pub loop-slot-init : goal.loop-slot-init
-loop-slot-init c = record { hosts = refl; begun = refl; renewed = λ p old done told r. none_yet c.args.forest.now c.args.self.now.hosts p old done told c.args.self.now.table c.args.signals.now.items r }
+loop-slot-init c = record {
+  hosts = refl;
+  begun = refl;
+  renewed = λ p old done told r. none_yet c.args.forest.now c.args.self.now.hosts p old done told c.args.self.now.table c.args.signals.now.items r;
+}
 
 pub renew_slot-requires-clause-hosts : goal.renew_slot-requires-clause-hosts
 renew_slot-requires-clause-hosts c = subst (HostsAreNodes c.args.forest.now.names) (sym c.loop-slot.invariant.hosts) c.requires.hosts
@@ -43,10 +51,14 @@ loop-slot-preserved c =
       hosts = c.in_ok-renew_slot.ensures.hosts ∙ same;
       begun = c.in_ok-renew_slot.ensures.begun ∙ c.loop-slot.invariant.begun;
       renewed = λ p old done told r.
-          one_more f c.args.self.now.hosts p old done told slots i c.slot-item.result c.slot-item.is c.loop-slot-test.true c.renew_slot.new.self.table c.renew_slot.new.signals.items
-          (subst (λ hs. AreRenewed f hs p old ((done ++ names) ++ name_at f.names c.slot-item.result ∷ []) ((told ++ filter p names) ++ filter p (name_at f.names c.slot-item.result ∷ [])) c.renew_slot.new.self.table c.renew_slot.new.signals.items) same
+          one_more f c.args.self.now.hosts p old done told slots i c.slot-item.result c.slot-item.is c.loop-slot-test.true
+          c.renew_slot.new.self.table c.renew_slot.new.signals.items
+          (subst (λ hs. AreRenewed f hs p old ((done ++ names) ++ name_at f.names c.slot-item.result ∷ [])
+          ((told ++ filter p names) ++ filter p (name_at f.names c.slot-item.result ∷ [])) c.renew_slot.new.self.table
+          c.renew_slot.new.signals.items) same
           (c.in_ok-renew_slot.ensures.renewed p old (done ++ names) (told ++ filter p names)
-          (subst (λ hs. AreRenewed f hs p old (done ++ names) (told ++ filter p names) c.loop-slot.self.table c.loop-slot.signals.items) (sym same) (c.loop-slot.invariant.renewed p old done told r))));
+          (subst (λ hs. AreRenewed f hs p old (done ++ names) (told ++ filter p names) c.loop-slot.self.table c.loop-slot.signals.items)
+          (sym same) (c.loop-slot.invariant.renewed p old done told r))));
     }
 
 pub returns-clause-hosts : goal.returns-clause-hosts
@@ -59,5 +71,6 @@ pub returns-clause-renewed : goal.returns-clause-renewed
 returns-clause-renewed c =
     λ p old done told r.
     let f = c.args.forest.now in
-    subst (λ ks. AreRenewed f c.args.self.now.hosts p old (done ++ map (name_at f.names) ks) (told ++ filter p (map (name_at f.names) ks)) c.loop-slot.self.table c.loop-slot.signals.items)
+    subst (λ ks. AreRenewed f c.args.self.now.hosts p old (done ++ map (name_at f.names) ks) (told ++ filter p (map (name_at f.names) ks))
+    c.loop-slot.self.table c.loop-slot.signals.items)
     (take_all c.loop-slot.slot-index c.args.slots.now c.loop-slot-test.false) (c.loop-slot.invariant.renewed p old done told r)

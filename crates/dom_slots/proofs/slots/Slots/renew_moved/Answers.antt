@@ -11,7 +11,8 @@ use Rattle.dom_slots.specs.Steps.{step_node}
 use Rattle.dom_slots.proofs.slots.Slots.renew_moved.Goals as goal
 
 -- what holds of each test on a success holds of all on it
-on_ok : {E : Type 0} (r : Result (Unit {0}) E) (A B : (NodeName → Bool) → Type 0) {Q : Type 0} → (((q : NodeName → Bool) → A q → B q) → Q) → ((q : NodeName → Bool) → A q → OnOk r (B q)) → OnOk r Q
+on_ok : {E : Type 0} (r : Result (Unit {0}) E) (A B : (NodeName → Bool) → Type 0) {Q : Type 0} → (((q : NodeName → Bool) → A q → B q) → Q) →
+    ((q : NodeName → Bool) → A q → OnOk r (B q)) → OnOk r Q
 on_ok (Ok u) A B follows h = follows h
 on_ok (Err e) A B follows h = tt
 
@@ -32,11 +33,14 @@ returns-clause-renewed c =
     let first = c.in_ok-renew_tree.ensures.renewed p old done told r in
     let second : AreRenewed f hosts p old ((done ++ a) ++ b) ((told ++ filter p a) ++ filter p b) mid keys =
     subst (λ ys. AreRenewed f hosts p old ((done ++ a) ++ ys) ((told ++ filter p a) ++ filter p ys) mid keys) below
-    (subst (λ hs. AreRenewed f hs p old ((done ++ a) ++ map (name_at f.names) c.args.moved.now) ((told ++ filter p a) ++ filter p (map (name_at f.names) c.args.moved.now)) mid keys) hosts_then
+    (subst (λ hs. AreRenewed f hs p old ((done ++ a) ++ map (name_at f.names) c.args.moved.now)
+    ((told ++ filter p a) ++ filter p (map (name_at f.names) c.args.moved.now)) mid keys) hosts_then
     (c.in_ok-renew.ensures.renewed p old (done ++ a) (told ++ filter p a)
-    (subst (λ hs. AreRenewed f hs p old (done ++ a) (told ++ filter p a) c.renew_tree.new.self.table c.renew_tree.new.signals.items) (sym hosts_then) first))) in
+    (subst (λ hs. AreRenewed f hs p old (done ++ a) (told ++ filter p a) c.renew_tree.new.self.table c.renew_tree.new.signals.items)
+    (sym hosts_then) first))) in
     let both : AreRenewed f hosts p old (done ++ (a ++ b)) (told ++ filter p (a ++ b)) mid keys =
     subst (λ ys. AreRenewed f hosts p old ys (told ++ filter p (a ++ b)) mid keys) (append_assoc done a b)
-    (subst (λ ys. AreRenewed f hosts p old ((done ++ a) ++ b) ys mid keys) (append_assoc told (filter p a) (filter p b) ∙ ap (λ ys. told ++ ys) (sym (filter-append p a b))) second) in
+    (subst (λ ys. AreRenewed f hosts p old ((done ++ a) ++ b) ys mid keys)
+    (append_assoc told (filter p a) (filter p b) ∙ ap (λ ys. told ++ ys) (sym (filter-append p a b))) second) in
     let silent = subst (λ hs. AreSilent f hs (left_slots f hs step c.args.begun.left) mid c.renew_left.new.self.table) hosts_now in
     on_ok c.renew_left.result _ _ (λ h. inr (mid, both, silent h)) c.renew_left.ensures.renewed

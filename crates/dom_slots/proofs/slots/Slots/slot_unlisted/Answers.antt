@@ -16,10 +16,12 @@ returns-in_err-root-clause-value c =
     let p = c.in_ok-parent.parent in
     ap (option_map (name_at f.names)) c.from_residual-in_err-root.ensures
     ∙ slot-no_root (shadows f hosts) (name_at f.names c.args.node) (name_at f.names p) c.in_ok-parent.ensures.value
-    (ap (option_map (name_at f.names)) c.in_err-root.ensures ∙ root-named f.names c.nodes_stand_once.ensures.distinct hosts c.requires.slots.hosts p (c.parent.ensures.node p c.in_ok-parent.was))
+    (ap (option_map (name_at f.names)) c.in_err-root.ensures ∙ root-named f.names c.nodes_stand_once.ensures.distinct hosts c.requires.slots.hosts
+    p (c.parent.ensures.node p c.in_ok-parent.was))
 
 pub parent-requires-2 : goal.parent-requires-2
-parent-requires-2 c = root-node c.args.forest.now.names c.args.self.now.hosts c.requires.slots.hosts c.in_ok-parent.parent c.in_ok-root.root (sym c.in_ok-root.ensures)
+parent-requires-2 c = root-node c.args.forest.now.names c.args.self.now.hosts c.requires.slots.hosts c.in_ok-parent.parent c.in_ok-root.root
+    (sym c.in_ok-root.ensures)
 
 -- what is not there is none
 absent : {X : Type 0} (o : Option X) → is_some o ≡ false → o ≡ None
@@ -37,7 +39,11 @@ returns-then-eq-clause-value c =
     let r = c.in_ok-root.root in
     let within = root-node f.names hosts c.requires.slots.hosts p r (sym c.in_ok-root.ensures) in
     let host_is = same-option c.host_of.result (Some p) (sym c.eq.ensures ∙ c.if-eq.true) in
-    unlisted-none f record { once = e.once; only = e.only } (Once-forest f e.once e.only) e.distinct hosts c.args.self.now.table c.requires.slots.table n c.requires.node_is_node c.requires.unlisted (Has-forest f e.once n c.requires.node_is_node) (name p) (name r)
-    (sym c.in_ok-parent.ensures.value) (sym (ap (option_map name) c.in_ok-root.ensures ∙ root-named f.names e.distinct hosts c.requires.slots.hosts p (c.parent.ensures.node p c.in_ok-parent.was)))
-    (sym (host-named f.names e.distinct hosts c.requires.slots.hosts r within) ∙ ap (option_map name) (sym c.host_of.ensures ∙ host_is)) (Has-forest f e.once r within)
+    unlisted-none f record { once = e.once; only = e.only } (Once-forest f e.once e.only) e.distinct hosts c.args.self.now.table
+    c.requires.slots.table n c.requires.node_is_node c.requires.unlisted (Has-forest f e.once n c.requires.node_is_node) (name p) (name r)
+    (sym c.in_ok-parent.ensures.value) (sym
+    (ap (option_map name) c.in_ok-root.ensures ∙ root-named f.names e.distinct hosts c.requires.slots.hosts p
+    (c.parent.ensures.node p c.in_ok-parent.was)))
+    (sym (host-named f.names e.distinct hosts c.requires.slots.hosts r within) ∙ ap (option_map name) (sym c.host_of.ensures ∙ host_is))
+    (Has-forest f e.once r within)
     (sym c.parent-2.ensures.value ∙ ap (option_map name) (absent c.parent-2.result c.if-is_none.ensures))

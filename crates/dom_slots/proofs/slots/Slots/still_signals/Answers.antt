@@ -18,7 +18,8 @@ returns-clause-renewed c =
     let table = c.moved_signals.new.self.table in
     let keys = c.in_ok-signals.signals.items in
     let same = c.in_ok-signals.ensures.hosts in
-    let own : AreRenewed f hosts p s.table (own_slots f hosts slot step) (filter p (own_slots f hosts slot step)) table keys = c.in_ok-signals.ensures.renewed p but start in
+    let own : AreRenewed f hosts p s.table (own_slots f hosts slot step) (filter p (own_slots f hosts slot step)) table keys =
+    c.in_ok-signals.ensures.renewed p but start in
     elim c.match-around.branch [
       | in-Some+in_ok-add_bare w ↦
           let a = w.in-Some.around in
@@ -31,11 +32,14 @@ returns-clause-renewed c =
           let all : IsInside f hs p s.table step left slot table next = record {
             alone = λ e. absurd (none-some a (sym (w.in-Some.ensures ∙ e)));
             around = λ k e.
-                subst (λ j. MayMove f hs p s.table mine (filter p mine ++ bare_around f hs step (name_at f.names j)) step left (name_at f.names j) table next) (same_Some a k (w.in-Some.ensures ∙ e))
+                subst (λ j. MayMove f hs p s.table mine (filter p mine ++ bare_around f hs step (name_at f.names j)) step left (name_at f.names j)
+                table next) (same_Some a k (w.in-Some.ensures ∙ e))
                 (inl (subst (λ hosts. MovesNone f hosts step) (sym same) c.requires.still, bare));
           } in
-          subst (IsInside f hosts p s.table step left slot table) (sym (ap (λ v. v.items) w.signals-is)) (subst (λ hs. IsInside f hs p s.table step left slot table next) same all)
+          subst (IsInside f hosts p s.table step left slot table) (sym (ap (λ v. v.items) w.signals-is))
+          (subst (λ hs. IsInside f hs p s.table step left slot table next) same all)
       | in_default w ↦
-          let all : IsInside f hosts p s.table step left slot table keys = record { alone = λ e. own; around = λ k e. absurd (none-some k (sym w.in_default.is ∙ (c.around.ensures ∙ e))) } in
+          let all : IsInside f hosts p s.table step left slot table keys =
+          record { alone = λ e. own; around = λ k e. absurd (none-some k (sym w.in_default.is ∙ (c.around.ensures ∙ e))) } in
           subst (IsInside f hosts p s.table step left slot table) (sym (ap (λ v. v.items) w.signals-is)) all
     ]

@@ -18,7 +18,8 @@ returns-clause-renewed c =
     let table = c.own_signals.new.self.table in
     let keys = c.in_ok-signals.signals.items in
     let same : c.own_signals.new.self.hosts ≡ hosts = c.in_ok-signals.ensures.hosts in
-    let own : AreRenewed f hosts p old (own_slots f hosts slot step) (filter p (own_slots f hosts slot step)) table keys = c.in_ok-signals.ensures.renewed p old r in
+    let own : AreRenewed f hosts p old (own_slots f hosts slot step) (filter p (own_slots f hosts slot step)) table keys =
+    c.in_ok-signals.ensures.renewed p old r in
     elim c.match-around.branch [
       | in-Some+in_ok-add_bare+in_ok-renew_moved w ↦
           let a = w.in-Some.around in
@@ -27,18 +28,21 @@ returns-clause-renewed c =
           let first : AreRenewed f hs p old mine (filter p mine) table keys =
           subst (λ hosts. AreRenewed f hosts p old (own_slots f hosts slot step) (filter p (own_slots f hosts slot step)) table keys) (sym same) own in
           let bare = w.in_ok-add_bare.ensures p old mine (filter p mine) table first in
-          let moved : MayMove f hs p old mine (filter p mine ++ bare_around f hs step (name_at f.names a)) step left (name_at f.names a) w.renew_moved.new.self.table w.renew_moved.new.signals.items =
+          let moved : MayMove f hs p old mine (filter p mine ++ bare_around f hs step (name_at f.names a)) step left (name_at f.names a)
+          w.renew_moved.new.self.table w.renew_moved.new.signals.items =
           w.in_ok-renew_moved.ensures.renewed p old mine (filter p mine ++ bare_around f hs step (name_at f.names a)) bare in
           let all : IsInside f hs p old step left slot w.renew_moved.new.self.table w.renew_moved.new.signals.items = record {
             alone = λ e. absurd (none-some a (sym (w.in-Some.ensures ∙ e)));
             around = λ k e.
-                subst (λ j. MayMove f hs p old mine (filter p mine ++ bare_around f hs step (name_at f.names j)) step left (name_at f.names j) w.renew_moved.new.self.table w.renew_moved.new.signals.items) (same_Some a k (w.in-Some.ensures ∙ e)) moved;
+                subst (λ j. MayMove f hs p old mine (filter p mine ++ bare_around f hs step (name_at f.names j)) step left (name_at f.names j)
+                w.renew_moved.new.self.table w.renew_moved.new.signals.items) (same_Some a k (w.in-Some.ensures ∙ e)) moved;
           } in
           subst (λ xs. IsInside f hosts p old step left slot c.match-around.self.table xs) (sym (ap (λ v. v.items) w.signals-is))
           (subst (λ (s : SlotsNow). IsInside f hosts p old step left slot s.table w.renew_moved.new.signals.items) (sym w.self-is)
           (subst (λ hs. IsInside f hs p old step left slot w.renew_moved.new.self.table w.renew_moved.new.signals.items) same all))
       | in_default w ↦
-          let all : IsInside f hosts p old step left slot table keys = record { alone = λ e. own; around = λ k e. absurd (none-some k (sym w.in_default.is ∙ (c.around.ensures ∙ e))) } in
+          let all : IsInside f hosts p old step left slot table keys =
+          record { alone = λ e. own; around = λ k e. absurd (none-some k (sym w.in_default.is ∙ (c.around.ensures ∙ e))) } in
           subst (λ xs. IsInside f hosts p old step left slot c.match-around.self.table xs) (sym (ap (λ v. v.items) w.signals-is))
           (subst (λ (s : SlotsNow). IsInside f hosts p old step left slot s.table keys) (sym w.self-is) all)
     ]

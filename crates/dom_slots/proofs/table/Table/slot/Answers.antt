@@ -16,16 +16,19 @@ pub returns-in-Some-clause-some : goal.returns-in-Some-clause-some
 returns-in-Some-clause-some c =
     λ s e.
     ap (λ (t : SlotTable). is_in nat_eq c.args.node (list_of t s)) (sym c.self.view_is)
-    ∙ (sym (c.self.invariant c.args.node s) ∙ first-member (list_of (table_in c.self.inside.slots.entries) c.args.node) s (ap (λ xs. slice_get xs 0) (sym (slots c)) ∙ (sym c.first.ensures.value ∙ (sym c.copied.ensures ∙ e))))
+    ∙ (sym (c.self.invariant c.args.node s) ∙ first-member (list_of (table_in c.self.inside.slots.entries) c.args.node) s
+    (ap (λ xs. slice_get xs 0) (sym (slots c)) ∙ (sym c.first.ensures.value ∙ (sym c.copied.ensures ∙ e))))
 
 pub returns-in-Some-clause-none : goal.returns-in-Some-clause-none
 returns-in-Some-clause-none c =
     λ e s.
     ap (λ (t : SlotTable). is_in nat_eq c.args.node (list_of t s)) (sym c.self.view_is)
-    ∙ (sym (c.self.invariant c.args.node s) ∙ no-member (list_of (table_in c.self.inside.slots.entries) c.args.node) s (ap (λ xs. slice_get xs 0) (sym (slots c)) ∙ (sym c.first.ensures.value ∙ (sym c.copied.ensures ∙ e))))
+    ∙ (sym (c.self.invariant c.args.node s) ∙ no-member (list_of (table_in c.self.inside.slots.entries) c.args.node) s
+    (ap (λ xs. slice_get xs 0) (sym (slots c)) ∙ (sym c.first.ensures.value ∙ (sym c.copied.ensures ∙ e))))
 
 pub returns-in-None-clause-none : goal.returns-in-None-clause-none
 returns-in-None-clause-none c =
     λ e s.
     ap (λ (t : SlotTable). is_in nat_eq c.args.node (list_of t s)) (sym c.self.view_is)
-    ∙ (sym (c.self.invariant c.args.node s) ∙ ap (is_in nat_eq s) (sym (ap items_or c.in-None.ensures.value ∙ list-found c.args.node c.self.inside.slots.entries)))
+    ∙ (sym (c.self.invariant c.args.node s) ∙
+    ap (is_in nat_eq s) (sym (ap items_or c.in-None.ensures.value ∙ list-found c.args.node c.self.inside.slots.entries)))

@@ -12,19 +12,23 @@ use Rattle.dom_traversal.specs.Filters.{show_of, name_filter_of}
 use Rattle.dom_traversal.proofs.filter.Filter.answer.Goals as goal
 
 -- what a named filter answers at an element that is shown
-named_answer : (s : Show) (f : NameFilter) (named : Option NameFilter) (n : Node) (kind : Kind) (element name : List ℕ) (same : Bool) → kind ≡ n.kind → element ≡ n.element → name ≡ f.name
-    → true ≡ is_shown s kind → true ≡ is_element kind → Some f ≡ named → same ≡ text_eq element name → (if same then Some f.verdict else None) ≡ (if is_shown s n.kind then verdict_at named n else Some Skip)
+named_answer : (s : Show) (f : NameFilter) (named : Option NameFilter) (n : Node) (kind : Kind) (element name : List ℕ) (same : Bool) →
+    kind ≡ n.kind → element ≡ n.element → name ≡ f.name
+    → true ≡ is_shown s kind → true ≡ is_element kind → Some f ≡ named → same ≡ text_eq element name →
+    (if same then Some f.verdict else None) ≡ (if is_shown s n.kind then verdict_at named n else Some Skip)
 named_answer s f named n kind element name same kind_is element_is name_is shown is_one is_named is_same =
     rw (← kind_is, ← shown, ← is_named, ← is_one, ← element_is, ← name_is, ← is_same) refl
 
 pub returns-then-is_text : goal.returns-then-is_text
 returns-then-is_text c =
     let n = node_in c.args.forest.now.trees (name_at c.args.forest.now.names c.args.key) in
-    named_answer (show_of c.args.self.now.show) (name_filter_of c.in_ok-name.field-0.now) _ n _ _ _ true c.kind-kind.ensures c.element.ensures c.as_str.ensures.value c.if-not-is_shown.ensures c.if-not-is_element.ensures
+    named_answer (show_of c.args.self.now.show) (name_filter_of c.in_ok-name.field-0.now) _ n _ _ _ true c.kind-kind.ensures c.element.ensures
+    c.as_str.ensures.value c.if-not-is_shown.ensures c.if-not-is_element.ensures
     (ap (option_map name_filter_of) c.in_ok-name.ensures.value) c.if-is_text.ensures
 
 pub returns-else-is_text : goal.returns-else-is_text
 returns-else-is_text c =
     let n = node_in c.args.forest.now.trees (name_at c.args.forest.now.names c.args.key) in
-    named_answer (show_of c.args.self.now.show) (name_filter_of c.in_ok-name.field-0.now) _ n _ _ _ false c.kind-kind.ensures c.element.ensures c.as_str.ensures.value c.if-not-is_shown.ensures c.if-not-is_element.ensures
+    named_answer (show_of c.args.self.now.show) (name_filter_of c.in_ok-name.field-0.now) _ n _ _ _ false c.kind-kind.ensures c.element.ensures
+    c.as_str.ensures.value c.if-not-is_shown.ensures c.if-not-is_element.ensures
     (ap (option_map name_filter_of) c.in_ok-name.ensures.value) c.if-is_text.ensures

@@ -11,8 +11,10 @@ invariant-up l = record {
   below : StandsBelow l.forest l.top l.at;
   stop : stop_above l.forest.trees (filter_of l.self) (name_at l.forest.names l.top) (name_at l.forest.names l.at)
       ≡ stop_above l.forest.trees (filter_of l.self) (name_at l.forest.names l.top) (name_at l.forest.names l.fn.key);
-  left : beyond l.forest.trees (stop_above l.forest.trees (filter_of l.self) (name_at l.forest.names l.top) (name_at l.forest.names l.at)) (name_at l.forest.names l.at)
-      ≡ beyond l.forest.trees (stop_above l.forest.trees (filter_of l.self) (name_at l.forest.names l.top) (name_at l.forest.names l.fn.key)) (name_at l.forest.names l.fn.key);
+  left : beyond l.forest.trees (stop_above l.forest.trees (filter_of l.self) (name_at l.forest.names l.top) (name_at l.forest.names l.at))
+      (name_at l.forest.names l.at)
+      ≡ beyond l.forest.trees (stop_above l.forest.trees (filter_of l.self) (name_at l.forest.names l.top) (name_at l.forest.names l.fn.key))
+      (name_at l.forest.names l.fn.key);
 }
 
 abbrev pub decreases-up : goal.decreases-up

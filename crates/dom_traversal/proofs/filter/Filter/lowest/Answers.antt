@@ -11,18 +11,24 @@ use Rattle.dom_traversal.proofs.filter.Filter.lowest.Goals as goal
 
 pub returns-in_default-clause-ends : goal.returns-in_default-clause-ends
 returns-in_default-clause-ends c = λ _.
-    alone-key c.args.forest.now c.nodes_stand_once.ensures.once c.nodes_stand_once.ensures.only c.loop-at.at c.last.result c.loop-at.invariant.node c.last.ensures.value c.in_default.not-Some
+    alone-key c.args.forest.now c.nodes_stand_once.ensures.once c.nodes_stand_once.ensures.only c.loop-at.at c.last.result
+    c.loop-at.invariant.node c.last.ensures.value c.in_default.not-Some
 
 pub loop-at-smaller : goal.loop-at-smaller
-loop-at-smaller c = (descends-key c.args.forest.now c.nodes_stand_once.ensures.once c.nodes_stand_once.ensures.only c.loop-at.at c.in-Some.last c.loop-at.invariant.node c.in-Some.ensures.value).smaller
+loop-at-smaller c = (descends-key c.args.forest.now c.nodes_stand_once.ensures.once c.nodes_stand_once.ensures.only c.loop-at.at c.in-Some.last
+    c.loop-at.invariant.node c.in-Some.ensures.value).smaller
 
 pub loop-at-preserved : goal.loop-at-preserved
 loop-at-preserved c =
     let f = c.args.forest.now in
     let x = name_at f.names c.loop-at.at in
     let last = name_at f.names c.in-Some.last in
-    let down = descends-key f c.nodes_stand_once.ensures.once c.nodes_stand_once.ensures.only c.loop-at.at c.in-Some.last c.loop-at.invariant.node c.in-Some.ensures.value in
-    let in_top = λ (top : NodeName) (above : is_inclusive_ancestor f.trees top (name_at f.names c.args.key) ≡ true). descends f.trees top x last (IsWithin-forest f c.nodes_stand_once.ensures.once c.nodes_stand_once.ensures.only top x (Has-forest f c.nodes_stand_once.ensures.once c.loop-at.at c.loop-at.invariant.node) (c.loop-at.invariant.within top above)) (sym c.in-Some.ensures.value) in
+    let down = descends-key f c.nodes_stand_once.ensures.once c.nodes_stand_once.ensures.only c.loop-at.at c.in-Some.last c.loop-at.invariant.node
+    c.in-Some.ensures.value in
+    let in_top = λ (top : NodeName) (above : is_inclusive_ancestor f.trees top (name_at f.names c.args.key) ≡ true). descends f.trees top x last
+    (IsWithin-forest f c.nodes_stand_once.ensures.once c.nodes_stand_once.ensures.only top x
+    (Has-forest f c.nodes_stand_once.ensures.once c.loop-at.at c.loop-at.invariant.node) (c.loop-at.invariant.within top above))
+    (sym c.in-Some.ensures.value) in
     record {
       node = c.in-Some.ensures.node c.in-Some.last refl;
       within = λ top above. above-within f.trees top last (in_top top above).within;

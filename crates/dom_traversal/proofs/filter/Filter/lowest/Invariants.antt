@@ -11,9 +11,13 @@ use Rattle.dom_traversal.proofs.filter.Filter.lowest.Given as goal
 abbrev pub invariant-loop-at : goal.invariant-loop-at
 invariant-loop-at l = record {
   node : l.at < length l.forest.names;
-  within : (top : NodeName) → is_inclusive_ancestor l.forest.trees top (name_at l.forest.names l.fn.key) ≡ true → is_inclusive_ancestor l.forest.trees top (name_at l.forest.names l.at) ≡ true;
-  tree : (top : NodeName) → is_inclusive_ancestor l.forest.trees top (name_at l.forest.names l.fn.key) ≡ true → up_to_tree l.forest.trees top (Some (name_at l.forest.names l.at)) ≡ up_to_tree l.forest.trees top (Some (name_at l.forest.names l.fn.key));
-  path : (between : List NodeName) × (ancestors l.forest.trees (name_at l.forest.names l.at) ≡ between ++ ancestors l.forest.trees (name_at l.forest.names l.fn.key)) × (list_all (is_entered l.forest.trees (filter_of l.self) l.through) between ≡ true);
+  within : (top : NodeName) → is_inclusive_ancestor l.forest.trees top (name_at l.forest.names l.fn.key) ≡ true →
+      is_inclusive_ancestor l.forest.trees top (name_at l.forest.names l.at) ≡ true;
+  tree : (top : NodeName) → is_inclusive_ancestor l.forest.trees top (name_at l.forest.names l.fn.key) ≡ true →
+      up_to_tree l.forest.trees top (Some (name_at l.forest.names l.at)) ≡ up_to_tree l.forest.trees top (Some (name_at l.forest.names l.fn.key));
+  path : (between : List NodeName) × (ancestors l.forest.trees (name_at l.forest.names l.at) ≡ between ++
+      ancestors l.forest.trees (name_at l.forest.names l.fn.key)) ×
+      (list_all (is_entered l.forest.trees (filter_of l.self) l.through) between ≡ true);
 }
 
 abbrev pub decreases-loop-at : goal.decreases-loop-at

@@ -16,13 +16,17 @@ pub returns-clause-value : goal.returns-clause-value
 returns-clause-value c =
     let f = c.args.forest.now in
     let i = c.args.self.now in
-    let found = subst (λ (j : KeyedIterator). option_map (name_at f.names) c.following.result ≡ first_of (behind f.trees (name_at f.names j.root) (name_at f.names j.reference))) c.self.view_is c.following.ensures.value in
-    let step = following_step f c.nodes_stand_once.ensures.once c.nodes_stand_once.ensures.only i.root i.reference c.following.result c.requires.reference found c.following.ensures.node in
+    let found = subst (λ (j : KeyedIterator). option_map (name_at f.names) c.following.result ≡ first_of
+    (behind f.trees (name_at f.names j.root) (name_at f.names j.reference))) c.self.view_is c.following.ensures.value in
+    let step = following_step f c.nodes_stand_once.ensures.once c.nodes_stand_once.ensures.only i.root i.reference c.following.result
+    c.requires.reference found c.following.ensures.node in
     sym step.0 ∙ nodes_ahead-behind f.trees (iterator_view f.names i) (ap (λ (j : KeyedIterator). j.before) (sym c.self.view_is) ∙ c.if-self.false)
 
 pub returns-clause-stands : goal.returns-clause-stands
 returns-clause-stands c =
     let f = c.args.forest.now in
     let i = c.args.self.now in
-    let found = subst (λ (j : KeyedIterator). option_map (name_at f.names) c.following.result ≡ first_of (behind f.trees (name_at f.names j.root) (name_at f.names j.reference))) c.self.view_is c.following.ensures.value in
-    (following_step f c.nodes_stand_once.ensures.once c.nodes_stand_once.ensures.only i.root i.reference c.following.result c.requires.reference found c.following.ensures.node).1
+    let found = subst (λ (j : KeyedIterator). option_map (name_at f.names) c.following.result ≡ first_of
+    (behind f.trees (name_at f.names j.root) (name_at f.names j.reference))) c.self.view_is c.following.ensures.value in
+    (following_step f c.nodes_stand_once.ensures.once c.nodes_stand_once.ensures.only i.root i.reference c.following.result c.requires.reference
+    found c.following.ensures.node).1

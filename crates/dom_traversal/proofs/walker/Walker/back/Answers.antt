@@ -13,7 +13,8 @@ pub returns-then-eq-clause-value : goal.returns-then-eq-clause-value
 returns-then-eq-clause-value c =
     let f = c.args.forest.now in
     let root = ap (λ (v : KeyedWalker). v.root) c.self.view_is in
-    (steps_root f c.nodes_stand_once.ensures.once c.nodes_stand_once.ensures.only c.args.self.now c.args.key c.requires.comes (ap (name_at f.names) (eqb-true c.args.key c.self.inside.root (sym c.if-eq.ensures) ∙ root))).value
+    (steps_root f c.nodes_stand_once.ensures.once c.nodes_stand_once.ensures.only c.args.self.now c.args.key c.requires.comes
+    (ap (name_at f.names) (eqb-true c.args.key c.self.inside.root (sym c.if-eq.ensures) ∙ root))).value
 
 pub returns-in_default-clause-value : goal.returns-in_default-clause-value
 returns-in_default-clause-value c =
@@ -24,7 +25,8 @@ returns-in_default-clause-value c =
     let other = other_key f c.nodes_stand_once.ensures.distinct c.args.key c.self.inside.root comes.stands.node placed.root (sym c.if-eq.ensures) in
     let previous = sym c.prev.ensures.value ∙ ap (option_map (name_at f.names)) (none_left c.prev.result c.in_default.not-Some) in
     (subst (λ (v : KeyedWalker). StepsBack f v c.args.key c.parent.result) c.self.view_is
-    (steps_parent f c.nodes_stand_once.ensures.once c.nodes_stand_once.ensures.only w c.args.key comes other c.parent.result c.parent.ensures.value c.parent.ensures.node previous)).value
+    (steps_parent f c.nodes_stand_once.ensures.once c.nodes_stand_once.ensures.only w c.args.key comes other c.parent.result
+    c.parent.ensures.value c.parent.ensures.node previous)).value
 
 pub returns-in_default-clause-comes : goal.returns-in_default-clause-comes
 returns-in_default-clause-comes c =
@@ -35,7 +37,8 @@ returns-in_default-clause-comes c =
     let other = other_key f c.nodes_stand_once.ensures.distinct c.args.key c.self.inside.root comes.stands.node placed.root (sym c.if-eq.ensures) in
     let previous = sym c.prev.ensures.value ∙ ap (option_map (name_at f.names)) (none_left c.prev.result c.in_default.not-Some) in
     (subst (λ (v : KeyedWalker). StepsBack f v c.args.key c.parent.result) c.self.view_is
-    (steps_parent f c.nodes_stand_once.ensures.once c.nodes_stand_once.ensures.only w c.args.key comes other c.parent.result c.parent.ensures.value c.parent.ensures.node previous)).comes
+    (steps_parent f c.nodes_stand_once.ensures.once c.nodes_stand_once.ensures.only w c.args.key comes other c.parent.result
+    c.parent.ensures.value c.parent.ensures.node previous)).comes
 
 pub returns-in_default-clause-shorter : goal.returns-in_default-clause-shorter
 returns-in_default-clause-shorter c =
@@ -46,7 +49,8 @@ returns-in_default-clause-shorter c =
     let other = other_key f c.nodes_stand_once.ensures.distinct c.args.key c.self.inside.root comes.stands.node placed.root (sym c.if-eq.ensures) in
     let previous = sym c.prev.ensures.value ∙ ap (option_map (name_at f.names)) (none_left c.prev.result c.in_default.not-Some) in
     (subst (λ (v : KeyedWalker). StepsBack f v c.args.key c.parent.result) c.self.view_is
-    (steps_parent f c.nodes_stand_once.ensures.once c.nodes_stand_once.ensures.only w c.args.key comes other c.parent.result c.parent.ensures.value c.parent.ensures.node previous)).shorter
+    (steps_parent f c.nodes_stand_once.ensures.once c.nodes_stand_once.ensures.only w c.args.key comes other c.parent.result
+    c.parent.ensures.value c.parent.ensures.node previous)).shorter
 
 pub returns-clause-value : goal.returns-clause-value
 returns-clause-value c =
@@ -55,10 +59,14 @@ returns-clause-value c =
     let placed = subst (IsWalkerOf f) (sym c.self.view_is) c.requires.walker in
     let comes = subst (λ (v : KeyedWalker). ComesBack f v c.args.key) (sym c.self.view_is) c.requires.comes in
     let other = other_key f c.nodes_stand_once.ensures.distinct c.args.key c.self.inside.root comes.stands.node placed.root (sym c.if-eq.ensures) in
-    let sibling = sibling-stands f c.nodes_stand_once.ensures.once c.nodes_stand_once.ensures.only c.self.inside.root c.args.key c.in-Some.sibling comes.stands other (c.in-Some.ensures.node c.in-Some.sibling refl) c.in-Some.ensures.value in
-    let low_stands : StandsIn f c.self.inside.root c.lowest.result = record { node = c.lowest.ensures.node; within = c.lowest.ensures.within (name_at f.names c.self.inside.root) sibling.within } in
+    let sibling = sibling-stands f c.nodes_stand_once.ensures.once c.nodes_stand_once.ensures.only c.self.inside.root c.args.key c.in-Some.sibling
+    comes.stands other (c.in-Some.ensures.node c.in-Some.sibling refl) c.in-Some.ensures.value in
+    let low_stands : StandsIn f c.self.inside.root c.lowest.result =
+    record { node = c.lowest.ensures.node; within = c.lowest.ensures.within (name_at f.names c.self.inside.root) sibling.within } in
     (subst (λ (v : KeyedWalker). StepsBack f v c.args.key (Some c.lowest.result)) c.self.view_is
-    (steps_sibling f c.nodes_stand_once.ensures.once c.nodes_stand_once.ensures.only w c.args.key comes other c.in-Some.sibling c.lowest.result c.in-Some.ensures.value placed.current low_stands (c.lowest.ensures.tree (name_at f.names c.self.inside.root) sibling.within) c.lowest.ensures.ends c.lowest.ensures.path)).value
+    (steps_sibling f c.nodes_stand_once.ensures.once c.nodes_stand_once.ensures.only w c.args.key comes other c.in-Some.sibling c.lowest.result
+    c.in-Some.ensures.value placed.current low_stands (c.lowest.ensures.tree (name_at f.names c.self.inside.root) sibling.within)
+    c.lowest.ensures.ends c.lowest.ensures.path)).value
 
 pub returns-clause-comes : goal.returns-clause-comes
 returns-clause-comes c =
@@ -67,10 +75,14 @@ returns-clause-comes c =
     let placed = subst (IsWalkerOf f) (sym c.self.view_is) c.requires.walker in
     let comes = subst (λ (v : KeyedWalker). ComesBack f v c.args.key) (sym c.self.view_is) c.requires.comes in
     let other = other_key f c.nodes_stand_once.ensures.distinct c.args.key c.self.inside.root comes.stands.node placed.root (sym c.if-eq.ensures) in
-    let sibling = sibling-stands f c.nodes_stand_once.ensures.once c.nodes_stand_once.ensures.only c.self.inside.root c.args.key c.in-Some.sibling comes.stands other (c.in-Some.ensures.node c.in-Some.sibling refl) c.in-Some.ensures.value in
-    let low_stands : StandsIn f c.self.inside.root c.lowest.result = record { node = c.lowest.ensures.node; within = c.lowest.ensures.within (name_at f.names c.self.inside.root) sibling.within } in
+    let sibling = sibling-stands f c.nodes_stand_once.ensures.once c.nodes_stand_once.ensures.only c.self.inside.root c.args.key c.in-Some.sibling
+    comes.stands other (c.in-Some.ensures.node c.in-Some.sibling refl) c.in-Some.ensures.value in
+    let low_stands : StandsIn f c.self.inside.root c.lowest.result =
+    record { node = c.lowest.ensures.node; within = c.lowest.ensures.within (name_at f.names c.self.inside.root) sibling.within } in
     (subst (λ (v : KeyedWalker). StepsBack f v c.args.key (Some c.lowest.result)) c.self.view_is
-    (steps_sibling f c.nodes_stand_once.ensures.once c.nodes_stand_once.ensures.only w c.args.key comes other c.in-Some.sibling c.lowest.result c.in-Some.ensures.value placed.current low_stands (c.lowest.ensures.tree (name_at f.names c.self.inside.root) sibling.within) c.lowest.ensures.ends c.lowest.ensures.path)).comes
+    (steps_sibling f c.nodes_stand_once.ensures.once c.nodes_stand_once.ensures.only w c.args.key comes other c.in-Some.sibling c.lowest.result
+    c.in-Some.ensures.value placed.current low_stands (c.lowest.ensures.tree (name_at f.names c.self.inside.root) sibling.within)
+    c.lowest.ensures.ends c.lowest.ensures.path)).comes
 
 pub returns-clause-shorter : goal.returns-clause-shorter
 returns-clause-shorter c =
@@ -79,7 +91,11 @@ returns-clause-shorter c =
     let placed = subst (IsWalkerOf f) (sym c.self.view_is) c.requires.walker in
     let comes = subst (λ (v : KeyedWalker). ComesBack f v c.args.key) (sym c.self.view_is) c.requires.comes in
     let other = other_key f c.nodes_stand_once.ensures.distinct c.args.key c.self.inside.root comes.stands.node placed.root (sym c.if-eq.ensures) in
-    let sibling = sibling-stands f c.nodes_stand_once.ensures.once c.nodes_stand_once.ensures.only c.self.inside.root c.args.key c.in-Some.sibling comes.stands other (c.in-Some.ensures.node c.in-Some.sibling refl) c.in-Some.ensures.value in
-    let low_stands : StandsIn f c.self.inside.root c.lowest.result = record { node = c.lowest.ensures.node; within = c.lowest.ensures.within (name_at f.names c.self.inside.root) sibling.within } in
+    let sibling = sibling-stands f c.nodes_stand_once.ensures.once c.nodes_stand_once.ensures.only c.self.inside.root c.args.key c.in-Some.sibling
+    comes.stands other (c.in-Some.ensures.node c.in-Some.sibling refl) c.in-Some.ensures.value in
+    let low_stands : StandsIn f c.self.inside.root c.lowest.result =
+    record { node = c.lowest.ensures.node; within = c.lowest.ensures.within (name_at f.names c.self.inside.root) sibling.within } in
     (subst (λ (v : KeyedWalker). StepsBack f v c.args.key (Some c.lowest.result)) c.self.view_is
-    (steps_sibling f c.nodes_stand_once.ensures.once c.nodes_stand_once.ensures.only w c.args.key comes other c.in-Some.sibling c.lowest.result c.in-Some.ensures.value placed.current low_stands (c.lowest.ensures.tree (name_at f.names c.self.inside.root) sibling.within) c.lowest.ensures.ends c.lowest.ensures.path)).shorter
+    (steps_sibling f c.nodes_stand_once.ensures.once c.nodes_stand_once.ensures.only w c.args.key comes other c.in-Some.sibling c.lowest.result
+    c.in-Some.ensures.value placed.current low_stands (c.lowest.ensures.tree (name_at f.names c.self.inside.root) sibling.within)
+    c.lowest.ensures.ends c.lowest.ensures.path)).shorter

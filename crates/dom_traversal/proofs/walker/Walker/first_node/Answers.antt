@@ -21,7 +21,8 @@ first_reached-requires-clause-begins c =
     let stands : StandsIn f c.self.inside.root c.self.inside.current = record { node = placed.current; within = sym c.if-not-is_inclusive_ancestor.ensures } in
     let at = IsWithin-key f c.nodes_stand_once.ensures.once c.nodes_stand_once.ensures.only c.self.inside.root c.self.inside.current stands in
     subst (λ (v : KeyedWalker). ForSome c.first.result (BeginsForward f v c.self.inside.current)) c.self.view_is
-    (Begins-child f w (within-itself f.trees (name_at f.names c.self.inside.root) (name_at f.names c.self.inside.current) at) c.first.result c.first.ensures.value c.first.ensures.node)
+    (Begins-child f w (within-itself f.trees (name_at f.names c.self.inside.root) (name_at f.names c.self.inside.current) at) c.first.result
+    c.first.ensures.value c.first.ensures.node)
 
 pub returns-clause-value : goal.returns-clause-value
 returns-clause-value c =
@@ -31,5 +32,9 @@ returns-clause-value c =
     let stands : StandsIn f c.self.inside.root c.self.inside.current = record { node = placed.current; within = sym c.if-not-is_inclusive_ancestor.ensures } in
     let at = IsWithin-key f c.nodes_stand_once.ensures.once c.nodes_stand_once.ensures.only c.self.inside.root c.self.inside.current stands in
     let child = option_map (name_at f.names) c.first.result in
-    let found = subst (λ (v : KeyedWalker). option_map (name_at f.names) c.first_reached.result ≡ first_of (filter (is_reached f.trees (walker_view f.names v)) (from_node f.trees (stop_of f.trees v.filter (name_at f.names c.self.inside.current) child) child))) (sym c.self.view_is) c.first_reached.ensures.value in
-    found ∙ (First-found f.trees (walker_view f.names w) at child c.first.ensures.value ∙ ap (λ (v : KeyedWalker). walker_move f.trees (walker_view f.names v) moves.First) c.self.view_is)
+    let found = subst (λ (v : KeyedWalker). option_map (name_at f.names) c.first_reached.result ≡ first_of
+    (filter (is_reached f.trees (walker_view f.names v))
+    (from_node f.trees (stop_of f.trees v.filter (name_at f.names c.self.inside.current) child) child))) (sym c.self.view_is)
+    c.first_reached.ensures.value in
+    found ∙ (First-found f.trees (walker_view f.names w) at child c.first.ensures.value ∙
+    ap (λ (v : KeyedWalker). walker_move f.trees (walker_view f.names v) moves.First) c.self.view_is)

@@ -16,21 +16,25 @@ loop-at-init c =
 pub loop-at-smaller-in-Some-Skip : goal.loop-at-smaller-in-Some-Skip
 loop-at-smaller-in-Some-Skip c =
     let w : KeyedWalker = record { root = c.self.inside.root; current = c.self.inside.current; filter = filter_of c.self.inside.filter } in
-    Reaches-shorter-skip c.args.forest.now w c.args.top c.args.from c.loop-at.at c.in-Some.key c.in-Some.is c.loop-at.invariant c.onward-at.result c.onward-at.ensures.value
+    Reaches-shorter-skip c.args.forest.now w c.args.top c.args.from c.loop-at.at c.in-Some.key c.in-Some.is c.loop-at.invariant c.onward-at.result
+    c.onward-at.ensures.value
 
 pub loop-at-preserved-in-Some-Skip : goal.loop-at-preserved-in-Some-Skip
 loop-at-preserved-in-Some-Skip c =
     let w : KeyedWalker = record { root = c.self.inside.root; current = c.self.inside.current; filter = filter_of c.self.inside.filter } in
-    Reaches-skip c.args.forest.now w c.args.top c.args.from c.loop-at.at c.in-Some.key c.in-Some.is c.loop-at.invariant c.onward-at.result c.onward-at.ensures.below c.onward-at.ensures.stop
+    Reaches-skip c.args.forest.now w c.args.top c.args.from c.loop-at.at c.in-Some.key c.in-Some.is c.loop-at.invariant c.onward-at.result
+    c.onward-at.ensures.below c.onward-at.ensures.stop
     (ap Some (sym c.in-Some-Skip.field-0-is) ∙ c.in-Some-Skip.ensures) c.onward-at.ensures.value
 
 pub loop-at-smaller : goal.loop-at-smaller
 loop-at-smaller c =
     let w : KeyedWalker = record { root = c.self.inside.root; current = c.self.inside.current; filter = filter_of c.self.inside.filter } in
-    Reaches-shorter-reject c.args.forest.now w c.args.top c.args.from c.loop-at.at c.in-Some.key c.in-Some.is c.loop-at.invariant c.aside-at.result c.aside-at.ensures.value
+    Reaches-shorter-reject c.args.forest.now w c.args.top c.args.from c.loop-at.at c.in-Some.key c.in-Some.is c.loop-at.invariant
+    c.aside-at.result c.aside-at.ensures.value
 
 pub loop-at-preserved : goal.loop-at-preserved
 loop-at-preserved c =
     let w : KeyedWalker = record { root = c.self.inside.root; current = c.self.inside.current; filter = filter_of c.self.inside.filter } in
-    Reaches-reject c.args.forest.now w c.args.top c.args.from c.loop-at.at c.in-Some.key c.in-Some.is c.loop-at.invariant c.aside-at.result c.aside-at.ensures.below c.aside-at.ensures.stop
+    Reaches-reject c.args.forest.now w c.args.top c.args.from c.loop-at.at c.in-Some.key c.in-Some.is c.loop-at.invariant c.aside-at.result
+    c.aside-at.ensures.below c.aside-at.ensures.stop
     (ap Some (sym c.in-Some-Reject.field-0-is) ∙ c.in-Some-Reject.ensures) c.aside-at.ensures.value

@@ -21,7 +21,8 @@ last_reached-requires-clause-begins c =
     let stands : StandsIn f c.self.inside.root c.self.inside.current = record { node = placed.current; within = sym c.if-not-is_inclusive_ancestor.ensures } in
     let at = IsWithin-key f c.nodes_stand_once.ensures.once c.nodes_stand_once.ensures.only c.self.inside.root c.self.inside.current stands in
     subst (λ (v : KeyedWalker). ForSome c.last.result (BeginsBackward f v c.self.inside.current)) c.self.view_is
-    (Begins-last f w (within-itself f.trees (name_at f.names c.self.inside.root) (name_at f.names c.self.inside.current) at) c.last.result c.last.ensures.value c.last.ensures.node)
+    (Begins-last f w (within-itself f.trees (name_at f.names c.self.inside.root) (name_at f.names c.self.inside.current) at) c.last.result
+    c.last.ensures.value c.last.ensures.node)
 
 pub returns-clause-value : goal.returns-clause-value
 returns-clause-value c =
@@ -31,5 +32,9 @@ returns-clause-value c =
     let stands : StandsIn f c.self.inside.root c.self.inside.current = record { node = placed.current; within = sym c.if-not-is_inclusive_ancestor.ensures } in
     let at = IsWithin-key f c.nodes_stand_once.ensures.once c.nodes_stand_once.ensures.only c.self.inside.root c.self.inside.current stands in
     let child = option_map (name_at f.names) c.last.result in
-    let found = subst (λ (v : KeyedWalker). option_map (name_at f.names) c.last_reached.result ≡ last_of (filter (is_candidate f.trees (walker_view f.names v) (stop_of f.trees v.filter (name_at f.names c.self.inside.current) child)) (up_to_tree f.trees (stop_of f.trees v.filter (name_at f.names c.self.inside.current) child) child))) (sym c.self.view_is) c.last_reached.ensures.value in
-    found ∙ (Last-found f.trees (walker_view f.names w) at child c.last.ensures.value ∙ ap (λ (v : KeyedWalker). walker_move f.trees (walker_view f.names v) moves.Last) c.self.view_is)
+    let found = subst (λ (v : KeyedWalker). option_map (name_at f.names) c.last_reached.result ≡ last_of
+    (filter (is_candidate f.trees (walker_view f.names v) (stop_of f.trees v.filter (name_at f.names c.self.inside.current) child))
+    (up_to_tree f.trees (stop_of f.trees v.filter (name_at f.names c.self.inside.current) child) child))) (sym c.self.view_is)
+    c.last_reached.ensures.value in
+    found ∙ (Last-found f.trees (walker_view f.names w) at child c.last.ensures.value ∙
+    ap (λ (v : KeyedWalker). walker_move f.trees (walker_view f.names v) moves.Last) c.self.view_is)

@@ -21,32 +21,62 @@ returns-then-accepts-clause-value c =
     let f = c.args.forest.now in
     let w : KeyedWalker = record { root = c.self.inside.root; current = c.self.inside.current; filter = filter_of c.self.inside.filter } in
     let placed = subst (IsWalkerOf f) (sym c.self.view_is) c.requires.walker in
-    let low : LowestKey f w.filter c.in-Some.key c.lowest-low.result = record { node = c.lowest-low.ensures.node; tree = c.lowest-low.ensures.tree; ends = c.lowest-low.ensures.ends; path = c.lowest-low.ensures.path } in
-    let hit = ReachesBack-hit f c.nodes_stand_once.ensures.once c.nodes_stand_once.ensures.only w c.args.top placed.current c.args.from c.loop-at.at c.in-Some.key c.in-Some.is c.loop-at.invariant c.lowest-low.result low (sym c.if-accepts.ensures) in
+    let low : LowestKey f w.filter c.in-Some.key c.lowest-low.result =
+    record {
+      node = c.lowest-low.ensures.node;
+      tree = c.lowest-low.ensures.tree;
+      ends = c.lowest-low.ensures.ends;
+      path = c.lowest-low.ensures.path;
+    } in
+    let hit = ReachesBack-hit f c.nodes_stand_once.ensures.once c.nodes_stand_once.ensures.only w c.args.top placed.current c.args.from
+    c.loop-at.at c.in-Some.key c.in-Some.is c.loop-at.invariant c.lowest-low.result low (sym c.if-accepts.ensures) in
     let from = option_map (name_at f.names) c.args.from in
-    subst (λ (v : KeyedWalker). Some (name_at f.names c.lowest-low.result) ≡ last_of (filter (is_candidate f.trees (walker_view f.names v) (stop_of f.trees v.filter (name_at f.names c.args.top) from)) (up_to_tree f.trees (stop_of f.trees v.filter (name_at f.names c.args.top) from) from))) c.self.view_is hit
+    subst (λ (v : KeyedWalker). Some (name_at f.names c.lowest-low.result) ≡ last_of
+    (filter (is_candidate f.trees (walker_view f.names v) (stop_of f.trees v.filter (name_at f.names c.args.top) from))
+    (up_to_tree f.trees (stop_of f.trees v.filter (name_at f.names c.args.top) from) from))) c.self.view_is hit
 
 pub aback-at-requires-clause-below : goal.aback-at-requires-clause-below
 aback-at-requires-clause-below c =
     let f = c.args.forest.now in
     let w : KeyedWalker = record { root = c.self.inside.root; current = c.self.inside.current; filter = filter_of c.self.inside.filter } in
     let placed = subst (IsWalkerOf f) (sym c.self.view_is) c.requires.walker in
-    let low : LowestKey f w.filter c.in-Some.key c.lowest-low.result = record { node = c.lowest-low.ensures.node; tree = c.lowest-low.ensures.tree; ends = c.lowest-low.ensures.ends; path = c.lowest-low.ensures.path } in
-    low_stands f c.nodes_stand_once.ensures.once c.nodes_stand_once.ensures.only w c.args.top placed.current c.args.from c.loop-at.at c.in-Some.key c.in-Some.is c.loop-at.invariant c.lowest-low.result low
+    let low : LowestKey f w.filter c.in-Some.key c.lowest-low.result =
+    record {
+      node = c.lowest-low.ensures.node;
+      tree = c.lowest-low.ensures.tree;
+      ends = c.lowest-low.ensures.ends;
+      path = c.lowest-low.ensures.path;
+    } in
+    low_stands f c.nodes_stand_once.ensures.once c.nodes_stand_once.ensures.only w c.args.top placed.current c.args.from c.loop-at.at
+    c.in-Some.key c.in-Some.is c.loop-at.invariant c.lowest-low.result low
 
 pub loop-at-smaller : goal.loop-at-smaller
 loop-at-smaller c =
     let f = c.args.forest.now in
     let w : KeyedWalker = record { root = c.self.inside.root; current = c.self.inside.current; filter = filter_of c.self.inside.filter } in
     let placed = subst (IsWalkerOf f) (sym c.self.view_is) c.requires.walker in
-    let low : LowestKey f w.filter c.in-Some.key c.lowest-low.result = record { node = c.lowest-low.ensures.node; tree = c.lowest-low.ensures.tree; ends = c.lowest-low.ensures.ends; path = c.lowest-low.ensures.path } in
-    ReachesBack-shorter f c.nodes_stand_once.ensures.once c.nodes_stand_once.ensures.only w c.args.top placed.current c.args.from c.loop-at.at c.in-Some.key c.in-Some.is c.loop-at.invariant c.lowest-low.result low c.aback-at.result c.aback-at.ensures.value
+    let low : LowestKey f w.filter c.in-Some.key c.lowest-low.result =
+    record {
+      node = c.lowest-low.ensures.node;
+      tree = c.lowest-low.ensures.tree;
+      ends = c.lowest-low.ensures.ends;
+      path = c.lowest-low.ensures.path;
+    } in
+    ReachesBack-shorter f c.nodes_stand_once.ensures.once c.nodes_stand_once.ensures.only w c.args.top placed.current c.args.from c.loop-at.at
+    c.in-Some.key c.in-Some.is c.loop-at.invariant c.lowest-low.result low c.aback-at.result c.aback-at.ensures.value
 
 pub loop-at-preserved : goal.loop-at-preserved
 loop-at-preserved c =
     let f = c.args.forest.now in
     let w : KeyedWalker = record { root = c.self.inside.root; current = c.self.inside.current; filter = filter_of c.self.inside.filter } in
     let placed = subst (IsWalkerOf f) (sym c.self.view_is) c.requires.walker in
-    let low : LowestKey f w.filter c.in-Some.key c.lowest-low.result = record { node = c.lowest-low.ensures.node; tree = c.lowest-low.ensures.tree; ends = c.lowest-low.ensures.ends; path = c.lowest-low.ensures.path } in
-    ReachesBack-step f c.nodes_stand_once.ensures.once c.nodes_stand_once.ensures.only w c.args.top placed.current c.args.from c.loop-at.at c.in-Some.key c.in-Some.is c.loop-at.invariant c.lowest-low.result low c.aback-at.result c.aback-at.ensures.value (sym c.if-accepts.ensures)
+    let low : LowestKey f w.filter c.in-Some.key c.lowest-low.result =
+    record {
+      node = c.lowest-low.ensures.node;
+      tree = c.lowest-low.ensures.tree;
+      ends = c.lowest-low.ensures.ends;
+      path = c.lowest-low.ensures.path;
+    } in
+    ReachesBack-step f c.nodes_stand_once.ensures.once c.nodes_stand_once.ensures.only w c.args.top placed.current c.args.from c.loop-at.at
+    c.in-Some.key c.in-Some.is c.loop-at.invariant c.lowest-low.result low c.aback-at.result c.aback-at.ensures.value (sym c.if-accepts.ensures)
     c.aback-at.ensures.below c.aback-at.ensures.stop c.aback-at.ensures.path

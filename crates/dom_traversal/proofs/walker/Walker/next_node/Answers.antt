@@ -19,19 +19,24 @@ loop-at-init c =
     let w : Walker = walker_view f.names record { root = c.self.inside.root; current = c.self.inside.current; filter = filter_of c.self.inside.filter } in
     let stands : StandsIn f c.self.inside.root c.self.inside.current = record { node = placed.current; within = sym c.if-not-is_inclusive_ancestor.ensures } in
     let at = IsWithin-key f c.nodes_stand_once.ensures.once c.nodes_stand_once.ensures.only c.self.inside.root c.self.inside.current stands in
-    record { node = c.following-at.ensures.node; comes = Comes-begin f.trees w at (option_map (name_at f.names) c.following-at.result) c.following-at.ensures.value }
+    record {
+      node = c.following-at.ensures.node;
+      comes = Comes-begin f.trees w at (option_map (name_at f.names) c.following-at.result) c.following-at.ensures.value;
+    }
 
 pub following-at-requires-in-Some-Skip-clause-within : goal.following-at-requires-in-Some-Skip-clause-within
 following-at-requires-in-Some-Skip-clause-within c =
     let f = c.args.forest.now in
-    above-within f.trees (name_at f.names c.self.inside.root) (name_at f.names c.in-Some.key) (c.loop-at.invariant.comes.within (name_at f.names c.in-Some.key) (ap (option_map (name_at f.names)) c.in-Some.is))
+    above-within f.trees (name_at f.names c.self.inside.root) (name_at f.names c.in-Some.key)
+    (c.loop-at.invariant.comes.within (name_at f.names c.in-Some.key) (ap (option_map (name_at f.names)) c.in-Some.is))
 
 pub beyond-at-requires-clause-stands : goal.beyond-at-requires-clause-stands
 beyond-at-requires-clause-stands c =
     let f = c.args.forest.now in
     record {
       node = c.loop-at.invariant.node c.in-Some.key c.in-Some.is;
-      within = above-within f.trees (name_at f.names c.self.inside.root) (name_at f.names c.in-Some.key) (c.loop-at.invariant.comes.within (name_at f.names c.in-Some.key) (ap (option_map (name_at f.names)) c.in-Some.is));
+      within = above-within f.trees (name_at f.names c.self.inside.root) (name_at f.names c.in-Some.key)
+          (c.loop-at.invariant.comes.within (name_at f.names c.in-Some.key) (ap (option_map (name_at f.names)) c.in-Some.is));
     }
 
 pub loop-at-smaller-in-Some-Skip : goal.loop-at-smaller-in-Some-Skip
@@ -39,8 +44,11 @@ loop-at-smaller-in-Some-Skip c =
     let f = c.args.forest.now in
     let named = ap (option_map (name_at f.names)) c.in-Some.is in
     let inside = c.loop-at.invariant.comes.within (name_at f.names c.in-Some.key) named in
-    subst (λ (o : Option NodeName). length (from_node f.trees (name_at f.names c.self.inside.root) (option_map (name_at f.names) c.following-at-in-Some-Skip.result)) < length (from_node f.trees (name_at f.names c.self.inside.root) o)) (sym named)
-    (shorter-skip f.trees (name_at f.names c.self.inside.root) (name_at f.names c.in-Some.key) (option_map (name_at f.names) c.following-at-in-Some-Skip.result) inside c.following-at-in-Some-Skip.ensures.value)
+    subst (λ (o : Option NodeName). length
+    (from_node f.trees (name_at f.names c.self.inside.root) (option_map (name_at f.names) c.following-at-in-Some-Skip.result)) < length
+    (from_node f.trees (name_at f.names c.self.inside.root) o)) (sym named)
+    (shorter-skip f.trees (name_at f.names c.self.inside.root) (name_at f.names c.in-Some.key)
+    (option_map (name_at f.names) c.following-at-in-Some-Skip.result) inside c.following-at-in-Some-Skip.ensures.value)
 
 pub loop-at-preserved-in-Some-Skip : goal.loop-at-preserved-in-Some-Skip
 loop-at-preserved-in-Some-Skip c =
@@ -49,7 +57,8 @@ loop-at-preserved-in-Some-Skip c =
     let h = subst (ComesNext f.trees w) (ap (option_map (name_at f.names)) c.in-Some.is) c.loop-at.invariant.comes in
     record {
       node = c.following-at-in-Some-Skip.ensures.node;
-      comes = ComesNext-skip f.trees w (name_at f.names c.in-Some.key) (option_map (name_at f.names) c.following-at-in-Some-Skip.result) h (ap Some (sym c.in-Some-Skip.field-0-is) ∙ c.in-Some-Skip.ensures) c.following-at-in-Some-Skip.ensures.value;
+      comes = ComesNext-skip f.trees w (name_at f.names c.in-Some.key) (option_map (name_at f.names) c.following-at-in-Some-Skip.result) h
+          (ap Some (sym c.in-Some-Skip.field-0-is) ∙ c.in-Some-Skip.ensures) c.following-at-in-Some-Skip.ensures.value;
     }
 
 pub loop-at-smaller : goal.loop-at-smaller
@@ -57,8 +66,11 @@ loop-at-smaller c =
     let f = c.args.forest.now in
     let named = ap (option_map (name_at f.names)) c.in-Some.is in
     let inside = c.loop-at.invariant.comes.within (name_at f.names c.in-Some.key) named in
-    subst (λ (o : Option NodeName). length (from_node f.trees (name_at f.names c.self.inside.root) (option_map (name_at f.names) c.beyond-at.result)) < length (from_node f.trees (name_at f.names c.self.inside.root) o)) (sym named)
-    (shorter-reject f.trees (name_at f.names c.self.inside.root) (name_at f.names c.in-Some.key) (option_map (name_at f.names) c.beyond-at.result) inside c.beyond-at.ensures.value)
+    subst (λ (o : Option NodeName). length
+    (from_node f.trees (name_at f.names c.self.inside.root) (option_map (name_at f.names) c.beyond-at.result)) < length
+    (from_node f.trees (name_at f.names c.self.inside.root) o)) (sym named)
+    (shorter-reject f.trees (name_at f.names c.self.inside.root) (name_at f.names c.in-Some.key) (option_map (name_at f.names) c.beyond-at.result)
+    inside c.beyond-at.ensures.value)
 
 pub loop-at-preserved : goal.loop-at-preserved
 loop-at-preserved c =
@@ -70,5 +82,6 @@ loop-at-preserved c =
     let h = subst (ComesNext f.trees w) (ap (option_map (name_at f.names)) c.in-Some.is) c.loop-at.invariant.comes in
     record {
       node = λ k e. (c.beyond-at.ensures.stands k e).node;
-      comes = ComesNext-reject f.trees w (name_at f.names c.in-Some.key) (option_map (name_at f.names) c.beyond-at.result) at h (ap Some (sym c.in-Some-Reject.field-0-is) ∙ c.in-Some-Reject.ensures) c.beyond-at.ensures.value;
+      comes = ComesNext-reject f.trees w (name_at f.names c.in-Some.key) (option_map (name_at f.names) c.beyond-at.result) at h
+          (ap Some (sym c.in-Some-Reject.field-0-is) ∙ c.in-Some-Reject.ensures) c.beyond-at.ensures.value;
     }

@@ -11,10 +11,12 @@ use Rattle.dom_traversal.proofs.walker.Walker.next_node.Given as goal
 
 abbrev pub invariant-loop-at : goal.invariant-loop-at
 invariant-loop-at l =
-    let w : Walker = walker_view l.forest.names record { root = l.self-inside.root; current = l.self-inside.current; filter = filter_of l.self-inside.filter } in
+    let w : Walker = walker_view l.forest.names
+    record { root = l.self-inside.root; current = l.self-inside.current; filter = filter_of l.self-inside.filter } in
     record {
       node : ForSome l.at (λ k. k < length l.forest.names);
-      comes : Comes l.forest.trees (accepts l.forest.trees w.filter) (is_passable l.forest.trees w) w.root w.current (first_of (walker_nodes l.forest.trees w (behind l.forest.trees w.root w.current))) (option_map (name_at l.forest.names) l.at);
+      comes : Comes l.forest.trees (accepts l.forest.trees w.filter) (is_passable l.forest.trees w) w.root w.current
+          (first_of (walker_nodes l.forest.trees w (behind l.forest.trees w.root w.current))) (option_map (name_at l.forest.names) l.at);
     }
 
 abbrev pub decreases-loop-at : goal.decreases-loop-at

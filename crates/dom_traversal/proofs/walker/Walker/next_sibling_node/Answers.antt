@@ -16,26 +16,34 @@ pub aside-from-requires-clause-below : goal.aside-from-requires-clause-below
 aside-from-requires-clause-below c =
     let f = c.args.forest.now in
     let placed = subst (IsWalkerOf f) (sym c.self.view_is) c.requires in
-    StandsBelow-walker f c.nodes_stand_once.ensures.once c.nodes_stand_once.ensures.only c.nodes_stand_once.ensures.distinct c.self.inside.root c.self.inside.current placed.root placed.current (sym c.if-eq.ensures) (sym c.if-not-is_inclusive_ancestor.ensures)
+    StandsBelow-walker f c.nodes_stand_once.ensures.once c.nodes_stand_once.ensures.only c.nodes_stand_once.ensures.distinct c.self.inside.root
+    c.self.inside.current placed.root placed.current (sym c.if-eq.ensures) (sym c.if-not-is_inclusive_ancestor.ensures)
 
 pub first_reached-requires-clause-begins : goal.first_reached-requires-clause-begins
 first_reached-requires-clause-begins c =
     let f = c.args.forest.now in
     let w : KeyedWalker = record { root = c.self.inside.root; current = c.self.inside.current; filter = filter_of c.self.inside.filter } in
     let placed = subst (IsWalkerOf f) (sym c.self.view_is) c.requires in
-    let below = StandsBelow-walker f c.nodes_stand_once.ensures.once c.nodes_stand_once.ensures.only c.nodes_stand_once.ensures.distinct c.self.inside.root c.self.inside.current placed.root placed.current (sym c.if-eq.ensures) (sym c.if-not-is_inclusive_ancestor.ensures) in
+    let below = StandsBelow-walker f c.nodes_stand_once.ensures.once c.nodes_stand_once.ensures.only c.nodes_stand_once.ensures.distinct
+    c.self.inside.root c.self.inside.current placed.root placed.current (sym c.if-eq.ensures) (sym c.if-not-is_inclusive_ancestor.ensures) in
     let b = IsBelow-key f c.nodes_stand_once.ensures.once c.nodes_stand_once.ensures.only c.self.inside.root c.self.inside.current below in
-    subst (λ (v : KeyedWalker). ForSome c.aside-from.result (BeginsForward f v c.self.inside.root)) c.self.view_is (Begins-sibling f w b c.aside-from.result c.aside-from.ensures.value c.aside-from.ensures.below c.aside-from.ensures.stop)
+    subst (λ (v : KeyedWalker). ForSome c.aside-from.result (BeginsForward f v c.self.inside.root)) c.self.view_is
+    (Begins-sibling f w b c.aside-from.result c.aside-from.ensures.value c.aside-from.ensures.below c.aside-from.ensures.stop)
 
 pub returns-clause-value : goal.returns-clause-value
 returns-clause-value c =
     let f = c.args.forest.now in
     let w : KeyedWalker = record { root = c.self.inside.root; current = c.self.inside.current; filter = filter_of c.self.inside.filter } in
     let placed = subst (IsWalkerOf f) (sym c.self.view_is) c.requires in
-    let below = StandsBelow-walker f c.nodes_stand_once.ensures.once c.nodes_stand_once.ensures.only c.nodes_stand_once.ensures.distinct c.self.inside.root c.self.inside.current placed.root placed.current (sym c.if-eq.ensures) (sym c.if-not-is_inclusive_ancestor.ensures) in
+    let below = StandsBelow-walker f c.nodes_stand_once.ensures.once c.nodes_stand_once.ensures.only c.nodes_stand_once.ensures.distinct
+    c.self.inside.root c.self.inside.current placed.root placed.current (sym c.if-eq.ensures) (sym c.if-not-is_inclusive_ancestor.ensures) in
     let b = IsBelow-key f c.nodes_stand_once.ensures.once c.nodes_stand_once.ensures.only c.self.inside.root c.self.inside.current below in
     let from = option_map (name_at f.names) c.aside-from.result in
-    let found = subst (λ (v : KeyedWalker). option_map (name_at f.names) c.first_reached.result ≡ first_of (filter (is_reached f.trees (walker_view f.names v)) (from_node f.trees (stop_of f.trees v.filter (name_at f.names c.self.inside.root) from) from))) (sym c.self.view_is) c.first_reached.ensures.value in
+    let found = subst (λ (v : KeyedWalker). option_map (name_at f.names) c.first_reached.result ≡ first_of
+    (filter (is_reached f.trees (walker_view f.names v))
+    (from_node f.trees (stop_of f.trees v.filter (name_at f.names c.self.inside.root) from) from))) (sym c.self.view_is)
+    c.first_reached.ensures.value in
     found
-    ∙ (NextSibling-found f.trees (walker_view f.names w) b from c.aside-from.ensures.value (stop-some f w.filter c.self.inside.root c.self.inside.current c.aside-from.result c.aside-from.ensures.stop)
+    ∙ (NextSibling-found f.trees (walker_view f.names w) b from c.aside-from.ensures.value
+    (stop-some f w.filter c.self.inside.root c.self.inside.current c.aside-from.result c.aside-from.ensures.stop)
     ∙ ap (λ (v : KeyedWalker). walker_move f.trees (walker_view f.names v) moves.NextSibling) c.self.view_is)

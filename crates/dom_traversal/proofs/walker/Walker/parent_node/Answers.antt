@@ -14,35 +14,45 @@ pub returns-in_err-at-clause-value : goal.returns-in_err-at-clause-value
 returns-in_err-at-clause-value c =
     let f = c.args.forest.now in
     let placed = subst (IsWalkerOf f) (sym c.self.view_is) c.requires in
-    let other = other_name f c.nodes_stand_once.ensures.distinct c.loop-self.at c.self.inside.root c.loop-self.invariant.stands.node placed.root (sym c.loop-self-test.ensures) in
-    absurd (climb_ends f c.nodes_stand_once.ensures.once c.nodes_stand_once.ensures.only c.self.inside.root c.loop-self.at None c.loop-self.invariant.stands other c.in_err-at.ensures.value refl)
+    let other = other_name f c.nodes_stand_once.ensures.distinct c.loop-self.at c.self.inside.root c.loop-self.invariant.stands.node placed.root
+    (sym c.loop-self-test.ensures) in
+    absurd (climb_ends f c.nodes_stand_once.ensures.once c.nodes_stand_once.ensures.only c.self.inside.root c.loop-self.at None
+    c.loop-self.invariant.stands other c.in_err-at.ensures.value refl)
 
 pub returns-then-accepts-clause-value : goal.returns-then-accepts-clause-value
 returns-then-accepts-clause-value c =
     let f = c.args.forest.now in
     let w : KeyedWalker = record { root = c.self.inside.root; current = c.self.inside.current; filter = filter_of c.self.inside.filter } in
     let placed = subst (IsWalkerOf f) (sym c.self.view_is) c.requires in
-    let other = other_name f c.nodes_stand_once.ensures.distinct c.loop-self.at c.self.inside.root c.loop-self.invariant.stands.node placed.root (sym c.loop-self-test.ensures) in
+    let other = other_name f c.nodes_stand_once.ensures.distinct c.loop-self.at c.self.inside.root c.loop-self.invariant.stands.node placed.root
+    (sym c.loop-self-test.ensures) in
     let at = IsWithin-key f c.nodes_stand_once.ensures.once c.nodes_stand_once.ensures.only c.self.inside.root c.loop-self.at c.loop-self.invariant.stands in
-    sym (above-hit f.trees (walker_view f.names w) (name_at f.names c.loop-self.at) (name_at f.names c.in_ok-at.at) at other (sym c.in_ok-at.ensures.value) (sym c.if-accepts.ensures))
+    sym (above-hit f.trees (walker_view f.names w) (name_at f.names c.loop-self.at) (name_at f.names c.in_ok-at.at) at other
+    (sym c.in_ok-at.ensures.value) (sym c.if-accepts.ensures))
     ∙ (c.loop-self.invariant.left
-    ∙ (move-step f.trees (walker_view f.names w) moves.Parent (sym c.if-not-is_inclusive_ancestor.ensures) ∙ ap (λ (v : KeyedWalker). walker_move f.trees (walker_view f.names v) moves.Parent) c.self.view_is))
+    ∙ (move-step f.trees (walker_view f.names w) moves.Parent (sym c.if-not-is_inclusive_ancestor.ensures) ∙
+    ap (λ (v : KeyedWalker). walker_move f.trees (walker_view f.names v) moves.Parent) c.self.view_is))
 
 pub loop-self-smaller : goal.loop-self-smaller
 loop-self-smaller c =
     let f = c.args.forest.now in
     let placed = subst (IsWalkerOf f) (sym c.self.view_is) c.requires in
-    let other = other_name f c.nodes_stand_once.ensures.distinct c.loop-self.at c.self.inside.root c.loop-self.invariant.stands.node placed.root (sym c.loop-self-test.ensures) in
-    (parent_step f c.nodes_stand_once.ensures.once c.nodes_stand_once.ensures.only c.self.inside.root c.loop-self.at c.in_ok-at.at c.loop-self.invariant.stands other c.in_ok-at.ensures.value (c.in_ok-at.ensures.node c.in_ok-at.at refl)).1
+    let other = other_name f c.nodes_stand_once.ensures.distinct c.loop-self.at c.self.inside.root c.loop-self.invariant.stands.node placed.root
+    (sym c.loop-self-test.ensures) in
+    (parent_step f c.nodes_stand_once.ensures.once c.nodes_stand_once.ensures.only c.self.inside.root c.loop-self.at c.in_ok-at.at
+    c.loop-self.invariant.stands other c.in_ok-at.ensures.value (c.in_ok-at.ensures.node c.in_ok-at.at refl)).1
 
 pub loop-self-preserved : goal.loop-self-preserved
 loop-self-preserved c =
     let f = c.args.forest.now in
     let w : KeyedWalker = record { root = c.self.inside.root; current = c.self.inside.current; filter = filter_of c.self.inside.filter } in
     let placed = subst (IsWalkerOf f) (sym c.self.view_is) c.requires in
-    let other = other_name f c.nodes_stand_once.ensures.distinct c.loop-self.at c.self.inside.root c.loop-self.invariant.stands.node placed.root (sym c.loop-self-test.ensures) in
+    let other = other_name f c.nodes_stand_once.ensures.distinct c.loop-self.at c.self.inside.root c.loop-self.invariant.stands.node placed.root
+    (sym c.loop-self-test.ensures) in
     let at = IsWithin-key f c.nodes_stand_once.ensures.once c.nodes_stand_once.ensures.only c.self.inside.root c.loop-self.at c.loop-self.invariant.stands in
     record {
-      stands = (parent_step f c.nodes_stand_once.ensures.once c.nodes_stand_once.ensures.only c.self.inside.root c.loop-self.at c.in_ok-at.at c.loop-self.invariant.stands other c.in_ok-at.ensures.value (c.in_ok-at.ensures.node c.in_ok-at.at refl)).0;
-      left = sym (above-miss f.trees (walker_view f.names w) (name_at f.names c.loop-self.at) (name_at f.names c.in_ok-at.at) at other (sym c.in_ok-at.ensures.value) (sym c.if-accepts.ensures)) ∙ c.loop-self.invariant.left;
+      stands = (parent_step f c.nodes_stand_once.ensures.once c.nodes_stand_once.ensures.only c.self.inside.root c.loop-self.at c.in_ok-at.at
+          c.loop-self.invariant.stands other c.in_ok-at.ensures.value (c.in_ok-at.ensures.node c.in_ok-at.at refl)).0;
+      left = sym (above-miss f.trees (walker_view f.names w) (name_at f.names c.loop-self.at) (name_at f.names c.in_ok-at.at) at other
+          (sym c.in_ok-at.ensures.value) (sym c.if-accepts.ensures)) ∙ c.loop-self.invariant.left;
     }

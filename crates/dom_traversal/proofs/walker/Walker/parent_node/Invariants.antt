@@ -12,7 +12,8 @@ invariant-loop-self l =
     let w : KeyedWalker = record { root = l.self-inside.root; current = l.self-inside.current; filter = filter_of l.self-inside.filter } in
     record {
       stands : StandsIn l.forest w.root l.at;
-      left : above_from l.forest.trees (walker_view l.forest.names w) (name_at l.forest.names l.at) ≡ above_from l.forest.trees (walker_view l.forest.names w) (name_at l.forest.names w.current);
+      left : above_from l.forest.trees (walker_view l.forest.names w) (name_at l.forest.names l.at) ≡ above_from l.forest.trees
+          (walker_view l.forest.names w) (name_at l.forest.names w.current);
     }
 
 abbrev pub decreases-loop-self : goal.decreases-loop-self

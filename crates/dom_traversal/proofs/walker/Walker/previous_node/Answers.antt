@@ -20,7 +20,8 @@ back-at-requires-clause-comes c =
     let placed = subst (IsWalkerOf f) (sym c.self.view_is) c.requires in
     let stands : StandsIn f c.self.inside.root c.self.inside.current = record { node = placed.current; within = sym c.if-not-is_inclusive_ancestor.ensures } in
     let at = IsWithin-key f c.nodes_stand_once.ensures.once c.nodes_stand_once.ensures.only c.self.inside.root c.self.inside.current stands in
-    subst (λ (v : KeyedWalker). ComesBack f v c.self.inside.current) c.self.view_is (ComesBack-key f w c.self.inside.current placed.current (Returns-begin f.trees (walker_view f.names w) at))
+    subst (λ (v : KeyedWalker). ComesBack f v c.self.inside.current) c.self.view_is
+    (ComesBack-key f w c.self.inside.current placed.current (Returns-begin f.trees (walker_view f.names w) at))
 
 pub returns-then-accepts-clause-value : goal.returns-then-accepts-clause-value
 returns-then-accepts-clause-value c =
@@ -29,7 +30,8 @@ returns-then-accepts-clause-value c =
     let v = walker_view f.names w in
     let x = name_at f.names c.in-Some.key in
     let accepted = sym (ap (λ (u : KeyedWalker). accepts f.trees u.filter x) c.self.view_is) ∙ sym c.if-accepts.ensures in
-    let inside = subst (λ (u : KeyedWalker). is_inclusive_ancestor f.trees (name_at f.names u.root) (name_at f.names u.current) ≡ true) c.self.view_is (sym c.if-not-is_inclusive_ancestor.ensures) in
+    let inside = subst (λ (u : KeyedWalker). is_inclusive_ancestor f.trees (name_at f.names u.root) (name_at f.names u.current) ≡ true)
+    c.self.view_is (sym c.if-not-is_inclusive_ancestor.ensures) in
     back-hit f.trees v x accepted (c.loop-at.invariant.comes c.in-Some.key c.in-Some.is).path
     ∙ (ap (λ (o : Option ℕ). last_of (walker_nodes f.trees v (up_to_node f.trees v.root (option_map (name_at f.names) o)))) (sym c.in-Some.is)
     ∙ (c.loop-at.invariant.left ∙ move-step f.trees v moves.Previous inside))
@@ -45,5 +47,6 @@ loop-at-preserved c =
       comes = c.back-at-in-Some.ensures.comes;
       left =
           ap last_of (c.back-at-in-Some.ensures.value ∙ sym (back-miss f.trees v x passed))
-          ∙ (ap (λ (o : Option ℕ). last_of (walker_nodes f.trees v (up_to_node f.trees v.root (option_map (name_at f.names) o)))) (sym c.in-Some.is) ∙ c.loop-at.invariant.left);
+          ∙ (ap (λ (o : Option ℕ). last_of (walker_nodes f.trees v (up_to_node f.trees v.root (option_map (name_at f.names) o))))
+          (sym c.in-Some.is) ∙ c.loop-at.invariant.left);
     }

@@ -16,26 +16,35 @@ pub aback-from-requires-clause-below : goal.aback-from-requires-clause-below
 aback-from-requires-clause-below c =
     let f = c.args.forest.now in
     let placed = subst (IsWalkerOf f) (sym c.self.view_is) c.requires in
-    StandsBelow-walker f c.nodes_stand_once.ensures.once c.nodes_stand_once.ensures.only c.nodes_stand_once.ensures.distinct c.self.inside.root c.self.inside.current placed.root placed.current (sym c.if-eq.ensures) (sym c.if-not-is_inclusive_ancestor.ensures)
+    StandsBelow-walker f c.nodes_stand_once.ensures.once c.nodes_stand_once.ensures.only c.nodes_stand_once.ensures.distinct c.self.inside.root
+    c.self.inside.current placed.root placed.current (sym c.if-eq.ensures) (sym c.if-not-is_inclusive_ancestor.ensures)
 
 pub last_reached-requires-clause-begins : goal.last_reached-requires-clause-begins
 last_reached-requires-clause-begins c =
     let f = c.args.forest.now in
     let w : KeyedWalker = record { root = c.self.inside.root; current = c.self.inside.current; filter = filter_of c.self.inside.filter } in
     let placed = subst (IsWalkerOf f) (sym c.self.view_is) c.requires in
-    let below = StandsBelow-walker f c.nodes_stand_once.ensures.once c.nodes_stand_once.ensures.only c.nodes_stand_once.ensures.distinct c.self.inside.root c.self.inside.current placed.root placed.current (sym c.if-eq.ensures) (sym c.if-not-is_inclusive_ancestor.ensures) in
+    let below = StandsBelow-walker f c.nodes_stand_once.ensures.once c.nodes_stand_once.ensures.only c.nodes_stand_once.ensures.distinct
+    c.self.inside.root c.self.inside.current placed.root placed.current (sym c.if-eq.ensures) (sym c.if-not-is_inclusive_ancestor.ensures) in
     let b = IsBelow-key f c.nodes_stand_once.ensures.once c.nodes_stand_once.ensures.only c.self.inside.root c.self.inside.current below in
-    subst (λ (v : KeyedWalker). ForSome c.aback-from.result (BeginsBackward f v c.self.inside.root)) c.self.view_is (Begins-previous f w b c.aback-from.result c.aback-from.ensures.value c.aback-from.ensures.below c.aback-from.ensures.stop c.aback-from.ensures.path)
+    subst (λ (v : KeyedWalker). ForSome c.aback-from.result (BeginsBackward f v c.self.inside.root)) c.self.view_is
+    (Begins-previous f w b c.aback-from.result c.aback-from.ensures.value c.aback-from.ensures.below c.aback-from.ensures.stop
+    c.aback-from.ensures.path)
 
 pub returns-clause-value : goal.returns-clause-value
 returns-clause-value c =
     let f = c.args.forest.now in
     let w : KeyedWalker = record { root = c.self.inside.root; current = c.self.inside.current; filter = filter_of c.self.inside.filter } in
     let placed = subst (IsWalkerOf f) (sym c.self.view_is) c.requires in
-    let below = StandsBelow-walker f c.nodes_stand_once.ensures.once c.nodes_stand_once.ensures.only c.nodes_stand_once.ensures.distinct c.self.inside.root c.self.inside.current placed.root placed.current (sym c.if-eq.ensures) (sym c.if-not-is_inclusive_ancestor.ensures) in
+    let below = StandsBelow-walker f c.nodes_stand_once.ensures.once c.nodes_stand_once.ensures.only c.nodes_stand_once.ensures.distinct
+    c.self.inside.root c.self.inside.current placed.root placed.current (sym c.if-eq.ensures) (sym c.if-not-is_inclusive_ancestor.ensures) in
     let b = IsBelow-key f c.nodes_stand_once.ensures.once c.nodes_stand_once.ensures.only c.self.inside.root c.self.inside.current below in
     let from = option_map (name_at f.names) c.aback-from.result in
-    let found = subst (λ (v : KeyedWalker). option_map (name_at f.names) c.last_reached.result ≡ last_of (filter (is_candidate f.trees (walker_view f.names v) (stop_of f.trees v.filter (name_at f.names c.self.inside.root) from)) (up_to_tree f.trees (stop_of f.trees v.filter (name_at f.names c.self.inside.root) from) from))) (sym c.self.view_is) c.last_reached.ensures.value in
+    let found = subst (λ (v : KeyedWalker). option_map (name_at f.names) c.last_reached.result ≡ last_of
+    (filter (is_candidate f.trees (walker_view f.names v) (stop_of f.trees v.filter (name_at f.names c.self.inside.root) from))
+    (up_to_tree f.trees (stop_of f.trees v.filter (name_at f.names c.self.inside.root) from) from))) (sym c.self.view_is)
+    c.last_reached.ensures.value in
     found
-    ∙ (PreviousSibling-found f.trees (walker_view f.names w) b from c.aback-from.ensures.value (stop-some f w.filter c.self.inside.root c.self.inside.current c.aback-from.result c.aback-from.ensures.stop)
+    ∙ (PreviousSibling-found f.trees (walker_view f.names w) b from c.aback-from.ensures.value
+    (stop-some f w.filter c.self.inside.root c.self.inside.current c.aback-from.result c.aback-from.ensures.stop)
     ∙ ap (λ (v : KeyedWalker). walker_move f.trees (walker_view f.names v) moves.PreviousSibling) c.self.view_is)

@@ -19,13 +19,15 @@ overflow_cast-name c =
     omega (arith, counted, c.self.invariant.limited c.args.owner)
 
 -- the node that is added
-adds : (c : goal.After-push) → Adds c.self.inside.arena.payloads c.self.inside.arena.children (keys_of c.self.inside.keys) (keys_of c.push.new.self) c.args.owner
+adds : (c : goal.After-push) → Adds c.self.inside.arena.payloads c.self.inside.arena.children (keys_of c.self.inside.keys)
+    (keys_of c.push.new.self) c.args.owner
     (record { name = record { owner = c.args.owner; number = length c.of-number.result.now }; node = c.args.node })
 adds c = adds_from c.self.inside.arena.payloads c.self.inside.arena.children (keys_of c.self.inside.keys) (keys_of c.reserve.new.self) (keys_of c.push.new.self)
     c.args.owner (length c.of-number.result.now) c.in_ok-key.key c.args.node c.self.invariant
     (ap (length {A = ℕ}) c.of-number.ensures)
     c.if-number.false
-    (λ k e. subst (λ (n : ℕ). k < n) (ap (λ (f : NamedTrees). length f.names) (sym c.self.view_is) ∙ length-map c.self.inside.arena.payloads (λ s. s.name)) (c.requires.document_is_node k e))
+    (λ k e. subst (λ (n : ℕ). k < n) (ap (λ (f : NamedTrees). length f.names) (sym c.self.view_is) ∙
+    length-map c.self.inside.arena.payloads (λ s. s.name)) (c.requires.document_is_node k e))
     c.in_ok-key.ensures.key
     (let bound : c.in_ok-key.key < 2 ^ 64 = search rules in bound)
     c.reserve.ensures.keys

@@ -13,7 +13,8 @@ returns-in_err-name c =
     ap (option_map (λ a. attribute_from a.0.now a.1.now)) c.from_residual.ensures
     ∙ (ap (option_map (λ e. attribute_from (string_bytes e.0) e.1.items)) c.in_err-name.ensures.entry
     ∙ (sym (slice_get-map (λ e. attribute_from (string_bytes e.0) e.1.items) c.payload.result.now.node.attributes.entries c.args.index)
-    ∙ ap (λ (n : Node). slice_get n.attributes c.args.index) (sym (shows_node c.self.view_is c.self.invariant c.args.key _ c.requires c.payload.ensures.value))))
+    ∙ ap (λ (n : Node). slice_get n.attributes c.args.index)
+    (sym (shows_node c.self.view_is c.self.invariant c.args.key _ c.requires c.payload.ensures.value))))
 
 pub returns : goal.returns
 returns c =
@@ -21,4 +22,5 @@ returns c =
     ∙ (ap (λ items. Some (attribute_from (string_bytes c.in_ok-name.name.now) items)) c.as_slice.ensures.value
     ∙ (ap (option_map (λ e. attribute_from (string_bytes e.0) e.1.items)) c.in_ok-name.ensures.entry
     ∙ (sym (slice_get-map (λ e. attribute_from (string_bytes e.0) e.1.items) c.payload.result.now.node.attributes.entries c.args.index)
-    ∙ ap (λ (n : Node). slice_get n.attributes c.args.index) (sym (shows_node c.self.view_is c.self.invariant c.args.key _ c.requires c.payload.ensures.value)))))
+    ∙ ap (λ (n : Node). slice_get n.attributes c.args.index)
+    (sym (shows_node c.self.view_is c.self.invariant c.args.key _ c.requires c.payload.ensures.value)))))

@@ -3,7 +3,8 @@ use Rattle.std.proofs.lemmas.List.{length-map}
 use Rattle.node_arena.specs.Nodes.{children_of, next_of}
 use Rattle.node_arena.proofs.Lists.{contains-head_of}
 use Rattle.dom_tree.specs.Forest.{name_at}
-use Rattle.dom_tree.proofs.Walks.{children_left, children_left-none, children_left-head, children_left-next, among-next, few_children, shows_children, none_left}
+use Rattle.dom_tree.proofs.Walks.{children_left, children_left-none, children_left-head, children_left-next, among-next, few_children, shows_children}
+use Rattle.dom_tree.proofs.Walks.{none_left}
 use Rattle.dom_tree.proofs.Kept.{within}
 use Rattle.dom_tree.proofs.forest.Forest.child_count.Goals as goal
 
@@ -21,27 +22,36 @@ overflow_add-count c =
     let paired = c.self.invariant.paired in
     let below = few_children c.self.inside.arena.children c.self.invariant.forest c.args.key (omega arith) in
     let child = c.loop-at.invariant.1 c.in-Some.child c.in-Some.is in
-    let next = children_left-next c.self.inside.arena.children c.self.invariant.forest c.args.key c.in-Some.child (next_of c.self.inside.arena.children c.in-Some.child) child refl in
+    let next = children_left-next c.self.inside.arena.children c.self.invariant.forest c.args.key c.in-Some.child
+    (next_of c.self.inside.arena.children c.in-Some.child) child refl in
     let here = ap (children_left (children_of c.self.inside.arena.children c.args.key)) c.in-Some.is in
     omega (arith, c.loop-at.invariant.2)
 
 pub loop-at-smaller : goal.loop-at-smaller
 loop-at-smaller c =
     let child = c.loop-at.invariant.1 c.in-Some.child c.in-Some.is in
-    let next = children_left-next c.self.inside.arena.children c.self.invariant.forest c.args.key c.in-Some.child c.next-at.result child c.next-at.ensures.value in
+    let next = children_left-next c.self.inside.arena.children c.self.invariant.forest c.args.key c.in-Some.child c.next-at.result child
+    c.next-at.ensures.value in
     let here = ap (children_left (children_of c.self.inside.arena.children c.args.key)) c.in-Some.is in
     omega arith
 
 pub loop-at-preserved : goal.loop-at-preserved
 loop-at-preserved c =
     let child = c.loop-at.invariant.1 c.in-Some.child c.in-Some.is in
-    let next = children_left-next c.self.inside.arena.children c.self.invariant.forest c.args.key c.in-Some.child c.next-at.result child c.next-at.ensures.value in
-    let here = ap (children_left (children_of c.self.inside.arena.children c.args.key)) c.in-Some.is in
-    (c.next-at.ensures.node, (λ s e. among-next c.self.inside.arena.children c.self.invariant.forest c.args.key c.in-Some.child s c.next-at.result child c.next-at.ensures.value e), omega (arith, c.loop-at.invariant.2))
+    let next = children_left-next c.self.inside.arena.children c.self.invariant.forest c.args.key c.in-Some.child c.next-at.result child
+    c.next-at.ensures.value in
+    let here = ap (children_left (children_of c.self.inside.arena.children c.args.key)) c.in-Some.is in (
+      c.next-at.ensures.node,
+      (λ s e. among-next c.self.inside.arena.children c.self.invariant.forest c.args.key c.in-Some.child s c.next-at.result
+          child c.next-at.ensures.value e),
+      omega (arith, c.loop-at.invariant.2),
+    )
 
 pub returns : goal.returns
 returns c =
-    let ends = ap (children_left (children_of c.self.inside.arena.children c.args.key)) (none_left c.loop-at.at c.in_default.not-Some) ∙ children_left-none (children_of c.self.inside.arena.children c.args.key) in
+    let ends = ap (children_left (children_of c.self.inside.arena.children c.args.key)) (none_left c.loop-at.at c.in_default.not-Some) ∙
+    children_left-none (children_of c.self.inside.arena.children c.args.key) in
     let counted = c.loop-at.invariant.2 in
     let count : c.loop-at.count ≡ length (children_of c.self.inside.arena.children c.args.key) = omega arith in
-    count ∙ (sym (length-map (children_of c.self.inside.arena.children c.args.key) (name_at c.args.self.now.names)) ∙ ap length (sym (shows_children c.self.view_is c.self.invariant c.args.key c.requires)))
+    count ∙ (sym (length-map (children_of c.self.inside.arena.children c.args.key) (name_at c.args.self.now.names)) ∙
+    ap length (sym (shows_children c.self.view_is c.self.invariant c.args.key c.requires)))

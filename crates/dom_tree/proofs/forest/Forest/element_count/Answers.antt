@@ -5,13 +5,19 @@ use Rattle.node_arena.proofs.Lists.{contains-head_of}
 use Rattle.dom_tree.specs.Forest.{nodes_of}
 use Rattle.dom_tree.proofs.Walks.{children_left, children_left-next, among-next, few_children, none_left}
 use Rattle.dom_tree.proofs.Kept.{within, within_names}
-use Rattle.dom_tree.proofs.Children.{rest_of, rest_of-none, rest_of-head, rest_of-next, tally, tally-nil, tally-yes, tally-no, tally-length, is_counted, is_counted-split, apart_test, shows_element_count}
+use Rattle.dom_tree.proofs.Children.{rest_of, rest_of-none, rest_of-head, rest_of-next, tally, tally-nil, tally-yes, tally-no, tally-length}
+use Rattle.dom_tree.proofs.Children.{is_counted, is_counted-split, apart_test, shows_element_count}
 use Rattle.dom_tree.proofs.forest.Forest.element_count.Goals as goal
-use Rattle.dom_tree.proofs.forest.Forest.element_count.Goals.{then-is_element+then-ne, else-is_element, else-is_element-via-then-is_element+else-ne, else-is_element-via-else-is_element}
+use Rattle.dom_tree.proofs.forest.Forest.element_count.Goals.{then-is_element+then-ne, else-is_element, else-is_element-via-then-is_element+else-ne}
+use Rattle.dom_tree.proofs.forest.Forest.element_count.Goals.{else-is_element-via-else-is_element}
 
 pub loop-at-init : goal.loop-at-init
-loop-at-init c =
-    (c.first-at.ensures.node, λ k e. contains-head_of (children_of c.self.inside.arena.children c.args.key) k (sym c.first-at.ensures.value ∙ e), ap (λ ks. 0 + tally (is_counted (nodes_of c.self.inside.arena.payloads) c.args.apart) ks) (rest_of-head (children_of c.self.inside.arena.children c.args.key) c.first-at.result c.first-at.ensures.value) ∙ omega arith)
+loop-at-init c = (
+  c.first-at.ensures.node,
+  λ k e. contains-head_of (children_of c.self.inside.arena.children c.args.key) k (sym c.first-at.ensures.value ∙ e),
+  ap (λ ks. 0 + tally (is_counted (nodes_of c.self.inside.arena.payloads) c.args.apart) ks)
+      (rest_of-head (children_of c.self.inside.arena.children c.args.key) c.first-at.result c.first-at.ensures.value) ∙ omega arith,
+)
 
 pub overflow_add-count : goal.overflow_add-count
 overflow_add-count c =
@@ -21,15 +27,28 @@ overflow_add-count c =
     let below = few_children c.self.inside.arena.children c.self.invariant.forest c.args.key (omega arith) in
     let child = c.loop-at.invariant.1 c.in-Some.child c.in-Some.is in
     let node = within_names c.self.view_is c.self.invariant c.in-Some.child (c.loop-at.invariant.0 c.in-Some.child c.in-Some.is) in
-    let rest = rest_of-next c.self.inside.arena.children c.self.invariant.forest c.args.key c.in-Some.child (next_of c.self.inside.arena.children c.in-Some.child) child refl in
-    let was = ap (tally (is_counted (nodes_of c.self.inside.arena.payloads) c.args.apart)) (ap (rest_of (children_of c.self.inside.arena.children c.args.key)) c.in-Some.is ∙ rest) in
-    let on : (is_counted (nodes_of c.self.inside.arena.payloads) c.args.apart) c.in-Some.child ≡ true = is_counted-split c.self.view_is c.self.invariant c.in-Some.child c.args.apart node c.requires.apart_is_node ∙ and_from _ _ (sym c.if-is_element.ensures) (sym (c.if-ne.ensures ∙ ap not (apart_test c.args.apart c.in-Some.child))) in
-    omega (arith, was, c.loop-at.invariant.2, tally-yes (is_counted (nodes_of c.self.inside.arena.payloads) c.args.apart) c.in-Some.child (rest_of (children_of c.self.inside.arena.children c.args.key) (next_of c.self.inside.arena.children c.in-Some.child)) on, tally-length (is_counted (nodes_of c.self.inside.arena.payloads) c.args.apart) (children_of c.self.inside.arena.children c.args.key))
+    let rest = rest_of-next c.self.inside.arena.children c.self.invariant.forest c.args.key c.in-Some.child
+    (next_of c.self.inside.arena.children c.in-Some.child) child refl in
+    let was = ap (tally (is_counted (nodes_of c.self.inside.arena.payloads) c.args.apart))
+    (ap (rest_of (children_of c.self.inside.arena.children c.args.key)) c.in-Some.is ∙ rest) in
+    let on : (is_counted (nodes_of c.self.inside.arena.payloads) c.args.apart) c.in-Some.child ≡ true =
+    is_counted-split c.self.view_is c.self.invariant c.in-Some.child c.args.apart node c.requires.apart_is_node ∙
+    and_from _ _ (sym c.if-is_element.ensures) (sym (c.if-ne.ensures ∙ ap not (apart_test c.args.apart c.in-Some.child))) in
+    omega (
+      arith,
+      was,
+      c.loop-at.invariant.2,
+      tally-yes (is_counted (nodes_of c.self.inside.arena.payloads) c.args.apart) c.in-Some.child
+          (rest_of (children_of c.self.inside.arena.children c.args.key) (next_of c.self.inside.arena.children c.in-Some.child)) on,
+      tally-length
+          (is_counted (nodes_of c.self.inside.arena.payloads) c.args.apart) (children_of c.self.inside.arena.children c.args.key),
+    )
 
 pub loop-at-smaller : goal.loop-at-smaller
 loop-at-smaller c =
     let child = c.loop-at.invariant.1 c.in-Some.child c.in-Some.is in
-    let next = children_left-next c.self.inside.arena.children c.self.invariant.forest c.args.key c.in-Some.child c.next-at.result child c.next-at.ensures.value in
+    let next = children_left-next c.self.inside.arena.children c.self.invariant.forest c.args.key c.in-Some.child c.next-at.result child
+    c.next-at.ensures.value in
     let here = ap (children_left (children_of c.self.inside.arena.children c.args.key)) c.in-Some.is in
     omega arith
 
@@ -38,28 +57,57 @@ loop-at-preserved c =
     let child = c.loop-at.invariant.1 c.in-Some.child c.in-Some.is in
     let node = within_names c.self.view_is c.self.invariant c.in-Some.child (c.loop-at.invariant.0 c.in-Some.child c.in-Some.is) in
     let rest = rest_of-next c.self.inside.arena.children c.self.invariant.forest c.args.key c.in-Some.child c.next-at.result child c.next-at.ensures.value in
-    let was = ap (tally (is_counted (nodes_of c.self.inside.arena.payloads) c.args.apart)) (ap (rest_of (children_of c.self.inside.arena.children c.args.key)) c.in-Some.is ∙ rest) in
+    let was = ap (tally (is_counted (nodes_of c.self.inside.arena.payloads) c.args.apart))
+    (ap (rest_of (children_of c.self.inside.arena.children c.args.key)) c.in-Some.is ∙ rest) in
     let split = is_counted-split c.self.view_is c.self.invariant c.in-Some.child c.args.apart node c.requires.apart_is_node in (
       c.next-at.ensures.node,
       (λ s e. among-next c.self.inside.arena.children c.self.invariant.forest c.args.key c.in-Some.child s c.next-at.result child c.next-at.ensures.value e),
       elim c.if-is_element.branch [
         | then-is_element+then-ne w ↦
-            let on : (is_counted (nodes_of c.self.inside.arena.payloads) c.args.apart) c.in-Some.child ≡ true = split ∙ and_from _ _ (sym w.if-is_element.ensures) (sym (w.if-ne.ensures ∙ ap not (apart_test c.args.apart c.in-Some.child))) in
-            omega (arith, w.count-is, was, c.loop-at.invariant.2, tally-yes (is_counted (nodes_of c.self.inside.arena.payloads) c.args.apart) c.in-Some.child (rest_of (children_of c.self.inside.arena.children c.args.key) c.next-at.result) on)
+            let on : (is_counted (nodes_of c.self.inside.arena.payloads) c.args.apart) c.in-Some.child ≡ true =
+            split ∙ and_from _ _ (sym w.if-is_element.ensures) (sym (w.if-ne.ensures ∙ ap not (apart_test c.args.apart c.in-Some.child))) in
+            omega (
+              arith,
+              w.count-is,
+              was,
+              c.loop-at.invariant.2,
+              tally-yes (is_counted (nodes_of c.self.inside.arena.payloads) c.args.apart)
+                  c.in-Some.child (rest_of (children_of c.self.inside.arena.children c.args.key) c.next-at.result) on,
+            )
         | else-is_element w ↦ elim w.else-is_element.branch [
           | else-is_element-via-then-is_element+else-ne w' ↦
-              let off : (is_counted (nodes_of c.self.inside.arena.payloads) c.args.apart) c.in-Some.child ≡ false = split ∙ and_right _ _ (sym (w'.if-ne.ensures ∙ ap not (apart_test c.args.apart c.in-Some.child))) in
-              omega (arith, w.count-is, was, c.loop-at.invariant.2, tally-no (is_counted (nodes_of c.self.inside.arena.payloads) c.args.apart) c.in-Some.child (rest_of (children_of c.self.inside.arena.children c.args.key) c.next-at.result) off)
+              let off : (is_counted (nodes_of c.self.inside.arena.payloads) c.args.apart) c.in-Some.child ≡ false =
+              split ∙ and_right _ _ (sym (w'.if-ne.ensures ∙ ap not (apart_test c.args.apart c.in-Some.child))) in
+              omega (
+                arith,
+                w.count-is,
+                was,
+                c.loop-at.invariant.2,
+                tally-no (is_counted (nodes_of c.self.inside.arena.payloads) c.args.apart)
+                    c.in-Some.child (rest_of (children_of c.self.inside.arena.children c.args.key) c.next-at.result) off,
+              )
           | else-is_element-via-else-is_element w' ↦
-              let off : (is_counted (nodes_of c.self.inside.arena.payloads) c.args.apart) c.in-Some.child ≡ false = split ∙ and_left _ _ (sym w'.if-is_element.ensures) in
-              omega (arith, w.count-is, was, c.loop-at.invariant.2, tally-no (is_counted (nodes_of c.self.inside.arena.payloads) c.args.apart) c.in-Some.child (rest_of (children_of c.self.inside.arena.children c.args.key) c.next-at.result) off)
+              let off : (is_counted (nodes_of c.self.inside.arena.payloads) c.args.apart) c.in-Some.child ≡ false =
+              split ∙ and_left _ _ (sym w'.if-is_element.ensures) in
+              omega (
+                arith,
+                w.count-is,
+                was,
+                c.loop-at.invariant.2,
+                tally-no (is_counted (nodes_of c.self.inside.arena.payloads) c.args.apart)
+                    c.in-Some.child (rest_of (children_of c.self.inside.arena.children c.args.key) c.next-at.result) off,
+              )
         ]
       ],
     )
 
 pub returns : goal.returns
 returns c =
-    let ends = ap (tally (is_counted (nodes_of c.self.inside.arena.payloads) c.args.apart)) (ap (rest_of (children_of c.self.inside.arena.children c.args.key)) (none_left c.loop-at.at c.in_default.not-Some) ∙ rest_of-none (children_of c.self.inside.arena.children c.args.key)) ∙ tally-nil (is_counted (nodes_of c.self.inside.arena.payloads) c.args.apart) in
+    let ends = ap (tally (is_counted (nodes_of c.self.inside.arena.payloads) c.args.apart))
+    (ap (rest_of (children_of c.self.inside.arena.children c.args.key)) (none_left c.loop-at.at c.in_default.not-Some) ∙
+    rest_of-none (children_of c.self.inside.arena.children c.args.key)) ∙
+    tally-nil (is_counted (nodes_of c.self.inside.arena.payloads) c.args.apart) in
     let counted = c.loop-at.invariant.2 in
-    let count : c.loop-at.count ≡ tally (is_counted (nodes_of c.self.inside.arena.payloads) c.args.apart) (children_of c.self.inside.arena.children c.args.key) = omega arith in
+    let count : c.loop-at.count ≡ tally (is_counted (nodes_of c.self.inside.arena.payloads) c.args.apart)
+    (children_of c.self.inside.arena.children c.args.key) = omega arith in
     count ∙ shows_element_count c.self.view_is c.self.invariant c.args.key c.args.apart c.requires.key_is_node

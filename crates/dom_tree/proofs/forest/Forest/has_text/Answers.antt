@@ -4,27 +4,38 @@ use Rattle.node_arena.specs.Nodes.{children_of, next_of}
 use Rattle.node_arena.proofs.Lists.{contains-head_of}
 use Rattle.dom_tree.specs.Forest.{nodes_of}
 use Rattle.dom_tree.proofs.Walks.{children_left, children_left-next, among-next, none_left}
-use Rattle.dom_tree.proofs.Children.{rest_of, rest_of-none, rest_of-head, rest_of-next, any_of, any_of-nil, any_of-cons, is_text_key, shows_text, shows_has_text}
+use Rattle.dom_tree.proofs.Children.{rest_of, rest_of-none, rest_of-head, rest_of-next, any_of, any_of-nil, any_of-cons, is_text_key, shows_text}
+use Rattle.dom_tree.proofs.Children.{shows_has_text}
 use Rattle.dom_tree.proofs.Kept.{within_names}
 use Rattle.dom_tree.proofs.forest.Forest.has_text.Goals as goal
 
 pub loop-at-init : goal.loop-at-init
-loop-at-init c =
-    (c.first-at.ensures.node, λ k e. contains-head_of (children_of c.self.inside.arena.children c.args.key) k (sym c.first-at.ensures.value ∙ e), ap (any_of (is_text_key (nodes_of c.self.inside.arena.payloads))) (rest_of-head (children_of c.self.inside.arena.children c.args.key) c.first-at.result c.first-at.ensures.value))
+loop-at-init c = (
+  c.first-at.ensures.node,
+  λ k e. contains-head_of (children_of c.self.inside.arena.children c.args.key) k (sym c.first-at.ensures.value ∙ e),
+  ap (any_of (is_text_key (nodes_of c.self.inside.arena.payloads)))
+      (rest_of-head (children_of c.self.inside.arena.children c.args.key) c.first-at.result c.first-at.ensures.value),
+)
 
 pub returns-then-is_text : goal.returns-then-is_text
 returns-then-is_text c =
     let child = c.loop-at.invariant.1 c.in-Some.child c.in-Some.is in
     let node = within_names c.self.view_is c.self.invariant c.in-Some.child (c.loop-at.invariant.0 c.in-Some.child c.in-Some.is) in
     let here = sym (shows_text c.self.view_is c.self.invariant c.in-Some.child node) ∙ sym c.if-is_text.ensures in
-    let rest = rest_of-next c.self.inside.arena.children c.self.invariant.forest c.args.key c.in-Some.child (next_of c.self.inside.arena.children c.in-Some.child) child refl in
-    sym (sym c.loop-at.invariant.2 ∙ (ap (λ o. any_of (is_text_key (nodes_of c.self.inside.arena.payloads)) (rest_of (children_of c.self.inside.arena.children c.args.key) o)) c.in-Some.is ∙ (ap (any_of (is_text_key (nodes_of c.self.inside.arena.payloads))) rest ∙ (any_of-cons (is_text_key (nodes_of c.self.inside.arena.payloads)) c.in-Some.child (rest_of (children_of c.self.inside.arena.children c.args.key) (next_of c.self.inside.arena.children c.in-Some.child)) ∙ or_left _ _ here))))
+    let rest = rest_of-next c.self.inside.arena.children c.self.invariant.forest c.args.key c.in-Some.child
+    (next_of c.self.inside.arena.children c.in-Some.child) child refl in
+    sym (sym c.loop-at.invariant.2 ∙ (ap
+    (λ o. any_of (is_text_key (nodes_of c.self.inside.arena.payloads)) (rest_of (children_of c.self.inside.arena.children c.args.key) o))
+    c.in-Some.is ∙ (ap (any_of (is_text_key (nodes_of c.self.inside.arena.payloads))) rest ∙
+    (any_of-cons (is_text_key (nodes_of c.self.inside.arena.payloads)) c.in-Some.child
+    (rest_of (children_of c.self.inside.arena.children c.args.key) (next_of c.self.inside.arena.children c.in-Some.child)) ∙ or_left _ _ here))))
     ∙ shows_has_text c.self.view_is c.self.invariant c.args.key c.requires
 
 pub loop-at-smaller : goal.loop-at-smaller
 loop-at-smaller c =
     let child = c.loop-at.invariant.1 c.in-Some.child c.in-Some.is in
-    let next = children_left-next c.self.inside.arena.children c.self.invariant.forest c.args.key c.in-Some.child c.next-at.result child c.next-at.ensures.value in
+    let next = children_left-next c.self.inside.arena.children c.self.invariant.forest c.args.key c.in-Some.child c.next-at.result child
+    c.next-at.ensures.value in
     let here = ap (children_left (children_of c.self.inside.arena.children c.args.key)) c.in-Some.is in
     omega arith
 
@@ -36,10 +47,18 @@ loop-at-preserved c =
     let rest = rest_of-next c.self.inside.arena.children c.self.invariant.forest c.args.key c.in-Some.child c.next-at.result child c.next-at.ensures.value in (
       c.next-at.ensures.node,
       (λ s e. among-next c.self.inside.arena.children c.self.invariant.forest c.args.key c.in-Some.child s c.next-at.result child c.next-at.ensures.value e),
-      sym (ap (λ b. b || any_of (is_text_key (nodes_of c.self.inside.arena.payloads)) (rest_of (children_of c.self.inside.arena.children c.args.key) c.next-at.result)) here) ∙ (sym (any_of-cons (is_text_key (nodes_of c.self.inside.arena.payloads)) c.in-Some.child (rest_of (children_of c.self.inside.arena.children c.args.key) c.next-at.result)) ∙ (sym (ap (any_of (is_text_key (nodes_of c.self.inside.arena.payloads))) rest) ∙ (sym (ap (λ o. any_of (is_text_key (nodes_of c.self.inside.arena.payloads)) (rest_of (children_of c.self.inside.arena.children c.args.key) o)) c.in-Some.is) ∙ c.loop-at.invariant.2))),
+      sym (ap (λ b. b || any_of (is_text_key (nodes_of c.self.inside.arena.payloads))
+          (rest_of (children_of c.self.inside.arena.children c.args.key) c.next-at.result)) here) ∙
+          (sym (any_of-cons (is_text_key (nodes_of c.self.inside.arena.payloads)) c.in-Some.child
+          (rest_of (children_of c.self.inside.arena.children c.args.key) c.next-at.result)) ∙
+          (sym (ap (any_of (is_text_key (nodes_of c.self.inside.arena.payloads))) rest) ∙
+          (sym (ap (λ o. any_of (is_text_key (nodes_of c.self.inside.arena.payloads))
+          (rest_of (children_of c.self.inside.arena.children c.args.key) o)) c.in-Some.is) ∙ c.loop-at.invariant.2))),
     )
 
 pub returns : goal.returns
 returns c =
     sym (sym (shows_has_text c.self.view_is c.self.invariant c.args.key c.requires)
-    ∙ (sym c.loop-at.invariant.2 ∙ (ap (any_of (is_text_key (nodes_of c.self.inside.arena.payloads))) (ap (rest_of (children_of c.self.inside.arena.children c.args.key)) (none_left c.loop-at.at c.in_default.not-Some) ∙ rest_of-none (children_of c.self.inside.arena.children c.args.key)) ∙ any_of-nil (is_text_key (nodes_of c.self.inside.arena.payloads)))))
+    ∙ (sym c.loop-at.invariant.2 ∙ (ap (any_of (is_text_key (nodes_of c.self.inside.arena.payloads)))
+    (ap (rest_of (children_of c.self.inside.arena.children c.args.key)) (none_left c.loop-at.at c.in_default.not-Some) ∙
+    rest_of-none (children_of c.self.inside.arena.children c.args.key)) ∙ any_of-nil (is_text_key (nodes_of c.self.inside.arena.payloads)))))

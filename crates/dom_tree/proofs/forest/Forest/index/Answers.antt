@@ -4,7 +4,11 @@ use Rattle.dom_tree.proofs.Kept.{within}
 use Rattle.dom_tree.proofs.forest.Forest.index.Goals as goal
 
 pub loop-at-init : goal.loop-at-init
-loop-at-init c = (c.prev-at.ensures.node, ap (λ n. 0 + n) (places_left-prev c.self.inside.arena.children c.self.invariant.forest c.args.key c.prev-at.result c.prev-at.ensures.value) ∙ omega arith)
+loop-at-init c = (
+  c.prev-at.ensures.node,
+  ap (λ n. 0 + n)
+      (places_left-prev c.self.inside.arena.children c.self.invariant.forest c.args.key c.prev-at.result c.prev-at.ensures.value) ∙ omega arith,
+)
 
 pub overflow_add-index : goal.overflow_add-index
 overflow_add-index c =
@@ -18,13 +22,15 @@ overflow_add-index c =
 pub loop-at-smaller : goal.loop-at-smaller
 loop-at-smaller c =
     let here = ap (places_left c.self.inside.arena.children) c.in-Some.is ∙ places_left-some c.self.inside.arena.children c.in-Some.sibling in
-    let next = places_left-prev c.self.inside.arena.children c.self.invariant.forest c.in-Some.sibling c.prev-at-in-Some.result c.prev-at-in-Some.ensures.value in
+    let next = places_left-prev c.self.inside.arena.children c.self.invariant.forest c.in-Some.sibling c.prev-at-in-Some.result
+    c.prev-at-in-Some.ensures.value in
     omega arith
 
 pub loop-at-preserved : goal.loop-at-preserved
 loop-at-preserved c =
     let here = ap (places_left c.self.inside.arena.children) c.in-Some.is ∙ places_left-some c.self.inside.arena.children c.in-Some.sibling in
-    let next = places_left-prev c.self.inside.arena.children c.self.invariant.forest c.in-Some.sibling c.prev-at-in-Some.result c.prev-at-in-Some.ensures.value in
+    let next = places_left-prev c.self.inside.arena.children c.self.invariant.forest c.in-Some.sibling c.prev-at-in-Some.result
+    c.prev-at-in-Some.ensures.value in
     (c.prev-at-in-Some.ensures.node, omega (arith, c.loop-at.invariant.1))
 
 pub returns : goal.returns

@@ -8,7 +8,8 @@ pub returns-then-is_none : goal.returns-then-is_none
 returns-then-is_none c =
     let lists = c.self.inside.arena.children in
     let other = eqb-false c.args.above c.args.key (not-true (eqb c.args.above c.args.key) (sym c.if-ne.ensures)) in
-    sym (above_from-leaf lists c.self.invariant.forest c.args.above c.args.key (no_children (children_of lists c.args.above) c.first.result c.first.ensures.value c.if-is_none.ensures) (λ e. other (sym e)))
+    sym (above_from-leaf lists c.self.invariant.forest c.args.above c.args.key
+    (no_children (children_of lists c.args.above) c.first.result c.first.ensures.value c.if-is_none.ensures) (λ e. other (sym e)))
     ∙ shows_above c.self.view_is c.self.invariant c.args.above c.args.key c.requires.above_is_node c.requires.key_is_node
 
 pub returns-then-eq : goal.returns-then-eq
@@ -19,7 +20,8 @@ returns-then-eq c =
     ∙ shows_above c.self.view_is c.self.invariant c.args.above c.args.key c.requires.above_is_node c.requires.key_is_node))
 
 pub loop-at-smaller : goal.loop-at-smaller
-loop-at-smaller c = rw c.in-Some.is (steps_fall c.self.inside.arena.children c.self.invariant.forest c.in-Some.node c.parent-at.result c.parent-at.ensures.value)
+loop-at-smaller c = rw c.in-Some.is (steps_fall c.self.inside.arena.children c.self.invariant.forest c.in-Some.node c.parent-at.result
+    c.parent-at.ensures.value)
 
 pub loop-at-preserved : goal.loop-at-preserved
 loop-at-preserved c =
@@ -32,4 +34,5 @@ loop-at-preserved c =
 pub returns : goal.returns
 returns c =
     sym (sym (shows_above c.self.view_is c.self.invariant c.args.above c.args.key c.requires.above_is_node c.requires.key_is_node)
-    ∙ (sym c.loop-at.invariant.1 ∙ (ap (above_from c.self.inside.arena.children c.args.above) (none_left c.loop-at.at c.in_default.not-Some) ∙ above_from-none c.self.inside.arena.children c.args.above)))
+    ∙ (sym c.loop-at.invariant.1 ∙ (ap (above_from c.self.inside.arena.children c.args.above) (none_left c.loop-at.at c.in_default.not-Some) ∙
+    above_from-none c.self.inside.arena.children c.args.above)))

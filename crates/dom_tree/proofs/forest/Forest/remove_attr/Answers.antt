@@ -21,4 +21,9 @@ pub returns-clause-names : goal.returns-clause-names
 returns-clause-names c = set_names c.self.view_is c.self.invariant c.args.key c.payload_mut.result.now _ c.payload_mut.ensures.value refl
 
 pub returns-clause-trees : goal.returns-clause-trees
-returns-clause-trees c = ap (λ f. f.trees) (set_done c.self.view_is c.self.invariant c.args.key c.payload_mut.result.now _ (with_attribute c.args.name.now None) c.payload_mut.ensures.value refl (λ y. refl) (ap (holding c.args.self.now.names c.payload_mut.result.now) (ap (attributes_in string_bytes (λ v. v.items)) c.shift_remove.ensures.entries ∙ remove-attributes string_bytes (λ v. v.items) c.args.name.now c.payload_mut.result.now.node.attributes.entries)))
+returns-clause-trees c = ap (λ f. f.trees)
+    (set_done c.self.view_is c.self.invariant c.args.key c.payload_mut.result.now _ (with_attribute c.args.name.now None)
+    c.payload_mut.ensures.value refl (λ y. refl)
+    (ap (holding c.args.self.now.names c.payload_mut.result.now)
+    (ap (attributes_in string_bytes (λ v. v.items)) c.shift_remove.ensures.entries ∙ remove-attributes string_bytes (λ v. v.items) c.args.name.now
+    c.payload_mut.result.now.node.attributes.entries)))

@@ -16,7 +16,9 @@ pub returns-in_err-insert-clause-names : goal.returns-in_err-insert-clause-names
 returns-in_err-insert-clause-names c = set_names c.self.view_is c.self.invariant c.args.key c.payload_mut.result.now _ c.payload_mut.ensures.value refl
 
 pub returns-in_err-insert-clause-err : goal.returns-in_err-insert-clause-err
-returns-in_err-insert-clause-err c = on_any c.from_residual-in_err-insert.result (set_same c.self.view_is c.self.invariant c.args.key c.payload_mut.result.now _ c.payload_mut.ensures.value refl (ap (holding c.args.self.now.names c.payload_mut.result.now) (ap (attributes_in string_bytes (λ v. v.items)) c.in_err-insert.ensures.err)))
+returns-in_err-insert-clause-err c = on_any c.from_residual-in_err-insert.result
+    (set_same c.self.view_is c.self.invariant c.args.key c.payload_mut.result.now _ c.payload_mut.ensures.value refl
+    (ap (holding c.args.self.now.names c.payload_mut.result.now) (ap (attributes_in string_bytes (λ v. v.items)) c.in_err-insert.ensures.err)))
   where
     on_any : {T E P : Type 0} (r : Result T E) → P → OnErr r P
     on_any (Ok x) p = tt
@@ -26,4 +28,11 @@ pub returns-clause-names : goal.returns-clause-names
 returns-clause-names c = set_names c.self.view_is c.self.invariant c.args.key c.payload_mut.result.now _ c.payload_mut.ensures.value refl
 
 pub returns-clause-ok : goal.returns-clause-ok
-returns-clause-ok c = ap (λ f. f.trees) (set_done c.self.view_is c.self.invariant c.args.key c.payload_mut.result.now _ (with_attribute c.args.name.now (Some c.args.value.items)) c.payload_mut.ensures.value refl (λ y. refl) (ap (holding c.args.self.now.names c.payload_mut.result.now) (ap (attributes_in string_bytes (λ v. v.items)) c.in_ok-insert.ensures.entries ∙ (insert-attributes string_bytes (λ v. v.items) string_eq (λ x y. refl) c.in_ok-name.name c.args.value c.payload_mut.result.now.node.attributes.entries ∙ ap (λ a. attributes_with a c.args.value.items (attributes_in string_bytes (λ v. v.items) c.payload_mut.result.now.node.attributes.entries)) c.in_ok-name.ensures.ok))))
+returns-clause-ok c = ap (λ f. f.trees) (set_done c.self.view_is c.self.invariant c.args.key c.payload_mut.result.now _
+    (with_attribute c.args.name.now (Some c.args.value.items)) c.payload_mut.ensures.value refl (λ y. refl)
+    (ap (holding c.args.self.now.names c.payload_mut.result.now)
+    (ap (attributes_in string_bytes (λ v. v.items)) c.in_ok-insert.ensures.entries ∙
+    (insert-attributes string_bytes (λ v. v.items) string_eq (λ x y. refl) c.in_ok-name.name c.args.value
+    c.payload_mut.result.now.node.attributes.entries ∙
+    ap (λ a. attributes_with a c.args.value.items (attributes_in string_bytes (λ v. v.items) c.payload_mut.result.now.node.attributes.entries))
+    c.in_ok-name.ensures.ok))))

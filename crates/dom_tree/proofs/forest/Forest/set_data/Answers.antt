@@ -10,4 +10,6 @@ pub returns-clause-names : goal.returns-clause-names
 returns-clause-names c = set_names c.self.view_is c.self.invariant c.args.key c.payload_mut.result.now _ c.payload_mut.ensures.value refl
 
 pub returns-clause-trees : goal.returns-clause-trees
-returns-clause-trees c = ap (λ f. f.trees) (set_done c.self.view_is c.self.invariant c.args.key c.payload_mut.result.now _ (with_text c.args.text.items) c.payload_mut.ensures.value refl (λ y. refl) refl)
+returns-clause-trees c = ap (λ f. f.trees)
+    (set_done c.self.view_is c.self.invariant c.args.key c.payload_mut.result.now _ (with_text c.args.text.items) c.payload_mut.ensures.value refl
+    (λ y. refl) refl)

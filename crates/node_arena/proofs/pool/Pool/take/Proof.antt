@@ -38,24 +38,33 @@ use Rattle.node_arena.proofs.pool.Pool.take.Code as code
 
 pub take_spec : {M : Type 1} → statement M
 take_spec 𝓤 𝓛 𝓜 𝓡 wired V L =
-    let H = 𝓛.H in let 𝓣 = tables 𝓤 H 𝓜 𝓡 𝓡.env in let R : RattleType = param 0 V in let En = ended V in let inst = layouts (a_type ∷ []) (V, tt) in let fn = inst_fn inst code.function in
+    let H = 𝓛.H in let 𝓣 = tables 𝓤 H 𝓜 𝓡 𝓡.env in let R : RattleType = param 0 V in let En = ended V in let inst =
+    layouts (a_type ∷ []) (V, tt) in let fn = inst_fn inst code.function in
     let Pr : RattleType = C.the_row R in let Np : RattleType = N.the_row in let c = clauses V 𝓛 𝓜.mem 𝓡.returns in
     let hs : Stays En.signature.params En.kept = (stay_ref (0 ∷ []) tt (plain (λ _. Pr)), (stay_dropped (plain (λ _. Np)) yes, tt)) in
-    proved_at 𝓛 En hs c 𝓜 𝓡 (Goes-ref 𝓛 2 0 tt (plain (λ _. Pr)), (Goes-dropped 𝓛 2 (plain (λ _. Np)) yes (λ κs x f. refl), tt)) (#self inst) fn (code.unfolded 𝓤 H 𝓜 𝓡 wired (V, tt)) (λ z are.
-    let κs = z.0.0 in let qs = z.0.1 in let a = z.0.3 in let κ : Lft = κs.0 in let b : ℕ = a.0.ref_ptr.0 in let o : ℕ = a.0.ref_ptr.1 in let d : Pr.Denot = a.0.now in let p : Ptr = a.1.0.ptr in
+    proved_at 𝓛 En hs c 𝓜 𝓡 (Goes-ref 𝓛 2 0 tt (plain (λ _. Pr)), (Goes-dropped 𝓛 2 (plain (λ _. Np)) yes (λ κs x f. refl), tt)) (#self inst) fn
+    (code.unfolded 𝓤 H 𝓜 𝓡 wired (V, tt)) (λ z are.
+    let κs = z.0.0 in let qs = z.0.1 in let a = z.0.3 in let κ : Lft = κs.0 in let b : ℕ = a.0.ref_ptr.0 in let o : ℕ =
+    a.0.ref_ptr.1 in let d : Pr.Denot = a.0.now in let p : Ptr = a.1.0.ptr in
     let Post : Val → SProp 𝓤 = (walk_of 𝓛 En hs c).post z in let Run : List Val → SProp 𝓤 = λ ws. WpFn 𝓤 H 𝓣.C 𝓣.Λ fn ws Post in
     let others : Fml = fsep (flft κs.1.0 qs.1.0) ftrue in let new : Pr.Denot = record d { cells = without_at d.cells p } in
     qed 𝓛 (((‵ (flft κ qs.0) ⊛ ‵ others) ⊛ ‵ (owns (types_at En.signature.params κs) a z.0.4)) ∷ raw ((c κs a).requires z.1) ∷ []) ∵
-    split ! $ move ! (2 ∷ []) $ use1 𝓛 (raw (fact 𝓤 (κs.1.0 ⊑ V.lives)) ⊛ raw (fact 𝓤 (IsSome (value_at d.cells p)))) (id⊢ 𝓤 _) $ split ! $ drop ! $ heard ! (IsSome (value_at d.cells p)) (λ asked. let spot : First d.cells p = first_at d.cells p asked in
+    split ! $ move ! (2 ∷ []) $ use1 𝓛 (raw (fact 𝓤 (κs.1.0 ⊑ V.lives)) ⊛ raw (fact 𝓤 (IsSome (value_at d.cells p)))) (id⊢ 𝓤 _) $ split ! $ drop
+    ! $ heard ! (IsSome (value_at d.cells p)) (λ asked. let spot : First d.cells p = first_at d.cells p asked in
     let xs = spot.before in let n : Placed V.Denot = spot.cell in let ys = spot.after in
     split ! $ move ! (2 ∷ []) $ fsplit ! $ fsplit3 ! $ feq_l ! (λ e0. move ! (2 ∷ []) $ fsplit ! $ word_had ! p z.0.4.1.0 (λ e1.
-    suffices ! (Run (vptr b o ∷ word p ∷ [])) (subst (λ (us : List Val). ent 𝓤 (Run (vptr b o ∷ word p ∷ [])) (Run us)) (sym (λ i. e0 i ++ (e1 i ++ []))) (id⊢ 𝓤 (Run (vptr b o ∷ word p ∷ [])))) $ drop ! $
+    suffices ! (Run (vptr b o ∷ word p ∷ []))
+    (subst (λ (us : List Val). ent 𝓤 (Run (vptr b o ∷ word p ∷ [])) (Run us)) (sym (λ i. e0 i ++ (e1 i ++ [])))
+    (id⊢ 𝓤 (Run (vptr b o ∷ word p ∷ [])))) $ drop ! $
     enter ! 𝓣.C 𝓣.Λ fn (vptr b o ∷ word p ∷ []) Post $ alloc_all ! (λ l. pass_all ! refl ((tt, tt), (word-Good [] p, tt)) $
     opens ! tt Pr {h = d} b o (λ us. move ! (1 ∷ []) $ fsplit ! $ move ! (1 ∷ []) $
-    rewrite ! 0 (λ (ns : List (Placed V.Denot)). ‵ (pool_owns R ns)) spot.is refl $ use1 𝓛 (‵ (cell_owns R n) ⊛ ‵ (pool_owns R (xs ++ ys))) (cell_cut 𝓛 R xs n ys) $ split ! $
-    rewrite ! 0 (λ (q : Ptr). ‵ (cell_owns R (placed q n.value))) spot.at refl $ rewrite ! 1 (λ (ns : List (Placed V.Denot)). ‵ (pool_owns R ns)) (sym spot.gone) refl $
+    rewrite ! 0 (λ (ns : List (Placed V.Denot)). ‵ (pool_owns R ns)) spot.is refl $ use1 𝓛 (‵ (cell_owns R n) ⊛ ‵ (pool_owns R (xs ++ ys)))
+    (cell_cut 𝓛 R xs n ys) $ split ! $
+    rewrite ! 0 (λ (q : Ptr). ‵ (cell_owns R (placed q n.value))) spot.at refl $ rewrite ! 1 (λ (ns : List (Placed V.Denot)). ‵ (pool_owns R ns))
+    (sym spot.gone) refl $
     move ! (2 ∷ 1 ∷ []) $ fjoin ! $ move ! (2 ∷ 0 ∷ 3 ∷ 4 ∷ 5 ∷ []) $ closes ! tt Pr new us b o $
-    sets ! (of_opd ! (get_in ! (fld ! refl (stop !)) (sub ! 0 refl (whole !)))) refl (Ptr-Good p) $ sets ! (agg ! (and_then ! (get ! refl) (no_more !))) refl (word-Good [] p) $
+    sets ! (of_opd ! (get_in ! (fld ! refl (stop !)) (sub ! 0 refl (whole !)))) refl (Ptr-Good p) $ sets !
+    (agg ! (and_then ! (get ! refl) (no_more !))) refl (word-Good [] p) $
     -- [two parts of self; its token; the cell; the other token]
     returns ! (look_at ! 0 refl) $ free_all ! refl $ feq_i ! (List Val) z.0.4.0 (vptr b o ∷ []) e0 $ fjoin3 ! $ move ! (1 ∷ 3 ∷ []) $ join ! $
     nothing ! $ nothing ! $ fjoin ! $ move ! (2 ∷ 0 ∷ []) $ fjoin ! $ move ! (2 ∷ []) $ word_made ! p $ fjoin ! $

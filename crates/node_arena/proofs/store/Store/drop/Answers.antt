@@ -9,11 +9,13 @@ loop-place-init g c = ap (map (λ p. p.ptr)) c.into_iter-place-iterator.ensures.
 
 pub take-requires : goal.take-requires
 take-requires g c =
-    (first_placed c.loop-place.pool.cells c.in-Some.place.ptr (map (λ p. p.ptr) c.next.new.self.rest.items) (ap (map (λ p. p.ptr)) (sym c.in-Some.ensures.steps.0) ∙ c.loop-place.invariant)).0
+    (first_placed c.loop-place.pool.cells c.in-Some.place.ptr (map (λ p. p.ptr) c.next.new.self.rest.items)
+    (ap (map (λ p. p.ptr)) (sym c.in-Some.ensures.steps.0) ∙ c.loop-place.invariant)).0
 
 pub loop-place-preserved : goal.loop-place-preserved
 loop-place-preserved g c =
-    (first_placed c.loop-place.pool.cells c.in-Some.place.ptr (map (λ p. p.ptr) c.next.new.self.rest.items) (ap (map (λ p. p.ptr)) (sym c.in-Some.ensures.steps.0) ∙ c.loop-place.invariant)).1
+    (first_placed c.loop-place.pool.cells c.in-Some.place.ptr (map (λ p. p.ptr) c.next.new.self.rest.items)
+    (ap (map (λ p. p.ptr)) (sym c.in-Some.ensures.steps.0) ∙ c.loop-place.invariant)).1
     ∙ ap places_of (sym c.take.ensures.cells)
 
 pub end-requires : goal.end-requires

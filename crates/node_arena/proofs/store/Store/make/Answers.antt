@@ -21,8 +21,10 @@ invariant_of-self-2 g c =
     let free : c.reserve.new.self.len < c.reserve.new.self.cap = omega arith in
     let pushed : is_ok c.push.result ≡ true = c.push.ensures.succeeds free in
     let listed : c.push.new.self.items ≡ list ++ place ∷ [] =
-    c.push.ensures.items ∙ ap (λ b. cond b (c.reserve.new.self.items ++ place ∷ []) c.reserve.new.self.items) pushed ∙ ap (λ ps. ps ++ place ∷ []) c.reserve.ensures.items in
-    rw (listed, put) (IsWired-push list cells place null c.args.payload c.self.invariant c.nowhere-nowhere.ensures c.put-place.ensures.fresh c.put-place.ensures.tested.0 c.put-place.ensures.tested.1)
+    c.push.ensures.items ∙ ap (λ b. cond b (c.reserve.new.self.items ++ place ∷ []) c.reserve.new.self.items) pushed ∙
+    ap (λ ps. ps ++ place ∷ []) c.reserve.ensures.items in
+    rw (listed, put) (IsWired-push list cells place null c.args.payload c.self.invariant c.nowhere-nowhere.ensures c.put-place.ensures.fresh
+    c.put-place.ensures.tested.0 c.put-place.ensures.tested.1)
 
 pub returns-clause-ok : goal.returns-clause-ok
 returns-clause-ok g c =

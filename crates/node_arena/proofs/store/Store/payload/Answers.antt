@@ -18,4 +18,6 @@ returns g c =
     let cells = c.self.inside.pool.cells in
     let asked = rw (← c.self.view_is, ← c.key.view_is) at c.requires in
     let within : c.key.inside.index < length cells = omega (arith, length-map cells payload_of) in
-    rw (← c.self.view_is, ← c.key.view_is) (read-payload c.self.inside.list.items cells c.self.invariant c.key.inside.index c.index.result.now within c.index.ensures c.get.result.now c.get.ensures)
+    rw (← c.self.view_is, ← c.key.view_is)
+    (read-payload c.self.inside.list.items cells c.self.invariant c.key.inside.index c.index.result.now within c.index.ensures
+    c.get.result.now c.get.ensures)

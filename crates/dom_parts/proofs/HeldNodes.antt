@@ -1,0 +1,280 @@
+-- What holds of a `Doc` holds with one node more, and at first.
+use Rattle.std.proofs.Common.{◌≡◌, ℕ, ◌+◌, ◌<◌, ◌≤◌, ◌⊎◌, inl, inr, true, cond, All, map, List, [], ◌∷◌, ◌++◌, length, Option, Some, None}
+use Rattle.std.proofs.Common.{Result, Ok, Err, unwrap_or, zero, refl, sym, ap, subst, ◌∙◌, ◌≢◌, arith, add-one, suc}
+use Rattle.std.specs.Prelude.{OnOk, OnErr, ◌↔◌}
+use Rattle.std.proofs.lemmas.Bool.{cases_Bool}
+use Rattle.std.proofs.lemmas.List.{length_push}
+use Rattle.std.proofs.lemmas.Option.{none-some, same_Some}
+use Rattle.std.proofs.Math.Nat.{eq-or-lt_of_le, add-zero}
+use Rattle.std.proofs.Math.ListN.{get_or-append}
+use Rattle.std.proofs.Math.Seq.{get_or-append_seam}
+use Rattle.dom_base.specs.declared.Fault.{Fault}
+use Rattle.dom_base.specs.declared.Fault.TheVariants.{Refused}
+use Rattle.dom_base.specs.declared.Refusal.TheVariants.{Limit}
+use Rattle.dom_base.specs.declared.NodeName.{NodeName}
+use Rattle.dom_base.specs.declared.Owner.{Owner}
+use Rattle.dom_base.specs.declared.Owner.TheVariants.{Page, Component}
+use Rattle.dom_model.specs.Names.{owner_eq, node_of}
+use Rattle.dom_model.specs.Tree.{Trees, none, Node}
+use Rattle.dom_model.specs.TreeChanges.{with_node, with_name}
+use Rattle.dom_model.specs.Steps.{make}
+use Rattle.dom_model.specs.World.{part_of, is_there}
+use Rattle.dom_model.specs.WorldSteps.{world_step}
+use Rattle.dom_model.specs.Part.{next_name as part_next}
+use Rattle.dom_model.specs.Ranges.{Range}
+use Rattle.dom_model.proofs.OwnerLaws.{owner_eq-same, owner_eq-true, ne-owner_eq}
+use Rattle.dom_tree.specs.Forest.{NamedTrees, name_at, next_name, count_of}
+use Rattle.dom_tree.specs.Owners.{trees_of_owner, IsOwnChange}
+use Rattle.dom_tree.proofs.OwnPlacings.{added}
+use Rattle.dom_ranges.specs.Settings.{named_ranges}
+use Rattle.dom_ranges.specs.Tables.{RangeLists, ranges_of}
+use Rattle.dom_observers.specs.Naming.{IsKey}
+use Rattle.dom_observers.proofs.Speaking.{speaks_none}
+use Rattle.dom_parts.specs.Contents.{Tables, part_with}
+use Rattle.dom_cursors.specs.OwnTables.{KeyedTables, table_of, no_keyed_tables}
+use Rattle.dom_parts.specs.AllTables.{tables_view, AreTablesOf, AllTables, no_slots, first_tables, AreFirst, with_live}
+use Rattle.dom_slots.specs.Kept.{AreSlotsOf, StandsOnce, HasOneMore}
+use Rattle.dom_slots.proofs.Added.{slots-more}
+use Rattle.dom_parts.proofs.HostedSteps.{names_pushed, made_renamed, names_renamed, plain_step}
+use Rattle.std.proofs.lemmas.List.Elements.{All-head, All-tail, All-nil}
+use Rattle.dom_parts.specs.Doc.{DocState, named_trees, own_tables, attached_of, shown_tables, contents, world_from, state_from, IsHeld}
+use Rattle.dom_parts.proofs.Worlds.{part_at}
+use Rattle.dom_parts.proofs.Keeping.{tables_more, view_same, speaks_grown}
+use Rattle.dom_parts.proofs.Numbers.{count_more, numbered_more}
+use Rattle.dom_parts.proofs.RangedKeeping.{ranges_grown, named_grown}
+use Rattle.dom_parts.proofs.RangedOwners.{ranges_none}
+use Rattle.dom_parts.proofs.Held.{no_cursors, are_hosts, held_with}
+
+-- ---- one node more
+
+limited_more : (names : List NodeName) (o p : Owner) (n : ℕ) → count_of o names ≤ 1000000 → count_of p names ≤ 1000000 →
+    count_of o names ≢ 1000000 → count_of p (names ++ node_of o n ∷ []) ≤ 1000000
+limited_more names o p n few few_of other = elim (cases_Bool (owner_eq o p)) [
+  | inl e ↦ let same = ap (λ (q : Owner). count_of q names) (owner_eq-true o p e) in let more : count_of p (names ++ node_of o n ∷ []) ≡ count_of
+      p names + 1 = rw e at (count_more p names (node_of o n)) in omega arith
+  | inr e ↦ let more : count_of p (names ++ node_of o n ∷ []) ≡ count_of p names + 0 = rw e at (count_more p names (node_of o n)) in omega arith
+]
+
+present_more : (names : List NodeName) (ts : Trees) (tables : AllTables) (x : NodeName) → is_there (world_from names ts tables) x.owner ≡ true
+    → ((k : ℕ) → k < length names → is_there (world_from names ts tables) (name_at names k).owner ≡ true)
+    → (k : ℕ) → k < length (names ++ x ∷ []) → is_there (world_from names ts tables) (name_at (names ++ x ∷ []) k).owner ≡ true
+present_more names ts tables x there all k k< =
+    at (let within : k ≤ length names = omega (arith, length_push names x) in eq-or-lt_of_le within)
+  where
+    at : (k ≡ length names) ⊎ (k < length names) → is_there (world_from names ts tables) (name_at (names ++ x ∷ []) k).owner ≡ true
+    at (inl same) = ap (λ (y : NodeName). is_there (world_from names ts tables) y.owner)
+        (ap (λ j. name_at (names ++ x ∷ []) j) same ∙ get_or-append_seam names x [] (node_of Page 0)) ∙ there
+    at (inr h) = ap (λ (y : NodeName). is_there (world_from names ts tables) y.owner) (get_or-append names (x ∷ []) (node_of Page 0) k h) ∙ all k h
+
+module _ (names : List NodeName) (ts : Trees) (tables : AllTables) (held : IsHeld names ts tables) (o : Owner)
+    (there : is_there (world_from names ts tables) o ≡ true)
+    (n : Node) (is : n.name ≡ next_name o names) (new : (k : ℕ) → k < length names → name_at names k ≢ next_name o names) where
+  abbrev grown : List NodeName
+  grown = names ++ next_name o names ∷ []
+
+  own_change : IsOwnChange o (with_node n) ts
+  own_change = added ts held.owned o n (ap (λ (x : NodeName). x.owner) is)
+
+  pub held_more : count_of o names ≢ 1000000 → AreSlotsOf (named_trees (names ++ next_name o names ∷ []) (with_node n ts)) tables.slots →
+      IsHeld (names ++ next_name o names ∷ []) (with_node n ts) tables
+  held_more room slots =
+      held_with names ts tables held o there grown (with_node n ts) tables refl refl own_change.owned own_change.others
+      (present_more names ts tables (next_name o names) there held.present)
+      (λ p. limited_more names o p (count_of o names) (held.limited o) (held.limited p) room)
+      (λ p t e. tables_more names (next_name o names) ts n is new p t (held.own p t e))
+      (made_renamed names grown (names_pushed names (next_name o names)) tables.slots.hosts 0 held.signals.slots.hosts held.made)
+      record { free = held.signals.free; slots = slots; nodes = λ k d h. longer _ (held.signals.nodes k d h) }
+      (λ p. speaks_grown names (next_name o names) (tables.observers p) (held.speaks p)) held.unobserved held.due
+      (ranges_grown (contents names ts tables) (contents grown (with_node n ts) tables) tables.ranges (next_name o names) held.ranges refl refl
+      (named_grown names (next_name o names) tables.ranges held.ranges.own)) (numbered_more names o held.numbered)
+    where
+      longer : (i : ℕ) → i < length names → i < length grown
+      longer i within = let more = length_push names (next_name o names) in omega arith
+
+  -- each owner's tables are the same in names
+  view_grown : (q : Owner)
+      → shown_tables grown tables.slots.hosts q (own_tables tables q) (tables.observers q) (ranges_of tables.ranges q) ≡ shown_tables names
+      tables.slots.hosts q (own_tables tables q) (tables.observers q) (ranges_of tables.ranges q)
+  view_grown q =
+      let rs = ranges_of tables.ranges q in
+      let view = tables_view names (own_tables tables q) (tables.observers q) in
+      ap (λ (t : Tables). with_those t (attached_of grown tables.slots.hosts q) (named_ranges grown rs)) (by (table_of tables.each q) refl)
+      ∙ (ap (λ xs. with_those view xs (named_ranges grown rs)) (hosts_grown q) ∙ ap (with_those view (attached_of names tables.slots.hosts q))
+      (named_grown names (next_name o names) tables.ranges held.ranges.own q))
+    where
+      with_those : Tables → List NodeName → List (Option (Range NodeName)) → Tables
+      with_those t xs rs = record t { attached = xs; ranges = rs }
+
+      hosts_grown : (p : Owner) → attached_of grown tables.slots.hosts p ≡ attached_of names tables.slots.hosts p
+      hosts_grown Page = sym (names_renamed names grown (names_pushed names (next_name o names)) tables.slots.hosts held.signals.slots.hosts)
+      hosts_grown (Component k) = refl
+
+      by : (m : Option KeyedTables) → table_of tables.each q ≡ m →
+          tables_view grown (unwrap_or m no_keyed_tables) (tables.observers q) ≡ tables_view names (unwrap_or m no_keyed_tables) (tables.observers q)
+      by None e = view_same names (next_name o names) ts q no_keyed_tables (tables.observers q) (no_cursors (named_trees names ts) q) (held.speaks q)
+      by (Some t) e = view_same names (next_name o names) ts q t (tables.observers q) (held.own q t e) (held.speaks q)
+
+  -- the world with one node more
+  world_more : world_from (names ++ next_name o names ∷ []) (with_node n ts) tables ≡ world_step o (world_from names ts tables) (make n)
+  world_more =
+      plain_step (contents names ts tables) tables.slots.hosts (are_hosts names ts tables held) o there (contents grown (with_node n ts) tables)
+      (make n) tt record {
+        owners = refl;
+        signalled = names_stay tables.signalled held.signals.nodes;
+        tasks = refl;
+        own = ap (λ us. part_with o us (count_of o grown)
+            (shown_tables grown tables.slots.hosts o (own_tables tables o) (tables.observers o) (ranges_of tables.ranges o))) own_change.own
+            ∙ ap (λ k. part_with o (with_node n (trees_of_owner o ts)) k
+            (shown_tables grown tables.slots.hosts o (own_tables tables o) (tables.observers o) (ranges_of tables.ranges o))) more_own
+            ∙ ap (λ t. part_with o (with_node n (trees_of_owner o ts)) (suc (count_of o names)) t) (view_grown o)
+            ∙ ap (λ (x : NodeName). part_with o (with_node (with_name x n) (trees_of_owner o ts)) (suc (count_of o names))
+            (shown_tables names tables.slots.hosts o (own_tables tables o) (tables.observers o) (ranges_of tables.ranges o))) is;
+        others = λ q other.
+            ap (λ us. part_with q us (count_of q grown)
+            (shown_tables grown tables.slots.hosts q (own_tables tables q) (tables.observers q) (ranges_of tables.ranges q)))
+            (own_change.others q other)
+            ∙ ap (λ k. part_with q (trees_of_owner q ts) k
+            (shown_tables grown tables.slots.hosts q (own_tables tables q) (tables.observers q) (ranges_of tables.ranges q))) (more_other q other)
+            ∙ ap (λ t. part_with q (trees_of_owner q ts) (count_of q names) t) (view_grown q);
+      }
+    where
+      names_stay : (ks : List ℕ) → All (λ k. k < length names) ks → map (name_at grown) ks ≡ map (name_at names) ks
+      names_stay [] all = refl
+      names_stay (k ∷ ks) all =
+          let here = (names_pushed names (next_name o names)).same k (All-head (λ j. j < length names) k ks all) in
+          let rest = names_stay ks (All-tail (λ j. j < length names) k ks all) in
+          λ i. here i ∷ rest i
+
+      more_own : count_of o (names ++ next_name o names ∷ []) ≡ suc (count_of o names)
+      more_own = count_more o names (next_name o names) ∙ ap (λ b. count_of o names + cond b 1 0) (owner_eq-same o) ∙ add-one (count_of o names)
+
+      more_other : (q : Owner) → q ≢ o → count_of q (names ++ next_name o names ∷ []) ≡ count_of q names
+      more_other q other = count_more q names (next_name o names) ∙
+          ap (λ b. count_of q names + cond b 1 0) (ne-owner_eq o q (λ e. other (sym e))) ∙ add-zero (count_of q names)
+
+abbrev trees_named : List NodeName → Trees → NamedTrees
+trees_named ns ts = record { names = ns; trees = ts }
+
+-- an owner's next name, as its part says it and as the names of all nodes do
+next_same : (names : List NodeName) (ts : Trees) (tables : AllTables) (o : Owner) → is_there (world_from names ts tables) o ≡ true →
+    part_next (part_of (world_from names ts tables) o) ≡ next_name o names
+next_same names ts tables o there = ap part_next (part_at (contents names ts tables) o there)
+
+-- what a call that makes a node ensures
+abbrev pub Added : NamedTrees → AllTables → Owner → (List NodeName → NodeName → Node) → {T : Type 0} → Result T Fault → DocState → Type 0
+Added g tables o n r d =
+    OnOk r (g.names ≡ d.names ++ part_next (part_of d.world o) ∷ [])
+    × OnOk r (world_from g.names g.trees tables ≡ world_step o d.world (make (n d.names (part_next (part_of d.world o)))))
+
+-- names that tell the nodes apart
+abbrev pub TellApart : List NodeName → Type 0
+TellApart names = (j k : ℕ) → j < length names → k < length names → name_at names j ≡ name_at names k → j ≡ k
+
+module _ (f g : NamedTrees) {tables : AllTables} (held : IsHeld f.names f.trees tables) (o : Owner)
+    (there : is_there (world_from f.names f.trees tables) o ≡ true)
+    (n : List NodeName → NodeName → Node) (own_name : (ns : List NodeName) (x : NodeName) → (n ns x).name ≡ x) (apart : TellApart g.names)
+    (stands : StandsOnce g) where
+  -- the new name is none of the others
+  new_name : g.names ≡ f.names ++ next_name o f.names ∷ [] → (k : ℕ) → k < length f.names → name_at f.names k ≢ next_name o f.names
+  new_name names k less same =
+      let longer = length_push f.names (next_name o f.names) in
+      let all : TellApart (f.names ++ next_name o f.names ∷ []) = subst TellApart names apart in
+      let one = all k (length f.names) (omega arith) (omega arith)
+      (get_or-append f.names (next_name o f.names ∷ []) (node_of Page 0) k less ∙ same ∙
+      sym (get_or-append_seam f.names (next_name o f.names) [] (node_of Page 0))) in
+      omega arith
+
+  one_more : g.names ≡ f.names ++ next_name o f.names ∷ [] → g.trees ≡ with_node (n f.names (next_name o f.names)) f.trees →
+      HasOneMore f g (n f.names (next_name o f.names))
+  one_more names trees = record {
+    names = names ∙ ap (λ (y : NodeName). f.names ++ y ∷ []) (sym (own_name f.names (next_name o f.names)));
+    trees = trees;
+    distinct = apart;
+    stands = stands;
+  }
+
+  added_at : {T : Type 0} (r : Result T Fault) → OnOk r (g.names ≡ f.names ++ next_name o f.names ∷ []) →
+      OnOk r (g.trees ≡ with_node (n f.names (next_name o f.names)) f.trees)
+      → ((r ≡ Err (Refused Limit)) ↔ (count_of o f.names ≡ 1000000)) → OnErr r (g ≡ f)
+      → IsHeld g.names g.trees tables × Added g tables o n r (state_from f.names f.trees tables)
+  added_at (Ok x) names trees limit same =
+      let next = next_same f.names f.trees tables o there in
+      let room : count_of o f.names ≢ 1000000 = λ full. let h = limit.1 full in cc in
+      let new = new_name names in
+      let both : g ≡ trees_named (f.names ++ next_name o f.names ∷ []) (with_node (n f.names (next_name o f.names)) f.trees) =
+      ap (λ ns. trees_named ns g.trees) names ∙ ap (trees_named (f.names ++ next_name o f.names ∷ [])) trees in (
+        subst (λ (p : NamedTrees). IsHeld p.names p.trees tables) (sym both)
+            (held_more f.names f.trees tables held o there (n f.names (next_name o f.names)) (own_name f.names (next_name o f.names)) new room
+            (subst (λ (p : NamedTrees). AreSlotsOf p tables.slots) both
+            (slots-more f g (n f.names (next_name o f.names)) (one_more names trees) tables.slots held.signals.slots))),
+        (
+          names ∙ ap (λ (y : NodeName). f.names ++ y ∷ []) (sym next),
+          ap (λ (p : NamedTrees). world_from p.names p.trees tables) both
+              ∙ world_more f.names f.trees tables held o there (n f.names (next_name o f.names)) (own_name f.names (next_name o f.names)) new
+              ∙ ap (λ (y : NodeName). world_step o (world_from f.names f.trees tables) (make (n f.names y))) (sym next),
+        ),
+      )
+  added_at (Err e) names trees limit same = (subst (λ (p : NamedTrees). IsHeld p.names p.trees tables) (sym same) held, (tt, tt))
+
+pub added_held : (f g : NamedTrees) {tables : AllTables} (d : DocState) → state_from f.names f.trees tables ≡ d → IsHeld f.names f.trees tables →
+    (o : Owner) → is_there d.world o ≡ true
+    → (n : List NodeName → NodeName → Node) → ((ns : List NodeName) (x : NodeName) → (n ns x).name ≡ x) → TellApart g.names → StandsOnce g →
+    {T : Type 0} (r : Result T Fault)
+    → OnOk r (g.names ≡ f.names ++ next_name o f.names ∷ []) → OnOk r (g.trees ≡ with_node (n f.names (next_name o f.names)) f.trees)
+    → ((r ≡ Err (Refused Limit)) ↔ (count_of o f.names ≡ 1000000)) → OnErr r (g ≡ f)
+    → IsHeld g.names g.trees tables × Added g tables o n r d
+added_held f g {tables} d is_d held o there n own_name apart stands r names trees limit same =
+    subst (λ (e : DocState). is_there e.world o ≡ true → IsHeld g.names g.trees tables × Added g tables o n r e) is_d
+    (λ h. added_at f g held o h n own_name apart stands r names trees limit same) there
+
+-- where none is made nothing changes
+pub not_added : (f g : NamedTrees) (tables : AllTables) {d : DocState} → state_from f.names f.trees tables ≡ d → {T E : Type 0} (r : Result T E) →
+    OnErr r (g ≡ f) → OnErr r (state_from g.names g.trees tables ≡ d)
+not_added f g tables is_d (Ok x) same = tt
+not_added f g tables is_d (Err e) same = ap (λ (p : NamedTrees). state_from p.names p.trees tables) same ∙ is_d
+
+-- ---- the first node
+
+-- without hosts there is nothing in a table of slots
+no_slots_of : (f : NamedTrees) → AreSlotsOf f no_slots
+no_slots_of f = record { hosts = tt; table = record { nodes = λ k. All-nil (λ j. j < length f.names); lists = λ k within. refl; beyond = λ k far. refl } }
+
+-- without nodes, where the page alone is there
+pub empty_held : (rs : RangeLists) → ((o : Owner) → ranges_of rs o ≡ []) → IsHeld [] none (with_live first_tables rs)
+empty_held rs empty = record {
+  owned = record { owners = tt; order = tt };
+  present = λ k k<. absurd (omega arith);
+  absent = λ o off. refl;
+  limited = λ o. omega arith;
+  counted = refl;
+  few = omega arith;
+  made = tt;
+  signals = record { free = refl; slots = no_slots_of (named_trees [] none); nodes = All-nil (λ k. k < 0) };
+  own = λ o t e. subst (AreTablesOf (named_trees [] none) o) (same_own o t e) (no_cursors (named_trees [] none) o);
+  speaks = λ o. speaks_none (IsKey []);
+  unobserved = λ o off. refl;
+  due = tt;
+  ranges = ranges_none (contents [] none (with_live first_tables rs)) rs empty (λ o. ap (named_ranges []) (empty o));
+  numbered = λ k k<. absurd (omega arith);
+}
+  where
+    same_own : (o : Owner) (t : KeyedTables) → table_of (no_keyed_tables ∷ []) o ≡ Some t → no_keyed_tables ≡ t
+    same_own Page t e = same_Some no_keyed_tables t e
+    same_own (Component zero) t e = absurd (none-some t e)
+    same_own (Component (suc k)) t e = absurd (none-some t e)
+
+-- so is what was given up
+pub given_up : (g : NamedTrees) (tables : AllTables) → g ≡ record { names = []; trees = none } → AreFirst tables → IsHeld g.names g.trees tables
+given_up g tables empty first =
+    subst (λ (p : NamedTrees). IsHeld p.names p.trees tables) (sym empty) (subst (IsHeld [] none) (sym first.all) (empty_held tables.ranges first.no_ranges))
+
+-- with the first one
+pub first_held : (g : NamedTrees) (tables : AllTables) (n : Node) → n.name ≡ node_of Page 0 → AreFirst tables → g.names ≡ node_of Page 0 ∷ [] →
+    g.trees ≡ with_node n none → IsHeld g.names g.trees tables
+first_held g tables n is one names trees =
+    let first = with_live first_tables tables.ranges in
+    subst (IsHeld g.names g.trees) (sym one.all)
+    (subst (λ ns. IsHeld ns g.trees first) (sym names)
+    (subst (λ ts. IsHeld (node_of Page 0 ∷ []) ts first) (sym trees)
+    (held_more [] none first (empty_held tables.ranges one.no_ranges) Page refl n is (λ k less. absurd (omega arith)) (λ e. omega arith)
+    (no_slots_of (named_trees (node_of Page 0 ∷ []) (with_node n none))))))
