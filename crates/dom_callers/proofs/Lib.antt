@@ -1,3 +1,3 @@
-pub mod Moves
-pub mod Selections
-pub mod Hosting
+mod Moves
+mod Selections
+mod Hosting

@@ -10,7 +10,7 @@ ghost use Rattle.dom_dispatch.specs.Dispatches.{event_words};
 ghost use Rattle.dom_callers.specs.Widgets.{AreWidgets, IsAnswered};
 
 use dom_dispatch::{EventInit, Listeners};
-use dom_path::{Path, hosts_nest};
+use dom_path::{Path, law_hosts_nest};
 use dom_slots::Slots;
 use dom_tree::Forest;
 use node_arena::Key;
@@ -33,7 +33,7 @@ pub fn count_widget_visits(
         IsPath (shadows forest.now slots.now.hosts) 1 (name_at forest.now.names target) None composed nodes × (count ≡ length nodes)) }
 {
     forest.nodes_stand_once();
-    hosts_nest();
+    law_hosts_nest();
     let path = Path::build(alloc, forest, slots, target, None, composed)?;
     Ok(path.items().len())
 }
@@ -55,7 +55,7 @@ pub fn press(
     ensures { IfOk result (λ answer. IsAnswered forest.now slots.now.hosts listeners.old button event.related (event_words event) answer) }
 {
     forest.nodes_stand_once();
-    hosts_nest();
+    law_hosts_nest();
     let outcome = listeners.dispatch(forest, slots, button, event)?;
     Ok(outcome.answer)
 }

@@ -1,7 +1,7 @@
 pub mod Naming
 pub mod Narrowing
-pub mod Among
-pub mod Entered
-pub mod Visiting
-pub mod Placing
-pub mod Opening
+mod Among
+mod Entered
+mod Visiting
+mod Placing
+mod Opening

@@ -1,49 +1,49 @@
 pub mod Tests
 pub mod Lists
-pub mod Squares
-pub mod PageSteps
+mod Squares
+mod PageSteps
 pub mod Visits
-pub mod Dispatches
+mod Dispatches
 pub mod Trees
 pub mod Makers
-pub mod Hiding
-pub mod PagePaths
+mod Hiding
+mod PagePaths
 pub mod Chains
-pub mod ComponentPaths
+mod ComponentPaths
 pub mod Alike
 pub mod Owners
-pub mod TurnEndings
-pub mod LineBegins
-pub mod TableEffects
-pub mod PageCommands
-pub mod ComponentEvents
-pub mod ComponentCommands
-pub mod Lines
-pub mod FirstWorld
-pub mod StepKeeps
+mod TurnEndings
+mod LineBegins
+mod TableEffects
+mod PageCommands
+mod ComponentEvents
+mod ComponentCommands
+mod Lines
+mod FirstWorld
+mod StepKeeps
 pub mod PageRuns
 pub mod PageTexts
 pub mod TreeChangeLaws
 pub mod PartSteps
 pub mod Plans
 pub mod FitPieces
-pub mod PlanCommands
-pub mod PlainWords
-pub mod WorldParts
-pub mod PlainRuns
-pub mod PlainCommands
+mod PlanCommands
+mod PlainWords
+mod WorldParts
+mod PlainRuns
+mod PlainCommands
 pub mod PlainLines
 pub mod PlainTexts
-pub mod WorldSteps
-pub mod OwnerSteps
+mod WorldSteps
+mod OwnerSteps
 pub mod OwnerDispatches
-pub mod OwnerCommands
-pub mod KindCommands
+mod OwnerCommands
+mod KindCommands
 pub mod KindLines
 pub mod Acceptance
 pub mod ShadowRoots
 pub mod NodeKinds
-pub mod Insides
+mod Insides
 pub mod InsideAncestors
 pub mod Descents
 pub mod Roots
@@ -56,33 +56,33 @@ pub mod PlanChildren
 pub mod PlanTexts
 pub mod PlanRoots
 pub mod PlanContents
-pub mod Recorded
-pub mod RecordedTexts
+mod Recorded
+mod RecordedTexts
 pub mod TableCommands
-pub mod TableCursors
+mod TableCursors
 pub mod TableRegisters
-pub mod RecordedRanges
-pub mod RecordedCommands
+mod RecordedRanges
+mod RecordedCommands
 pub mod TableWorlds
 pub mod Bounds
 pub mod Reached
 pub mod ReachedFacts
 pub mod PlanBounds
-pub mod PlacedBounds
+mod PlacedBounds
 pub mod TextBounds
 pub mod Childs
 pub mod TableLines
 pub mod TaskWorlds
-pub mod RangeRoots
+mod RangeRoots
 pub mod BoundLines
 pub mod RangeInsertions
-pub mod Contained
+mod Contained
 pub mod RangeBounds
 pub mod KeptOffsets
 pub mod BoundWorlds
 pub mod FollowPaths
 pub mod FollowEvents
-pub mod RangeEnds
-pub mod RangePlans
+mod RangeEnds
+mod RangePlans
 pub mod ExtractionPlans
-pub mod Sights
+mod Sights

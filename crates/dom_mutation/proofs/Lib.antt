@@ -1,9 +1,9 @@
 -- Lemmas on what a `Doc` is ready for.
-pub mod BarePlans
+mod BarePlans
 pub mod ReadyCalls
 pub mod ReadyEnds
-pub mod ReadyFirst
+mod ReadyFirst
 pub mod ReadyPlans
-pub mod ReadyRoots
-pub mod ReadyTables
-pub mod ReadyWorlds
+mod ReadyRoots
+mod ReadyTables
+mod ReadyWorlds

@@ -1,11 +1,11 @@
-pub mod Nesting
-pub mod Goings
-pub mod Places
-pub mod Steps
-pub mod Viewed
-pub mod Tracks
-pub mod Sightings
-pub mod Shows
-pub mod InWorlds
-pub mod Attached
-pub mod Endings
+mod Nesting
+mod Goings
+mod Places
+mod Steps
+mod Viewed
+mod Tracks
+mod Sightings
+mod Shows
+mod InWorlds
+mod Attached
+mod Endings

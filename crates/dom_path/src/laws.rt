@@ -14,14 +14,14 @@ ghost use Rattle.dom_path.specs.Paths.{IsPath};
 /// Holds of every forest with hosts: where each tree has one owner, each host belongs to an owner less deep than that of its
 /// shadow root, and shadow roots have no parent, shadow trees lie in one another as a path asks; and so they do in each world
 /// that the document machine reaches (own rule).
-pub fn hosts_nest()
+pub fn law_hosts_nest()
     ensures attached { (f : NamedTrees) (hosts : List ShadowHost) (depth : ℕ) → AreAttached f hosts depth → IsHosted f hosts depth }
     ensures reached { (f : NamedTrees) (hosts : List ShadowHost) (w : World) → IsWorldOf f hosts w → IsHosted f hosts max_depth }
 {}
 
 /// Holds of every forest whose shadow trees lie in one another: an event at a node has a path, and only one (own rule). So each
 /// is built, where no memory is refused.
-pub fn paths_end()
+pub fn law_paths_end()
     ensures there { (f : NamedTrees) (slots : SlotsNow) (depth : ℕ) → StandsOnce f → AreSlotsOf f slots → IsHosted f slots.hosts depth → (k : ℕ) →
         k < length f.names → (related : Maybe Name) (composed : Truth) → (nodes : List Name) ×
         IsPath (shadows f slots.hosts) depth (name_at f.names k) related composed nodes }

@@ -10,5 +10,5 @@ mod stand;
 mod trees;
 
 pub use item::Item;
-pub use laws::{hosts_nest, paths_end};
+pub use laws::{law_hosts_nest, law_paths_end};
 pub use path::Path;

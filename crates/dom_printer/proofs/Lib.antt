@@ -1,4 +1,4 @@
-pub mod KeepLaws
-pub mod LineLaws
-pub mod PutLaws
-pub mod TreeLaws
+mod KeepLaws
+mod LineLaws
+mod PutLaws
+mod TreeLaws

@@ -1,46 +1,46 @@
 -- Lemmas of the operations on live ranges.
-pub mod OneTree
-pub mod OwnTexts
-pub mod DocTexts
-pub mod Parting
-pub mod Sides
-pub mod Between
-pub mod Kids
-pub mod AfterPoint
-pub mod KeyedWalks
-pub mod InsertedRanges
-pub mod InsertedPlans
-pub mod InsertedChildren
-pub mod InsertedParts
-pub mod InsertedTails
-pub mod InsertedTests
-pub mod CloneAttributes
-pub mod TakingItems
-pub mod TakingCounts
-pub mod TakingParts
-pub mod TakingStacks
-pub mod TakingDocs
-pub mod TakingPieces
-pub mod TakingLoops
-pub mod TakingRanges
-pub mod TakingExtracts
-pub mod DeletionPlaces
-pub mod DeletionOrder
-pub mod DeletionSteps
-pub mod DeletionPaths
-pub mod DeletionKeys
-pub mod DeletionOwn
-pub mod DeletionDocs
-pub mod DeletionPlans
-pub mod PieceItems
-pub mod PieceLevels
-pub mod PieceSides
-pub mod PieceParts
-pub mod PieceMiddle
-pub mod PieceRuns
-pub mod PiecePaths
-pub mod PieceSteps
-pub mod PieceLaws
-pub mod DeletionHeights
-pub mod PieceOwn
-pub mod ExtractedRanges
+mod OneTree
+mod OwnTexts
+mod DocTexts
+mod Parting
+mod Sides
+mod Between
+mod Kids
+mod AfterPoint
+mod KeyedWalks
+mod InsertedRanges
+mod InsertedPlans
+mod InsertedChildren
+mod InsertedParts
+mod InsertedTails
+mod InsertedTests
+mod CloneAttributes
+mod TakingItems
+mod TakingCounts
+mod TakingParts
+mod TakingStacks
+mod TakingDocs
+mod TakingPieces
+mod TakingLoops
+mod TakingRanges
+mod TakingExtracts
+mod DeletionPlaces
+mod DeletionOrder
+mod DeletionSteps
+mod DeletionPaths
+mod DeletionKeys
+mod DeletionOwn
+mod DeletionDocs
+mod DeletionPlans
+mod PieceItems
+mod PieceLevels
+mod PieceSides
+mod PieceParts
+mod PieceMiddle
+mod PieceRuns
+mod PiecePaths
+mod PieceSteps
+mod PieceLaws
+mod DeletionHeights
+mod PieceOwn
+mod ExtractedRanges

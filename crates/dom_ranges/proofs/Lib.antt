@@ -1,17 +1,17 @@
 pub mod Lists
-pub mod Holding
-pub mod Writing
+mod Holding
+mod Writing
 pub mod Places
 pub mod Before
 pub mod Climbing
 pub mod Naming
 pub mod Standing
 pub mod Vacant
-pub mod Gathering
-pub mod Listing
-pub mod Parts
-pub mod Moved
+mod Gathering
+mod Listing
+mod Parts
+mod Moved
 pub mod OwnOrder
-pub mod Inside
-pub mod Siblings
-pub mod Leaving
+mod Inside
+mod Siblings
+mod Leaving

@@ -1,19 +1,19 @@
-pub mod TokenLaws
-pub mod NameLaws
-pub mod Shorter
-pub mod Repeats
-pub mod FoundCompounds
-pub mod Anywhere
-pub mod ValueLaws
-pub mod Beside
-pub mod Passing
-pub mod JoinedLaws
-pub mod Earlier
-pub mod Chains
-pub mod Searches
-pub mod QueryLaws
-pub mod Sound
-pub mod SoundLists
-pub mod Complete
-pub mod CompleteLists
-pub mod CompleteCombinators
+mod TokenLaws
+mod NameLaws
+mod Shorter
+mod Repeats
+mod FoundCompounds
+mod Anywhere
+mod ValueLaws
+mod Beside
+mod Passing
+mod JoinedLaws
+mod Earlier
+mod Chains
+mod Searches
+mod QueryLaws
+mod Sound
+mod SoundLists
+mod Complete
+mod CompleteLists
+mod CompleteCombinators

@@ -1,37 +1,37 @@
-pub mod Kept
-pub mod Choices
+mod Kept
+mod Choices
 pub mod Shown
 pub mod Named
-pub mod Firsts
+mod Firsts
 pub mod Walks
 pub mod Hosted
 pub mod Siblings
-pub mod Tables
-pub mod Signalled
-pub mod Entering
+mod Tables
+mod Signalled
+mod Entering
 pub mod Ended
-pub mod OwnSignals
-pub mod Within
-pub mod Renewing
-pub mod Hostless
-pub mod Attaching
+mod OwnSignals
+mod Within
+mod Renewing
+mod Hostless
+mod Attaching
 pub mod Recast
 pub mod Added
 pub mod Rooted
-pub mod Grafts
-pub mod Settled
-pub mod Moved
-pub mod Attributed
-pub mod Looks
-pub mod Far
-pub mod Stepping
-pub mod Apart
-pub mod Inside
-pub mod Mapping
-pub mod Assigned
-pub mod Places
-pub mod Leaving
-pub mod Joining
-pub mod Parting
-pub mod Shortened
-pub mod Unlisted
+mod Grafts
+mod Settled
+mod Moved
+mod Attributed
+mod Looks
+mod Far
+mod Stepping
+mod Apart
+mod Inside
+mod Mapping
+mod Assigned
+mod Places
+mod Leaving
+mod Joining
+mod Parting
+mod Shortened
+mod Unlisted

@@ -1,6 +1,6 @@
 use Rattle.dom_path.proofs.Attached.{attached-hosted}
 use Rattle.dom_path.proofs.Sightings.{world-hosted}
-use Rattle.dom_path.proofs.laws.hosts_nest.Goals as goal
+use Rattle.dom_path.proofs.laws.law_hosts_nest.Goals as goal
 
 pub returns-clause-attached : goal.returns-clause-attached
 returns-clause-attached c = λ f hosts depth are. attached-hosted f hosts depth are

@@ -1,6 +1,6 @@
 use Rattle.dom_traversal.proofs.Counts.{Once-forest, Has-forest}
 use Rattle.dom_path.proofs.Endings.{paths-end, path-once}
-use Rattle.dom_path.proofs.laws.paths_end.Goals as goal
+use Rattle.dom_path.proofs.laws.law_paths_end.Goals as goal
 
 pub returns-clause-there : goal.returns-clause-there
 returns-clause-there c f slots depth stands are hosted k node related composed =
