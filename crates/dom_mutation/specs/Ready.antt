@@ -12,8 +12,8 @@ use Rattle.dom_model.specs.World.{World, part_of}
 use Rattle.dom_parts.specs.Doc.{DocState}
 
 -- An owner's part is ready for calls: the ends of its live ranges are not past the ends of their nodes, and no Text or Comment has
--- children; both ends of a live range are at nodes of one tree; and no shadow root has a parent (DOM Standard, 5.2 Boundary points,
--- 5.5: range's root, 4.2.2 Shadow tree).
+-- children; both ends of a live range are at nodes of one tree; and no shadow root has a parent (DOM Standard, 4.2.2
+-- and 5.2 and 5.5).
 pub record IsReadyPart (p : Part) : Type 0 where
   pub bounds : HasBounds p
   pub ends : AllByRecursion (EndsIn p.trees) p.ranges

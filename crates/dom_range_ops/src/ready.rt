@@ -11,7 +11,7 @@ ghost use Rattle.dom_mutation.specs.Ready.{IsReady};
 ghost use Rattle.dom_range_ops.specs.Extractions.{ShadowRootsHaveNoParent};
 
 /// Of a `Doc` that is ready, what is asked of an owner: its live ranges end within their nodes, a range that is there has both ends at nodes
-/// of one tree, and no shadow root has a parent (DOM Standard, 5.2 and 5.5, 4.2.2).
+/// of one tree, and no shadow root has a parent (DOM Standard, 4.2.2 and 5.2 and 5.5).
 pub fn law_ready()
     ensures bounds { (d : DocState) (o : OwnerOf) → IsReady d → HasBounds (part_of d.world o) }
     ensures ends { (d : DocState) (o : OwnerOf) (k : ℕ) → IsReady d → ForSome (range_at (part_of d.world o) k) (HasEnds (part_of d.world o).trees) }
