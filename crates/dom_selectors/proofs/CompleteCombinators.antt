@@ -20,7 +20,7 @@ use Rattle.dom_selectors.specs.Reads.{behind_list}
 use Rattle.dom_selectors.proofs.Shorter.{link-ends, next-ends}
 use Rattle.dom_selectors.proofs.Repeats.{all-one, all-none}
 use Rattle.dom_selectors.proofs.Complete.{head_passes, skip-read}
-use Rattle.dom_selectors.proofs.CompleteLists.{begins_sign, Off, name, part, Begins, space, sign, space_not_name, space_not_part, spaces_off, each-ok}
+use Rattle.dom_selectors.proofs.CompleteLists.{begins_sign, Off, Begins, space_not_name, space_not_part, spaces_off, each-ok}
 use Rattle.dom_selectors.proofs.CompleteLists.{each-read, full-read, full-begins}
 
 -- the combinator at the front of units, which become these without white space
