@@ -1,14 +1,22 @@
-use Rattle.std.proofs.Common.{◌≡◌, List, ◌++◌, subst, ◌∙◌}
+use Rattle.std.proofs.Common.{◌≡◌, List, ◌++◌, subst, sym, ◌∙◌}
 use Rattle.std.specs.Prelude.{OnOk}
+use Rattle.std.specs.List.{AllByRecursion}
 use Rattle.dom_base.specs.declared.NodeName.{NodeName}
 use Rattle.dom_model.specs.Output.{Output}
 use Rattle.dom_model.specs.Turns.{notified_lines}
 use Rattle.dom_model.specs.World.{part_of}
 use Rattle.dom_mutation.specs.Doc.{DocState}
 use Rattle.dom_text.specs.Text.{output_text}
-use Rattle.dom_observer_commands.specs.Recorded.{notice_lines}
+use Rattle.dom_observer_commands.specs.Recorded.{notice_lines, IsNotice}
 use Rattle.dom_observer_commands.proofs.Notices.{notice_lines_are}
 use Rattle.dom_observer_commands.proofs.microtasks.tell_observers.Goals as goal
+
+pub put_notices-requires : goal.put_notices-requires
+put_notices-requires c =
+    let list = c.in_ok-notices.notices.items in
+    subst (λ xs. AllByRecursion (IsNotice c.forest-forest.result.now.names) xs) (sym c.as_slice.ensures.value)
+    (subst (λ (ns : List NodeName). AllByRecursion (IsNotice ns) list) (sym (c.forest-forest.ensures.names ∙ c.in_ok-notices.ensures.names))
+    c.in_ok-notices.ensures.nodes)
 
 pub returns-clause-text : goal.returns-clause-text
 returns-clause-text c =
