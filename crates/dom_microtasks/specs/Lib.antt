@@ -1,2 +1,4 @@
 -- Unmarked: own rules, about what the code holds and its contracts say.
 pub mod Tasks
+pub mod ByOwner
+pub mod Signalled

@@ -8,10 +8,15 @@ ghost use Rattle.dom_model.specs.Names.{first_of};
 ghost use Rattle.dom_model.specs.World.{micro_task, queued_notify};
 ghost use Rattle.dom_microtasks.specs.Tasks.{task_of};
 
+mod by_owner;
+mod signals;
+
 use dom_base::Owner;
 use std::alloc::{AllocError, Global};
 use std::collections::{HashSet, VecDeque};
 use std::marker::Model;
+
+pub use signals::Signals;
 
 /// What is to be run when a turn ends (HTML Standard, concept: microtask): a label that an owner asked to be printed, or
 /// an owner's mutation observers to be notified.

@@ -1,4 +1,4 @@
 -- Lemmas of slots that are signalled, and of node documents of whole trees.
-mod SignalledKeys
+pub mod Named
 pub mod Signals
 mod Roots

@@ -1,13 +1,15 @@
 -- Slots that are signalled, one after another, by their keys as by their names.
-use Rattle.std.proofs.Common.{◌≡◌, ℕ, ◌+◌, ◌<◌, Bool, true, false, ◌||◌, inl, inr, List, [], ◌∷◌, ◌++◌, All, map, fold, take, length, get_or, nat_eq}
-use Rattle.std.proofs.Common.{Option, Some, None, refl, sym, ap, subst, ◌∙◌}
+use Rattle.std.proofs.Common.{◌≡◌, ℕ, ◌+◌, ◌<◌, Bool, true, false, ◌||◌, inl, inr, List, [], ◌∷◌, ◌++◌, All, map, fold, take, length, get_or}
+use Rattle.std.proofs.Common.{Option, Some, None, unwrap_or, refl, sym, ap, subst, ◌∙◌}
 use Rattle.std.specs.Prelude.{if◌then◌else◌}
 use Rattle.std.specs.List.{AllByRecursion}
 use Rattle.std.proofs.lemmas.Bool.{cases_Bool}
 use Rattle.std.proofs.lemmas.List.Elements.{All-head, All-tail}
 use Rattle.std.proofs.lemmas.List.Sums.{fold_more}
+use Rattle.std.proofs.lemmas.Option.{slice_get_within, unwrap_or-slice_get}
 use Rattle.dom_base.specs.declared.NodeName.{NodeName}
-use Rattle.dom_model.specs.Names.{name_eq, append_once, is_in}
+use Rattle.dom_base.specs.declared.Owner.TheVariants.{Page}
+use Rattle.dom_model.specs.Names.{name_eq, node_of, append_once, is_in}
 use Rattle.dom_model.specs.Tree.{Trees}
 use Rattle.dom_tree.proofs.Names.{name_eq-true}
 use Rattle.dom_model.specs.World.{Task, queued_notify}
@@ -17,14 +19,16 @@ use Rattle.dom_slots.specs.Shadows.{shadow_trees}
 use Rattle.dom_slots.specs.Steps.{StepHasNodes, IsStepFrom, step_signals}
 use Rattle.dom_slots.specs.declared.step.Step.{Step}
 use Rattle.dom_slots.proofs.Ended.{step-ends}
-use Rattle.dom_slots.proofs.Hosted.{AreDistinct}
 use Rattle.dom_tree.specs.Forest.{NamedTrees, name_at}
-use Rattle.dom_node_trees.specs.Signalled.{SignalTables, signal_tables, HasSignalled}
-use Rattle.dom_node_trees.proofs.SignalledKeys.{signalled_keys, signalled_nodes}
+use Rattle.dom_node_trees.specs.Signalled.{SignalTables, signal_tables, AreNames, HasSignalled}
+use Rattle.dom_node_trees.proofs.Named.{are_named, key_of_name, names_signalled}
 
--- the tasks with the notification of a slot's owner queued
+-- the tasks with the notification of a slot's owner queued, and the slot among those that are signalled
 abbrev pub queued_by : List NodeName → List Task → ℕ → List Task
 queued_by names tasks slot = queued_notify (name_at names slot).owner tasks
+
+abbrev pub signalled_by : List NodeName → List NodeName → ℕ → List NodeName
+signalled_by names signalled slot = append_once name_eq signalled (name_at names slot)
 
 -- one item more of a fold
 pub fold_next : {X Y : Type 0} (f : Y → X → Y) (z : Y) (xs : List X) (i : ℕ) (x : X) → i < length xs → x ≡ get_or xs i x →
@@ -36,12 +40,10 @@ queued_names : (names : List NodeName) (tasks : List Task) (keys : List ℕ) →
 queued_names names tasks [] = refl
 queued_names names tasks (k ∷ keys) = queued_names names (queued_by names tasks k) keys
 
-nodes_fold : (names : List NodeName) → AreDistinct names → (keys more : List ℕ) → All (λ j. j < length names) keys →
-    All (λ j. j < length names) more → All (λ j. j < length names) (fold (append_once nat_eq) keys more)
-nodes_fold names distinct keys [] nodes all = nodes
-nodes_fold names distinct keys (k ∷ more) nodes all =
-    nodes_fold names distinct (append_once nat_eq keys k) more
-    (signalled_nodes names distinct keys k nodes (All-head (λ j. j < length names) k more all)) (All-tail (λ j. j < length names) k more all)
+signalled_names : (names signalled : List NodeName) (keys : List ℕ) →
+    fold (signalled_by names) signalled keys ≡ fold (append_once name_eq) signalled (map (name_at names) keys)
+signalled_names names signalled [] = refl
+signalled_names names signalled (k ∷ keys) = signalled_names names (signalled_by names signalled k) keys
 
 -- what holds of all of some names and others, each once, holds of both
 module _ (P : NodeName → Type 0) where
@@ -69,35 +71,37 @@ module _ (P : NodeName → Type 0) where
       let rest = all_appended (append_once name_eq xs x) more all in
       let here = appended xs x rest.0 in (here.0, (here.1, rest.1))
 
--- what holds of the names of nodes holds of those of some keys
-pub all_named : (P : NodeName → Type 0) (names : List NodeName) → ((k : ℕ) → k < length names → P (name_at names k)) → (keys : List ℕ) →
-    All (λ k. k < length names) keys → AllByRecursion P (map (name_at names) keys)
+-- what holds of each node's name holds of names of nodes
+pub all_named : (P : NodeName → Type 0) (names : List NodeName) → ((k : ℕ) → k < length names → P (name_at names k)) → (xs : List NodeName) →
+    AreNames names xs → AllByRecursion P xs
 all_named P names each [] all = tt
-all_named P names each (k ∷ keys) all = (
-  each k (All-head (λ j. j < length names) k keys all),
-  all_named P names each keys
-      (All-tail (λ j. j < length names) k keys all),
-)
+all_named P names each (x ∷ xs) all =
+    let key = key_of_name names x (All-head (λ y. is_in name_eq y names ≡ true) x xs all) in
+    let is = sym (unwrap_or-slice_get names key.0 (node_of Page 0)) ∙ ap (λ o. unwrap_or o (node_of Page 0)) key.1 in (
+      subst P is (each key.0 (slice_get_within names key.0 x key.1)),
+      all_named P names each xs (All-tail (λ y. is_in name_eq y names ≡ true) x xs all),
+    )
 
 -- all the slots of a step
-pub all_signalled : (names : List NodeName) → AreDistinct names →
-    (was now : Trees) (step : Step) (left : Option ℕ) (slots kept : SlotsNow) (signalled : List ℕ) (tasks : List Task) (keys : List ℕ)
+pub all_signalled : (names : List NodeName) →
+    (was now : Trees) (step : Step) (left : Option ℕ) (slots kept : SlotsNow) (signalled : List NodeName) (tasks : List Task) (keys : List ℕ)
     → kept.hosts ≡ slots.hosts → kept.begun ≡ None → AreSlotsOf (record { names = names; trees = now }) kept →
-    All (λ k. k < length names) signalled → All (λ k. k < length names) keys
+    AreNames names signalled → All (λ k. k < length names) keys
     → map (name_at names) keys ≡ step_signals names (shadow_trees names was slots.hosts) (shadow_trees names now slots.hosts) step left
-    → (more : List ℕ) (later : List Task) → more ≡ fold (append_once nat_eq) signalled keys → later ≡ fold (queued_by names) tasks keys
+    → (more : List NodeName) (later : List Task) → more ≡ fold (signalled_by names) signalled keys → later ≡ fold (queued_by names) tasks keys
     → HasSignalled names was now step left (signal_tables slots signalled tasks) (signal_tables kept more later)
-all_signalled names distinct was now step left slots kept signalled tasks keys hosts free are nodes keys_nodes told more later is_more is_later = record {
-  hosts = hosts;
-  held = record {
-    free = free;
-    slots = are;
-    nodes = subst (All (λ k. k < length names)) (sym is_more) (nodes_fold names distinct signalled keys nodes keys_nodes);
-  };
-  signalled = ap (map (name_at names)) is_more ∙
-      (signalled_keys names distinct signalled keys nodes keys_nodes ∙ ap (fold (append_once name_eq) (map (name_at names) signalled)) told);
-  tasks = is_later ∙ (queued_names names tasks keys ∙ ap (fold (λ (ts : List Task) (s : NodeName). queued_notify s.owner ts) tasks) told);
-}
+all_signalled names was now step left slots kept signalled tasks keys hosts free are nodes keys_nodes told more later is_more is_later =
+    let is = is_more ∙ signalled_names names signalled keys in
+    record {
+      hosts = hosts;
+      held = record {
+        free = free;
+        slots = are;
+        nodes = subst (AreNames names) (sym is) (names_signalled names signalled (map (name_at names) keys) nodes (are_named names keys keys_nodes));
+      };
+      signalled = is ∙ ap (fold (append_once name_eq) signalled) told;
+      tasks = is_later ∙ (queued_names names tasks keys ∙ ap (fold (λ (ts : List Task) (s : NodeName). queued_notify s.owner ts) tasks) told);
+    }
 
 -- A step that was begun with some slots, and is done.
 module _ (f g : NamedTrees) (slots middle : SlotsNow) (step : Step)
@@ -109,7 +113,7 @@ module _ (f g : NamedTrees) (slots middle : SlotsNow) (step : Step)
   ends nodes are table is = step-ends f g slots middle step begun.0 names nodes are hosts table begun.1 begun.2 is
 
   -- and its signals are those of the step
-  pub told : (signalled : List ℕ) (tasks : List Task) (after : SignalTables) →
+  pub told : (signalled : List NodeName) (tasks : List Task) (after : SignalTables) →
       HasSignalled g.names f.trees g.trees begun.0.step begun.0.left (signal_tables middle signalled tasks) after
       → HasSignalled f.names f.trees g.trees step begun.0.left (signal_tables slots signalled tasks) after
   told signalled tasks after h =
@@ -119,8 +123,7 @@ module _ (f g : NamedTrees) (slots middle : SlotsNow) (step : Step)
       record {
         hosts = here.hosts ∙ hosts;
         held = here.held;
-        signalled = subst (λ (hs : List ShadowHost). map (name_at f.names) after.signalled
-            ≡ fold (append_once name_eq) (map (name_at f.names) signalled)
+        signalled = subst (λ (hs : List ShadowHost). after.signalled ≡ fold (append_once name_eq) signalled
             (step_signals f.names (shadow_trees f.names f.trees hs) (shadow_trees f.names g.trees hs) step left)) hosts here.signalled;
         tasks = subst (λ (hs : List ShadowHost). after.tasks
             ≡ fold (λ (ts : List Task) (s : NodeName). queued_notify s.owner ts) tasks

@@ -1,17 +1,18 @@
 //! The steps that signal slots, each between its beginning and its end (DOM Standard, concept: signal a slot change).
-ghost use Rattle.std.specs.Prelude.{◌≡◌, ℕ, ◌<◌, length, All, fold, filter, nat_eq, map, false, IfOk, OnOk, Some, None, [], ◌∷◌};
+ghost use Rattle.std.specs.Prelude.{◌≡◌, ℕ, ◌<◌, length, All, filter, map, false, IfOk, OnOk, Some, None};
 ghost use Rattle.std.specs.Option.{option_map, ForSome};
-ghost use Rattle.dom_model.specs.Names.{append_once, owner_eq};
+ghost use Rattle.dom_model.specs.Names.{append_once, name_eq};
 ghost use Rattle.dom_model.specs.Tree.{Trees as TreesOf, parent_of, is_inclusive_ancestor, none};
 ghost use Rattle.dom_model.specs.TreeChanges.{placed, taken_out, change_node, with_attribute};
+ghost use Rattle.dom_model.specs.Turns.{is_owned_by};
 ghost use Rattle.dom_model.specs.World.{queued_notify};
 ghost use Rattle.dom_tree.specs.Forest.{name_at};
 ghost use Rattle.dom_slots.specs.Kept.{BegunStep, IsEndOf};
 ghost use Rattle.dom_slots.specs.declared.step.Step.TheVariants.{Place, Removal, Attribute};
-ghost use Rattle.dom_node_trees.specs.Signalled.{signal_tables, AreSignals, HasSignalled, HasLeft, is_key_of, is_other_key};
+ghost use Rattle.dom_node_trees.specs.Signalled.{signal_tables, AreNames, AreSignals, HasSignalled, HasLeft};
 
-use dom_base::{DomStr, Owner};
-use dom_microtasks::Queue;
+use dom_base::{DomStr, NodeName, Owner};
+use dom_microtasks::{Queue, Signals};
 use dom_slots::{Slots, Step};
 use dom_tree::Forest;
 use node_arena::Key;
@@ -21,7 +22,7 @@ use std::alloc::{AllocError, Global};
 pub fn link(
     forest: &mut Forest,
     slots: &mut Slots,
-    signalled: &mut Vec<Key>,
+    signalled: &mut Signals,
     queue: &mut Queue,
     node: Key,
     parent: Key,
@@ -33,12 +34,12 @@ pub fn link(
     requires not_above { is_inclusive_ancestor forest.old.trees (name_at forest.old.names node) (name_at forest.old.names parent) ≡ false }
     requires before_is_node { ForSome before (λ b. b < length forest.old.names) }
     requires before_is_child { ForSome before (λ b. parent_of forest.old.trees (name_at forest.old.names b) ≡ Some (name_at forest.old.names parent)) }
-    requires signals { AreSignals forest.old.names forest.old.trees (signal_tables slots.old signalled.old.items queue.old) }
+    requires signals { AreSignals forest.old.names forest.old.trees (signal_tables slots.old signalled.old queue.old) }
     ensures names { OnOk result (forest.new.names ≡ forest.old.names) }
     ensures trees { OnOk result (forest.new.trees ≡ placed (name_at forest.old.names node) (name_at forest.old.names parent)
         (option_map (name_at forest.old.names) before) forest.old.trees) }
     ensures signals { OnOk result (HasSignalled forest.old.names forest.old.trees forest.new.trees (Place node parent before) None
-        (signal_tables slots.old signalled.old.items queue.old) (signal_tables slots.new signalled.new.items queue.new)) }
+        (signal_tables slots.old signalled.old queue.old) (signal_tables slots.new signalled.new queue.new)) }
 {
     let child = before;
     slots.begin(forest, Step::Place(node, parent, child))?;
@@ -50,16 +51,16 @@ pub fn link(
 pub fn unlink(
     forest: &mut Forest,
     slots: &mut Slots,
-    signalled: &mut Vec<Key>,
+    signalled: &mut Signals,
     queue: &mut Queue,
     node: Key,
 ) -> Result<(), AllocError>
     requires node_is_node { node < length forest.old.names }
-    requires signals { AreSignals forest.old.names forest.old.trees (signal_tables slots.old signalled.old.items queue.old) }
+    requires signals { AreSignals forest.old.names forest.old.trees (signal_tables slots.old signalled.old queue.old) }
     ensures names { OnOk result (forest.new.names ≡ forest.old.names) }
     ensures trees { OnOk result (forest.new.trees ≡ taken_out (name_at forest.old.names node) forest.old.trees) }
     ensures signals { OnOk result (HasLeft forest.old.names forest.old.trees forest.new.trees node
-        (signal_tables slots.old signalled.old.items queue.old) (signal_tables slots.new signalled.new.items queue.new)) }
+        (signal_tables slots.old signalled.old queue.old) (signal_tables slots.new signalled.new queue.new)) }
 {
     slots.begin(forest, Step::Removal(node))?;
     forest.unlink(node);
@@ -70,18 +71,18 @@ pub fn unlink(
 pub fn set_attr(
     forest: &mut Forest,
     slots: &mut Slots,
-    signalled: &mut Vec<Key>,
+    signalled: &mut Signals,
     queue: &mut Queue,
     node: Key,
     name: &str,
     value: DomStr,
 ) -> Result<(), AllocError>
     requires node_is_node { node < length forest.old.names }
-    requires signals { AreSignals forest.old.names forest.old.trees (signal_tables slots.old signalled.old.items queue.old) }
+    requires signals { AreSignals forest.old.names forest.old.trees (signal_tables slots.old signalled.old queue.old) }
     ensures names { OnOk result (forest.new.names ≡ forest.old.names) }
     ensures trees { OnOk result (forest.new.trees ≡ change_node (with_attribute name.now (Some value.items)) (name_at forest.old.names node) forest.old.trees) }
     ensures signals { OnOk result (HasSignalled forest.old.names forest.old.trees forest.new.trees (Attribute node) None
-        (signal_tables slots.old signalled.old.items queue.old) (signal_tables slots.new signalled.new.items queue.new)) }
+        (signal_tables slots.old signalled.old queue.old) (signal_tables slots.new signalled.new queue.new)) }
 {
     slots.begin(forest, Step::Attribute(node))?;
     forest.set_attr(node, name, value)?;
@@ -92,17 +93,17 @@ pub fn set_attr(
 pub fn remove_attr(
     forest: &mut Forest,
     slots: &mut Slots,
-    signalled: &mut Vec<Key>,
+    signalled: &mut Signals,
     queue: &mut Queue,
     node: Key,
     name: &str,
 ) -> Result<(), AllocError>
     requires node_is_node { node < length forest.old.names }
-    requires signals { AreSignals forest.old.names forest.old.trees (signal_tables slots.old signalled.old.items queue.old) }
+    requires signals { AreSignals forest.old.names forest.old.trees (signal_tables slots.old signalled.old queue.old) }
     ensures names { OnOk result (forest.new.names ≡ forest.old.names) }
     ensures trees { OnOk result (forest.new.trees ≡ change_node (with_attribute name.now None) (name_at forest.old.names node) forest.old.trees) }
     ensures signals { OnOk result (HasSignalled forest.old.names forest.old.trees forest.new.trees (Attribute node) None
-        (signal_tables slots.old signalled.old.items queue.old) (signal_tables slots.new signalled.new.items queue.new)) }
+        (signal_tables slots.old signalled.old queue.old) (signal_tables slots.new signalled.new queue.new)) }
 {
     slots.begin(forest, Step::Attribute(node))?;
     let _ = forest.remove_attr(node, name);
@@ -113,14 +114,14 @@ pub fn remove_attr(
 fn end(
     forest: &Forest,
     slots: &mut Slots,
-    signalled: &mut Vec<Key>,
+    signalled: &mut Signals,
     queue: &mut Queue,
 ) -> Result<(), AllocError>
     requires step { (was : TreesOf) × (b : BegunStep) × IsEndOf was forest.now slots.old b }
-    requires nodes { All (λ k. k < length forest.now.names) signalled.old.items }
+    requires nodes { AreNames forest.now.names signalled.old }
     ensures { (was : TreesOf) (b : BegunStep) → IsEndOf was forest.now slots.old b →
-        OnOk result (HasSignalled forest.now.names was forest.now.trees b.step b.left (signal_tables slots.old signalled.old.items queue.old)
-        (signal_tables slots.new signalled.new.items queue.new)) }
+        OnOk result (HasSignalled forest.now.names was forest.now.trees b.step b.left (signal_tables slots.old signalled.old queue.old)
+        (signal_tables slots.new signalled.new queue.new)) }
 {
     forest.nodes_stand_once();
     let keys = slots.end(forest)?;
@@ -134,72 +135,39 @@ fn end(
 fn signal(
     forest: &Forest,
     slot: Key,
-    signalled: &mut Vec<Key>,
+    signalled: &mut Signals,
     queue: &mut Queue,
 ) -> Result<(), AllocError>
     requires { slot < length forest.now.names }
-    ensures signalled { OnOk result (signalled.new.items ≡ append_once nat_eq signalled.old.items slot) }
+    ensures signalled { OnOk result (signalled.new ≡ append_once name_eq signalled.old (name_at forest.now.names slot)) }
     ensures queue { OnOk result (queue.new ≡ queued_notify (name_at forest.now.names slot).owner queue.old) }
 {
-    add_once(signalled, slot)?;
-    queue.push_notify(forest.name(slot).owner)
+    let name = forest.name(slot);
+    signalled.add(name)?;
+    queue.push_notify(name.owner)
 }
 
-/// Adds a key where it is not there (Infra Standard, append to an ordered set).
-fn add_once(keys: &mut Vec<Key>, key: Key) -> Result<(), AllocError>
-    ensures { OnOk result (keys.new.items ≡ append_once nat_eq keys.old.items key) }
-{
-    if !keys.contains(&key) {
-        keys.push(key)?;
-    }
-    Ok(())
-}
-
-/// Those of some slots that an owner has, in their order.
+/// The signalled slots that an owner has, in their order. Other owners' are not looked at.
 pub fn own_slots(
     alloc: Global,
     forest: &Forest,
-    slots: &[Key],
+    signalled: &Signals,
     owner: Owner,
 ) -> Result<Vec<Key>, AllocError>
-    requires { All (λ k. k < length forest.now.names) slots.now }
-    ensures { IfOk result (λ keys. keys.items ≡ filter (is_key_of forest.now.names owner) slots.now) }
+    requires { AreNames forest.now.names signalled.now }
+    ensures names { IfOk result (λ keys. map (name_at forest.now.names) keys.items ≡ filter (is_owned_by owner) signalled.now) }
+    ensures nodes { IfOk result (λ keys. All (λ k. k < length forest.now.names) keys.items) }
 {
     let mut keys = Vec::new(alloc);
-    for slot in slots {
-        if is_same(forest.name(*slot).owner, owner) {
-            keys.push(*slot)?;
-        }
+    for number in signalled.of(owner) {
+        let name = NodeName {
+            owner,
+            number: *number,
+        };
+        let Some(key) = forest.find(name) else {
+            unreachable!()
+        };
+        keys.push(key)?;
     }
     Ok(keys)
-}
-
-/// Those of some slots that other owners have, in their order.
-pub fn other_slots(
-    alloc: Global,
-    forest: &Forest,
-    slots: &[Key],
-    owner: Owner,
-) -> Result<Vec<Key>, AllocError>
-    requires { All (λ k. k < length forest.now.names) slots.now }
-    ensures { IfOk result (λ keys. keys.items ≡ filter (is_other_key forest.now.names owner) slots.now) }
-{
-    let mut keys = Vec::new(alloc);
-    for slot in slots {
-        if !is_same(forest.name(*slot).owner, owner) {
-            keys.push(*slot)?;
-        }
-    }
-    Ok(keys)
-}
-
-/// Whether two owners are the same.
-fn is_same(first: Owner, second: Owner) -> bool
-    ensures { result ≡ owner_eq first second }
-{
-    match (first, second) {
-        (Owner::Page, Owner::Page) => true,
-        (Owner::Component(one), Owner::Component(other)) => one == other,
-        _ => false,
-    }
 }

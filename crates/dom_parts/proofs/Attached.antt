@@ -1,12 +1,13 @@
 -- A shadow root is attached: what is held has one host more, so it is still a legal `Doc`, and its world is that of the
 -- definitions.
-use Rattle.std.proofs.Common.{◌≡◌, ◌≢◌, ℕ, zero, suc, ◌<◌, ◌≤◌, ◌⊎◌, inl, inr, true, false, All, List, [], ◌∷◌, ◌++◌, Option, Some, None, map, length}
+use Rattle.std.proofs.Common.{◌≡◌, ◌≢◌, ℕ, zero, suc, ◌<◌, ◌≤◌, ◌⊎◌, inl, inr, true, false, List, [], ◌∷◌, ◌++◌, Option, Some, None, length}
 use Rattle.std.proofs.Common.{unwrap_or, refl, sym, ap, subst, ◌∙◌, arith}
 use Rattle.std.specs.Prelude.{slice_get}
 use Rattle.std.specs.List.{AllByRecursion}
 use Rattle.std.proofs.lemmas.Bool.{cases_Bool, false_from_ne_true}
 use Rattle.std.proofs.lemmas.List.{length_push, map-append}
-use Rattle.std.proofs.lemmas.List.Elements.{All-head, All-tail}
+use Rattle.dom_node_trees.specs.Signalled.{AreNames}
+use Rattle.dom_node_trees.proofs.Named.{names_grown}
 use Rattle.std.proofs.lemmas.Option.{same_Some, none-some}
 use Rattle.std.proofs.Math.ListN.{get_or-append}
 use Rattle.std.proofs.Math.Nat.{eq-or-lt_of_le}
@@ -149,13 +150,6 @@ module _ (f g : NamedTrees) (was now : AllTables) (host : ℕ) (d : Option NodeN
       ∙ (ap (λ xs. xs ++ name_at grown host ∷ []) (sym (names_renamed f.names grown kept hosts_were held.signals.slots.hosts)) ∙
       ap (λ x. host_names f.names hosts_were ++ x ∷ []) (kept.same host within))))
 
-  names_stay : (ks : List ℕ) → All (λ k. k < length f.names) ks → map (name_at grown) ks ≡ map (name_at f.names) ks
-  names_stay [] all = refl
-  names_stay (k ∷ ks) all =
-      let here = (names_pushed f.names (shadow_root_of c)).same k (All-head (λ j. j < length f.names) k ks all) in
-      let rest = names_stay ks (All-tail (λ j. j < length f.names) k ks all) in
-      λ i. here i ∷ rest i
-
   one : IsAttached (contents f.names f.trees was) (contents g.names g.trees now) c (name_at f.names host) d
   one = record {
     owners = ap (λ ts. owners_up_to (length ts)) more.each ∙ (ap owners_up_to long ∙ ap (λ n. owners_up_to (length was.each) ++ owner_at n ∷ []) held.counted);
@@ -167,7 +161,7 @@ module _ (f g : NamedTrees) (was now : AllTables) (host : ℕ) (d : Option NodeN
         ∙ (ap (λ (r : TablesOf ℕ). with_those (tables_view g.names no_keyed_tables r) [] (named_ranges g.names (ranges_of now.ranges c)))
         unobserved_new ∙ ap (with_those (tables_view g.names no_keyed_tables no_observers) []) live_new);
     rest = λ q page other. by q page other;
-    signalled = ap (λ ns. map (name_at ns) now.signalled) more.names ∙ (ap (map (name_at grown)) more.signalled ∙ names_stay was.signalled held.signals.nodes);
+    signalled = more.signalled;
     tasks = more.tasks;
   }
     where
@@ -275,10 +269,9 @@ module _ (f g : NamedTrees) (was now : AllTables) (host : ℕ) (d : Option NodeN
         (subst (λ n. AreNumbered (f.names ++ node_of c n ∷ [])) (count_none c f.names uncounted) (numbered_more f.names c held.numbered));
   }
     where
-      nodes_after : All (λ k. k < length g.names) now.signalled
-      nodes_after = subst (All (λ k. k < length g.names)) (sym more.signalled)
-          (λ k i h. let less = held.signals.nodes k i h in let long = ap length more.names in let pushed = length_push f.names
-          (shadow_root_of c) in omega (arith, less, long, pushed))
+      nodes_after : AreNames g.names now.signalled
+      nodes_after = subst (λ ns. AreNames ns now.signalled) (sym more.names)
+          (subst (AreNames grown) (sym more.signalled) (names_grown f.names (shadow_root_of c) was.signalled held.signals.nodes))
 
   -- and its world is the one after the command
   pub attached_state : d ≡ (node_in f.trees (name_at f.names host)).document →

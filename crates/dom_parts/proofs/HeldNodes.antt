@@ -1,5 +1,5 @@
 -- What holds of a `Doc` holds with one node more, and at first.
-use Rattle.std.proofs.Common.{◌≡◌, ℕ, ◌+◌, ◌<◌, ◌≤◌, ◌⊎◌, inl, inr, true, cond, All, map, List, [], ◌∷◌, ◌++◌, length, Option, Some, None}
+use Rattle.std.proofs.Common.{◌≡◌, ℕ, ◌+◌, ◌<◌, ◌≤◌, ◌⊎◌, inl, inr, true, cond, List, [], ◌∷◌, ◌++◌, length, Option, Some, None}
 use Rattle.std.proofs.Common.{Result, Ok, Err, unwrap_or, zero, refl, sym, ap, subst, ◌∙◌, ◌≢◌, arith, add-one, suc}
 use Rattle.std.specs.Prelude.{OnOk, OnErr, ◌↔◌}
 use Rattle.std.proofs.lemmas.Bool.{cases_Bool}
@@ -14,7 +14,7 @@ use Rattle.dom_base.specs.declared.Refusal.TheVariants.{Limit}
 use Rattle.dom_base.specs.declared.NodeName.{NodeName}
 use Rattle.dom_base.specs.declared.Owner.{Owner}
 use Rattle.dom_base.specs.declared.Owner.TheVariants.{Page, Component}
-use Rattle.dom_model.specs.Names.{owner_eq, node_of}
+use Rattle.dom_model.specs.Names.{name_eq, is_in, owner_eq, node_of}
 use Rattle.dom_model.specs.Tree.{Trees, none, Node}
 use Rattle.dom_model.specs.TreeChanges.{with_node, with_name}
 use Rattle.dom_model.specs.Steps.{make}
@@ -36,7 +36,8 @@ use Rattle.dom_parts.specs.AllTables.{tables_view, AreTablesOf, AllTables, no_sl
 use Rattle.dom_slots.specs.Kept.{AreSlotsOf, StandsOnce, HasOneMore}
 use Rattle.dom_slots.proofs.Added.{slots-more}
 use Rattle.dom_parts.proofs.HostedSteps.{names_pushed, made_renamed, names_renamed, plain_step}
-use Rattle.std.proofs.lemmas.List.Elements.{All-head, All-tail, All-nil}
+use Rattle.std.proofs.lemmas.List.Elements.{All-nil}
+use Rattle.dom_node_trees.proofs.Named.{names_grown}
 use Rattle.dom_parts.specs.Doc.{DocState, named_trees, own_tables, attached_of, shown_tables, contents, world_from, state_from, IsHeld}
 use Rattle.dom_parts.proofs.Worlds.{part_at}
 use Rattle.dom_parts.proofs.Keeping.{tables_more, view_same, speaks_grown}
@@ -83,13 +84,10 @@ module _ (names : List NodeName) (ts : Trees) (tables : AllTables) (held : IsHel
       (λ p. limited_more names o p (count_of o names) (held.limited o) (held.limited p) room)
       (λ p t e. tables_more names (next_name o names) ts n is new p t (held.own p t e))
       (made_renamed names grown (names_pushed names (next_name o names)) tables.slots.hosts 0 held.signals.slots.hosts held.made)
-      record { free = held.signals.free; slots = slots; nodes = λ k d h. longer _ (held.signals.nodes k d h) }
+      record { free = held.signals.free; slots = slots; nodes = names_grown names (next_name o names) tables.signalled held.signals.nodes }
       (λ p. speaks_grown names (next_name o names) (tables.observers p) (held.speaks p)) held.unobserved held.due
       (ranges_grown (contents names ts tables) (contents grown (with_node n ts) tables) tables.ranges (next_name o names) held.ranges refl refl
       (named_grown names (next_name o names) tables.ranges held.ranges.own)) (numbered_more names o held.numbered)
-    where
-      longer : (i : ℕ) → i < length names → i < length grown
-      longer i within = let more = length_push names (next_name o names) in omega arith
 
   -- each owner's tables are the same in names
   view_grown : (q : Owner)
@@ -120,7 +118,7 @@ module _ (names : List NodeName) (ts : Trees) (tables : AllTables) (held : IsHel
       plain_step (contents names ts tables) tables.slots.hosts (are_hosts names ts tables held) o there (contents grown (with_node n ts) tables)
       (make n) tt record {
         owners = refl;
-        signalled = names_stay tables.signalled held.signals.nodes;
+        signalled = refl;
         tasks = refl;
         own = ap (λ us. part_with o us (count_of o grown)
             (shown_tables grown tables.slots.hosts o (own_tables tables o) (tables.observers o) (ranges_of tables.ranges o))) own_change.own
@@ -138,13 +136,6 @@ module _ (names : List NodeName) (ts : Trees) (tables : AllTables) (held : IsHel
             ∙ ap (λ t. part_with q (trees_of_owner q ts) (count_of q names) t) (view_grown q);
       }
     where
-      names_stay : (ks : List ℕ) → All (λ k. k < length names) ks → map (name_at grown) ks ≡ map (name_at names) ks
-      names_stay [] all = refl
-      names_stay (k ∷ ks) all =
-          let here = (names_pushed names (next_name o names)).same k (All-head (λ j. j < length names) k ks all) in
-          let rest = names_stay ks (All-tail (λ j. j < length names) k ks all) in
-          λ i. here i ∷ rest i
-
       more_own : count_of o (names ++ next_name o names ∷ []) ≡ suc (count_of o names)
       more_own = count_more o names (next_name o names) ∙ ap (λ b. count_of o names + cond b 1 0) (owner_eq-same o) ∙ add-one (count_of o names)
 
@@ -249,7 +240,7 @@ empty_held rs empty = record {
   counted = refl;
   few = omega arith;
   made = tt;
-  signals = record { free = refl; slots = no_slots_of (named_trees [] none); nodes = All-nil (λ k. k < 0) };
+  signals = record { free = refl; slots = no_slots_of (named_trees [] none); nodes = All-nil (λ x. is_in name_eq x [] ≡ true) };
   own = λ o t e. subst (AreTablesOf (named_trees [] none) o) (same_own o t e) (no_cursors (named_trees [] none) o);
   speaks = λ o. speaks_none (IsKey []);
   unobserved = λ o off. refl;

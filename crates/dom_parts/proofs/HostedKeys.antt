@@ -1,18 +1,11 @@
 -- The owners of hosts by their places.
-use Rattle.std.proofs.Common.{◌≡◌, ℕ, zero, suc, ◌+◌, ◌<◌, Bool, true, false, ◌||◌, List, [], ◌∷◌, ◌++◌, All, Option, Some, None, map, filter_map}
-use Rattle.std.proofs.Common.{fold, length, refl, sym, ap, ◌∙◌, arith, zero-add}
-use Rattle.std.specs.Prelude.{nat_eq, option_map, if◌then◌else◌}
-use Rattle.std.specs.List.{cons_option}
-use Rattle.std.proofs.lemmas.List.{map-append}
-use Rattle.std.proofs.lemmas.List.Elements.{All-push, All-head, All-tail}
+use Rattle.std.proofs.Common.{◌≡◌, ℕ, zero, suc, ◌+◌, List, [], ◌∷◌, ◌++◌}
+use Rattle.std.proofs.Common.{length, refl, sym, ap, ◌∙◌, arith, zero-add}
 use Rattle.dom_base.specs.declared.NodeName.{NodeName}
 use Rattle.dom_base.specs.declared.Owner.{Owner}
 use Rattle.dom_base.specs.declared.Owner.TheVariants.{Page}
-use Rattle.dom_model.specs.Names.{name_eq, is_in, append_once}
 use Rattle.dom_model.specs.World.{component_made}
-use Rattle.dom_slots.specs.Hosts.{ShadowHost, HostsAreNodes, root_of_host, root_named}
-use Rattle.dom_slots.proofs.Hosted.{AreDistinct, key-test, root-named}
-use Rattle.dom_tree.specs.Forest.{name_at}
+use Rattle.dom_slots.specs.Hosts.{ShadowHost}
 use Rattle.dom_parts.specs.Hosting.{AreMadeFrom, host_owners}
 use Rattle.dom_cursors.specs.OwnTables.{owners_up_to}
 

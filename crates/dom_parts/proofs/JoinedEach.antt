@@ -2,13 +2,12 @@
 use Rattle.std.proofs.Common.{◌≡◌, ℕ, suc, Bool, true, false, ◌+◌, ◌<◌, ◌≤◌, get_or, drop-cons, add-one, List, [], ◌∷◌, drop, length, map, refl, sym}
 use Rattle.std.proofs.Common.{ap, subst, ◌∙◌, arith}
 use Rattle.std.specs.List.{AllByRecursion}
-use Rattle.std.specs.Prelude.{filter, if◌then◌else◌}
 use Rattle.dom_base.specs.declared.NodeName.{NodeName}
 use Rattle.dom_base.specs.declared.Owner.{Owner}
-use Rattle.dom_model.specs.Changes.{in_turn, steps_of}
-use Rattle.dom_model.specs.Steps.{join_at, part_step, after}
-use Rattle.dom_model.specs.TextChanges.{joins, normalizing_text}
-use Rattle.dom_model.specs.Tree.{has_node, kind_of, is_text, index_of, length_of}
+use Rattle.dom_model.specs.Changes.{steps_of}
+use Rattle.dom_model.specs.Steps.{join_at, part_step}
+use Rattle.dom_model.specs.TextChanges.{joins}
+use Rattle.dom_model.specs.Tree.{index_of, length_of}
 use Rattle.dom_model.specs.Part.{Part}
 use Rattle.dom_model.specs.World.{part_of}
 use Rattle.dom_isolation.specs.Bounds.{HasBounds}
@@ -17,12 +16,8 @@ use Rattle.dom_tree.specs.Forest.{name_at}
 use Rattle.dom_parts.specs.Doc.{DocState, JoinsFit, IsOwnNode, name_in, owner_in, trees_in, stepped, planned}
 use Rattle.dom_parts.specs.Hosting.{IsAlone}
 use Rattle.dom_isolation.proofs.KeptOffsets.{join_at-keeps}
-use Rattle.dom_isolation.proofs.KindLines.{has_node-times}
-use Rattle.dom_isolation.proofs.PlanTexts.{leads-normalizing_text}
-use Rattle.dom_parts.proofs.BoundedPlans.{normalized_text-keeps, normalized_text-leaves}
 use Rattle.dom_tree_laws.proofs.Lists.{all_drop}
-use Rattle.dom_parts.proofs.Made.{alone_after, alone_made, plan_alone, planned_turn}
-use Rattle.dom_parts.proofs.OwnPlans.{plans_normalizing_text}
+use Rattle.dom_parts.proofs.Made.{alone_after}
 
 -- ---- joins
 

@@ -1,61 +1,19 @@
 -- No owner has more nodes than it may, and when there is no room for one more.
-use Rattle.std.proofs.Common.{◌≡◌, ℕ, ◌+◌, ◌<◌, ◌≤◌, ◌⊎◌, inl, inr, true, false, cond, All, map, List, [], ◌∷◌, ◌++◌, length, Option, Some, None}
-use Rattle.std.proofs.Common.{Result, Ok, Err, unwrap_or, zero, refl, sym, ap, subst, ◌∙◌, ◌≢◌, arith, add-one, suc}
-use Rattle.std.specs.Prelude.{OnOk, OnErr, ◌↔◌}
-use Rattle.std.specs.List.{AllByRecursion}
-use Rattle.std.specs.Option.{ForSome}
+use Rattle.std.proofs.Common.{◌≡◌, ℕ, ◌+◌, ◌≤◌, inl, inr, true, false, List}
+use Rattle.std.proofs.Common.{sym, ap, subst, ◌∙◌, arith}
+use Rattle.std.specs.Prelude.{◌↔◌}
 use Rattle.std.proofs.lemmas.Bool.{cases_Bool, false_from_ne_true}
-use Rattle.std.proofs.lemmas.List.{length_push}
-use Rattle.std.proofs.lemmas.Option.{slice_get_within, none-some, same_Some}
-use Rattle.std.proofs.Math.Nat.{eq-or-lt_of_le, add-zero}
-use Rattle.std.proofs.Math.ListN.{get_or-append}
-use Rattle.std.proofs.Math.Seq.{get_or-append_seam}
 use borrow.Author.Tests.{ltb-true}
-use Rattle.dom_base.specs.declared.Fault.{Fault}
-use Rattle.dom_base.specs.declared.Fault.TheVariants.{Refused}
-use Rattle.dom_base.specs.declared.Refusal.TheVariants.{Limit}
 use Rattle.dom_base.specs.declared.NodeName.{NodeName}
 use Rattle.dom_base.specs.declared.Owner.{Owner}
-use Rattle.dom_base.specs.declared.Owner.TheVariants.{Page, Component}
-use Rattle.dom_model.specs.Names.{owner_eq, node_of}
-use Rattle.dom_model.specs.Tree.{Trees, none, Node}
-use Rattle.dom_model.specs.TreeChanges.{with_node, with_name}
-use Rattle.dom_model.specs.Steps.{make}
-use Rattle.dom_model.specs.World.{World, part_of, is_there, Task, micro_task, notify_task}
-use Rattle.dom_model.specs.WorldSteps.{world_step}
-use Rattle.dom_model.specs.Part.{Part, next_name as part_next}
-use Rattle.dom_model.specs.Ranges.{Range}
+use Rattle.dom_model.specs.Tree.{Trees}
+use Rattle.dom_model.specs.World.{part_of, is_there}
+use Rattle.dom_model.specs.Part.{Part}
 use Rattle.dom_model.specs.CommandRefusals.{past_limit}
-use Rattle.dom_model.proofs.OwnerLaws.{owner_eq-same, owner_eq-true, ne-owner_eq}
-use Rattle.dom_tree.specs.Forest.{NamedTrees, name_at, next_name, count_of}
-use Rattle.dom_tree.specs.Owners.{AreOwned, trees_of_owner, IsOwnChange}
-use Rattle.dom_tree.proofs.OwnPlacings.{added}
-use Rattle.dom_observers.specs.Tables.{TablesOf, no_tables as no_observers}
-use Rattle.dom_ranges.specs.Settings.{named_ranges}
-use Rattle.dom_ranges.specs.Tables.{RangeLists, ranges_of}
-use Rattle.dom_observers.specs.Naming.{IsKey, SpeaksOf}
-use Rattle.dom_observers.proofs.Speaking.{speaks_none}
-use Rattle.dom_parts.specs.Contents.{Tables, part_with}
-use Rattle.dom_cursors.specs.OwnTables.{KeyedTables, place_of, owner_at, owners_up_to, table_of, no_keyed_tables}
-use Rattle.dom_parts.specs.AllTables.{tables_view, AreTablesOf, AllTables, no_slots, first_tables, AreFirst, signals_of, with_live, with_queue, with_observers}
-use Rattle.dom_node_trees.specs.Signalled.{AreSignals}
-use Rattle.dom_parts.specs.Hosting.{AreMadeFrom, AreHostsOf}
-use Rattle.dom_parts.specs.Numbering.{AreNumbered}
-use Rattle.dom_parts.specs.Ranging.{AreRangesOf}
-use Rattle.dom_slots.specs.Hosts.{ShadowHost}
-use Rattle.dom_slots.specs.Kept.{AreSlotsOf, StandsOnce, HasOneMore}
-use Rattle.dom_slots.proofs.Added.{slots-more}
-use Rattle.dom_parts.proofs.HostedKeys.{owners_made}
-use Rattle.dom_parts.proofs.HostedSteps.{names_pushed, made_renamed, names_renamed, plain_step}
-use Rattle.std.proofs.lemmas.List.Elements.{All-head, All-tail, All-nil}
-use Rattle.dom_parts.specs.Doc.{DocState, named_trees, own_tables, attached_of, shown_tables, contents, world_from, state_from, IsHeld, IsDue}
-use Rattle.dom_parts.proofs.Worlds.{there_in, in_there, there_same, part_at, part_off}
-use Rattle.dom_parts.proofs.Places.{place_within, owners_in, table_place, table_owner}
-use Rattle.dom_tree_laws.proofs.Standing.{KeepsAbove}
-use Rattle.dom_parts.proofs.Keeping.{tables_kept, tables_more, view_same, speaks_grown}
-use Rattle.dom_parts.proofs.Numbers.{count_more, numbered_more}
-use Rattle.dom_parts.proofs.RangedKeeping.{ranges_stay, ranges_grown, named_grown}
-use Rattle.dom_parts.proofs.RangedOwners.{ranges_none}
+use Rattle.dom_tree.specs.Forest.{NamedTrees, count_of}
+use Rattle.dom_parts.specs.AllTables.{AllTables}
+use Rattle.dom_parts.specs.Doc.{DocState, contents, world_from, state_from, IsHeld}
+use Rattle.dom_parts.proofs.Worlds.{part_at, part_off}
 
 pub limit_count : (n m : ℕ) → m ≡ n → n ≤ 1000000 → (n ≡ 1000000) ↔ (past_limit m 1 ≡ true)
 limit_count n m same few = (

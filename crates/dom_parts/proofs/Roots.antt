@@ -1,19 +1,13 @@
 -- Node documents set one tree after another.
-use Rattle.std.proofs.Common.{◌≡◌, ℕ, ◌<◌, ◌≤◌, true, ◌||◌, List, [], ◌∷◌, ◌++◌, All, map, fold, filter_map, length, Option, Some, None, option_map}
+use Rattle.std.proofs.Common.{◌≡◌, ℕ, ◌<◌, List, [], ◌∷◌, All, map, fold, filter_map, length}
 use Rattle.std.proofs.Common.{refl, sym, ap, subst, ◌∙◌}
-use Rattle.std.specs.List.{cons_option}
-use Rattle.std.specs.Option.{ForSome}
-use Rattle.std.proofs.lemmas.Bool.{cond-true}
-use Rattle.std.proofs.lemmas.List.{map-append, append-nil}
-use Rattle.std.proofs.lemmas.List.Elements.{All-nil, All-push, All-head, All-tail, filter_map-append}
+use Rattle.std.proofs.lemmas.List.Elements.{All-head, All-tail}
 use Rattle.dom_base.specs.declared.NodeName.{NodeName}
-use Rattle.dom_model.specs.Names.{name_eq, first_of, is_in, items_before, items_after}
-use Rattle.dom_model.specs.Tree.{Trees, inclusive_descendants, is_inclusive_ancestor, subtree}
+use Rattle.dom_model.specs.Names.{name_eq, is_in}
+use Rattle.dom_model.specs.Tree.{Trees, inclusive_descendants}
 use Rattle.dom_model.specs.TreeChanges.{change_subtree, with_document}
 use Rattle.dom_model.specs.Steps.{set_document}
-use Rattle.dom_model.proofs.OwnerLaws.{name_eq-same}
-use Rattle.dom_slots.specs.Hosts.{ShadowHost, HostsAreNodes, root_of_host, root_named}
-use Rattle.dom_slots.proofs.Hosted.{AreDistinct, root-named, root-node}
+use Rattle.dom_slots.specs.Hosts.{root_named}
 use Rattle.dom_tree.specs.Forest.{NamedTrees, name_at}
 use Rattle.dom_tree.proofs.OwnPlacings.{changed_subtree}
 use Rattle.dom_slots.proofs.Recast.{keeps_if, slots-recast}
@@ -26,11 +20,6 @@ use Rattle.dom_parts.proofs.Held.{are_hosts, held_changed}
 use Rattle.dom_parts.proofs.HostedDocuments.{documents_world}
 use Rattle.dom_parts.proofs.Shown.{known, owner_there, step_done}
 use Rattle.dom_tree_laws.proofs.Standing.{keeps_changed_below}
-use Rattle.dom_tree_laws.proofs.Covering.{walked, left, StandsIn, Walks, walks, first_inside, above_inside}
-use Rattle.dom_tree_laws.proofs.Near.{once_subtree}
-use Rattle.dom_tree_laws.proofs.Once.{names_once}
-use Rattle.dom_tree_laws.proofs.Paths.{IsOnce}
-use Rattle.dom_tree.proofs.Once.{times_in}
 
 -- one tree after another, in what is held
 pub documents_trees : (d : NodeName) (c : Contents) (xs : List NodeName) → fold (document_in d) c xs ≡ record c { trees = fold (under_each d) c.trees xs }

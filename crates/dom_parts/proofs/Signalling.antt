@@ -1,5 +1,5 @@
 -- Steps that signal slots: what holds after them, and the state then; and what holds where they were refused memory.
-use Rattle.std.proofs.Common.{◌≡◌, ℕ, ◌^◌, arith, ◌<◌, true, false, List, [], fold, map, length, Result, Ok, Err, Option, Some, None, refl, sym, ap, subst, ◌∙◌}
+use Rattle.std.proofs.Common.{◌≡◌, ℕ, ◌^◌, arith, ◌<◌, true, false, List, [], fold, length, Result, Ok, Err, Option, Some, None, refl, sym, ap, subst, ◌∙◌}
 use Rattle.std.specs.Prelude.{OnOk, OnErr, nat_eq, slice_set, if◌then◌else◌}
 use Rattle.std.specs.List.{AllByRecursion}
 use Rattle.std.proofs.lemmas.List.{length-set}
@@ -80,7 +80,7 @@ module _ (f : NamedTrees) {tables : AllTables} (held : IsHeld f.names f.trees ta
         let there : NodeName → Type 0 = λ s. is_there (world_from f.names f.trees tables) s.owner ≡ true in
         subst (AllByRecursion (IsDue (world_from f.names f.trees tables))) (sym here.tasks)
         (due_signalled (world_from f.names f.trees tables) signalled
-        (all_appended there (map (name_at f.names) tables.signalled) signalled
+        (all_appended there tables.signalled signalled
         (subst (AllByRecursion there) here.signalled (all_named there f.names held.present after.signalled here.held.nodes))).1
         tables.tasks held.due)
 
@@ -107,11 +107,11 @@ module _ (f : NamedTrees) {tables : AllTables} (held : IsHeld f.names f.trees ta
     contents_now : contents f.names (h f.trees) (with_signals next after) ≡ signals_in before_signals signalled
     unfolding build
     contents_now =
-        ap (λ os. build os after.slots.hosts (map (name_at f.names) after.signalled) after.tasks) (ap owners_up_to same)
-        ∙ (ap (λ (hs : List ShadowHost). build (owners_up_to (length tables.each)) hs (map (name_at f.names) after.signalled) after.tasks) here.hosts
+        ap (λ os. build os after.slots.hosts after.signalled after.tasks) (ap owners_up_to same)
+        ∙ (ap (λ (hs : List ShadowHost). build (owners_up_to (length tables.each)) hs after.signalled after.tasks) here.hosts
         ∙ (ap (λ xs. build (owners_up_to (length tables.each)) tables.slots.hosts xs after.tasks) here.signalled
         ∙ (ap (build (owners_up_to (length tables.each)) tables.slots.hosts
-        (fold (append_once name_eq) (map (name_at f.names) tables.signalled) signalled)) here.tasks
+        (fold (append_once name_eq) tables.signalled signalled)) here.tasks
         ∙ sym (signalled_fields before_signals signalled))))
 
     pub signalled_state : (t : List NodeName → ModelStep)

@@ -1,13 +1,12 @@
 -- An owner's tables as a `Doc` holds them, with keys in place of names, and where each owner's are.
-use Rattle.std.specs.Prelude.{◌≡◌, ℕ, zero, suc, ◌≤◌, List, [], ◌∷◌, ◌++◌, length, map, Option, Some, None, slice_get, slice_set}
+use Rattle.std.specs.Prelude.{◌≡◌, ℕ, ◌≤◌, List, [], ◌∷◌, length, map, None, slice_set}
 use Rattle.dom_base.specs.declared.Owner.{Owner}
-use Rattle.dom_base.specs.declared.Owner.TheVariants.{Page, Component}
 use Rattle.dom_base.specs.declared.NodeName.{NodeName}
-use Rattle.dom_model.specs.Traversal.{Iterator, Walker, adjusted_iterator}
+use Rattle.dom_model.specs.Traversal.{Iterator, Walker}
 use Rattle.dom_model.specs.World.{Task}
 use Rattle.dom_slots.specs.Kept.{SlotsNow}
 use Rattle.dom_tree.specs.Forest.{NamedTrees, name_at}
-use Rattle.dom_traversal.specs.Iterators.{KeyedIterator, iterator_view, IsIteratorOf, HasLeft}
+use Rattle.dom_traversal.specs.Iterators.{KeyedIterator, iterator_view, IsIteratorOf}
 use Rattle.dom_traversal.specs.Walkers.{KeyedWalker, walker_view, IsWalkerOf}
 use Rattle.dom_observers.specs.Tables.{TablesOf, no_tables as no_observers}
 use Rattle.dom_observers.specs.Naming.{named_tables}
@@ -33,11 +32,11 @@ pub record AllTables : Type 0 where
   pub observers : Owner → TablesOf ℕ
   pub tasks : List Task
   pub slots : SlotsNow
-  pub signalled : List ℕ
+  pub signalled : List NodeName
   pub ranges : RangeLists
 
 -- all of them
-abbrev pub tables_of : List KeyedTables → (Owner → TablesOf ℕ) → List Task → SlotsNow → List ℕ → RangeLists → AllTables
+abbrev pub tables_of : List KeyedTables → (Owner → TablesOf ℕ) → List Task → SlotsNow → List NodeName → RangeLists → AllTables
 tables_of each observers tasks slots signalled ranges =
     record { each = each; observers = observers; tasks = tasks; slots = slots; signalled = signalled; ranges = ranges }
 

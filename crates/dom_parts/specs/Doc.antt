@@ -20,7 +20,7 @@ use Rattle.dom_model.specs.World.{World, Task, micro_task, notify_task, part_of,
 use Rattle.dom_model.specs.Command.{Command}
 use Rattle.dom_model.specs.Effects.{Effect, effect}
 use Rattle.dom_model.specs.WorldSteps.{world_step, world_after}
-use Rattle.dom_model.specs.Changes.{Plan, Observing, observed, suppressed, ◌and_then◌, in_turn, doing, steps_of, telling, making_room, placing}
+use Rattle.dom_model.specs.Changes.{Plan, Observing, suppressed, ◌and_then◌, in_turn, doing, steps_of, telling, making_room, placing}
 use Rattle.dom_model.specs.Changes.{removing, inserting}
 use Rattle.dom_model.specs.TextChanges.{placing_tail, replacing_data}
 use Rattle.dom_model.specs.Validity.{first_refusal}
@@ -57,7 +57,7 @@ named_trees names ts = record { names = names; trees = ts }
 
 -- the tables that the code holds
 abbrev pub all_tables : Inside → AllTables
-all_tables d = tables_of d.tables.items (observers_of d.observers) d.queue d.slots d.signalled.items d.ranges
+all_tables d = tables_of d.tables.items (observers_of d.observers) d.queue d.slots d.signalled d.ranges
 
 -- an owner's tables; one that is not there has none
 abbrev pub own_tables : AllTables → Owner → KeyedTables
@@ -79,7 +79,7 @@ contents names ts tables = record {
   names = names;
   trees = ts;
   tables = λ o. shown_tables names tables.slots.hosts o (own_tables tables o) (tables.observers o) (ranges_of tables.ranges o);
-  signalled = map (name_at names) tables.signalled;
+  signalled = tables.signalled;
   tasks = tables.tasks;
 }
 

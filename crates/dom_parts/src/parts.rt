@@ -32,7 +32,7 @@ mod validity;
 
 use dom_base::{Fault, Kind, Owner};
 use dom_cursors::{OwnTables, table_of};
-use dom_microtasks::Queue;
+use dom_microtasks::{Queue, Signals};
 use dom_observers::Observers;
 use dom_ranges::RangeTable;
 use dom_slots::Slots;
@@ -52,7 +52,7 @@ pub struct Parts {
     observers: Observers,
     ranges: RangeTable,
     slots: Slots,
-    signalled: Vec<Key>,
+    signalled: Signals,
     queue: Queue,
     alloc: Global,
 }
@@ -92,7 +92,7 @@ impl Parts {
         let observers = Observers::new(alloc);
         let ranges = RangeTable::new(alloc);
         let slots = Slots::new(alloc);
-        let signalled = Vec::new(alloc);
+        let signalled = Signals::new(alloc);
         let queue = Queue::new(alloc);
         match forest.add(Owner::Page, document) {
             Ok(_) => Ok(Parts {

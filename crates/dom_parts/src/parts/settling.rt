@@ -5,12 +5,11 @@ ghost use Rattle.dom_observers.specs.Owners.{tables_of as observers_of};
 ghost use Rattle.dom_parts.specs.AllTables.{tables_of, AreFirst};
 
 use dom_cursors::OwnTables;
-use dom_microtasks::Queue;
+use dom_microtasks::{Queue, Signals};
 use dom_observers::Observers;
 use dom_ranges::RangeTable;
 use dom_slots::Slots;
 use dom_tree::Forest;
-use node_arena::Key;
 use std::alloc::{AllocError, Global};
 
 /// After a step of which memory was refused everything is given up: there are no nodes then, and the page alone is there.
@@ -21,17 +20,17 @@ pub(super) fn settle(
     observers: &mut Observers,
     ranges: &mut RangeTable,
     slots: &mut Slots,
-    signalled: &mut Vec<Key>,
+    signalled: &mut Signals,
     queue: &mut Queue,
     alloc: Global,
 ) -> Result<(), AllocError>
     requires { 0 < length tables.old.items }
     ensures result { result ≡ done }
     ensures forest { OnOk done (forest.new ≡ forest.old) }
-    ensures tables { OnOk done (tables_of tables.new.items (observers_of observers.new) queue.new slots.new signalled.new.items
-        ranges.new ≡ tables_of tables.old.items (observers_of observers.old) queue.old slots.old signalled.old.items ranges.old) }
+    ensures tables { OnOk done (tables_of tables.new.items (observers_of observers.new) queue.new slots.new signalled.new
+        ranges.new ≡ tables_of tables.old.items (observers_of observers.old) queue.old slots.old signalled.old ranges.old) }
     ensures empty { OnErr done (forest.new ≡ record { names = []; trees = none }) }
-    ensures first { OnErr done (AreFirst (tables_of tables.new.items (observers_of observers.new) queue.new slots.new signalled.new.items ranges.new)) }
+    ensures first { OnErr done (AreFirst (tables_of tables.new.items (observers_of observers.new) queue.new slots.new signalled.new ranges.new)) }
 {
     if done.is_err() {
         *forest = Forest::new(alloc);
@@ -40,7 +39,7 @@ pub(super) fn settle(
         *observers = Observers::new(alloc);
         *ranges = RangeTable::new(alloc);
         *slots = Slots::new(alloc);
-        *signalled = Vec::new(alloc);
+        *signalled = Signals::new(alloc);
         *queue = Queue::new(alloc);
     }
     done

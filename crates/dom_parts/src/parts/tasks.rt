@@ -7,7 +7,7 @@ ghost use Rattle.dom_parts.specs.Doc.{name_in, with_tasks};
 use crate::Parts;
 use dom_base::Owner;
 use dom_microtasks::Queue;
-use dom_node_trees::{other_slots, own_slots};
+use dom_node_trees::own_slots;
 use node_arena::Key;
 use std::alloc::AllocError;
 use std::mem;
@@ -31,16 +31,15 @@ impl Parts {
     }
 
     /// The slots of an owner that are signalled, in their order; then none of that owner is (DOM Standard, notify mutation
-    /// observers: signal slots). Where memory is refused, nothing changes.
+    /// observers: signal slots). Other owners' are not looked at. Where memory is refused, nothing changes.
     pub fn take_signals(&mut self, owner: Owner) -> Result<Vec<Key>, AllocError>
         ensures keys { IfOk result (λ keys. map (name_in self.old) keys.items ≡ filter (is_owned_by owner) self.old.world.signalled) }
         ensures nodes { IfOk result (λ keys. All (λ k. k < length self.old.names) keys.items) }
         ensures rest { OnOk result (self.new ≡ record self.old { world = without_signals self.old.world owner }) }
         ensures err { OnErr result (self.new ≡ self.old) }
     {
-        let own = own_slots(self.alloc, &self.forest, self.signalled.as_slice(), owner)?;
-        let others = other_slots(self.alloc, &self.forest, self.signalled.as_slice(), owner)?;
-        self.signalled = others;
+        let own = own_slots(self.alloc, &self.forest, &self.signalled, owner)?;
+        self.signalled.forget(owner);
         Ok(own)
     }
 }

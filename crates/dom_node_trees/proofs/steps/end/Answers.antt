@@ -1,17 +1,17 @@
-use Rattle.std.proofs.Common.{fold, nat_eq, sym, ap, ◌∙◌}
+use Rattle.std.proofs.Common.{fold, sym, ap, ◌∙◌}
 use Rattle.std.proofs.lemmas.List.{take_all}
-use Rattle.dom_model.specs.Names.{append_once}
+use Rattle.dom_model.specs.Names.{name_eq, append_once}
 use Rattle.dom_tree.specs.Forest.{name_at}
 use Rattle.dom_model.specs.World.{queued_notify}
-use Rattle.dom_node_trees.proofs.Signals.{queued_by, fold_next, all_signalled}
+use Rattle.dom_node_trees.proofs.Signals.{queued_by, signalled_by, fold_next, all_signalled}
 use Rattle.dom_node_trees.proofs.steps.end.Goals as goal
 
 pub loop-slot-preserved : goal.loop-slot-preserved
 loop-slot-preserved c = (
   c.in_ok-signal.ensures.signalled
-      ∙ (ap (λ ks. append_once nat_eq ks c.slot-item.result) c.loop-slot.invariant.0
-      ∙ sym (fold_next (append_once nat_eq) c.args.signalled.now.items c.deref-slot-items.result.now c.loop-slot.slot-index c.slot-item.result
-      c.loop-slot-test.true c.slot-item.is)),
+      ∙ (ap (λ xs. append_once name_eq xs (name_at c.args.forest.now.names c.slot-item.result)) c.loop-slot.invariant.0
+      ∙ sym (fold_next (signalled_by c.args.forest.now.names) c.args.signalled.now c.deref-slot-items.result.now c.loop-slot.slot-index
+      c.slot-item.result c.loop-slot-test.true c.slot-item.is)),
   c.in_ok-signal.ensures.queue
       ∙ (ap (queued_notify (name_at c.args.forest.now.names c.slot-item.result).owner) c.loop-slot.invariant.1
       ∙ sym (fold_next (queued_by c.args.forest.now.names) c.args.queue.now c.deref-slot-items.result.now c.loop-slot.slot-index
@@ -22,10 +22,10 @@ pub returns : goal.returns
 returns c was b end =
     let f = c.args.forest.now in
     let all = take_all c.loop-slot.slot-index c.deref-slot-items.result.now c.loop-slot-test.false ∙ c.deref-slot-items.ensures.value in
-    all_signalled f.names c.nodes_stand_once.ensures.distinct was f.trees b.step b.left c.args.slots.now c.end.new.self c.args.signalled.now.items
+    all_signalled f.names was f.trees b.step b.left c.args.slots.now c.end.new.self c.args.signalled.now
     c.args.queue.now c.in_ok-keys.keys.items
     c.in_ok-keys.ensures.hosts c.in_ok-keys.ensures.free c.in_ok-keys.ensures.slots c.requires.nodes c.in_ok-keys.ensures.nodes
     (c.in_ok-keys.ensures.value was b end)
-    c.loop-slot.signalled.items c.loop-slot.queue
-    (c.loop-slot.invariant.0 ∙ ap (fold (append_once nat_eq) c.args.signalled.now.items) all)
+    c.loop-slot.signalled c.loop-slot.queue
+    (c.loop-slot.invariant.0 ∙ ap (fold (signalled_by f.names) c.args.signalled.now) all)
     (c.loop-slot.invariant.1 ∙ ap (fold (queued_by f.names) c.args.queue.now) all)

@@ -1,7 +1,8 @@
-use Rattle.std.proofs.Common.{◌<◌, List, All, length, sym, subst}
+use Rattle.std.proofs.Common.{List, sym, subst}
 use Rattle.std.proofs.lemmas.Result.{on_ok_weaker}
 use Rattle.dom_base.specs.declared.NodeName.{NodeName}
 use Rattle.dom_slots.specs.declared.step.Step.TheVariants.{Place}
+use Rattle.dom_node_trees.specs.Signalled.{AreNames}
 use Rattle.dom_node_trees.proofs.Signals.{ends, told}
 use Rattle.dom_node_trees.proofs.steps.link.Goals as goal
 
@@ -17,7 +18,7 @@ end-requires-clause-step c =
     )
 
 pub end-requires-clause-nodes : goal.end-requires-clause-nodes
-end-requires-clause-nodes c = subst (λ (ns : List NodeName). All (λ k. k < length ns) c.args.signalled.now.items)
+end-requires-clause-nodes c = subst (λ (ns : List NodeName). AreNames ns c.args.signalled.now)
     (sym c.link_before.ensures.names) c.requires.signals.nodes
 
 pub returns-clause-signals : goal.returns-clause-signals
@@ -26,7 +27,7 @@ returns-clause-signals c =
     let f = c.args.forest.now in
     let g = c.link_before.new.self in
     on_ok_weaker c.end.result (λ h. let t = told f g c.args.slots.now c.begin.new.self (Place c.args.node c.args.parent c.args.before) b
-    c.link_before.ensures.names c.in_ok-begin.ensures.hosts c.args.signalled.now.items c.args.queue.now _ h in
+    c.link_before.ensures.names c.in_ok-begin.ensures.hosts c.args.signalled.now c.args.queue.now _ h in
     record { hosts = t.hosts; held = t.held; signalled = t.signalled; tasks = t.tasks })
     (c.end.ensures f.trees b.0 (ends f g c.args.slots.now c.begin.new.self (Place c.args.node c.args.parent c.args.before) b
     c.link_before.ensures.names c.in_ok-begin.ensures.hosts (c.requires.node_is_node, c.requires.parent_is_node, c.requires.before_is_node)

@@ -1,7 +1,8 @@
-use Rattle.std.proofs.Common.{◌<◌, List, All, length, sym, subst}
+use Rattle.std.proofs.Common.{List, sym, subst}
 use Rattle.std.proofs.lemmas.Result.{on_ok_weaker}
 use Rattle.dom_base.specs.declared.NodeName.{NodeName}
 use Rattle.dom_slots.specs.declared.step.Step.TheVariants.{Removal}
+use Rattle.dom_node_trees.specs.Signalled.{AreNames}
 use Rattle.dom_node_trees.proofs.Signals.{ends, told}
 use Rattle.dom_node_trees.proofs.steps.unlink.Goals as goal
 
@@ -15,7 +16,7 @@ end-requires-clause-step c =
     )
 
 pub end-requires-clause-nodes : goal.end-requires-clause-nodes
-end-requires-clause-nodes c = subst (λ (ns : List NodeName). All (λ k. k < length ns) c.args.signalled.now.items) (sym c.unlink.ensures.names)
+end-requires-clause-nodes c = subst (λ (ns : List NodeName). AreNames ns c.args.signalled.now) (sym c.unlink.ensures.names)
     c.requires.signals.nodes
 
 pub returns-clause-signals : goal.returns-clause-signals
@@ -24,6 +25,6 @@ returns-clause-signals c =
     let f = c.args.forest.now in
     let g = c.unlink.new.self in
     on_ok_weaker c.end.result (λ h. let t = told f g c.args.slots.now c.begin.new.self (Removal c.args.node) b c.unlink.ensures.names
-    c.in_ok-begin.ensures.hosts c.args.signalled.now.items c.args.queue.now _ h in record { left = b.0.left; is_left = b.2.left; signals = t })
+    c.in_ok-begin.ensures.hosts c.args.signalled.now c.args.queue.now _ h in record { left = b.0.left; is_left = b.2.left; signals = t })
     (c.end.ensures f.trees b.0 (ends f g c.args.slots.now c.begin.new.self (Removal c.args.node) b c.unlink.ensures.names
     c.in_ok-begin.ensures.hosts c.requires.node_is_node c.requires.signals.slots c.in_ok-begin.ensures.table (b.2.left, c.unlink.ensures.trees)))

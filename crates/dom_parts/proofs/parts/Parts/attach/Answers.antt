@@ -56,4 +56,4 @@ returns-in-Ok-clause-world c =
 pub invariant_of-self-in-Err-made : goal.invariant_of-self-in-Err-made
 invariant_of-self-in-Err-made c =
     given_up c.settle.new.forest (tables_of c.settle.new.tables.items (observers_of c.settle.new.observers) c.settle.new.queue c.settle.new.slots
-    c.settle.new.signalled.items c.settle.new.ranges) c.settle.ensures.empty c.settle.ensures.first
+    c.settle.new.signalled c.settle.new.ranges) c.settle.ensures.empty c.settle.ensures.first

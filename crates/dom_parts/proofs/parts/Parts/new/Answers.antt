@@ -1,5 +1,6 @@
-use Rattle.std.proofs.Common.{ℕ, List, [], ◌∷◌, ◌++◌, None, refl, ap, ◌∙◌}
+use Rattle.std.proofs.Common.{List, [], ◌∷◌, ◌++◌, None, refl, ap, ◌∙◌}
 use Rattle.dom_base.specs.declared.Kind.TheVariants.{Document}
+use Rattle.dom_base.specs.declared.NodeName.{NodeName}
 use Rattle.dom_base.specs.declared.Owner.TheVariants.{Page}
 use Rattle.dom_model.specs.Names.{node_of}
 use Rattle.dom_model.specs.TreeChanges.{with_node}
@@ -20,7 +21,7 @@ invariant_of-result c =
     let seen = observers_of c.new-observers.result in
     let tasks = c.new-queue.result in
     let slots = c.new-slots.result in
-    let signalled = c.new-signalled.result.items in
+    let signalled = c.new-signalled.result in
     let ranges = c.new-ranges.result in
     first_held c.add.new.self (tables_of c.push.new.self.items seen tasks slots signalled ranges) (node_from [] (node_of Page 0) first) refl record {
       all = ap (λ (ts : List KeyedTables). tables_of ts seen tasks slots signalled ranges)
@@ -29,7 +30,7 @@ invariant_of-result c =
           ∙ (λ j. tables_of (no_keyed_tables ∷ []) (λ o. c.new-observers.ensures o j) tasks slots signalled ranges)
           ∙ ap (λ (ts : List Task). tables_of (no_keyed_tables ∷ []) (λ o. no_observers) ts slots signalled ranges) c.new-queue.ensures
           ∙ ap (λ (s : SlotsNow). tables_of (no_keyed_tables ∷ []) (λ o. no_observers) [] s signalled ranges) c.new-slots.ensures.value
-          ∙ ap (λ (ks : List ℕ). tables_of (no_keyed_tables ∷ []) (λ o. no_observers) [] no_slots ks ranges) c.new-signalled.ensures.items;
+          ∙ ap (λ (xs : List NodeName). tables_of (no_keyed_tables ∷ []) (λ o. no_observers) [] no_slots xs ranges) c.new-signalled.ensures;
       no_ranges = c.new-ranges.ensures;
     }
     (c.in-Ok-add.ensures.names ∙ ap (λ (g : NamedTrees). g.names ++ next_name Page g.names ∷ []) c.new-forest.ensures)

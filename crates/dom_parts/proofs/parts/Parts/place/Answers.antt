@@ -62,8 +62,8 @@ invariant_of-self c =
     (λ e. is_inclusive_ancestor (trees_in e c.args.parent) (name_in e c.args.node) (name_in e c.args.parent) ≡ false) c.requires.not_above)
     (once_forest f.names f.trees c.nodes_stand_once.ensures.once c.nodes_stand_once.ensures.only))
     (Place c.args.node c.args.parent c.args.before)
-    c.link-done.new.forest c.settle.new.forest (signal_tables c.link-done.new.slots c.link-done.new.signalled.items c.link-done.new.queue)
-    (tables_of c.settle.new.tables.items (observers_of c.settle.new.observers) c.settle.new.queue c.settle.new.slots c.settle.new.signalled.items
+    c.link-done.new.forest c.settle.new.forest (signal_tables c.link-done.new.slots c.link-done.new.signalled c.link-done.new.queue)
+    (tables_of c.settle.new.tables.items (observers_of c.settle.new.observers) c.settle.new.queue c.settle.new.slots c.settle.new.signalled
     c.settle.new.ranges) c.link-done.result c.settle.result c.link-done.ensures.names c.link-done.ensures.trees c.link-done.ensures.signals
     record {
       result = c.settle.ensures.result;
@@ -96,8 +96,8 @@ returns c =
     (λ e. is_inclusive_ancestor (trees_in e c.args.parent) (name_in e c.args.node) (name_in e c.args.parent) ≡ false) c.requires.not_above)
     (once_forest f.names f.trees c.nodes_stand_once.ensures.once c.nodes_stand_once.ensures.only))
     (Place c.args.node c.args.parent c.args.before)
-    c.link-done.new.forest c.settle.new.forest (signal_tables c.link-done.new.slots c.link-done.new.signalled.items c.link-done.new.queue)
-    (tables_of c.settle.new.tables.items (observers_of c.settle.new.observers) c.settle.new.queue c.settle.new.slots c.settle.new.signalled.items
+    c.link-done.new.forest c.settle.new.forest (signal_tables c.link-done.new.slots c.link-done.new.signalled c.link-done.new.queue)
+    (tables_of c.settle.new.tables.items (observers_of c.settle.new.observers) c.settle.new.queue c.settle.new.slots c.settle.new.signalled
     c.settle.new.ranges) c.link-done.result c.settle.result c.link-done.ensures.names c.link-done.ensures.trees c.link-done.ensures.signals
     record {
       result = c.settle.ensures.result;

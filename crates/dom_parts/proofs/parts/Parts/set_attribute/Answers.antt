@@ -26,8 +26,8 @@ invariant_of-self c =
     let h = with_attribute c.args.name.now (Some c.args.value.items) in
     tree_held f c.self.invariant c.self.view_is c.args.node c.requires (change_node h x)
     (changed_node f.trees c.self.invariant.owned x.owner h x (λ n. refl) refl) (keeps_changed h (λ n. refl) x f.trees) (Attribute c.args.node)
-    c.set_attr-done.new.forest c.settle.new.forest (signal_tables c.set_attr-done.new.slots c.set_attr-done.new.signalled.items c.set_attr-done.new.queue)
-    (tables_of c.settle.new.tables.items (observers_of c.settle.new.observers) c.settle.new.queue c.settle.new.slots c.settle.new.signalled.items
+    c.set_attr-done.new.forest c.settle.new.forest (signal_tables c.set_attr-done.new.slots c.set_attr-done.new.signalled c.set_attr-done.new.queue)
+    (tables_of c.settle.new.tables.items (observers_of c.settle.new.observers) c.settle.new.queue c.settle.new.slots c.settle.new.signalled
     c.settle.new.ranges) c.set_attr-done.result c.settle.result c.set_attr-done.ensures.names c.set_attr-done.ensures.trees
     c.set_attr-done.ensures.signals
     record {
@@ -47,8 +47,8 @@ returns c =
     let there = owner_there f c.self.invariant c.self.view_is c.args.node c.requires in
     let all = all_tables c.self.inside in
     tree_state f c.self.invariant c.self.view_is c.args.node c.requires (change_node h x) change (keeps_changed h (λ n. refl) x f.trees) (Attribute c.args.node)
-    c.set_attr-done.new.forest c.settle.new.forest (signal_tables c.set_attr-done.new.slots c.set_attr-done.new.signalled.items c.set_attr-done.new.queue)
-    (tables_of c.settle.new.tables.items (observers_of c.settle.new.observers) c.settle.new.queue c.settle.new.slots c.settle.new.signalled.items
+    c.set_attr-done.new.forest c.settle.new.forest (signal_tables c.set_attr-done.new.slots c.set_attr-done.new.signalled c.set_attr-done.new.queue)
+    (tables_of c.settle.new.tables.items (observers_of c.settle.new.observers) c.settle.new.queue c.settle.new.slots c.settle.new.signalled
     c.settle.new.ranges) c.set_attr-done.result c.settle.result c.set_attr-done.ensures.names c.set_attr-done.ensures.trees
     c.set_attr-done.ensures.signals
     record {

@@ -69,8 +69,8 @@ invariant_of-self-2 c =
     c.index_mut-tables.result.now c.leave.new.self at c.leave.ensures.iterators c.leave.ensures.walkers
     (observers_of c.transient.new.self) (on_ok c.transient.result c.in_default-transient.not-Err c.transient.ensures) c.on_remove.new.self
     (c.on_remove.ensures.child c.in-Some.parent (c.parent.ensures.node c.in-Some.parent c.in-Some.is) (sym c.in-Some.ensures.value)) c.place_of.result place
-    c.unlink-done.new.forest c.settle.new.forest (signal_tables c.unlink-done.new.slots c.unlink-done.new.signalled.items c.unlink-done.new.queue)
-    (tables_of c.settle.new.tables.items (observers_of c.settle.new.observers) c.settle.new.queue c.settle.new.slots c.settle.new.signalled.items
+    c.unlink-done.new.forest c.settle.new.forest (signal_tables c.unlink-done.new.slots c.unlink-done.new.signalled c.unlink-done.new.queue)
+    (tables_of c.settle.new.tables.items (observers_of c.settle.new.observers) c.settle.new.queue c.settle.new.slots c.settle.new.signalled
     c.settle.new.ranges) c.unlink-done.result c.settle.result c.unlink-done.ensures.names c.unlink-done.ensures.trees
     c.unlink-done.ensures.signals
     record {
@@ -93,8 +93,8 @@ returns c =
     c.index_mut-tables.result.now c.leave.new.self at c.leave.ensures.iterators c.leave.ensures.walkers
     (observers_of c.transient.new.self) (on_ok c.transient.result c.in_default-transient.not-Err c.transient.ensures) c.on_remove.new.self
     (c.on_remove.ensures.child c.in-Some.parent (c.parent.ensures.node c.in-Some.parent c.in-Some.is) (sym c.in-Some.ensures.value)) c.place_of.result place
-    c.unlink-done.new.forest c.settle.new.forest (signal_tables c.unlink-done.new.slots c.unlink-done.new.signalled.items c.unlink-done.new.queue)
-    (tables_of c.settle.new.tables.items (observers_of c.settle.new.observers) c.settle.new.queue c.settle.new.slots c.settle.new.signalled.items
+    c.unlink-done.new.forest c.settle.new.forest (signal_tables c.unlink-done.new.slots c.unlink-done.new.signalled c.unlink-done.new.queue)
+    (tables_of c.settle.new.tables.items (observers_of c.settle.new.observers) c.settle.new.queue c.settle.new.slots c.settle.new.signalled
     c.settle.new.ranges) c.unlink-done.result c.settle.result c.unlink-done.ensures.names c.unlink-done.ensures.trees
     c.unlink-done.ensures.signals
     record {

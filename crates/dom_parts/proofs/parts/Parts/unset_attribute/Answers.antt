@@ -27,8 +27,8 @@ invariant_of-self c =
     tree_held f c.self.invariant c.self.view_is c.args.node c.requires (change_node h x)
     (changed_node f.trees c.self.invariant.owned x.owner h x (λ n. refl) refl) (keeps_changed h (λ n. refl) x f.trees) (Attribute c.args.node)
     c.remove_attr-done.new.forest c.settle.new.forest
-    (signal_tables c.remove_attr-done.new.slots c.remove_attr-done.new.signalled.items c.remove_attr-done.new.queue)
-    (tables_of c.settle.new.tables.items (observers_of c.settle.new.observers) c.settle.new.queue c.settle.new.slots c.settle.new.signalled.items
+    (signal_tables c.remove_attr-done.new.slots c.remove_attr-done.new.signalled c.remove_attr-done.new.queue)
+    (tables_of c.settle.new.tables.items (observers_of c.settle.new.observers) c.settle.new.queue c.settle.new.slots c.settle.new.signalled
     c.settle.new.ranges) c.remove_attr-done.result c.settle.result c.remove_attr-done.ensures.names c.remove_attr-done.ensures.trees
     c.remove_attr-done.ensures.signals
     record {
@@ -49,8 +49,8 @@ returns c =
     let all = all_tables c.self.inside in
     tree_state f c.self.invariant c.self.view_is c.args.node c.requires (change_node h x) change (keeps_changed h (λ n. refl) x f.trees) (Attribute c.args.node)
     c.remove_attr-done.new.forest c.settle.new.forest
-    (signal_tables c.remove_attr-done.new.slots c.remove_attr-done.new.signalled.items c.remove_attr-done.new.queue)
-    (tables_of c.settle.new.tables.items (observers_of c.settle.new.observers) c.settle.new.queue c.settle.new.slots c.settle.new.signalled.items
+    (signal_tables c.remove_attr-done.new.slots c.remove_attr-done.new.signalled c.remove_attr-done.new.queue)
+    (tables_of c.settle.new.tables.items (observers_of c.settle.new.observers) c.settle.new.queue c.settle.new.slots c.settle.new.signalled
     c.settle.new.ranges) c.remove_attr-done.result c.settle.result c.remove_attr-done.ensures.names c.remove_attr-done.ensures.trees
     c.remove_attr-done.ensures.signals
     record {

@@ -1,5 +1,6 @@
-use Rattle.std.proofs.Common.{◌≡◌, ℕ, ◌<◌, List, [], ◌∷◌, take, length, Result, Ok, Err, refl, ap, ◌∙◌, arith}
+use Rattle.std.proofs.Common.{◌≡◌, ◌<◌, List, [], ◌∷◌, take, length, Result, Ok, Err, refl, ap, ◌∙◌, arith}
 use Rattle.std.specs.Prelude.{OnErr, slice_set}
+use Rattle.dom_base.specs.declared.NodeName.{NodeName}
 use Rattle.dom_model.specs.World.{Task}
 use Rattle.dom_slots.specs.Kept.{SlotsNow}
 use Rattle.dom_observers.specs.Tables.{no_tables as no_observers}
@@ -26,7 +27,7 @@ returns-then-is_err-clause-first c =
     let seen = observers_of c.new-then-is_err-2.result in
     let ranges = c.new-then-is_err-3.result in
     let slots = c.new-then-is_err-4.result in
-    let signalled = c.new-then-is_err-5.result.items in
+    let signalled = c.new-then-is_err-5.result in
     let tasks = c.new-then-is_err-6.result in
     if_err c.args.done record {
       all = ap (λ (ts : List KeyedTables). tables_of (slice_set ts 0 c.new-then-is_err.result) seen tasks slots signalled ranges) c.truncate.ensures.items
@@ -36,6 +37,6 @@ returns-then-is_err-clause-first c =
           ∙ ((λ j. tables_of (no_keyed_tables ∷ []) (λ o. c.new-then-is_err-2.ensures o j) tasks slots signalled ranges)
           ∙ (ap (λ (ts : List Task). tables_of (no_keyed_tables ∷ []) (λ o. no_observers) ts slots signalled ranges) c.new-then-is_err-6.ensures
           ∙ (ap (λ (s : SlotsNow). tables_of (no_keyed_tables ∷ []) (λ o. no_observers) [] s signalled ranges) c.new-then-is_err-4.ensures.value
-          ∙ ap (λ (ks : List ℕ). tables_of (no_keyed_tables ∷ []) (λ o. no_observers) [] no_slots ks ranges) c.new-then-is_err-5.ensures.items)))));
+          ∙ ap (λ (xs : List NodeName). tables_of (no_keyed_tables ∷ []) (λ o. no_observers) [] no_slots xs ranges) c.new-then-is_err-5.ensures)))));
       no_ranges = c.new-then-is_err-3.ensures;
     }

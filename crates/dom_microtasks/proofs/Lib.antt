@@ -1,0 +1,3 @@
+-- Lemmas of signalled slots.
+mod Counting
+mod Keeping

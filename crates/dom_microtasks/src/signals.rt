@@ -1,0 +1,89 @@
+//! The signalled slots (DOM Standard, 4.2.2.5 Signaling slot change: an agent's signal slots; that each owner's are taken
+//! apart from those of others is an own rule).
+ghost use Rattle.std.specs.Prelude.{◌≡◌, [], map, not, filter, OnOk, OnErr};
+ghost use Rattle.dom_model.specs.Names.{name_eq, append_once, node_of};
+ghost use Rattle.dom_model.specs.Turns.{is_owned_by};
+
+use crate::by_owner::ByOwner;
+use dom_base::{NodeName, Owner};
+use std::alloc::{AllocError, Global};
+use std::marker::Model;
+
+/// The signalled slots of all owners, each once, in the order of their signals. A contract sees them as the list of them.
+///
+/// All that were signalled are logged, and an owner's are taken without a look at others': those of it that stand in the log
+/// up to then do not count any more. Where none is left that counts, the log is empty again.
+#[derive(Drop)]
+pub struct Signals {
+    log: Vec<NodeName>,
+    own: ByOwner,
+    count: usize,
+    alloc: Global,
+}
+
+impl Model for Signals {
+    ghost use Rattle.std.specs.Prelude.{List};
+    ghost use Rattle.dom_base.specs.declared.NodeName.{NodeName as Name};
+
+    ghost Value = { List Name };
+
+    ghost use Rattle.dom_microtasks.specs.Signalled.{signals_of, IsKept};
+
+    ghost view = { signals_of };
+
+    ghost invariant = { IsKept };
+}
+
+impl Signals {
+    /// No slots. It takes no memory yet, and will take its memory from `alloc`.
+    pub fn new(alloc: Global) -> Self
+        ensures { result ≡ [] }
+    {
+        Signals {
+            log: Vec::new(alloc),
+            own: ByOwner::new(alloc),
+            count: 0,
+            alloc,
+        }
+    }
+
+    /// Signals a slot: it comes behind the others, where it is not among them (DOM Standard, signal a slot change). It is found
+    /// without a search. Where memory is refused, they are as they were.
+    pub fn add(&mut self, slot: NodeName) -> Result<(), AllocError>
+        ensures ok { OnOk result (self.new ≡ append_once name_eq self.old slot) }
+        ensures err { OnErr result (self.new ≡ self.old) }
+    {
+        if self.own.has(slot) {
+            return Ok(());
+        }
+        self.log.reserve(1)?;
+        self.own.push(slot)?;
+        let _ = self.log.push(slot);
+        self.count += 1;
+        Ok(())
+    }
+
+    /// The numbers of an owner's slots, in their order.
+    pub fn of(&self, owner: Owner) -> &[u32]
+        ensures { map (node_of owner) result.now ≡ filter (is_owned_by owner) self.now }
+    {
+        self.own.numbers(owner)
+    }
+
+    /// Takes the slots of an owner away (DOM Standard, notify mutation observers: empty signal slots). It takes no memory, and
+    /// looks at no other slots.
+    pub fn forget(&mut self, owner: Owner)
+        ensures { self.new ≡ filter (λ s. not (is_owned_by owner s)) self.old }
+    {
+        let count = self.own.numbers(owner).len();
+        if count == 0 {
+            return;
+        }
+        self.own.empty(owner, self.log.len());
+        self.count -= count;
+        if self.count == 0 {
+            self.log.clear();
+            self.own = ByOwner::new(self.alloc);
+        }
+    }
+}

@@ -1,0 +1,77 @@
+-- Names of nodes, by their keys; and more of them.
+use Rattle.std.proofs.Common.{◌≡◌, ℕ, suc, ◌+◌, ◌<◌, Bool, true, false, ◌||◌, inl, inr, List, [], ◌∷◌, ◌++◌, All, map, filter, fold, take, length}
+use Rattle.std.proofs.Common.{Some, unwrap_or, get_or, sym, ap, subst, ◌∙◌}
+use Rattle.std.specs.Prelude.{slice_get, if◌then◌else◌}
+use Rattle.std.proofs.lemmas.List.{get_or-map, length-map, map-append, take_more}
+use Rattle.std.proofs.lemmas.Option.{unwrap_or-slice_get}
+use Rattle.std.proofs.lemmas.Bool.{cases_Bool}
+use Rattle.std.proofs.lemmas.List.Elements.{All-nil, All-cons, All-push, All-head, All-tail, All-filter}
+use Rattle.std.proofs.lemmas.List.Folds.{list_any_at, list_any-append}
+use Rattle.std.specs.List.{list_any}
+use Rattle.dom_base.specs.declared.NodeName.{NodeName}
+use Rattle.dom_base.specs.declared.Owner.{Owner}
+use Rattle.dom_base.specs.declared.Owner.TheVariants.{Page}
+use Rattle.dom_model.specs.Names.{name_eq, is_in, append_once, node_of}
+use Rattle.dom_model.specs.Turns.{is_owned_by}
+use Rattle.dom_model.proofs.OwnerLaws.{name_eq-same}
+use Rattle.dom_tree.proofs.Names.{name_eq-true}
+use Rattle.dom_tree.specs.Forest.{name_at}
+use Rattle.dom_node_trees.specs.Signalled.{AreNames}
+
+-- what a node has is a name of a node
+pub is_named : (names : List NodeName) (k : ℕ) → k < length names → is_in name_eq (name_at names k) names ≡ true
+is_named names k within = list_any_at (name_eq (name_at names k)) names k (node_of Page 0) within (name_eq-same (name_at names k))
+
+-- the key of a name
+pub key_of_name : (names : List NodeName) (x : NodeName) → is_in name_eq x names ≡ true → (k : ℕ) × (slice_get names k ≡ Some x)
+key_of_name [] x e = cc
+key_of_name (y ∷ names) x e = elim (cases_Bool (name_eq x y)) [
+  | inl same ↦ (0, ap Some (sym (name_eq-true x y same)))
+  | inr other ↦ let rest = key_of_name names x (sym (ap (λ b. b || is_in name_eq x names) other) ∙ e) in (suc rest.0, rest.1)
+]
+
+-- the names of some keys
+pub are_named : (names : List NodeName) (keys : List ℕ) → All (λ k. k < length names) keys → AreNames names (map (name_at names) keys)
+are_named names [] all = All-nil (λ x. is_in name_eq x names ≡ true)
+are_named names (k ∷ keys) all = All-cons (λ x. is_in name_eq x names ≡ true) (name_at names k) (map (name_at names) keys)
+    (is_named names k (All-head (λ j. j < length names) k keys all)) (are_named names keys (All-tail (λ j. j < length names) k keys all))
+
+-- names stay so, when some more are signalled, one after another
+pub names_signalled : (names xs more : List NodeName) → AreNames names xs → AreNames names more → AreNames names (fold (append_once name_eq) xs more)
+names_signalled names xs [] are all = are
+names_signalled names xs (x ∷ more) are all =
+    names_signalled names (append_once name_eq xs x) more (by (is_in name_eq x xs)) (All-tail (λ y. is_in name_eq y names ≡ true) x more all)
+  where
+    by : (b : Bool) → AreNames names (if b then xs else xs ++ x ∷ [])
+    by true = are
+    by false = All-push (λ y. is_in name_eq y names ≡ true) xs x are (All-head (λ y. is_in name_eq y names ≡ true) x more all)
+
+-- the key of an owner's signalled slot
+pub own_key : (names : List NodeName) (o : Owner) (xs : List NodeName) (ns : List ℕ) → AreNames names xs → map (node_of o) ns ≡ filter (is_owned_by o) xs →
+    (i d : ℕ) → i < length ns → (k : ℕ) × (slice_get names k ≡ Some (node_of o (get_or ns i d)))
+own_key names o xs ns all own i d within =
+    let own_all = subst (AreNames names) (sym own) (All-filter (is_owned_by o) (λ x. is_in name_eq x names ≡ true) xs all) in
+    key_of_name names (node_of o (get_or ns i d))
+    (subst (λ x. is_in name_eq x names ≡ true) (get_or-map (node_of o) ns i d (node_of o d) within)
+    (own_all i (node_of o d) (subst (λ n. i < n) (sym (length-map ns (node_of o))) within)))
+
+-- keys of an owner's nodes by their numbers, and one more
+pub one_more : (names : List NodeName) (o : Owner) (ns : List ℕ) (i d : ℕ) → i < length ns → (keys : List ℕ) (k : ℕ) →
+    slice_get names k ≡ Some (node_of o (get_or ns i d)) → k < length names →
+    (map (name_at names) keys ≡ map (node_of o) (take i ns)) × All (λ j. j < length names) keys → (more : List ℕ) → more ≡ keys ++ k ∷ []
+    → (map (name_at names) more ≡ map (node_of o) (take (i + 1) ns)) × All (λ j. j < length names) more
+one_more names o ns i d within keys k found node so_far more is = (
+  ap (map (name_at names)) is
+      ∙ (map-append (name_at names) keys (k ∷ [])
+      ∙ (ap (λ xs. xs ++ name_at names k ∷ []) so_far.0
+      ∙ (ap (λ x. map (node_of o) (take i ns) ++ x ∷ [])
+      (sym (unwrap_or-slice_get names k (node_of Page 0)) ∙ ap (λ s. unwrap_or s (node_of Page 0)) found)
+      ∙ (sym (map-append (node_of o) (take i ns) (get_or ns i d ∷ [])) ∙ ap (map (node_of o)) (sym (take_more ns i d within)))))),
+  subst (All (λ j. j < length names)) (sym is) (All-push (λ j. j < length names) keys k so_far.1 node),
+)
+
+-- names of nodes stay so where there is one node more
+pub names_grown : (names : List NodeName) (x : NodeName) (xs : List NodeName) → AreNames names xs → AreNames (names ++ x ∷ []) xs
+names_grown names x xs all = λ i d h.
+    list_any-append (name_eq (get_or xs i d)) names (x ∷ [])
+    ∙ ap (λ b. b || list_any (name_eq (get_or xs i d)) (x ∷ [])) (all i d h)
