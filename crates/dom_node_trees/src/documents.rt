@@ -1,10 +1,9 @@
 //! Node documents of whole trees, and the shadow roots below a node (DOM Standard, concepts: node document, adopt).
-ghost use Rattle.std.specs.Prelude.{◌≡◌, ◌<◌, length, All, fold, map, filter_map, IfOk};
-ghost use Rattle.dom_model.specs.Tree.{inclusive_descendants};
+ghost use Rattle.std.specs.Prelude.{◌≡◌, ◌<◌, ◌++◌, length, All, fold, map, IfOk, OnOk};
 ghost use Rattle.dom_model.specs.TreeChanges.{change_subtree, with_document};
 ghost use Rattle.dom_tree.specs.Forest.{name_at};
-ghost use Rattle.dom_slots.specs.Hosts.{HostsAreNodes, root_named};
-ghost use Rattle.dom_node_trees.specs.Documents.{under_each};
+ghost use Rattle.dom_slots.specs.Hosts.{HostsAreNodes};
+ghost use Rattle.dom_node_trees.specs.Documents.{under_each, roots_within};
 
 use dom_slots::Slots;
 use dom_tree::Forest;
@@ -38,27 +37,52 @@ pub fn set_each(forest: &mut Forest, tops: &[Key], document: Key)
     }
 }
 
-/// The shadow roots of the hosts in the tree of a node, in tree order.
+/// The shadow roots of the hosts in the tree of a node, in tree order, behind each those of the hosts in its own shadow tree,
+/// and so on, so many shadow trees deep.
 pub fn roots_below(
     alloc: Global,
     forest: &Forest,
     slots: &Slots,
     top: Key,
+    depth: u8,
 ) -> Result<Vec<Key>, AllocError>
     requires top_is_node { top < length forest.now.names }
     requires hosts { HostsAreNodes forest.now.names slots.now.hosts }
-    ensures names { IfOk result (λ keys. map (name_at forest.now.names) keys.items ≡ filter_map (root_named forest.now.names slots.now.hosts)
-        (inclusive_descendants forest.now.trees (name_at forest.now.names top))) }
+    ensures names { IfOk result (λ keys. map (name_at forest.now.names) keys.items ≡
+        roots_within depth forest.now slots.now.hosts (name_at forest.now.names top)) }
     ensures nodes { IfOk result (λ keys. All (λ k. k < length forest.now.names) keys.items) }
 {
-    forest.nodes_stand_once();
     let mut roots = Vec::new(alloc);
+    add_roots(forest, slots, top, depth, &mut roots)?;
+    Ok(roots)
+}
+
+/// Puts those shadow roots behind others.
+fn add_roots(
+    forest: &Forest,
+    slots: &Slots,
+    top: Key,
+    depth: u8,
+    roots: &mut Vec<Key>,
+) -> Result<(), AllocError>
+    requires top_is_node { top < length forest.now.names }
+    requires hosts { HostsAreNodes forest.now.names slots.now.hosts }
+    requires nodes { All (λ k. k < length forest.now.names) roots.old.items }
+    ensures names { OnOk result (map (name_at forest.now.names) roots.new.items ≡ map (name_at forest.now.names) roots.old.items ++
+        roots_within depth forest.now slots.now.hosts (name_at forest.now.names top)) }
+    ensures nodes { OnOk result (All (λ k. k < length forest.now.names) roots.new.items) }
+{
+    if depth == 0 {
+        return Ok(());
+    }
+    forest.nodes_stand_once();
     let mut at = Some(top);
     while let Some(node) = at {
         if let Some(root) = slots.root_of(node) {
             roots.push(root)?;
+            add_roots(forest, slots, root, depth - 1, roots)?;
         }
         at = forest.following(node, top);
     }
-    Ok(roots)
+    Ok(())
 }

@@ -1,23 +1,32 @@
--- Node documents in the world of what is held with hosts: a tree's, and those of the shadow trees of the hosts in it.
-use Rattle.std.proofs.Common.{◌≡◌, true, List, [], ◌∷◌, Option, Some, None, fold, map, filter_map, refl, sym, ap, subst, ◌∙◌, inl, inr}
+-- Node documents in the world of what is held with hosts: a tree's, and those of the shadow trees of the hosts in it, at any depth.
+use Rattle.std.proofs.Common.{◌≡◌, ℕ, zero, suc, true, List, [], ◌∷◌, ◌++◌, Option, Some, None, fold, map, filter_map, flat_map, refl, sym, ap, subst, ◌∙◌}
 use Rattle.std.specs.Prelude.{option_map}
-use Rattle.std.specs.List.{cons_option}
+use Rattle.std.specs.List.{AllByRecursion, cons_option}
+use Rattle.std.proofs.lemmas.List.{map-append}
 use Rattle.dom_base.specs.declared.NodeName.{NodeName}
 use Rattle.dom_base.specs.declared.Owner.{Owner}
+use Rattle.dom_model.specs.Names.{max_depth}
 use Rattle.dom_model.specs.Tree.{inclusive_descendants}
 use Rattle.dom_model.specs.TreeChanges.{change_subtree, with_document}
 use Rattle.dom_model.specs.Steps.{set_document, part_step}
-use Rattle.dom_model.specs.World.{World, is_there, shadow_root_of}
+use Rattle.dom_model.specs.World.{World, is_there, components_below, shadow_root_of}
 use Rattle.dom_model.specs.WorldSteps.{world_step, stepped, with_shadow_document}
+use Rattle.dom_node_trees.specs.Documents.{roots_within}
 use Rattle.dom_slots.specs.Hosts.{ShadowHost, root_named}
 use Rattle.dom_tree.specs.Forest.{count_of}
 use Rattle.dom_tree.specs.Owners.{IsOwnChange}
 use Rattle.dom_tree.proofs.OwnPlacings.{changed_subtree}
 use Rattle.dom_parts.specs.Contents.{Contents, part_in, part_with, world_of}
-use Rattle.dom_parts.specs.Hosting.{component_named, AreHostsOf, document_in, documents_in}
-use Rattle.dom_parts.proofs.Worlds.{In, IsChangeOf, there_same}
-use Rattle.dom_parts.proofs.HostedWorlds.{root-component, below_looked, below_there}
+use Rattle.dom_parts.specs.Hosting.{component_named, AreHostsOf, document_in, documents_in, forest_in}
+use Rattle.dom_parts.proofs.Worlds.{IsChangeOf, there_same}
+use Rattle.dom_parts.proofs.HostedWorlds.{root-component, near_looked, below_there}
 use Rattle.dom_parts.proofs.HostedSteps.{names_same, hosts_stepped, stepped_hosted}
+
+-- owners that are there still are, where the owners are the same
+all_there : (a b : Contents) → b.owners ≡ a.owners → (os : List Owner) → AllByRecursion (λ o. is_there (world_of a) o ≡ true) os →
+    AllByRecursion (λ o. is_there (world_of b) o ≡ true) os
+all_there a b same [] all = tt
+all_there a b same (o ∷ os) all = (there_same b a same o ∙ all.0, all_there a b same os all.1)
 
 -- a tree of one owner
 module _ (a : Contents) (hosts : List ShadowHost) (held : AreHostsOf a hosts) (o : Owner) (there : is_there (world_of a) o ≡ true)
@@ -42,23 +51,21 @@ module _ (a : Contents) (hosts : List ShadowHost) (held : AreHostsOf a hosts) (o
 
 -- the shadow trees of components, one after another
 shadows_stepped : (a : Contents) (hosts : List ShadowHost) (d : NodeName) (os : List Owner) → AreHostsOf a hosts →
-    ((o : Owner) → In o os → is_there (world_of a) o ≡ true)
+    AllByRecursion (λ o. is_there (world_of a) o ≡ true) os
     → world_of (fold (document_in d) a (map shadow_root_of os)) ≡ fold (with_shadow_document d) (world_of a) os
 shadows_stepped a hosts d [] held there = refl
 shadows_stepped a hosts d (o ∷ os) held there =
-    let here = there o (inl refl) in
     let next = document_in d a (shadow_root_of o) in
-    shadows_stepped next hosts d os (document_hosted a hosts held o here (shadow_root_of o) d refl) (λ q i. there_same next a refl q ∙ there q (inr i))
-    ∙ ap (λ (w : World). fold (with_shadow_document d) w os) (document_stepped a hosts held o here (shadow_root_of o) d refl)
+    shadows_stepped next hosts d os (document_hosted a hosts held o there.0 (shadow_root_of o) d refl) (all_there a next refl os there.1)
+    ∙ ap (λ (w : World). fold (with_shadow_document d) w os) (document_stepped a hosts held o there.0 (shadow_root_of o) d refl)
 
 -- and the hosts stay
 shadows_hosted : (a : Contents) (hosts : List ShadowHost) (d : NodeName) (os : List Owner) → AreHostsOf a hosts →
-    ((o : Owner) → In o os → is_there (world_of a) o ≡ true) → AreHostsOf (fold (document_in d) a (map shadow_root_of os)) hosts
+    AllByRecursion (λ o. is_there (world_of a) o ≡ true) os → AreHostsOf (fold (document_in d) a (map shadow_root_of os)) hosts
 shadows_hosted a hosts d [] held there = held
 shadows_hosted a hosts d (o ∷ os) held there =
     let next = document_in d a (shadow_root_of o) in
-    shadows_hosted next hosts d os (document_hosted a hosts held o (there o (inl refl)) (shadow_root_of o) d refl)
-    (λ q i. there_same next a refl q ∙ there q (inr i))
+    shadows_hosted next hosts d os (document_hosted a hosts held o there.0 (shadow_root_of o) d refl) (all_there a next refl os there.1)
 
 -- the shadow roots of hosts are those of their components
 roots_components : (a : Contents) (hosts : List ShadowHost) → AreHostsOf a hosts → (ys : List NodeName) →
@@ -72,24 +79,40 @@ roots_components a hosts held (y ∷ ys) =
     by None = refl
     by (Some o) = refl
 
--- A node document: of the tree, and of the shadow trees of the hosts in it.
+-- so are those below a node, at any depth
+module _ (a : Contents) (hosts : List ShadowHost) (held : AreHostsOf a hosts) where
+  roots_each : (f : NodeName → List NodeName) (g : Owner → List Owner) → ((o : Owner) → f (shadow_root_of o) ≡ map shadow_root_of (g o)) →
+      (os : List Owner) → flat_map (λ r. r ∷ f r) (map shadow_root_of os) ≡ map shadow_root_of (flat_map (λ o. o ∷ g o) os)
+  roots_each f g deeper [] = refl
+  roots_each f g deeper (o ∷ os) =
+      (λ j. shadow_root_of o ∷ (deeper o j ++ roots_each f g deeper os j))
+      ∙ ap (λ rs. shadow_root_of o ∷ rs) (sym (map-append shadow_root_of (g o) (flat_map (λ p. p ∷ g p) os)))
+
+  roots_below : (depth : ℕ) (x : NodeName) → roots_within depth (forest_in a) hosts x ≡ map shadow_root_of (components_below depth (world_of a) x)
+  roots_below zero x = refl
+  roots_below (suc depth) x =
+      ap (flat_map (λ r. r ∷ roots_within depth (forest_in a) hosts r)) (roots_components a hosts held (inclusive_descendants a.trees x))
+      ∙ (roots_each (roots_within depth (forest_in a) hosts) (λ o. components_below depth (world_of a) (shadow_root_of o))
+      (λ o. roots_below depth (shadow_root_of o)) (filter_map (component_named a.names hosts) (inclusive_descendants a.trees x))
+      ∙ ap (λ os. map shadow_root_of (flat_map (λ c. c ∷ components_below depth (world_of a) (shadow_root_of c)) os)) (sym (near_looked a hosts held x)))
+
+-- A node document: of the tree, and of the shadow trees of the hosts in it, at any depth.
 module _ (a : Contents) (hosts : List ShadowHost) (held : AreHostsOf a hosts) (o : Owner) (there : is_there (world_of a) o ≡ true)
     (x d : NodeName) (own : x.owner ≡ o) where
-  abbrev below : List Owner
-  below = filter_map (component_named a.names hosts) (inclusive_descendants a.trees x)
-
-  all_there : (q : Owner) → In q below → is_there (world_of (document_in d a x)) q ≡ true
-  all_there q i = there_same (document_in d a x) a refl q ∙ below_there a hosts held x q i
+  below_are_there : AllByRecursion (λ q. is_there (world_of (document_in d a x)) q ≡ true) (components_below max_depth (world_of a) x)
+  below_are_there =
+      all_there a (document_in d a x) refl (components_below max_depth (world_of a) x) (below_there a hosts held max_depth x)
 
   -- the world after the step
   pub documents_world : world_of (documents_in d a hosts x) ≡ world_step o (world_of a) (set_document x d)
   documents_world =
-      ap (λ rs. world_of (fold (document_in d) (document_in d a x) rs)) (roots_components a hosts held (inclusive_descendants a.trees x))
-      ∙ (shadows_stepped (document_in d a x) hosts d below (document_hosted a hosts held o there x d own) all_there
-      ∙ (λ j. fold (with_shadow_document d) (document_stepped a hosts held o there x d own j) (sym (below_looked a hosts held x) j)))
+      ap (λ rs. world_of (fold (document_in d) (document_in d a x) rs)) (roots_below a hosts held max_depth x)
+      ∙ (shadows_stepped (document_in d a x) hosts d (components_below max_depth (world_of a) x) (document_hosted a hosts held o there x d own)
+      below_are_there
+      ∙ ap (λ (w : World). fold (with_shadow_document d) w (components_below max_depth (world_of a) x)) (document_stepped a hosts held o there x d own))
 
   -- and the hosts stay
   pub documents_hosted : AreHostsOf (documents_in d a hosts x) hosts
   documents_hosted =
-      subst (λ rs. AreHostsOf (fold (document_in d) (document_in d a x) rs) hosts) (sym (roots_components a hosts held (inclusive_descendants a.trees x)))
-      (shadows_hosted (document_in d a x) hosts d below (document_hosted a hosts held o there x d own) all_there)
+      subst (λ rs. AreHostsOf (fold (document_in d) (document_in d a x) rs) hosts) (sym (roots_below a hosts held max_depth x))
+      (shadows_hosted (document_in d a x) hosts d (components_below max_depth (world_of a) x) (document_hosted a hosts held o there x d own) below_are_there)

@@ -1,14 +1,14 @@
 -- The world of what is held with hosts: its hosts, and the components in a tree, are looked up in the list of hosts.
-use Rattle.std.proofs.Common.{◌≡◌, ◌≢◌, ℕ, zero, suc, ◌+◌, ◌<◌, ◌≤◌, Bool, true, false, ltb, List, [], ◌∷◌, Option, Some, None, filter_map, flat_map}
+use Rattle.std.proofs.Common.{◌≡◌, ◌≢◌, ℕ, zero, suc, ◌+◌, ◌<◌, ◌≤◌, Bool, true, false, ltb, List, [], ◌∷◌, ◌++◌, Option, Some, None, filter_map, flat_map}
 use Rattle.std.proofs.Common.{position, length, refl, sym, ap, subst, ◌∙◌, ◌⊎◌, inl, inr, arith, zero-add}
 use Rattle.std.specs.Prelude.{find, if◌then◌else◌, slice_get, option_map}
-use Rattle.std.specs.List.{cons_option, position_or_len}
+use Rattle.std.specs.List.{AllByRecursion, cons_option, position_or_len}
 use Rattle.std.proofs.lemmas.Bool.{cases_Bool, lt-ltb, le-ltb, cases_lt}
 use Rattle.std.proofs.Math.Numerals.{one-add}
 use Rattle.dom_base.specs.declared.NodeName.{NodeName}
 use Rattle.dom_base.specs.declared.Owner.{Owner}
 use Rattle.dom_base.specs.declared.Owner.TheVariants.{Page, Component}
-use Rattle.dom_model.specs.Names.{owner_eq, name_eq, max_depth}
+use Rattle.dom_model.specs.Names.{owner_eq, name_eq}
 use Rattle.dom_model.specs.Tree.{inclusive_descendants}
 use Rattle.dom_model.specs.World.{part_of, is_there, component_at, component_made, components_below, host_of, shadow_root_of, trees_with}
 use Rattle.dom_model.proofs.OwnerLaws.{owner_eq-true, owner_eq-false}
@@ -238,29 +238,38 @@ module _ (c : Contents) (hosts : List ShadowHost) (held : AreHostsOf c hosts) wh
     only = λ x other. host_none c.names hosts 0 x held.made (λ j e. other (e ∙ ap (λ (y : NodeName). shadow_root_of y.owner) (sym e)));
   }
 
-  -- the components in the tree of a node: hosts are the page's, so there are none below those
-  pub below_looked : (x : NodeName) → components_below max_depth (world_of c) x ≡ filter_map (component_named c.names hosts) (inclusive_descendants c.trees x)
-  unfolding max_depth
-  below_looked x =
-      alone (filter_map (component_at (world_of c)) (inclusive_descendants (trees_with (world_of c) x) x))
-      ∙ ((λ j. filter_map (λ y. component_looked y j) (inclusive_descendants (trees_hosted x.owner j) x)) ∙
-      ap (filter_map (component_named c.names hosts)) (sym (read_own c.trees held.owned x.owner x refl).inside))
-    where
-      alone : (os : List Owner) → flat_map (λ o. o ∷ []) os ≡ os
-      alone [] = refl
-      alone (o ∷ os) = ap (λ ps. o ∷ ps) (alone os)
+  -- the components of the hosts in the tree of a node
+  pub near_looked : (x : NodeName) → filter_map (component_at (world_of c)) (inclusive_descendants (trees_with (world_of c) x) x) ≡
+      filter_map (component_named c.names hosts) (inclusive_descendants c.trees x)
+  near_looked x =
+      (λ j. filter_map (λ y. component_looked y j) (inclusive_descendants (trees_hosted x.owner j) x)) ∙
+      ap (filter_map (component_named c.names hosts)) (sym (read_own c.trees held.owned x.owner x refl).inside)
 
   -- each of them is there
-  pub below_there : (x : NodeName) (o : Owner) → In o (filter_map (component_named c.names hosts) (inclusive_descendants c.trees x)) →
-      is_there (world_of c) o ≡ true
-  below_there x o i = component_hosted o (each (inclusive_descendants c.trees x) i)
+  near_there : (ys : List NodeName) → AllByRecursion (λ o. is_there (world_of c) o ≡ true) (filter_map (component_named c.names hosts) ys)
+  near_there [] = tt
+  near_there (y ∷ ys) = by (component_named c.names hosts y) refl (near_there ys)
     where
-      each : (ys : List NodeName) → In o (filter_map (component_named c.names hosts) ys) → In o (host_owners hosts)
-      each [] h = absurd h
-      each (y ∷ ys) h = by (component_named c.names hosts y) refl h (each ys)
-        where
-          by : (m : Option Owner) → component_named c.names hosts y ≡ m → In o (cons_option m (filter_map (component_named c.names hosts) ys)) →
-              (In o (filter_map (component_named c.names hosts) ys) → In o (host_owners hosts)) → In o (host_owners hosts)
-          by None e g deeper = deeper g
-          by (Some p) e (inl same) deeper = subst (λ q. In q (host_owners hosts)) same (component_in c.names hosts y p e)
-          by (Some p) e (inr g) deeper = deeper g
+      by : (m : Option Owner) → component_named c.names hosts y ≡ m →
+          AllByRecursion (λ o. is_there (world_of c) o ≡ true) (filter_map (component_named c.names hosts) ys) →
+          AllByRecursion (λ o. is_there (world_of c) o ≡ true) (cons_option m (filter_map (component_named c.names hosts) ys))
+      by None e rest = rest
+      by (Some o) e rest = (component_hosted o (component_in c.names hosts y o e), rest)
+
+  -- and so is each below a node, at any depth
+  there_both : (os ps : List Owner) → AllByRecursion (λ o. is_there (world_of c) o ≡ true) os → AllByRecursion (λ o. is_there (world_of c) o ≡ true) ps →
+      AllByRecursion (λ o. is_there (world_of c) o ≡ true) (os ++ ps)
+  there_both [] ps h g = g
+  there_both (o ∷ os) ps h g = (h.0, there_both os ps h.1 g)
+
+  there_each : (f : Owner → List Owner) → ((o : Owner) → AllByRecursion (λ p. is_there (world_of c) p ≡ true) (f o)) → (os : List Owner) →
+      AllByRecursion (λ o. is_there (world_of c) o ≡ true) os → AllByRecursion (λ o. is_there (world_of c) o ≡ true) (flat_map (λ o. o ∷ f o) os)
+  there_each f deeper [] h = tt
+  there_each f deeper (o ∷ os) h = there_both (o ∷ f o) (flat_map (λ p. p ∷ f p) os) (h.0, deeper o) (there_each f deeper os h.1)
+
+  pub below_there : (depth : ℕ) (x : NodeName) → AllByRecursion (λ o. is_there (world_of c) o ≡ true) (components_below depth (world_of c) x)
+  below_there zero x = tt
+  below_there (suc depth) x =
+      there_each (λ o. components_below depth (world_of c) (shadow_root_of o)) (λ o. below_there depth (shadow_root_of o))
+      (filter_map (component_at (world_of c)) (inclusive_descendants (trees_with (world_of c) x) x))
+      (subst (AllByRecursion (λ o. is_there (world_of c) o ≡ true)) (sym (near_looked x)) (near_there (inclusive_descendants c.trees x)))

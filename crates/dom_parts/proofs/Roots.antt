@@ -1,25 +1,28 @@
 -- Node documents set one tree after another.
-use Rattle.std.proofs.Common.{◌≡◌, ℕ, ◌<◌, List, [], ◌∷◌, All, map, fold, filter_map, length}
-use Rattle.std.proofs.Common.{refl, sym, ap, subst, ◌∙◌}
+use Rattle.std.proofs.Common.{◌≡◌, ℕ, ◌<◌, List, [], ◌∷◌, All, map, fold, length, refl, sym, ap, subst, ◌∙◌}
 use Rattle.std.proofs.lemmas.List.Elements.{All-head, All-tail}
 use Rattle.dom_base.specs.declared.NodeName.{NodeName}
-use Rattle.dom_model.specs.Names.{name_eq, is_in}
+use Rattle.dom_model.specs.Names.{is_in, name_eq, max_depth}
 use Rattle.dom_model.specs.Tree.{Trees, inclusive_descendants}
 use Rattle.dom_model.specs.TreeChanges.{change_subtree, with_document}
 use Rattle.dom_model.specs.Steps.{set_document}
-use Rattle.dom_slots.specs.Hosts.{root_named}
 use Rattle.dom_tree.specs.Forest.{NamedTrees, name_at}
 use Rattle.dom_tree.proofs.OwnPlacings.{changed_subtree}
 use Rattle.dom_slots.proofs.Recast.{keeps_if, slots-recast}
 use Rattle.dom_parts.specs.Contents.{Contents, world_of}
 use Rattle.dom_parts.specs.Doc.{DocState, named_trees, contents, world_from, state_from, IsHeld, name_in, owner_in, stepped}
-use Rattle.dom_parts.specs.Hosting.{document_in, roots_below}
-use Rattle.dom_node_trees.specs.Documents.{under_each}
+use Rattle.dom_parts.specs.Hosting.{document_in, forest_in}
+use Rattle.dom_node_trees.specs.Documents.{under_each, roots_within}
 use Rattle.dom_parts.specs.AllTables.{AllTables}
 use Rattle.dom_parts.proofs.Held.{are_hosts, held_changed}
 use Rattle.dom_parts.proofs.HostedDocuments.{documents_world}
 use Rattle.dom_parts.proofs.Shown.{known, owner_there, step_done}
 use Rattle.dom_tree_laws.proofs.Standing.{keeps_changed_below}
+
+-- how many closed trees can lie in one another, as the code has it
+pub depth_is : max_depth ≡ 1
+unfolding max_depth
+depth_is = refl
 
 -- one tree after another, in what is held
 pub documents_trees : (d : NodeName) (c : Contents) (xs : List NodeName) → fold (document_in d) c xs ≡ record c { trees = fold (under_each d) c.trees xs }
@@ -42,11 +45,10 @@ module _ (names : List NodeName) (d : NodeName) (tables : AllTables) where
   each_held (k ∷ ks) ts held all = each_held ks (under_each d ts (name_at names k))
       (one_held ts held k (All-head (λ j. j < length names) k ks all)) (All-tail (λ j. j < length names) k ks all)
 
--- the documents of a tree, and of the shadow trees of the hosts in it
+-- the documents of a tree, and of the shadow trees of the hosts in it, at any depth
 module _ (f : NamedTrees) {tables : AllTables} (held : IsHeld f.names f.trees tables) {s : DocState}
     (is_s : state_from f.names f.trees tables ≡ s) (k doc : ℕ) (k< : k < length s.names) (roots : List ℕ)
-    (listed : map (name_at f.names) roots ≡ filter_map (root_named f.names tables.slots.hosts)
-    (inclusive_descendants f.trees (name_at f.names k))) (nodes : All (λ j. j < length f.names) roots)
+    (listed : map (name_at f.names) roots ≡ roots_within max_depth f tables.slots.hosts (name_at f.names k)) (nodes : All (λ j. j < length f.names) roots)
     (g : NamedTrees) (names : g.names ≡ f.names)
     (trees : g.trees ≡ fold (under_each (name_at f.names doc)) (under_each (name_at f.names doc) f.trees (name_at f.names k))
     (map (name_at f.names) roots)) where
@@ -65,5 +67,5 @@ module _ (f : NamedTrees) {tables : AllTables} (held : IsHeld f.names f.trees ta
       step_done f held is_s k (λ ts. fold (under_each d) (under_each d ts x) (map (name_at f.names) roots)) g names trees
       (λ ns. set_document (name_at ns k) (name_at ns doc))
       (ap (λ xs. world_from f.names (fold (under_each d) (under_each d f.trees x) xs) tables) listed
-      ∙ (ap world_of (sym (documents_trees d (document_in d a x) (roots_below a tables.slots.hosts x)))
+      ∙ (ap world_of (sym (documents_trees d (document_in d a x) (roots_within max_depth (forest_in a) tables.slots.hosts x)))
       ∙ documents_world a tables.slots.hosts (are_hosts f.names f.trees tables held) x.owner (owner_there f held is_s k k<) x d refl))

@@ -1,13 +1,13 @@
 -- How a list of hosts and what is held belong together; signals, node documents and attaching in what is held; and the
 -- steps and plans that stay in their owner's part.
-use Rattle.std.specs.Prelude.{◌≡◌, ◌≢◌, ℕ, suc, false, List, [], ◌∷◌, ◌++◌, map, fold, find, filter_map, Option, None, option_map}
+use Rattle.std.specs.Prelude.{◌≡◌, ◌≢◌, ℕ, suc, false, List, [], ◌∷◌, ◌++◌, map, fold, find, Option, None, option_map}
 use Rattle.std.specs.List.{AllByRecursion}
 use Rattle.dom_base.specs.declared.Kind.TheVariants.{Shadow}
 use Rattle.dom_base.specs.declared.NodeName.{NodeName}
 use Rattle.dom_base.specs.declared.Owner.{Owner}
 use Rattle.dom_base.specs.declared.Owner.TheVariants.{Page}
-use Rattle.dom_model.specs.Names.{name_eq, append_once}
-use Rattle.dom_model.specs.Tree.{Trees, none, kind_of, parent_of, inclusive_descendants}
+use Rattle.dom_model.specs.Names.{name_eq, append_once, max_depth}
+use Rattle.dom_model.specs.Tree.{Trees, none, kind_of, parent_of}
 use Rattle.dom_model.specs.TreeChanges.{with_node, change_subtree, with_document}
 use Rattle.dom_model.specs.DocumentMachine.{new_root}
 use Rattle.dom_model.specs.Changes.{Plan}
@@ -15,9 +15,10 @@ use Rattle.dom_model.specs.Part.{Part}
 use Rattle.dom_model.specs.Steps.{Step, set_document, after}
 use Rattle.dom_model.specs.WorldSteps.{world_after}
 use Rattle.dom_model.specs.World.{World, component_made, shadow_root_of, part_of, is_there, queued_notify}
-use Rattle.dom_slots.specs.Hosts.{ShadowHost, HostsAreNodes, root_named}
+use Rattle.dom_slots.specs.Hosts.{ShadowHost, HostsAreNodes}
 use Rattle.dom_slots.specs.Shadows.{ShadowTrees, shadow_trees}
-use Rattle.dom_tree.specs.Forest.{name_at}
+use Rattle.dom_node_trees.specs.Documents.{roots_within}
+use Rattle.dom_tree.specs.Forest.{NamedTrees, name_at}
 use Rattle.dom_tree.specs.Owners.{AreOf, AreOwned, trees_of_owner}
 use Rattle.dom_parts.specs.Contents.{Contents, no_tables, world_of}
 
@@ -86,18 +87,17 @@ signals_in c ss = fold signal_in c ss
 
 -- ---- node documents
 
+-- the trees that are held, with the names of the nodes (own rule)
+abbrev pub forest_in : Contents → NamedTrees
+forest_in c = record { names = c.names; trees = c.trees }
+
 -- a node and all below it get a node document (DOM Standard, concept: node document)
 abbrev pub document_in : NodeName → Contents → NodeName → Contents
 document_in d c x = record c { trees = change_subtree (with_document d) x c.trees }
 
--- the shadow roots of the hosts in the tree of a node, in tree order; hosts are the page's, so none stands below another
--- (DOM Standard, concept: shadow-including inclusive descendant)
-abbrev pub roots_below : Contents → List ShadowHost → NodeName → List NodeName
-roots_below c hosts x = filter_map (root_named c.names hosts) (inclusive_descendants c.trees x)
-
--- so do the shadow trees of the hosts in it (DOM Standard, concept: adopt)
+-- so do the shadow trees of the hosts in it, and of those in these, as deep as there are (DOM Standard, concept: adopt)
 abbrev pub documents_in : NodeName → Contents → List ShadowHost → NodeName → Contents
-documents_in d c hosts x = fold (document_in d) (document_in d c x) (roots_below c hosts x)
+documents_in d c hosts x = fold (document_in d) (document_in d c x) (roots_within max_depth (forest_in c) hosts x)
 
 -- ---- an owner's steps in its own part
 

@@ -10,6 +10,9 @@ use dom_node_trees::{roots_below, set_documents, set_each};
 use node_arena::Key;
 use std::alloc::AllocError;
 
+/// How many closed trees can lie in one another (own rule).
+const MAX_DEPTH: u8 = 1;
+
 impl Parts {
     /// The node document of a node.
     pub fn document(&self, node: Key) -> Option<Key>
@@ -20,14 +23,14 @@ impl Parts {
         self.forest.document(node)
     }
 
-    /// A node and all below it get a node document, with the shadow trees of the hosts among them (DOM Standard, adopt: each
-    /// shadow-including inclusive descendant).
+    /// A node and all below it get a node document, with the shadow trees of the hosts among them, and of those in these (DOM
+    /// Standard, adopt: each shadow-including inclusive descendant). All shadow roots are found before the first change.
     pub fn set_document(&mut self, node: Key, document: Key) -> Result<(), AllocError>
         requires node_is_node { node < length self.old.names }
         requires document_is_node { document < length self.old.names }
         ensures { OnOk result (self.new ≡ stepped (owner_in self.old node) (set_document (name_in self.old node) (name_in self.old document)) self.old) }
     {
-        let roots = roots_below(self.alloc, &self.forest, &self.slots, node)?;
+        let roots = roots_below(self.alloc, &self.forest, &self.slots, node, MAX_DEPTH)?;
         set_documents(&mut self.forest, node, document);
         set_each(&mut self.forest, roots.as_slice(), document);
         Ok(())

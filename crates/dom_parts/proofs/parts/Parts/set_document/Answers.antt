@@ -2,8 +2,10 @@ use Rattle.std.proofs.Common.{◌≡◌, ◌<◌, ℕ, List, All, map, fold, len
 use Rattle.dom_base.specs.declared.NodeName.{NodeName}
 use Rattle.dom_model.specs.Tree.{Trees}
 use Rattle.dom_tree.specs.Forest.{NamedTrees, name_at}
-use Rattle.dom_node_trees.specs.Documents.{under_each}
-use Rattle.dom_parts.proofs.Roots.{documents_are_held, documents_are_set}
+use Rattle.dom_model.specs.Names.{max_depth}
+use Rattle.dom_slots.specs.Hosts.{ShadowHost}
+use Rattle.dom_node_trees.specs.Documents.{under_each, roots_within}
+use Rattle.dom_parts.proofs.Roots.{depth_is, documents_are_held, documents_are_set}
 use Rattle.dom_parts.proofs.parts.Parts.set_document.Goals as goal
 
 -- the trees after all
@@ -18,6 +20,11 @@ all_set doc node tops roots f g h set names trees same =
     ∙ ap (λ (ks : List ℕ). fold (under_each (name_at f.names doc)) (under_each (name_at f.names doc) f.trees (name_at f.names node))
     (map (name_at f.names) ks)) same))
 
+-- as deep as the definition goes
+as_deep : (f : NamedTrees) (hosts : List ShadowHost) (node : ℕ) →
+    roots_within max_depth f hosts (name_at f.names node) ≡ roots_within 1 f hosts (name_at f.names node)
+as_deep f hosts node = ap (λ n. roots_within n f hosts (name_at f.names node)) depth_is
+
 pub set_each-requires-clause-tops_are_nodes : goal.set_each-requires-clause-tops_are_nodes
 set_each-requires-clause-tops_are_nodes c =
     subst (λ (ks : List ℕ). All (λ k. k < length c.set_documents.new.forest.names) ks) (sym c.as_slice.ensures.value)
@@ -26,7 +33,8 @@ set_each-requires-clause-tops_are_nodes c =
 pub invariant_of-self : goal.invariant_of-self
 invariant_of-self c =
     documents_are_held c.self.inside.forest c.self.invariant c.self.view_is c.args.node c.args.document c.requires.node_is_node
-    c.in_ok-roots.roots.items c.in_ok-roots.ensures.names c.in_ok-roots.ensures.nodes
+    c.in_ok-roots.roots.items (c.in_ok-roots.ensures.names ∙ sym (as_deep c.self.inside.forest c.self.inside.slots.hosts c.args.node))
+    c.in_ok-roots.ensures.nodes
     c.set_each.new.forest (c.set_each.ensures.names ∙ c.set_documents.ensures.names)
     (all_set c.args.document c.args.node c.as_slice.result.now c.in_ok-roots.roots.items c.self.inside.forest c.set_documents.new.forest
     c.set_each.new.forest c.set_each.ensures.trees c.set_documents.ensures.names c.set_documents.ensures.trees c.as_slice.ensures.value)
@@ -34,7 +42,8 @@ invariant_of-self c =
 pub returns : goal.returns
 returns c =
     documents_are_set c.self.inside.forest c.self.invariant c.self.view_is c.args.node c.args.document c.requires.node_is_node
-    c.in_ok-roots.roots.items c.in_ok-roots.ensures.names c.in_ok-roots.ensures.nodes
+    c.in_ok-roots.roots.items (c.in_ok-roots.ensures.names ∙ sym (as_deep c.self.inside.forest c.self.inside.slots.hosts c.args.node))
+    c.in_ok-roots.ensures.nodes
     c.set_each.new.forest (c.set_each.ensures.names ∙ c.set_documents.ensures.names)
     (all_set c.args.document c.args.node c.as_slice.result.now c.in_ok-roots.roots.items c.self.inside.forest c.set_documents.new.forest
     c.set_each.new.forest c.set_each.ensures.trees c.set_documents.ensures.names c.set_documents.ensures.trees c.as_slice.ensures.value)

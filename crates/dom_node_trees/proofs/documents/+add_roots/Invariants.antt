@@ -1,0 +1,17 @@
+use Rattle.std.proofs.Common.{◌-◌, map, option_map}
+use Rattle.dom_model.specs.Tree.{inclusive_descendants}
+use Rattle.dom_tree.specs.Forest.{name_at}
+use Rattle.dom_tree_laws.proofs.Covering.{left}
+use Rattle.dom_node_trees.specs.Documents.{roots_within}
+use Rattle.dom_node_trees.proofs.Roots.{Lists}
+use Rattle.dom_node_trees.proofs.documents.+add_roots.Given as goal
+
+abbrev pub decreases-add_roots : goal.decreases-add_roots
+decreases-add_roots l = l.depth
+
+abbrev pub invariant-loop-at : goal.invariant-loop-at
+invariant-loop-at l =
+    Lists l.forest l.slots.hosts (roots_within (l.depth - 1) l.forest l.slots.hosts) (map (name_at l.forest.names) l.fn.roots.items) l.top l.roots.items l.at
+
+abbrev pub decreases-loop-at : goal.decreases-loop-at
+decreases-loop-at l = left (inclusive_descendants l.forest.trees (name_at l.forest.names l.top)) (option_map (name_at l.forest.names) l.at)
