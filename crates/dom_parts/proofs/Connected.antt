@@ -1,30 +1,31 @@
--- A node is connected where the root of its tree is a document, or where that root has a host and the root of the host's tree
--- is one: hosts are the page's, so none stands above that.
-use Rattle.std.proofs.Common.{◌≡◌, ℕ, ◌≤◌, zero, suc, Bool, true, false, List, [], ◌∷◌, ◌++◌, Option, Some, None, flat_map, unwrap_or, refl, sym, ap}
-use Rattle.std.proofs.Common.{◌∙◌, inl, inr, arith}
-use Rattle.std.specs.Prelude.{option_to_list}
-use Rattle.std.specs.Option.{option_and_then}
+-- A node is connected where the last root is a document that is found by going up from its root: from a root to its host, and
+-- to the root of that one's tree.
+use Rattle.std.proofs.Common.{◌≡◌, ℕ, ◌<◌, ◌≤◌, zero, suc, Bool, true, false, List, [], ◌∷◌, ◌++◌, length, Option, Some, None, flat_map, unwrap_or, refl}
+use Rattle.std.proofs.Common.{sym, ap, subst, ◌∙◌, inl, inr, arith}
+use Rattle.std.specs.Prelude.{option_to_list, count_by}
+use Rattle.std.specs.Option.{option_and_then, option_map_or}
 use Rattle.std.proofs.lemmas.Bool.{cases_Bool, true≢false}
 use Rattle.std.proofs.lemmas.List.{append-nil}
+use Rattle.std.proofs.lemmas.Option.{none-some, same_Some}
 use Rattle.dom_base.specs.declared.NodeName.{NodeName}
 use Rattle.dom_base.specs.declared.Owner.{Owner}
-use Rattle.dom_base.specs.declared.Owner.TheVariants.{Page, Component}
 use Rattle.std.specs.List.{last_or}
 use Rattle.dom_model.specs.Names.{name_eq, last_of, owner_depth}
-use Rattle.dom_model.specs.Tree.{Trees, Node, inclusive_ancestors, kind_of, is_document, root_of}
+use Rattle.dom_model.specs.Tree.{Trees, Node, nodes, inclusive_ancestors, kind_of, is_document, root_of}
 use Rattle.dom_model.specs.World.{World, part_of, host_of, host_above, some_if, shadow_root_of, hosts_from, ancestors_at, kind_at, root_at, is_connected}
-use Rattle.dom_slots.specs.Hosts.{host_named}
-use Rattle.dom_slots.specs.Shadows.{ShadowTrees, IsShownBy, shadow_trees}
+use Rattle.dom_slots.specs.Hosts.{ShadowHost, HostsAreNodes, host_named}
+use Rattle.dom_slots.specs.Shadows.{ShadowTrees, IsShownBy, shadows}
 use Rattle.dom_traversal.proofs.Lists.{name_eq-true, name_eq-from}
-use Rattle.dom_tree.specs.Forest.{NamedTrees}
+use Rattle.dom_tree.specs.Forest.{NamedTrees, name_at}
 use Rattle.dom_tree.proofs.Once.{times_in}
 use Rattle.dom_tree.proofs.Owned.{read_own, stays_own}
 use Rattle.dom_parts.specs.AllTables.{AllTables}
 use Rattle.dom_parts.specs.Doc.{IsHeld, contents, world_from}
+use Rattle.dom_parts.specs.Hosting.{outermost_root}
 use Rattle.dom_parts.proofs.Held.{are_hosts}
 use Rattle.dom_parts.proofs.HostedWorlds.{world_shown}
+use Rattle.dom_tree_laws.proofs.Once.{times_count}
 use Rattle.dom_tree_laws.proofs.Paths.{path_gone}
-use Rattle.dom_parts.proofs.Shown.{own_in_part}
 
 -- ---- the host of a node's root
 
@@ -59,73 +60,118 @@ last_same : {X : Type 0} (y : X) (ys : List X) (a b : X) → unwrap_or (last_or 
 last_same y [] a b = refl
 last_same y (z ∷ ys) a b = last_same z ys a b
 
-module _ (w : World) (x : NodeName) where
-  -- without a host the chain of hosts is the node alone
-  chain_alone : host_above w x ≡ None → (depth : ℕ) → hosts_from depth w x ≡ x ∷ []
-  chain_alone alone zero = refl
-  chain_alone alone (suc depth) = ap (λ (h : Option NodeName). x ∷ flat_map (hosts_from depth w) (option_to_list h)) alone
+module _ (w : World) where
+  -- whether the last of the shadow-including ancestors is a document, where a chain of hosts is so long at most
+  abbrev connected_from : ℕ → NodeName → Bool
+  connected_from depth x = is_document (kind_at w (unwrap_or (last_of (flat_map (ancestors_at w) (hosts_from depth w x))) x))
 
-  -- so the shadow-including root is the root
-  connected-root : host_above w x ≡ None → is_connected w x ≡ is_document (kind_at w (root_at w x))
-  connected-root alone =
+  -- without a host the chain is the node alone, so it is the root
+  from_alone : (depth : ℕ) (x : NodeName) → hosts_from depth w x ≡ x ∷ [] → connected_from depth x ≡ is_document (kind_at w (root_at w x))
+  from_alone depth x alone =
       ap (λ (path : List NodeName). is_document (kind_at w (unwrap_or (last_of path) x)))
-      (ap (flat_map (ancestors_at w)) (chain_alone alone (owner_depth x.owner)) ∙ append-nil (ancestors_at w x))
+      (ap (flat_map (ancestors_at w)) alone ∙ append-nil (ancestors_at w x))
+
+  -- a chain begins with its node
+  chain_begins : (depth : ℕ) (x : NodeName) → (rest : List NodeName) × (hosts_from depth w x ≡ x ∷ rest)
+  chain_begins zero x = ([], refl)
+  chain_begins (suc depth) x = (flat_map (hosts_from depth w) (option_to_list (host_above w x)), refl)
 
   -- with a host it is that of the host
-  connected-host : (h a : NodeName) (path : List NodeName) → host_above w x ≡ Some h → ancestors_at w h ≡ a ∷ path →
-      is_connected w x ≡ is_document (kind_at w (root_at w h))
-  connected-host h a path above stands =
-      ap (λ (hs : List NodeName). is_document (kind_at w (unwrap_or (last_of (flat_map (ancestors_at w) hs)) x))) (by x.owner refl)
-      ∙ (ap (λ (p : List NodeName). is_document (kind_at w (unwrap_or (last_of (ancestors_at w x ++ p)) x))) (append-nil (ancestors_at w h) ∙ stands)
-      ∙ (ap (λ (o : Option NodeName). is_document (kind_at w (unwrap_or o x))) (last_behind None (ancestors_at w x) a path)
-      ∙ (ap (λ y. is_document (kind_at w y)) (last_same a path x h) ∙
-      sym (ap (λ (p : List NodeName). is_document (kind_at w (unwrap_or (last_of p) h))) stands))))
+  from_host : (depth : ℕ) (x h a : NodeName) (path : List NodeName) → host_above w x ≡ Some h → ancestors_at w h ≡ a ∷ path →
+      connected_from (suc depth) x ≡ connected_from depth h
+  from_host depth x h a path above stands =
+      ap (λ (hs : List NodeName). is_document (kind_at w (unwrap_or (last_of (flat_map (ancestors_at w) hs)) x))) chain
+      ∙ (ap (λ (p : List NodeName). is_document (kind_at w (unwrap_or (last_of (ancestors_at w x ++ p)) x))) behind
+      ∙ (ap (λ (o : Option NodeName). is_document (kind_at w (unwrap_or o x))) (last_behind None (ancestors_at w x) a later)
+      ∙ (ap (λ y. is_document (kind_at w y)) (last_same a later x h) ∙
+      sym (ap (λ (p : List NodeName). is_document (kind_at w (unwrap_or (last_of p) h))) behind))))
     where
-      by : (o : Owner) → x.owner ≡ o → hosts_from (owner_depth x.owner) w x ≡ x ∷ h ∷ []
-      by Page e =
-          let none : host_above w x ≡ None = ap (λ p. option_and_then (some_if (name_eq (root_at w x) (shadow_root_of x.owner))) (host_of w p)) e in
-          cc
-      by (Component k) e = ap (λ p. hosts_from (owner_depth p) w x) e ∙ ap (λ (g : Option NodeName). x ∷ flat_map (hosts_from 0 w) (option_to_list g)) above
+      begins : (rest : List NodeName) × (hosts_from depth w h ≡ h ∷ rest)
+      begins = chain_begins depth h
 
--- ---- in what is held
+      later : List NodeName
+      later = path ++ flat_map (ancestors_at w) begins.0
 
-module _ (f : NamedTrees) {tables : AllTables} (held : IsHeld f.names f.trees tables) where
-  abbrev here : World
-  here = world_from f.names f.trees tables
+      chain : hosts_from (suc depth) w x ≡ x ∷ hosts_from depth w h
+      chain = ap (λ (g : Option NodeName). x ∷ flat_map (hosts_from depth w) (option_to_list g)) above ∙
+          ap (λ (hs : List NodeName). x ∷ hs) (append-nil (hosts_from depth w h))
 
-  root_kind : (x : NodeName) → is_document (kind_at (world_from f.names f.trees tables) (root_at (world_from f.names f.trees tables) x)) ≡
-      is_document (kind_of f.trees (root_of f.trees x))
+      behind : flat_map (ancestors_at w) (hosts_from depth w h) ≡ a ∷ later
+      behind = ap (flat_map (ancestors_at w)) begins.1 ∙ ap (λ (p : List NodeName). p ++ flat_map (ancestors_at w) begins.0) stands
+
+-- ---- up from a root, from host to host
+
+module _ (s : ShadowTrees) where
+  -- a root without a host is the last
+  pub outermost_none : (depth : ℕ) (r : NodeName) → s.host_of r ≡ None → outermost_root s depth r ≡ r
+  outermost_none zero r e = refl
+  outermost_none (suc depth) r e = ap (λ (o : Option NodeName). option_map_or (λ h. outermost_root s depth (root_of s.trees h)) o r) e
+
+  -- from another one it goes on at the root of its host
+  pub outermost_some : (depth : ℕ) (r h : NodeName) → s.host_of r ≡ Some h → outermost_root s (suc depth) r ≡ outermost_root s depth (root_of s.trees h)
+  outermost_some depth r h e = ap (λ (o : Option NodeName). option_map_or (λ g. outermost_root s depth (root_of s.trees g)) o r) e
+
+module _ (s : ShadowTrees) (w : World) (shown : IsShownBy s w) (stands : (r h : NodeName) → s.host_of r ≡ Some h → 1 ≤ times_in s.trees h) where
+  root_kind : (x : NodeName) → is_document (kind_at w (root_at w x)) ≡ is_document (kind_of s.trees (root_of s.trees x))
   root_kind x =
-      let w = world_from f.names f.trees tables in
       let o = x.owner in
-      let y = root_of f.trees x in
-      let own = own_in_part f.names f.trees held o in
-      let root : y ≡ root_at w x = (read_own f.trees held.owned o x refl).root ∙ ap (λ (ts : Trees). root_of ts x) own in
-      let of : y.owner ≡ o = (stays_own f.trees held.owned o x refl).root in
-      let kind : kind_of f.trees y ≡ kind_of (part_of w o).trees y =
-      ap (λ (n : Node). n.kind) (read_own f.trees held.owned o y of).node ∙ ap (λ (ts : Trees). kind_of ts y) own in
+      let y = root_of s.trees x in
+      let own = sym (shown.trees o) in
+      let root : y ≡ root_at w x = (read_own s.trees shown.owned o x refl).root ∙ ap (λ (ts : Trees). root_of ts x) own in
+      let of : y.owner ≡ o = (stays_own s.trees shown.owned o x refl).root in
+      let kind : kind_of s.trees y ≡ kind_of (part_of w o).trees y =
+      ap (λ (n : Node). n.kind) (read_own s.trees shown.owned o y of).node ∙ ap (λ (ts : Trees). kind_of ts y) own in
       ap (λ (z : NodeName). is_document (kind_at w z)) (sym root)
       ∙ ap (λ (p : Owner). is_document (kind_of (part_of w p).trees y)) of
       ∙ ap is_document (sym kind)
 
-  above : (x : NodeName) → host_above (world_from f.names f.trees tables) x ≡ host_named f.names tables.slots.hosts (root_of f.trees x)
-  above x = host_shown (shadow_trees f.names f.trees tables.slots.hosts) (world_from f.names f.trees tables)
-      (world_shown (contents f.names f.trees tables) tables.slots.hosts (are_hosts f.names f.trees tables held)) x
-
-  -- without a host above, and with one that stands in the trees
-  pub connected_alone : (x : NodeName) → host_named f.names tables.slots.hosts (root_of f.trees x) ≡ None →
-      is_connected (world_from f.names f.trees tables) x ≡ is_document (kind_of f.trees (root_of f.trees x))
-  connected_alone x none = connected-root (world_from f.names f.trees tables) x (above x ∙ none) ∙ root_kind x
-
-  pub connected_hosted : (x h : NodeName) → host_named f.names tables.slots.hosts (root_of f.trees x) ≡ Some h → 1 ≤ times_in f.trees h →
-      is_connected (world_from f.names f.trees tables) x ≡ is_document (kind_of f.trees (root_of f.trees h))
-  connected_hosted x h some there = by (inclusive_ancestors f.trees h) refl
+  -- the shadow-including root is the one that is found so
+  connected_above : (depth : ℕ) (x : NodeName) → connected_from w depth x ≡ is_document (kind_of s.trees (outermost_root s depth (root_of s.trees x)))
+  connected_above zero x = from_alone w 0 x refl ∙ root_kind x
+  connected_above (suc depth) x = by (connected_above depth) (host_above w x) refl
     where
-      by : (path : List NodeName) → inclusive_ancestors f.trees h ≡ path →
-          is_connected (world_from f.names f.trees tables) x ≡ is_document (kind_of f.trees (root_of f.trees h))
-      by [] e = let gone = path_gone f.trees h e in absurd (omega arith)
-      by (a ∷ path) e =
-          connected-host (world_from f.names f.trees tables) x h a path (above x ∙ some)
-          (ap (λ (ts : Trees). inclusive_ancestors ts h) (sym (own_in_part f.names f.trees held h.owner)) ∙
-          (sym (read_own f.trees held.owned h.owner h refl).path ∙ e))
-          ∙ root_kind h
+      by : ((y : NodeName) → connected_from w depth y ≡ is_document (kind_of s.trees (outermost_root s depth (root_of s.trees y)))) →
+          (o : Option NodeName) → host_above w x ≡ o →
+          connected_from w (suc depth) x ≡ is_document (kind_of s.trees (outermost_root s (suc depth) (root_of s.trees x)))
+      by above None e =
+          from_alone w (suc depth) x (ap (λ (g : Option NodeName). x ∷ flat_map (hosts_from depth w) (option_to_list g)) e)
+          ∙ (root_kind x
+          ∙ ap (λ r. is_document (kind_of s.trees r)) (sym (outermost_none s (suc depth) (root_of s.trees x) (sym (host_shown s w shown x) ∙ e))))
+      by above (Some h) e = at (inclusive_ancestors s.trees h) refl
+        where
+          host : s.host_of (root_of s.trees x) ≡ Some h
+          host = sym (host_shown s w shown x) ∙ e
+
+          at : (path : List NodeName) → inclusive_ancestors s.trees h ≡ path →
+              connected_from w (suc depth) x ≡ is_document (kind_of s.trees (outermost_root s (suc depth) (root_of s.trees x)))
+          at [] i = let there = stands (root_of s.trees x) h host in let gone = path_gone s.trees h i in absurd (omega (arith, there, gone))
+          at (a ∷ path) i =
+              from_host w depth x h a path e
+              (ap (λ (ts : Trees). inclusive_ancestors ts h) (shown.trees h.owner) ∙ (sym (read_own s.trees shown.owned h.owner h refl).path ∙ i))
+              ∙ (above h ∙ ap (λ r. is_document (kind_of s.trees r)) (sym (outermost_some s depth (root_of s.trees x) h host)))
+
+-- ---- in what is held
+
+-- a host that is found is a node
+host_is_node : (names : List NodeName) (hosts : List ShadowHost) → HostsAreNodes names hosts → (r h : NodeName) → host_named names hosts r ≡ Some h →
+    (k : ℕ) × (k < length names) × (name_at names k ≡ h)
+host_is_node names [] nodes r h e = absurd (none-some h e)
+host_is_node names (g ∷ hosts) nodes r h e = elim (cases_Bool (name_eq r (name_at names g.root))) [
+  | inl is ↦ (g.host, nodes.0, same_Some (name_at names g.host) h (rw is at e))
+  | inr is ↦ host_is_node names hosts nodes.2 r h (rw is at e)
+]
+
+pub connected_held : (f : NamedTrees) {tables : AllTables} → IsHeld f.names f.trees tables →
+    ((k : ℕ) → k < length f.names → count_by (λ n. name_eq n.name (name_at f.names k)) (nodes f.trees) ≡ 1) → (x : NodeName) →
+    is_connected (world_from f.names f.trees tables) x ≡ is_document (kind_of f.trees (outermost_root (shadows f tables.slots.hosts)
+    (owner_depth x.owner) (root_of f.trees x)))
+connected_held f {tables} held once x =
+    connected_above (shadows f tables.slots.hosts) (world_from f.names f.trees tables)
+    (world_shown (contents f.names f.trees tables) tables.slots.hosts (are_hosts f.names f.trees tables held)) stands (owner_depth x.owner) x
+  where
+    stands : (r h : NodeName) → host_named f.names tables.slots.hosts r ≡ Some h → 1 ≤ times_in f.trees h
+    stands r h e =
+        let is = host_is_node f.names tables.slots.hosts held.signals.slots.hosts r h e in
+        let times = times_count f.trees (name_at f.names is.0) in
+        let one = once is.0 is.1 in
+        subst (λ (y : NodeName). 1 ≤ times_in f.trees y) is.2 (omega (arith, times, one))

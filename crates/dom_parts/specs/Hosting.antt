@@ -1,13 +1,14 @@
 -- How a list of hosts and what is held belong together; signals, node documents and attaching in what is held; and the
 -- steps and plans that stay in their owner's part.
-use Rattle.std.specs.Prelude.{◌≡◌, ◌≢◌, ℕ, suc, false, List, [], ◌∷◌, ◌++◌, map, fold, find, Option, None, option_map}
+use Rattle.std.specs.Prelude.{◌≡◌, ◌≢◌, ℕ, zero, suc, false, List, [], ◌∷◌, ◌++◌, map, fold, find, Option, None, option_map}
 use Rattle.std.specs.List.{AllByRecursion}
+use Rattle.std.specs.Option.{option_map_or}
 use Rattle.dom_base.specs.declared.Kind.TheVariants.{Shadow}
 use Rattle.dom_base.specs.declared.NodeName.{NodeName}
 use Rattle.dom_base.specs.declared.Owner.{Owner}
 use Rattle.dom_base.specs.declared.Owner.TheVariants.{Page}
 use Rattle.dom_model.specs.Names.{name_eq, append_once, max_depth}
-use Rattle.dom_model.specs.Tree.{Trees, none, kind_of, parent_of}
+use Rattle.dom_model.specs.Tree.{Trees, none, kind_of, parent_of, root_of}
 use Rattle.dom_model.specs.TreeChanges.{with_node, change_subtree, with_document}
 use Rattle.dom_model.specs.DocumentMachine.{new_root}
 use Rattle.dom_model.specs.Changes.{Plan}
@@ -73,6 +74,12 @@ AreShadowRoots ts (h ∷ hosts) = IsShadowRoot ts (shadow_root_of h.owner) × Ar
 -- the trees that are held, with these hosts (own rule)
 abbrev pub shadows_in : Contents → List ShadowHost → ShadowTrees
 shadows_in c hosts = shadow_trees c.names c.trees hosts
+
+-- the root to which one comes from a root by going up from host to host, so often at most: each time to the root of the
+-- host's tree (DOM Standard, concept: shadow-including root)
+abbrev pub outermost_root : ShadowTrees → ℕ → NodeName → NodeName
+outermost_root s zero r = r
+outermost_root s (suc depth) r = option_map_or (λ h. outermost_root s depth (root_of s.trees h)) (s.host_of r) r
 
 -- ---- signals
 

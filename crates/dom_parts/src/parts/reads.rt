@@ -1,19 +1,24 @@
 //! What is read of a node, in its owner's trees.
 ghost use Rattle.std.specs.Prelude.{◌≡◌, ℕ, ◌<◌, ◌≤◌, true, false, length, count_by, is_some, Some};
 ghost use Rattle.std.specs.Option.{option_map, ForSome};
-ghost use Rattle.dom_model.specs.Names.{first_of, last_of, name_eq, items_after};
+ghost use Rattle.dom_model.specs.Names.{first_of, last_of, name_eq, items_after, owner_depth};
 ghost use Rattle.dom_model.specs.Tree.{nodes, node_in, attribute_value, kind_of, parent_of, children_of, next_sibling, previous_sibling, length_of};
-ghost use Rattle.dom_model.specs.Tree.{index_of, has_node, is_inclusive_ancestor, is_document, inclusive_descendants};
+ghost use Rattle.dom_model.specs.Tree.{index_of, has_node, is_inclusive_ancestor, is_document, inclusive_descendants, root_of};
 ghost use Rattle.dom_base.specs.declared.NodeName.{NodeName as Name};
 ghost use Rattle.dom_base.specs.declared.Owner.{Owner as OwnerOf};
 ghost use Rattle.dom_model.specs.World.{part_of, is_there, is_connected};
 ghost use Rattle.dom_model.specs.CommandRefusals.{past_limit};
 ghost use Rattle.dom_isolation.specs.Worlds.{IsPart};
+ghost use Rattle.dom_slots.specs.Hosts.{HostsAreNodes};
+ghost use Rattle.dom_slots.specs.Shadows.{shadows};
+ghost use Rattle.dom_tree.specs.Forest.{name_at};
 ghost use Rattle.dom_parts.specs.Doc.{name_in, owner_in, trees_in, IsOwnNode};
-ghost use Rattle.dom_parts.specs.Hosting.{IsAlone};
+ghost use Rattle.dom_parts.specs.Hosting.{IsAlone, outermost_root};
 
 use crate::Parts;
 use dom_base::{Kind, Owner};
+use dom_slots::Slots;
+use dom_tree::Forest;
 use node_arena::Key;
 
 impl Parts {
@@ -73,21 +78,15 @@ impl Parts {
         self.forest.index(node)
     }
 
-    /// Whether a node's shadow-including root is a document (DOM Standard, concept: connected). Hosts are the page's, so one
-    /// host at most stands above a node's root.
+    /// Whether a node's shadow-including root is a document (DOM Standard, concept: connected).
     pub fn is_connected(&self, node: Key) -> bool
         requires { node < length self.now.names }
         ensures { result ≡ is_connected self.now.world (name_in self.now node) }
     {
         self.forest.nodes_stand_once();
-        let root = self.forest.root(node);
-        match self.slots.host_of(root) {
-            Some(host) => {
-                let above = self.forest.root(host);
-                is_document(self.forest.kind(above))
-            }
-            None => is_document(self.forest.kind(root)),
-        }
+        let depth = depth_of(self.forest.name(node).owner);
+        let root = outermost_root(&self.forest, &self.slots, node, depth);
+        is_document(self.forest.kind(root))
     }
 
     /// Whether a node has an attribute.
@@ -160,6 +159,38 @@ impl Parts {
         ensures within { ForSome result (λ k. is_inclusive_ancestor (trees_in self.now top) (name_in self.now top) (name_in self.now k) ≡ true) }
     {
         self.forest.following(node, top)
+    }
+}
+
+/// The root of a node's tree, or where that has a host the root of the host's tree, and so on, from host to host, so often at
+/// most (DOM Standard, concept: shadow-including root).
+fn outermost_root(forest: &Forest, slots: &Slots, node: Key, depth: u8) -> Key
+    requires node_is_node { node < length forest.now.names }
+    requires hosts { HostsAreNodes forest.now.names slots.now.hosts }
+    ensures node { result < length forest.now.names }
+    ensures value { name_at forest.now.names result ≡ outermost_root (shadows forest.now slots.now.hosts) depth
+        (root_of forest.now.trees (name_at forest.now.names node)) }
+{
+    forest.nodes_stand_once();
+    let mut root = forest.root(node);
+    let mut left = depth;
+    while left > 0 {
+        let Some(host) = slots.host_of(root) else {
+            return root;
+        };
+        root = forest.root(host);
+        left -= 1;
+    }
+    root
+}
+
+/// How many closed trees lie around an owner's nodes.
+fn depth_of(owner: Owner) -> u8
+    ensures { result ≡ owner_depth owner }
+{
+    match owner {
+        Owner::Page => 0,
+        Owner::Component(_) => 1,
     }
 }
 

@@ -1,0 +1,15 @@
+use Rattle.std.proofs.Common.{◌≡◌, ◌<◌, length}
+use Rattle.dom_model.specs.Tree.{root_of}
+use Rattle.dom_slots.specs.Shadows.{shadows}
+use Rattle.dom_tree.specs.Forest.{name_at}
+use Rattle.dom_parts.specs.Hosting.{outermost_root}
+use Rattle.dom_parts.proofs.parts.reads.outermost_root.Given as goal
+
+abbrev pub invariant-loop-left : goal.invariant-loop-left
+invariant-loop-left l =
+    (l.root < length l.forest.names)
+    × (outermost_root (shadows l.forest l.slots.hosts) l.left (name_at l.forest.names l.root) ≡
+    outermost_root (shadows l.forest l.slots.hosts) l.depth (root_of l.forest.trees (name_at l.forest.names l.fn.node)))
+
+abbrev pub decreases-loop-left : goal.decreases-loop-left
+decreases-loop-left l = l.left
