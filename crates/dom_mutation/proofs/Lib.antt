@@ -7,3 +7,8 @@ pub mod ReadyPlans
 mod ReadyRoots
 mod ReadyTables
 mod ReadyWorlds
+mod StillCalls
+mod StillEffects
+mod StillNew
+pub mod StillParts
+mod StillWorlds

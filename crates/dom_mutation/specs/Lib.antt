@@ -2,3 +2,4 @@
 pub mod Doc
 pub mod Hosting
 pub mod Ready
+pub mod Still

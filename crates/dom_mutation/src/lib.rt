@@ -2,5 +2,7 @@
 #![tactic(auto)]
 
 mod doc;
+mod still;
 
 pub use doc::{Doc, is_name};
+pub use still::{law_new_node, law_newly_there, law_still};

@@ -1,0 +1,20 @@
+use Rattle.std.proofs.Common.{ap, ◌∙◌}
+use Rattle.dom_base.specs.declared.NodeName.{NodeName}
+use Rattle.dom_model.specs.Part.{next_name}
+use Rattle.dom_model.specs.World.{part_of}
+use Rattle.dom_model.proofs.PartLaws.{owner-part_of}
+use Rattle.dom_mutation.proofs.StillCalls.{new-named, new-kind}
+use Rattle.dom_mutation.proofs.still.law_new_node.Goals as goal
+
+pub returns-clause-node : goal.returns-clause-node
+returns-clause-node c = λ was now x more e. (new-named was now x more e).0
+
+pub returns-clause-name : goal.returns-clause-name
+returns-clause-name c = λ was now x more e. (new-named was now x more e).1
+
+pub returns-clause-owner : goal.returns-clause-owner
+returns-clause-owner c = λ was now o more e.
+    ap (λ (y : NodeName). y.owner) (new-named was now (next_name (part_of was.world o)) more e).1 ∙ owner-part_of was.world o
+
+pub returns-clause-kind : goal.returns-clause-kind
+returns-clause-kind c = new-kind
