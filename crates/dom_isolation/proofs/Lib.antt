@@ -6,21 +6,21 @@ pub mod Visits
 mod Dispatches
 pub mod Trees
 pub mod Makers
-mod Hiding
-mod PagePaths
+pub mod Hiding
+pub mod PagePaths
 pub mod Chains
-mod ComponentPaths
+pub mod ComponentPaths
 pub mod Alike
 pub mod Owners
-mod TurnEndings
-mod LineBegins
-mod TableEffects
-mod PageCommands
-mod ComponentEvents
-mod ComponentCommands
+pub mod TurnEndings
+pub mod LineBegins
+pub mod TableEffects
+pub mod PageCommands
+pub mod ComponentEvents
+pub mod ComponentCommands
 mod Lines
-mod FirstWorld
-mod StepKeeps
+pub mod FirstWorld
+pub mod StepKeeps
 pub mod PageRuns
 pub mod PageTexts
 pub mod TreeChangeLaws
@@ -34,10 +34,10 @@ mod PlainRuns
 mod PlainCommands
 pub mod PlainLines
 pub mod PlainTexts
-mod WorldSteps
-mod OwnerSteps
+pub mod WorldSteps
+pub mod OwnerSteps
 pub mod OwnerDispatches
-mod OwnerCommands
+pub mod OwnerCommands
 mod KindCommands
 pub mod KindLines
 pub mod Acceptance

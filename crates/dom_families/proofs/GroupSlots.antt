@@ -1,0 +1,176 @@
+-- Hosts, slots and signals as a group has them: what is assigned to its slots is the same, and its own signals are those of the world
+-- with its own parts alone.
+use Rattle.std.proofs.Common.{◌≡◌, ◌≢◌, ℕ, zero, suc, ◌≤◌, ◌<◌, Bool, true, false, not, ◌&&◌, List, [], ◌∷◌, ◌++◌, map, filter, find, position, length}
+use Rattle.std.proofs.Common.{flat_map, filter_map, option_map, Option, Some, None, refl, sym, ap, ◌∙◌, subst, true≢false, append-nil, arith}
+use Rattle.std.specs.Prelude.{if◌then◌else◌, is_some, slice_get, option_to_list, unwrap_or}
+use Rattle.std.specs.List.{AllByRecursion}
+use Rattle.std.specs.Option.{option_and_then, option_map_or}
+use Rattle.std.proofs.lemmas.Bool.{cond-true, cond-false}
+use Rattle.std.proofs.lemmas.List.Elements.{filter-append}
+use Rattle.dom_base.specs.declared.Owner.{Owner}
+use Rattle.dom_base.specs.declared.Owner.TheVariants.{Page}
+use Rattle.dom_base.specs.declared.NodeName.{NodeName}
+use Rattle.dom_model.specs.Names.{DomString, name_eq, owner_eq, first_of, is_in, is_empty, list_eq, distinct}
+use Rattle.dom_model.specs.Tree.{Trees, none, Node, nodes, names_of, node_in, parent_of, root_of, inclusive_ancestors, subtree, children_of, inclusive_descendants}
+use Rattle.dom_model.specs.Part.{Part, empty_part}
+use Rattle.dom_model.specs.World.{World, part_of, trees_with, node_at, root_at, parent_at, ancestors_at, component_at, component_made, made_by, host_of, MayAttach}
+use Rattle.dom_model.specs.World.{host_above, some_if, shadow_root_of, shadow_tree, is_in_shadow_tree, components_below}
+use Rattle.dom_model.specs.Slots.{slot_of, slot_in, slottable_name, has_slot_name, assigned, assigned_below, is_assigned_to, is_changed, slots_among}
+use Rattle.dom_model.specs.Slots.{is_slot_element, is_bare_slot, own_slots, other_slots, signals}
+use Rattle.dom_model.specs.Groups.{KeepsFamilies, group_world}
+use Rattle.dom_model.proofs.OwnerLaws.{owner_eq-true, owner_eq-false, made_by-is}
+use Rattle.dom_isolation.specs.Worlds.{IsWorld, IsOf, HasMakers, times_in}
+use Rattle.dom_isolation.proofs.Hiding.{owned-in, slot_in-there}
+use Rattle.dom_isolation.proofs.Lists.{all-append, all-filter, all-then, all-passed, all-distinct, all-dropped, all-map, filter_all, filter_none, filter_same, filter-filter, get-all}
+use Rattle.dom_isolation.proofs.Makers.{IsMade, component-made, component-maker, hosted, hosted-owned, maker-of}
+use Rattle.dom_isolation.proofs.Tests.{by_cases}
+use Rattle.dom_isolation.proofs.Trees.{name_eq-true, ancestors-there, times-subtree, nodes-there}
+use Rattle.dom_families.proofs.GroupParts.{part-in, part-out, filter-here, filter-away, filter-twice}
+
+-- What is asked of a world: nodes and hosts are their owners', and whoever has hosts may attach.
+pub record IsGround (w : World) : Type 0 where
+  pub owned : (o : Owner) (y : NodeName) → 1 ≤ times_in (part_of w o).trees y → y.owner ≡ o
+  pub hosts : (o : Owner) → AllByRecursion (IsOf o) (part_of w o).attached
+  pub makers : HasMakers w
+
+-- so it is of a world as it should be
+pub ground-of : (w : World) → IsWorld w → IsGround w
+ground-of w i = record { owned = owned-in w i; hosts = i.hosts; makers = i.makers }
+
+-- all nodes of an owner's trees are the owner's
+pub ancestors-of : (w : World) → IsGround w → (x : NodeName) → AllByRecursion (IsOf x.owner) (ancestors_at w x)
+ancestors-of w i x =
+    all-then (λ y. 1 ≤ times_in (trees_with w x) y) (IsOf x.owner) (λ y h. i.owned x.owner y h) (ancestors_at w x) (ancestors-there (trees_with w x) x)
+
+-- a parent too
+pub parent-of : (w : World) → IsGround w → (x p : NodeName) → parent_at w x ≡ Some p → p.owner ≡ x.owner
+parent-of w i x p e = get-all (IsOf x.owner) _ 0 p (all-dropped (IsOf x.owner) (ancestors_at w x) (ancestors-of w i x)) e
+
+-- the nodes of a tree
+nodes-of : (w : World) → IsGround w → (o : Owner) (x : NodeName) → AllByRecursion (λ (m : Node). m.name.owner ≡ o) (nodes (subtree (part_of w o).trees x))
+nodes-of w i o x =
+    let ts = (part_of w o).trees in
+    all-then (λ (m : Node). 1 ≤ times_in (subtree ts x) m.name) (λ m. m.name.owner ≡ o)
+    (λ m h. i.owned o m.name (let within = times-subtree ts x m.name in omega (arith, h, within))) (nodes (subtree ts x)) (nodes-there (subtree ts x))
+
+-- A slot: where it was found.
+pub record IsSlot (w : World) (x s : NodeName) : Type 0 where
+  pub component : Owner
+  pub parent : NodeName
+  pub below : parent_at w x ≡ Some parent
+  pub hosted : component_at w parent ≡ Some component
+  pub found : slot_in (shadow_tree w component) (node_at w x) ≡ Some s
+  pub owner : s.owner ≡ component
+
+-- a slot in the words of the parent and the component
+abbrev slot_from : World → Node → Option Owner → Option NodeName
+slot_from w n c = option_and_then (λ c. slot_in (shadow_tree w c) n) c
+
+-- the slot of a node was found so
+pub slot-is : (w : World) → IsGround w → (x s : NodeName) → slot_of w x ≡ Some s → IsSlot w x s
+slot-is w i x s h = by_parent (parent_at w x) refl
+  where
+    by_component : (p : NodeName) → parent_at w x ≡ Some p → (o : Option Owner) → component_at w p ≡ o → IsSlot w x s
+    by_component p e None k =
+        let none_at : slot_of w x ≡ None = ap (λ q. slot_from w (node_at w x) (option_and_then (component_at w) q)) e ∙ ap (slot_from w (node_at w x)) k in
+        let both : None ≡ Some s = sym none_at ∙ h in
+        cc
+    by_component p e (Some c) k =
+        let here : slot_of w x ≡ slot_in (shadow_tree w c) (node_at w x) =
+        ap (λ q. slot_from w (node_at w x) (option_and_then (component_at w) q)) e ∙ ap (slot_from w (node_at w x)) k in
+        let found = sym here ∙ h in
+        let there = slot_in-there (shadow_tree w c) (node_at w x) s found in
+        let within = times-subtree (part_of w c).trees (shadow_root_of c) s in
+        record { component = c; parent = p; below = e; hosted = k; found = found; owner = i.owned c s (omega (arith, there, within)) }
+
+    by_parent : (o : Option NodeName) → parent_at w x ≡ o → IsSlot w x s
+    by_parent None e =
+        let none_at : slot_of w x ≡ None = ap (λ q. slot_from w (node_at w x) (option_and_then (component_at w) q)) e in
+        let both : None ≡ Some s = sym none_at ∙ h in
+        cc
+    by_parent (Some p) e = by_component p e (component_at w p) refl
+
+-- nothing is found in no tree
+slot_in-none : (n : Node) → slot_in none n ≡ None
+slot_in-none n = from (slottable_name n)
+  where
+    from : (o : Option DomString) → option_and_then (λ name. option_map (λ (s : Node). s.name) (find (has_slot_name name) (nodes none))) o ≡ None
+    from None = refl
+    from (Some name) = refl
+
+module _ (g : Owner → Bool) (closed : KeepsFamilies g) where
+  -- whether a node is of the group
+  abbrev pub in_node : NodeName → Bool
+  in_node x = g x.owner
+
+  -- no one outside is the page
+  pub outside-no_page : (o : Owner) → g o ≡ false → o ≢ Page
+  outside-no_page o h e = true≢false (sym closed.page ∙ ap g (sym e) ∙ h)
+
+  -- The component at a node of a component is of the group just where that one is.
+  pub component-group : (w : World) → IsGround w → (x : NodeName) (c : Owner) → component_at w x ≡ Some c → x.owner ≢ Page → g c ≡ g x.owner
+  component-group w i x c h off =
+      let k = component-made w x c h in
+      ap g (sym k.made) ∙ closed.made x.owner k.number (component-maker w i.makers x c h) off
+
+  -- the one at a node outside is outside
+  pub component-outside : (w : World) → IsGround w → (x : NodeName) (c : Owner) → component_at w x ≡ Some c → g x.owner ≡ false → g c ≡ false
+  component-outside w i x c h out = component-group w i x c h (outside-no_page x.owner out) ∙ out
+
+  -- the slot of a node outside is outside
+  pub slot-outside : (w : World) → IsGround w → (x s : NodeName) → slot_of w x ≡ Some s → g x.owner ≡ false → g s.owner ≡ false
+  slot-outside w i x s h out =
+      let k = slot-is w i x s h in
+      ap g k.owner ∙ component-outside w i k.parent k.component k.hosted (ap g (parent-of w i x k.parent k.below) ∙ out)
+
+  -- one item or none
+  none_kept : (o : Option NodeName) → ((s : NodeName) → o ≡ Some s → in_node s ≡ false) → filter in_node (option_to_list o) ≡ []
+  none_kept None h = refl
+  none_kept (Some s) h = filter-away in_node s [] (h s refl)
+
+  -- all of them
+  all_kept : (o : Option NodeName) → ((s : NodeName) → o ≡ Some s → in_node s ≡ true) → filter in_node (option_to_list o) ≡ option_to_list o
+  all_kept None h = refl
+  all_kept (Some s) h = filter-here in_node s [] (h s refl)
+
+  -- The slot of a node, where it is of the group.
+  pub slot-group : (w : World) → IsGround w → (x : NodeName) →
+      option_to_list (slot_of (group_world g w) x) ≡ filter in_node (option_to_list (slot_of w x))
+  slot-group w i x = by_cases (in_node x) inside outside
+    where
+      v : World
+      v = group_world g w
+
+      outside : in_node x ≡ false → option_to_list (slot_of v x) ≡ filter in_node (option_to_list (slot_of w x))
+      outside out =
+          ap (λ (p : Part). option_to_list (slot_from v (node_in p.trees x) (option_and_then (component_at v) (parent_of p.trees x)))) (part-out g w x.owner out)
+          ∙ sym (none_kept (slot_of w x) (λ s e. slot-outside w i x s e out))
+
+      by_component : (p : NodeName) → parent_at w x ≡ Some p → in_node x ≡ true → (o : Option Owner) → component_at w p ≡ o →
+          option_to_list (slot_from v (node_at w x) o) ≡ filter in_node (option_to_list (slot_from w (node_at w x) o))
+      by_component p e h None k = refl
+      by_component p e h (Some c) k =
+          let n = node_at w x in
+          let r = shadow_root_of c in
+          let owner_is : (s : NodeName) → slot_in (shadow_tree w c) n ≡ Some s → in_node s ≡ g c =
+          λ s found. ap g (i.owned c s (let there = slot_in-there (shadow_tree w c) n s found in
+          let within = times-subtree (part_of w c).trees r s in omega (arith, there, within))) in
+          by_cases (g c)
+          (λ t. ap (λ (q : Part). option_to_list (slot_in (subtree q.trees r) n)) (part-in g w c t)
+          ∙ sym (all_kept (slot_in (shadow_tree w c) n) (λ s found. owner_is s found ∙ t)))
+          (λ t. ap (λ (q : Part). option_to_list (slot_in (subtree q.trees r) n)) (part-out g w c t) ∙ ap option_to_list (slot_in-none n)
+          ∙ sym (none_kept (slot_in (shadow_tree w c) n) (λ s found. owner_is s found ∙ t)))
+
+      by_parent : in_node x ≡ true → (o : Option NodeName) → parent_at w x ≡ o →
+          option_to_list (slot_from v (node_at w x) (option_and_then (component_at v) o))
+          ≡ filter in_node (option_to_list (slot_from w (node_at w x) (option_and_then (component_at w) o)))
+      by_parent h None e = refl
+      by_parent h (Some p) e =
+          ap (λ (q : Part). option_to_list (slot_from v (node_at w x) (option_map (component_made p.owner) (position (name_eq p) q.attached))))
+          (part-in g w p.owner (ap g (parent-of w i x p e) ∙ h))
+          ∙ by_component p e h (component_at w p) refl
+
+      inside : in_node x ≡ true → option_to_list (slot_of v x) ≡ filter in_node (option_to_list (slot_of w x))
+      inside h =
+          ap (λ (p : Part). option_to_list (slot_from v (node_in p.trees x) (option_and_then (component_at v) (parent_of p.trees x)))) (part-in g w x.owner h)
+          ∙ by_parent h (parent_at w x) refl

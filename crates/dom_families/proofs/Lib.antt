@@ -1,0 +1,3 @@
+mod Families
+mod GroupParts
+mod GroupSlots
