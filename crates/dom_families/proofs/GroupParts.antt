@@ -40,6 +40,10 @@ module _ (g : Owner → Bool) where
   abbrev pub in_part : Part → Bool
   in_part p = g p.owner
 
+  -- whether a node is of the group
+  abbrev pub in_node : NodeName → Bool
+  in_node x = g x.owner
+
   -- a part of the group is found
   find-in : (ps : List Part) (o : Owner) → g o ≡ true → find_part (filter in_part ps) o ≡ find_part ps o
   find-in [] o h = refl

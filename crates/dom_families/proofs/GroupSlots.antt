@@ -1,9 +1,9 @@
 -- Hosts, slots and signals as a group has them: what is assigned to its slots is the same, and its own signals are those of the world
 -- with its own parts alone.
-use Rattle.std.proofs.Common.{◌≡◌, ◌≢◌, ℕ, zero, suc, ◌≤◌, ◌<◌, Bool, true, false, not, ◌&&◌, List, [], ◌∷◌, ◌++◌, map, filter, find, position, length}
+use Rattle.std.proofs.Common.{◌≡◌, ◌≢◌, ℕ, zero, suc, ◌≤◌, ◌<◌, Bool, true, false, not, ◌&&◌, ◌||◌, List, [], ◌∷◌, ◌++◌, map, filter, find, position, length}
 use Rattle.std.proofs.Common.{flat_map, filter_map, option_map, Option, Some, None, refl, sym, ap, ◌∙◌, subst, true≢false, append-nil, arith}
 use Rattle.std.specs.Prelude.{if◌then◌else◌, is_some, slice_get, option_to_list, unwrap_or}
-use Rattle.std.specs.List.{AllByRecursion}
+use Rattle.std.specs.List.{AllByRecursion, cons_option}
 use Rattle.std.specs.Option.{option_and_then, option_map_or}
 use Rattle.std.proofs.lemmas.Bool.{cond-true, cond-false}
 use Rattle.std.proofs.lemmas.List.Elements.{filter-append}
@@ -21,11 +21,13 @@ use Rattle.dom_model.specs.Groups.{KeepsFamilies, group_world}
 use Rattle.dom_model.proofs.OwnerLaws.{owner_eq-true, owner_eq-false, made_by-is}
 use Rattle.dom_isolation.specs.Worlds.{IsWorld, IsOf, HasMakers, times_in}
 use Rattle.dom_isolation.proofs.Hiding.{owned-in, slot_in-there}
-use Rattle.dom_isolation.proofs.Lists.{all-append, all-filter, all-then, all-passed, all-distinct, all-dropped, all-map, filter_all, filter_none, filter_same, filter-filter, get-all}
-use Rattle.dom_isolation.proofs.Makers.{IsMade, component-made, component-maker, hosted, hosted-owned, maker-of}
+use Rattle.dom_isolation.proofs.Lists.{all-append, all-filter, all-then, all-from, all-passed, all-distinct, all-dropped, all-map, filter_all, filter_none, filter_same}
+use Rattle.dom_isolation.proofs.Lists.{filter-filter, get-all, get-below}
+use Rattle.dom_isolation.proofs.Chains.{above-host}
+use Rattle.dom_isolation.proofs.Makers.{IsMade, component-made, component-maker, hosted, hosted-maker}
 use Rattle.dom_isolation.proofs.Tests.{by_cases}
 use Rattle.dom_isolation.proofs.Trees.{name_eq-true, ancestors-there, times-subtree, nodes-there}
-use Rattle.dom_families.proofs.GroupParts.{part-in, part-out, filter-here, filter-away, filter-twice}
+use Rattle.dom_families.proofs.GroupParts.{in_node, part-in, part-out, filter-here, filter-away, filter-twice}
 
 -- What is asked of a world: nodes and hosts are their owners', and whoever has hosts may attach.
 pub record IsGround (w : World) : Type 0 where
@@ -47,7 +49,7 @@ pub parent-of : (w : World) → IsGround w → (x p : NodeName) → parent_at w 
 parent-of w i x p e = get-all (IsOf x.owner) _ 0 p (all-dropped (IsOf x.owner) (ancestors_at w x) (ancestors-of w i x)) e
 
 -- the nodes of a tree
-nodes-of : (w : World) → IsGround w → (o : Owner) (x : NodeName) → AllByRecursion (λ (m : Node). m.name.owner ≡ o) (nodes (subtree (part_of w o).trees x))
+pub nodes-of : (w : World) → IsGround w → (o : Owner) (x : NodeName) → AllByRecursion (λ (m : Node). m.name.owner ≡ o) (nodes (subtree (part_of w o).trees x))
 nodes-of w i o x =
     let ts = (part_of w o).trees in
     all-then (λ (m : Node). 1 ≤ times_in (subtree ts x) m.name) (λ m. m.name.owner ≡ o)
@@ -99,10 +101,6 @@ slot_in-none n = from (slottable_name n)
     from (Some name) = refl
 
 module _ (g : Owner → Bool) (closed : KeepsFamilies g) where
-  -- whether a node is of the group
-  abbrev pub in_node : NodeName → Bool
-  in_node x = g x.owner
-
   -- no one outside is the page
   pub outside-no_page : (o : Owner) → g o ≡ false → o ≢ Page
   outside-no_page o h e = true≢false (sym closed.page ∙ ap g (sym e) ∙ h)
@@ -124,35 +122,35 @@ module _ (g : Owner → Bool) (closed : KeepsFamilies g) where
       ap g k.owner ∙ component-outside w i k.parent k.component k.hosted (ap g (parent-of w i x k.parent k.below) ∙ out)
 
   -- one item or none
-  none_kept : (o : Option NodeName) → ((s : NodeName) → o ≡ Some s → in_node s ≡ false) → filter in_node (option_to_list o) ≡ []
+  none_kept : (o : Option NodeName) → ((s : NodeName) → o ≡ Some s → in_node g s ≡ false) → filter (in_node g) (option_to_list o) ≡ []
   none_kept None h = refl
-  none_kept (Some s) h = filter-away in_node s [] (h s refl)
+  none_kept (Some s) h = filter-away (in_node g) s [] (h s refl)
 
   -- all of them
-  all_kept : (o : Option NodeName) → ((s : NodeName) → o ≡ Some s → in_node s ≡ true) → filter in_node (option_to_list o) ≡ option_to_list o
+  all_kept : (o : Option NodeName) → ((s : NodeName) → o ≡ Some s → in_node g s ≡ true) → filter (in_node g) (option_to_list o) ≡ option_to_list o
   all_kept None h = refl
-  all_kept (Some s) h = filter-here in_node s [] (h s refl)
+  all_kept (Some s) h = filter-here (in_node g) s [] (h s refl)
 
   -- The slot of a node, where it is of the group.
   pub slot-group : (w : World) → IsGround w → (x : NodeName) →
-      option_to_list (slot_of (group_world g w) x) ≡ filter in_node (option_to_list (slot_of w x))
-  slot-group w i x = by_cases (in_node x) inside outside
+      option_to_list (slot_of (group_world g w) x) ≡ filter (in_node g) (option_to_list (slot_of w x))
+  slot-group w i x = by_cases (in_node g x) inside outside
     where
       v : World
       v = group_world g w
 
-      outside : in_node x ≡ false → option_to_list (slot_of v x) ≡ filter in_node (option_to_list (slot_of w x))
+      outside : in_node g x ≡ false → option_to_list (slot_of v x) ≡ filter (in_node g) (option_to_list (slot_of w x))
       outside out =
           ap (λ (p : Part). option_to_list (slot_from v (node_in p.trees x) (option_and_then (component_at v) (parent_of p.trees x)))) (part-out g w x.owner out)
           ∙ sym (none_kept (slot_of w x) (λ s e. slot-outside w i x s e out))
 
-      by_component : (p : NodeName) → parent_at w x ≡ Some p → in_node x ≡ true → (o : Option Owner) → component_at w p ≡ o →
-          option_to_list (slot_from v (node_at w x) o) ≡ filter in_node (option_to_list (slot_from w (node_at w x) o))
+      by_component : (p : NodeName) → parent_at w x ≡ Some p → in_node g x ≡ true → (o : Option Owner) → component_at w p ≡ o →
+          option_to_list (slot_from v (node_at w x) o) ≡ filter (in_node g) (option_to_list (slot_from w (node_at w x) o))
       by_component p e h None k = refl
       by_component p e h (Some c) k =
           let n = node_at w x in
           let r = shadow_root_of c in
-          let owner_is : (s : NodeName) → slot_in (shadow_tree w c) n ≡ Some s → in_node s ≡ g c =
+          let owner_is : (s : NodeName) → slot_in (shadow_tree w c) n ≡ Some s → in_node g s ≡ g c =
           λ s found. ap g (i.owned c s (let there = slot_in-there (shadow_tree w c) n s found in
           let within = times-subtree (part_of w c).trees r s in omega (arith, there, within))) in
           by_cases (g c)
@@ -161,16 +159,87 @@ module _ (g : Owner → Bool) (closed : KeepsFamilies g) where
           (λ t. ap (λ (q : Part). option_to_list (slot_in (subtree q.trees r) n)) (part-out g w c t) ∙ ap option_to_list (slot_in-none n)
           ∙ sym (none_kept (slot_in (shadow_tree w c) n) (λ s found. owner_is s found ∙ t)))
 
-      by_parent : in_node x ≡ true → (o : Option NodeName) → parent_at w x ≡ o →
+      by_parent : in_node g x ≡ true → (o : Option NodeName) → parent_at w x ≡ o →
           option_to_list (slot_from v (node_at w x) (option_and_then (component_at v) o))
-          ≡ filter in_node (option_to_list (slot_from w (node_at w x) (option_and_then (component_at w) o)))
+          ≡ filter (in_node g) (option_to_list (slot_from w (node_at w x) (option_and_then (component_at w) o)))
       by_parent h None e = refl
       by_parent h (Some p) e =
           ap (λ (q : Part). option_to_list (slot_from v (node_at w x) (option_map (component_made p.owner) (position (name_eq p) q.attached))))
           (part-in g w p.owner (ap g (parent-of w i x p e) ∙ h))
           ∙ by_component p e h (component_at w p) refl
 
-      inside : in_node x ≡ true → option_to_list (slot_of v x) ≡ filter in_node (option_to_list (slot_of w x))
+      inside : in_node g x ≡ true → option_to_list (slot_of v x) ≡ filter (in_node g) (option_to_list (slot_of w x))
       inside h =
           ap (λ (p : Part). option_to_list (slot_from v (node_in p.trees x) (option_and_then (component_at v) (parent_of p.trees x)))) (part-in g w x.owner h)
           ∙ by_parent h (parent_at w x) refl
+
+  -- Whoever made one of the group is of it, or is the page.
+  pub maker-inside : (o m : Owner) (k : ℕ) → made_by o ≡ Some (m, k) → MayAttach m → g o ≡ true → g m ≡ true
+  maker-inside o m k e may h =
+      by_cases (owner_eq m Page) (λ t. ap g (owner_eq-true m Page t) ∙ closed.page)
+      (λ t. sym (closed.made m k may (owner_eq-false m Page t)) ∙ ap g (made_by-is o m k e) ∙ h)
+
+  -- so its host is
+  pub host-inside : (w : World) → IsGround w → (o : Owner) (host : NodeName) → host_of w o ≡ Some host → g o ≡ true → in_node g host ≡ true
+  host-inside w i o host e h =
+      let k = hosted w o host e in
+      ap g (get-all (IsOf k.maker) (part_of w k.maker).attached k.number host (i.hosts k.maker) k.found)
+      ∙ maker-inside o k.maker k.number k.named (hosted-maker w i.makers o host k) h
+
+  -- The host of one of the group is the same.
+  pub host_of-in : (w : World) → IsGround w → (o : Owner) → g o ≡ true → host_of (group_world g w) o ≡ host_of w o
+  host_of-in w i o h = from (made_by o) refl
+    where
+      v : World
+      v = group_world g w
+
+      read : World → Option (Owner × ℕ) → Option NodeName
+      read u m = option_and_then (λ (m : Owner × ℕ). slice_get (part_of u m.0).attached m.1) m
+
+      from : (m : Option (Owner × ℕ)) → made_by o ≡ m → read v m ≡ read w m
+      from None e = refl
+      from (Some m) e =
+          by_cases (g m.0) (λ t. ap (λ (p : Part). slice_get p.attached m.1) (part-in g w m.0 t))
+          (λ t. ap (λ (p : Part). slice_get p.attached m.1) (part-out g w m.0 t) ∙ sym (none_at t (slice_get (part_of w m.0).attached m.1) refl))
+        where
+          none_at : g m.0 ≡ false → (x : Option NodeName) → slice_get (part_of w m.0).attached m.1 ≡ x → slice_get (part_of w m.0).attached m.1 ≡ None
+          none_at t None q = q
+          none_at t (Some x) q =
+              let below = get-below (part_of w m.0).attached m.1 (ap is_some q) in
+              let may = i.makers m.0 (omega (arith, below)) in
+              absurd (true≢false (sym (maker-inside o m.0 m.1 e may h) ∙ t))
+
+  -- and so is what is above one of its nodes
+  pub host_above-in : (w : World) → IsGround w → (x : NodeName) → in_node g x ≡ true → host_above (group_world g w) x ≡ host_above w x
+  host_above-in w i x h =
+      ap (λ (p : Part). option_and_then (some_if (name_eq (root_of p.trees x) (shadow_root_of x.owner))) (host_of (group_world g w) x.owner))
+      (part-in g w x.owner h)
+      ∙ ap (option_and_then (some_if (name_eq (root_at w x) (shadow_root_of x.owner)))) (host_of-in w i x.owner h)
+
+  -- whether a node of the group is among others is told by those of the group
+  is_in-kept : (s : NodeName) (xs : List NodeName) → in_node g s ≡ true → is_in name_eq s (filter (in_node g) xs) ≡ is_in name_eq s xs
+  is_in-kept s [] h = refl
+  is_in-kept s (x ∷ xs) h =
+      by_cases (in_node g x) (λ t. ap (is_in name_eq s) (filter-here (in_node g) x xs t) ∙ ap (λ b. name_eq s x || b) (is_in-kept s xs h))
+      (λ t. ap (is_in name_eq s) (filter-away (in_node g) x xs t) ∙ is_in-kept s xs h
+      ∙ sym (ap (λ b. b || is_in name_eq s xs)
+      (by_cases (name_eq s x) (λ e. absurd (true≢false (sym h ∙ ap (in_node g) (name_eq-true s x e) ∙ t))) (λ e. e))))
+
+  -- What is assigned to a slot of the group is the same.
+  pub assigned-in : (w : World) → IsGround w → (s : NodeName) → in_node g s ≡ true → assigned (group_world g w) s ≡ assigned w s
+  assigned-in w i s h =
+      ap (λ o. option_map_or (assigned_below v s) o []) (host_above-in w i s h) ∙ from (host_above w s) refl
+    where
+      v : World
+      v = group_world g w
+
+      each : (x : NodeName) → is_assigned_to v s x ≡ is_assigned_to w s x
+      each x = ap (is_in name_eq s) (slot-group w i x) ∙ is_in-kept s (option_to_list (slot_of w x)) h
+
+      from : (o : Option NodeName) → host_above w s ≡ o → option_map_or (assigned_below v s) o [] ≡ option_map_or (assigned_below w s) o []
+      from None e = refl
+      from (Some host) e =
+          ap (λ (p : Part). filter (is_assigned_to v s) (children_of p.trees host))
+          (part-in g w host.owner (host-inside w i s.owner host (above-host w s host e).0 h))
+          ∙ filter_same (is_assigned_to v s) (is_assigned_to w s) (children_of (trees_with w host) host)
+          (all-from (λ x. is_assigned_to v s x ≡ is_assigned_to w s x) each (children_of (trees_with w host) host))
