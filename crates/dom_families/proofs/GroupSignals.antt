@@ -234,3 +234,9 @@ module _ (g : Owner → Bool) (closed : KeepsFamilies g) where
       (part-in g w x.owner h)
       ∙ in-each w i depth (below-outside depth w i) (below-in depth w i) x.owner h (inclusive_descendants (trees_with w x) x)
       (all-map (IsOf x.owner) (λ (m : Node). m.name) (nodes (subtree (trees_with w x) x)) (nodes-of w i x.owner x))
+
+  -- of any node
+  pub below-group : (depth : ℕ) (w : World) → IsGround w → (x : NodeName) →
+      filter g (components_below depth (group_world g w) x) ≡ filter g (components_below depth w x)
+  below-group depth w i x =
+      by_cases (in_node g x) (below-in depth w i x) (λ h. ap (filter g) (below-none depth w x h) ∙ sym (below-outside depth w i x h))

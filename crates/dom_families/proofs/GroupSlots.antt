@@ -19,8 +19,9 @@ use Rattle.dom_model.specs.Slots.{slot_of, slot_in, slottable_name, has_slot_nam
 use Rattle.dom_model.specs.Slots.{is_slot_element, is_bare_slot, own_slots, other_slots, signals}
 use Rattle.dom_model.specs.Groups.{KeepsFamilies, group_world}
 use Rattle.dom_model.proofs.OwnerLaws.{owner_eq-true, owner_eq-false, made_by-is}
-use Rattle.dom_isolation.specs.Worlds.{IsWorld, IsOf, HasMakers, times_in}
-use Rattle.dom_isolation.proofs.Hiding.{owned-in, slot_in-there}
+use Rattle.dom_isolation.specs.Worlds.{IsPart, IsWorld, IsOf, HasMakers, times_in}
+use Rattle.dom_model.proofs.PartLaws.{owner-part_of}
+use Rattle.dom_isolation.proofs.Hiding.{slot_in-there}
 use Rattle.dom_isolation.proofs.Lists.{all-append, all-filter, all-then, all-from, all-passed, all-distinct, all-dropped, all-map, filter_all, filter_none, filter_same}
 use Rattle.dom_isolation.proofs.Lists.{filter-filter, get-all, get-below}
 use Rattle.dom_isolation.proofs.Chains.{above-host}
@@ -31,29 +32,38 @@ use Rattle.dom_families.proofs.GroupParts.{in_node, part-in, part-out, filter-he
 
 -- What is asked of a world: nodes and hosts are their owners', and whoever has hosts may attach.
 pub record IsGround (w : World) : Type 0 where
-  pub owned : (o : Owner) (y : NodeName) → 1 ≤ times_in (part_of w o).trees y → y.owner ≡ o
+  pub parts : (o : Owner) → IsPart (part_of w o)
   pub hosts : (o : Owner) → AllByRecursion (IsOf o) (part_of w o).attached
   pub makers : HasMakers w
 
 -- so it is of a world as it should be
 pub ground-of : (w : World) → IsWorld w → IsGround w
-ground-of w i = record { owned = owned-in w i; hosts = i.hosts; makers = i.makers }
+ground-of w i = record { parts = i.parts; hosts = i.hosts; makers = i.makers }
 
--- all nodes of an owner's trees are the owner's
-pub ancestors-of : (w : World) → IsGround w → (x : NodeName) → AllByRecursion (IsOf x.owner) (ancestors_at w x)
-ancestors-of w i x =
-    all-then (λ y. 1 ≤ times_in (trees_with w x) y) (IsOf x.owner) (λ y h. i.owned x.owner y h) (ancestors_at w x) (ancestors-there (trees_with w x) x)
+-- a node is its owner's
+pub owned-by : (w : World) → IsGround w → (o : Owner) (y : NodeName) → 1 ≤ times_in (part_of w o).trees y → y.owner ≡ o
+owned-by w i o y h = (i.parts o).owned y h ∙ owner-part_of w o
+
+-- all nodes of an owner's trees are
+pub ancestors-of : (w : World) → IsGround w → (o : Owner) (x : NodeName) → AllByRecursion (IsOf o) (inclusive_ancestors (part_of w o).trees x)
+ancestors-of w i o x =
+    let ts = (part_of w o).trees in
+    all-then (λ y. 1 ≤ times_in ts y) (IsOf o) (λ y h. owned-by w i o y h) (inclusive_ancestors ts x) (ancestors-there ts x)
 
 -- a parent too
+pub parent-in : (w : World) → IsGround w → (o : Owner) (x p : NodeName) → parent_of (part_of w o).trees x ≡ Some p → p.owner ≡ o
+parent-in w i o x p e = get-all (IsOf o) _ 0 p (all-dropped (IsOf o) (inclusive_ancestors (part_of w o).trees x) (ancestors-of w i o x)) e
+
+-- the parent of a node
 pub parent-of : (w : World) → IsGround w → (x p : NodeName) → parent_at w x ≡ Some p → p.owner ≡ x.owner
-parent-of w i x p e = get-all (IsOf x.owner) _ 0 p (all-dropped (IsOf x.owner) (ancestors_at w x) (ancestors-of w i x)) e
+parent-of w i x p e = parent-in w i x.owner x p e
 
 -- the nodes of a tree
 pub nodes-of : (w : World) → IsGround w → (o : Owner) (x : NodeName) → AllByRecursion (λ (m : Node). m.name.owner ≡ o) (nodes (subtree (part_of w o).trees x))
 nodes-of w i o x =
     let ts = (part_of w o).trees in
     all-then (λ (m : Node). 1 ≤ times_in (subtree ts x) m.name) (λ m. m.name.owner ≡ o)
-    (λ m h. i.owned o m.name (let within = times-subtree ts x m.name in omega (arith, h, within))) (nodes (subtree ts x)) (nodes-there (subtree ts x))
+    (λ m h. owned-by w i o m.name (let within = times-subtree ts x m.name in omega (arith, h, within))) (nodes (subtree ts x)) (nodes-there (subtree ts x))
 
 -- A slot: where it was found.
 pub record IsSlot (w : World) (x s : NodeName) : Type 0 where
@@ -83,7 +93,7 @@ slot-is w i x s h = by_parent (parent_at w x) refl
         let found = sym here ∙ h in
         let there = slot_in-there (shadow_tree w c) (node_at w x) s found in
         let within = times-subtree (part_of w c).trees (shadow_root_of c) s in
-        record { component = c; parent = p; below = e; hosted = k; found = found; owner = i.owned c s (omega (arith, there, within)) }
+        record { component = c; parent = p; below = e; hosted = k; found = found; owner = owned-by w i c s (omega (arith, there, within)) }
 
     by_parent : (o : Option NodeName) → parent_at w x ≡ o → IsSlot w x s
     by_parent None e =
@@ -151,7 +161,7 @@ module _ (g : Owner → Bool) (closed : KeepsFamilies g) where
           let n = node_at w x in
           let r = shadow_root_of c in
           let owner_is : (s : NodeName) → slot_in (shadow_tree w c) n ≡ Some s → in_node g s ≡ g c =
-          λ s found. ap g (i.owned c s (let there = slot_in-there (shadow_tree w c) n s found in
+          λ s found. ap g (owned-by w i c s (let there = slot_in-there (shadow_tree w c) n s found in
           let within = times-subtree (part_of w c).trees r s in omega (arith, there, within))) in
           by_cases (g c)
           (λ t. ap (λ (q : Part). option_to_list (slot_in (subtree q.trees r) n)) (part-in g w c t)
@@ -217,7 +227,7 @@ module _ (g : Owner → Bool) (closed : KeepsFamilies g) where
       ∙ ap (option_and_then (some_if (name_eq (root_at w x) (shadow_root_of x.owner)))) (host_of-in w i x.owner h)
 
   -- whether a node of the group is among others is told by those of the group
-  is_in-kept : (s : NodeName) (xs : List NodeName) → in_node g s ≡ true → is_in name_eq s (filter (in_node g) xs) ≡ is_in name_eq s xs
+  pub is_in-kept : (s : NodeName) (xs : List NodeName) → in_node g s ≡ true → is_in name_eq s (filter (in_node g) xs) ≡ is_in name_eq s xs
   is_in-kept s [] h = refl
   is_in-kept s (x ∷ xs) h =
       by_cases (in_node g x) (λ t. ap (is_in name_eq s) (filter-here (in_node g) x xs t) ∙ ap (λ b. name_eq s x || b) (is_in-kept s xs h))

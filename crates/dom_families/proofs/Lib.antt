@@ -2,3 +2,4 @@ mod Families
 mod GroupParts
 mod GroupSlots
 mod GroupSignals
+mod GroupSteps

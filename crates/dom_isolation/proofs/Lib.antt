@@ -29,7 +29,7 @@ pub mod Plans
 pub mod FitPieces
 mod PlanCommands
 mod PlainWords
-mod WorldParts
+pub mod WorldParts
 mod PlainRuns
 mod PlainCommands
 pub mod PlainLines
