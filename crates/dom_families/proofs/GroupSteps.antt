@@ -28,7 +28,7 @@ use Rattle.dom_isolation.proofs.Tests.{by_cases}
 use Rattle.dom_isolation.proofs.WorldParts.{HoldsIn, IsKeptIn, holds-world_after}
 use Rattle.dom_isolation.proofs.WorldSteps.{attached-with_part}
 use Rattle.dom_families.proofs.GroupParts.{same_world, in_node, part-in, part-out, with_part-in, with_part-out, group-twice, filter-here, filter-away}
-use Rattle.dom_families.proofs.GroupSlots.{IsGround, parent-in, is_in-kept}
+use Rattle.dom_families.proofs.GroupSlots.{IsGround, owned-by, parent-in, is_in-kept}
 use Rattle.dom_families.proofs.GroupSignals.{signals-group, below-outside, below-group}
 
 -- What is asked of a world stays with steps.
@@ -197,3 +197,128 @@ module _ (g : Owner → Bool) (closed : KeepsFamilies g) where
       group_world g (with_removal_signals was now x parent) ≡ with_removal_signals (group_world g was) (group_world g now) x parent
   removal_signals-group was now i j x None = refl
   removal_signals-group was now i j x (Some parent) = with_signals-group was now i j x parent true
+
+  -- A step of an owner of the group does to the group what it does where no others are.
+  abbrev IsAlone : Owner → World → Step → Type 0
+  IsAlone o w s = group_world g (world_step o w s) ≡ group_world g (world_step o (group_world g w) s)
+
+  -- where it is made in what the group has, as it stands
+  whole : (o : Owner) (w : World) (s : Step) → group_world g (world_step o w s) ≡ world_step o (group_world g w) s → IsAlone o w s
+  whole o w s e = sym (group-twice g (world_step o w s)) ∙ ap (group_world g) e
+
+  -- a step in the world
+  pub step-in : (o : Owner) → g o ≡ true → (w : World) → IsGround w → (s : Step) → IsAlone o w s
+  step-in o h w i (place x parent before) =
+      let s = place x parent before in
+      whole o w s (with_signals-group w (stepped o w s) i (stepped-ground o w s i) x parent true
+      ∙ ap (λ now. with_signals (group_world g w) now x parent true) (stepped-in g o h w s))
+  step-in o h w i (take_out x) =
+      let s = take_out x in
+      let v = group_world g w in
+      whole o w s (removal_signals-group w (stepped o w s) i (stepped-ground o w s i) x (parent_of (part_of w o).trees x)
+      ∙ ap (λ now. with_removal_signals v now x (parent_of (part_of w o).trees x)) (stepped-in g o h w s)
+      ∙ ap (λ (p : Part). with_removal_signals v (stepped o v s) x (parent_of p.trees x)) (sym (part-in g w o h)))
+  step-in o h w i (set_attribute x a v) =
+      let s = set_attribute x a v in
+      whole o w s (with_signals-group w (stepped o w s) i (stepped-ground o w s i) x x false
+      ∙ ap (λ now. with_signals (group_world g w) now x x false) (stepped-in g o h w s))
+  step-in o h w i (set_document x d) =
+      let s = set_document x d in
+      let v = group_world g w in
+      let same : group_world g (stepped o w s) ≡ group_world g (stepped o v s) =
+      sym (group-twice g (stepped o w s)) ∙ ap (group_world g) (stepped-in g o h w s) in
+      documents-group g d (components_below max_depth w x) (stepped o w s)
+      ∙ ap (λ u. fold (with_shadow_document d) u (filter g (components_below max_depth w x))) same
+      ∙ ap (fold (with_shadow_document d) (group_world g (stepped o v s))) (sym (below-group g closed max_depth w i x))
+      ∙ sym (documents-group g d (components_below max_depth v x) (stepped o v s))
+  step-in o h w i (queue_record c) =
+      let s = queue_record c in
+      let v = group_world g w in
+      whole o w s (notify (is_taken (part_of w o) c) (stepped o w s)
+      ∙ ap (with_notify_if (is_taken (part_of w o) c) o) (stepped-in g o h w s)
+      ∙ ap (λ p. with_notify_if (is_taken p c) o (stepped o v s)) (sym (part-in g w o h)))
+    where
+      notify : (b : Bool) (u : World) → group_world g (with_notify_if b o u) ≡ with_notify_if b o (group_world g u)
+      notify true u = with_notify-in g o h u
+      notify false u = refl
+  step-in o h w i (make n) = whole o w (make n) (stepped-in g o h w (make n))
+  step-in o h w i (make_room parent index count) = whole o w (make_room parent index count) (stepped-in g o h w (make_room parent index count))
+  step-in o h w i (replace_data x offset count new) = whole o w (replace_data x offset count new) (stepped-in g o h w (replace_data x offset count new))
+  step-in o h w i (split_at x offset new parent index) =
+      whole o w (split_at x offset new parent index) (stepped-in g o h w (split_at x offset new parent index))
+  step-in o h w i (join_at first size next parent index) =
+      whole o w (join_at first size next parent index) (stepped-in g o h w (join_at first size next parent index))
+  step-in o h w i (set_range k r) = whole o w (set_range k r) (stepped-in g o h w (set_range k r))
+
+  -- so many steps do the same in two worlds of which the group has the same
+  pub steps-in : (o : Owner) → g o ≡ true → (steps : List Step) (w v : World) → IsGround w → IsGround v → group_world g w ≡ group_world g v →
+      group_world g (world_after o w steps) ≡ group_world g (world_after o v steps)
+  steps-in o h [] w v i j e = e
+  steps-in o h (s ∷ steps) w v i j e =
+      steps-in o h steps (world_step o w s) (world_step o v s) (world_step-ground o w s i) (world_step-ground o v s j)
+      (step-in o h w i s ∙ ap (λ u. group_world g (world_step o u s)) e ∙ sym (step-in o h v j s))
+
+  -- The signals of a step outside: where nothing of the group's changed there are none.
+  no_signals : (v : World) (x around : NodeName) (is_move : Bool) → (is_move ≡ true → is_slot_element (node_in (part_of v around.owner).trees around) ≡ false) →
+      signals v v x around is_move ≡ []
+  no_signals v x around is_move bare =
+      let parent : List NodeName = if is_move && (is_slot_element (node_in (part_of v around.owner).trees around)
+      && (is_in_shadow_tree v around && is_empty (assigned v around))) then around ∷ [] else [] in
+      ap (λ xs. distinct name_eq (xs ++ parent ++ filter (is_changed v v) (other_slots v x around))) (unchanged v (own_slots v v x))
+      ∙ ap (λ xs. distinct name_eq (parent ++ xs)) (unchanged v (other_slots v x around))
+      ∙ ap (λ xs. distinct name_eq (xs ++ [])) (none_bare is_move bare)
+    where
+      none_bare : (m : Bool) → (m ≡ true → is_slot_element (node_in (part_of v around.owner).trees around) ≡ false) →
+          (if m && (is_slot_element (node_in (part_of v around.owner).trees around) && (is_in_shadow_tree v around && is_empty (assigned v around)))
+          then around ∷ [] else []) ≡ []
+      none_bare false b = refl
+      none_bare true b = ap (λ t. if t && (is_in_shadow_tree v around && is_empty (assigned v around)) then around ∷ [] else []) (b refl)
+
+  -- of a node outside
+  signals-out : (o : Owner) → g o ≡ false → (w : World) → IsGround w → (s : Step) → (x around : NodeName) (is_move : Bool) →
+      (is_move ≡ true → around.owner ≡ o) → group_world g (with_signals w (stepped o w s) x around is_move) ≡ group_world g w
+  signals-out o h w i s x around is_move near =
+      let v = group_world g w in
+      with_signals-group w (stepped o w s) i (stepped-ground o w s i) x around is_move
+      ∙ ap (λ now. with_signals v now x around is_move) (stepped-out g o h w s)
+      ∙ ap (fold with_signal v) (no_signals v x around is_move
+      (λ m. ap (λ (p : Part). is_slot_element (node_in p.trees around)) (part-out g w around.owner (ap g (near m) ∙ h))))
+
+  -- A step of another owner is none.
+  pub step-out : (o : Owner) → g o ≡ false → (w : World) → IsGround w → (s : Step) → Fits (part_of w o) s →
+      group_world g (world_step o w s) ≡ group_world g w
+  step-out o h w i (place x parent before) f =
+      signals-out o h w i (place x parent before) x parent true (λ m. owned-by w i o parent f.0)
+  step-out o h w i (take_out x) f = from (parent_of (part_of w o).trees x) refl
+    where
+      from : (p : Option NodeName) → parent_of (part_of w o).trees x ≡ p →
+          group_world g (with_removal_signals w (stepped o w (take_out x)) x p) ≡ group_world g w
+      from None e = stepped-out g o h w (take_out x)
+      from (Some parent) e = signals-out o h w i (take_out x) x parent true (λ m. parent-in w i o x parent e)
+  step-out o h w i (set_attribute x a v) f = signals-out o h w i (set_attribute x a v) x x false (λ m. absurd (true≢false (sym m)))
+  step-out o h w i (set_document x d) f =
+      let s = set_document x d in
+      documents-group g d (components_below max_depth w x) (stepped o w s)
+      ∙ ap (fold (with_shadow_document d) (group_world g (stepped o w s)))
+      (below-outside g closed max_depth w i x (ap g (f ∙ owner-part_of w o) ∙ h))
+      ∙ stepped-out g o h w s
+  step-out o h w i (queue_record c) f = notify (is_taken (part_of w o) c) (stepped o w (queue_record c)) ∙ stepped-out g o h w (queue_record c)
+    where
+      notify : (b : Bool) (u : World) → group_world g (with_notify_if b o u) ≡ group_world g u
+      notify true u = with_notify-out g o h u
+      notify false u = refl
+  step-out o h w i (make n) f = stepped-out g o h w (make n)
+  step-out o h w i (make_room parent index count) f = stepped-out g o h w (make_room parent index count)
+  step-out o h w i (replace_data x offset count new) f = stepped-out g o h w (replace_data x offset count new)
+  step-out o h w i (split_at x offset new parent index) f = stepped-out g o h w (split_at x offset new parent index)
+  step-out o h w i (join_at first size next parent index) f = stepped-out g o h w (join_at first size next parent index)
+  step-out o h w i (set_range k r) f = stepped-out g o h w (set_range k r)
+
+  -- nor are many
+  pub steps-out : (o : Owner) → g o ≡ false → (steps : List Step) (w : World) → IsGround w → MadeIn (part_of w o) steps →
+      group_world g (world_after o w steps) ≡ group_world g w
+  steps-out o h [] w i m = refl
+  steps-out o h (s ∷ steps) w i m =
+      steps-out o h steps (world_step o w s) (world_step-ground o w s i)
+      (subst (λ p. MadeIn p steps) (sym (part-own_step o w s (base w i) m.0)) m.1)
+      ∙ step-out o h w i s m.0
