@@ -3,3 +3,4 @@ mod GroupParts
 mod GroupSlots
 mod GroupSignals
 mod GroupSteps
+mod GroupVisits
