@@ -4,3 +4,4 @@ mod GroupSlots
 mod GroupSignals
 mod GroupSteps
 mod GroupVisits
+mod GroupPaths
