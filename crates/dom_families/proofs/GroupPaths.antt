@@ -53,7 +53,7 @@ module _ {X : Type 0} where
       (λ e. subst (λ o. P (unwrap_or o d)) (sym (cond-false (p x) (Some x) (find p xs) e)) (found-all P p xs d a.1 h))
 
   -- a front, of the items that pass a test, where all others are taken
-  take_while-filter : (t p q : X → Bool) → ((x : X) → t x ≡ true → q x ≡ p x) → ((x : X) → t x ≡ false → p x ≡ true) → (xs : List X) →
+  pub take_while-filter : (t p q : X → Bool) → ((x : X) → t x ≡ true → q x ≡ p x) → ((x : X) → t x ≡ false → p x ≡ true) → (xs : List X) →
       filter t (take_while p xs) ≡ take_while q (filter t xs)
   take_while-filter t p q same others [] = refl
   take_while-filter t p q same others (x ∷ xs) =
@@ -66,7 +66,7 @@ module _ {X : Type 0} where
       ∙ sym (ap (take_while q) (filter-away t x xs h)))
 
   -- one test, where it holds of no item that fails another
-  filter-within : (t p q : X → Bool) → ((x : X) → t x ≡ true → p x ≡ q x) → (xs : List X) → AllByRecursion (λ x. t x ≡ false → p x ≡ false) xs →
+  pub filter-within : (t p q : X → Bool) → ((x : X) → t x ≡ true → p x ≡ q x) → (xs : List X) → AllByRecursion (λ x. t x ≡ false → p x ≡ false) xs →
       filter p xs ≡ filter q (filter t xs)
   filter-within t p q same [] a = refl
   filter-within t p q same (x ∷ xs) a =
@@ -88,7 +88,7 @@ module _ (g : Owner → Bool) (closed : KeepsFamilies g) (w : World) (ground : I
   Out x = in_node g x ≡ false
 
   -- the ancestors of a node are of the group where it is,
-  ancestors-inside : (x : NodeName) → In x → AllByRecursion In (ancestors_at w x)
+  pub ancestors-inside : (x : NodeName) → In x → AllByRecursion In (ancestors_at w x)
   ancestors-inside x h = all-then (IsOf x.owner) In (λ y e. ap g e ∙ h) (ancestors_at w x) (ancestors-of w ground x.owner x)
 
   -- and outside where it is not
@@ -144,14 +144,14 @@ module _ (g : Owner → Bool) (closed : KeepsFamilies g) (w : World) (ground : I
       (all-then In (λ y. ancestors_at (group_world g w) y ≡ ancestors_at w y) ancestors-in (host_chain w x) (chain-inside x h))
 
   -- What is hidden from a node of the group, of nodes of the group, is the same;
-  hidden-in : (x y : NodeName) → In x → In y → is_hidden_from (group_world g w) x y ≡ is_hidden_from w x y
+  pub hidden-in : (x y : NodeName) → In x → In y → is_hidden_from (group_world g w) x y ≡ is_hidden_from w x y
   hidden-in x y h k =
       ap (λ o. is_some o && not (is_in name_eq (root_at (group_world g w) y) (shadow_including_ancestors (group_world g w) x))) (host_above-in g closed w ground y k)
       ∙ ap (λ (p : Part). is_in_shadow_tree w y && not (is_in name_eq (root_of p.trees y) (shadow_including_ancestors (group_world g w) x))) (part-in g w y.owner k)
       ∙ ap (λ xs. is_in_shadow_tree w y && not (is_in name_eq (root_at w y) xs)) (including-in x h)
 
   -- a node outside is not among nodes of the group
-  not_among : (r : NodeName) (xs : List NodeName) → Out r → AllByRecursion In xs → is_in name_eq r xs ≡ false
+  pub not_among : (r : NodeName) (xs : List NodeName) → Out r → AllByRecursion In xs → is_in name_eq r xs ≡ false
   not_among r [] h a = refl
   not_among r (x ∷ xs) h a =
       ap (λ b. b || is_in name_eq r xs)
@@ -165,7 +165,7 @@ module _ (g : Owner → Bool) (closed : KeepsFamilies g) (w : World) (ground : I
       ∙ ap not (not_among (root_at w y) (shadow_including_ancestors w x) (ap (λ (r : NodeName). g r.owner) t.root ∙ ap g (sym t.owner) ∙ k) (including-inside x h))
 
   -- What is seen in place of a node of the group is of the group,
-  retarget-inside : (a b : NodeName) → In a → In (retarget w a b)
+  pub retarget-inside : (a b : NodeName) → In a → In (retarget w a b)
   retarget-inside a b h = found-all In (λ x. not (is_hidden_from w b x)) (host_chain w a) a (chain-inside a h) h
 
   -- and the same
@@ -181,7 +181,7 @@ module _ (g : Owner → Bool) (closed : KeepsFamilies g) (w : World) (ground : I
   AreIn r = AllByRecursion In (option_to_list r)
 
   -- the same
-  related-in : (r : Option NodeName) (b : NodeName) → AreIn r → In b → retarget_related (group_world g w) r b ≡ retarget_related w r b
+  pub related-in : (r : Option NodeName) (b : NodeName) → AreIn r → In b → retarget_related (group_world g w) r b ≡ retarget_related w r b
   related-in None b h k = refl
   related-in (Some a) b h k = ap Some (retarget-in a b h.0 k)
 
@@ -242,11 +242,11 @@ module _ (g : Owner → Bool) (closed : KeepsFamilies g) (w : World) (ground : I
       ∙ ap (flat_map (with_slots max_depth (group_world g w))) (sym (ancestors-in x h))
 
   -- where an event of a node of the group begins its ways up
-  abbrev begins : World → NodeName → Bool → List NodeName
+  abbrev pub begins : World → NodeName → Bool → List NodeName
   begins u x composed = if composed then host_chain u x else x ∷ []
 
   -- are nodes of the group
-  begins-inside : (x : NodeName) (composed : Bool) → In x → AllByRecursion In (begins w x composed)
+  pub begins-inside : (x : NodeName) (composed : Bool) → In x → AllByRecursion In (begins w x composed)
   begins-inside x composed h = either_way (AllByRecursion In) composed (host_chain w x) (x ∷ []) (chain-inside x h) (h, tt)
 
   -- The whole path

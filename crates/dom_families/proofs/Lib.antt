@@ -5,3 +5,4 @@ mod GroupSignals
 mod GroupSteps
 mod GroupVisits
 mod GroupPaths
+mod GroupViews
