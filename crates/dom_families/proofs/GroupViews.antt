@@ -21,7 +21,7 @@ use Rattle.dom_families.proofs.GroupPaths.{In, Out, AreIn, begins, begins-inside
 use Rattle.dom_families.proofs.GroupPaths.{related-in, whole-in, take_while-filter, filter-within}
 
 -- a test that fails with another
-and-no : (b : Bool) → (b && false) ≡ false
+pub and-no : (b : Bool) → (b && false) ≡ false
 and-no true = refl
 and-no false = refl
 

@@ -6,3 +6,4 @@ mod GroupSteps
 mod GroupVisits
 mod GroupPaths
 mod GroupViews
+mod OutsideViews

@@ -34,11 +34,11 @@ host-page w i o host e =
     (hosted-no_page w o host k, hosted-owned w i o host k ∙ maker-is_page k.maker (hosted-maker w i.makers o host k))
 
 -- the host of a root, where that is the owner's shadow root
-abbrev above_as : World → NodeName → Owner → Option NodeName
+abbrev pub above_as : World → NodeName → Owner → Option NodeName
 above_as w r o = option_and_then (some_if (name_eq r (shadow_root_of o))) (host_of w o)
 
 -- nodes with one root have one host above
-above-sibling : (w : World) (x y host : NodeName) → host_above w x ≡ Some host → y.owner ≡ x.owner → root_at w y ≡ root_at w x → host_above w y ≡ Some host
+pub above-sibling : (w : World) (x y host : NodeName) → host_above w x ≡ Some host → y.owner ≡ x.owner → root_at w y ≡ root_at w x → host_above w y ≡ Some host
 above-sibling w x y host h e r = ap (above_as w (root_at w y)) e ∙ ap (λ z. above_as w z x.owner) r ∙ h
 
 -- The page's answer to a dispatch of a component.

@@ -176,7 +176,7 @@ retarget-host w i x host b =
     ∙ ap (λ o. unwrap_or o x) (cond-true (seen host) (Some host) (find seen at.0) (ap not (hidden-itself w i host)))
 
 -- so it ends there
-ends-at_host : (w : World) → IsWorld w → (x y host : NodeName) → IsBelow w x host → IsBelow w y host → ends_at w x (Some y) host ≡ true
+pub ends-at_host : (w : World) → IsWorld w → (x y host : NodeName) → IsBelow w x host → IsBelow w y host → ends_at w x (Some y) host ≡ true
 ends-at_host w i x y host u v =
     let deep = u.deeper in
     let other : name_eq host x ≡ false = other-owner host x (λ e. let same = ap owner_depth e in absurd (omega (arith, deep, same))) in
