@@ -7,3 +7,4 @@ mod GroupVisits
 mod GroupPaths
 mod GroupViews
 mod OutsideViews
+mod GroupDispatches

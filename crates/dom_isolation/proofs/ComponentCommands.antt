@@ -52,7 +52,7 @@ effect-other w k (tables p lines v) h =
 effect-other w k (changes steps v) h = ap (λ s. quiet s) (page_of-world_after-other (Component k) (Component-IsNoPage k) w steps)
 
 -- What an accepted dispatch of a component is known to have.
-related-near : (p : Part) (k : ComponentName) (x : Spelled) (e : EventWords) (y : Spelled) → p.owner ≡ Component k →
+pub related-near : (p : Part) (k : ComponentName) (x : Spelled) (e : EventWords) (y : Spelled) → p.owner ≡ Component k →
     part_refusal p (Command.dispatch x e (Some y)) ≡ None → root_of p.trees (named p y) ≡ root_of p.trees (named p x)
 related-near p k x e y o h =
     let c = Command.dispatch x e (Some y) in
@@ -148,7 +148,7 @@ hosts-in_turn w t (suc depth) x =
     ap (λ ys. x ∷ ys) (each-same (hosts_from depth (record w { turn = t })) (hosts_from depth w) (hosts-in_turn w t depth) (option_to_list (host_above w x)))
 
 -- nor an outward event
-opened-event : (w : World) (k : ComponentName) (c : Command) →
+pub opened-event : (w : World) (k : ComponentName) (c : Command) →
     outward_dispatch (opening_turn w (Component k)) (Component k) c ≡ outward_dispatch w (Component k) c
 opened-event w k c =
     by_cases (is_some w.turn) (λ e. ap (λ v. outward_dispatch v (Component k) c) (cond-true (is_some w.turn) w (record w { turn = Some (Component k) }) e))

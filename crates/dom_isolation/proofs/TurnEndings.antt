@@ -96,7 +96,7 @@ module _ {only_log : Bool} where
   keeps-firings (s ∷ ss) w q = keeps-firings ss (firing_slotchange w s).0 (quiet-dispatch w s None slotchange q)
 
 -- The lines of a notification are its owner's.
-abbrev IsLineOf : Owner → Output → Type 0
+abbrev pub IsLineOf : Owner → Output → Type 0
 IsLineOf o l = owner_of_output l ≡ Some o
 
 -- lines of records
@@ -105,7 +105,7 @@ all-said o k [] = tt
 all-said o k (c ∷ cs) = (refl, all-said o k cs)
 
 -- all lines of a notification
-lines-notified : (p : Part) → AllByRecursion (IsLineOf p.owner) (notified_lines p)
+pub lines-notified : (p : Part) → AllByRecursion (IsLineOf p.owner) (notified_lines p)
 lines-notified p = each p.pending
   where
     each : (ks : List ℕ) → AllByRecursion (IsLineOf p.owner) (flat_map (records_of p) ks)
@@ -132,7 +132,7 @@ other-notified_lines p h =
     (λ l e. ap (is_of (owner_eq Page)) e ∙ page_ne p.owner h) (notified_lines p) (lines-notified p))
 
 -- The first part of a notification.
-abbrev told_in : World → Owner → World
+abbrev pub told_in : World → Owner → World
 told_in w o = with_part (without_signals w o) (notified (part_of w o))
 
 -- trees, counts and hosts stay

@@ -160,7 +160,7 @@ module _ {only_log : Bool} where
   quiet-world_step o w s t m q = quiet-stepped w o s m q
 
 -- the turn and the hosts stay
-SameFrame : World → World → Type 0
+pub SameFrame : World → World → Type 0
 SameFrame v w = (v.turn ≡ w.turn) × ((o : Owner) → host_of v o ≡ host_of w o)
 
 -- one and then another
@@ -199,7 +199,7 @@ frame-documents (c ∷ cs) d w = frame-then (fold (with_shadow_document d) w (c 
     (frame-documents cs d (with_shadow_document d w c)) (frame-stepped w c (set_document (shadow_root_of c) d))
 
 -- a step in the world
-frame-world_step : (o : Owner) (w : World) (s : Step) → SameFrame (world_step o w s) w
+pub frame-world_step : (o : Owner) (w : World) (s : Step) → SameFrame (world_step o w s) w
 frame-world_step o w (place x parent before) =
     let v = stepped o w (place x parent before) in frame-then (world_step o w (place x parent before)) v w
     (frame-signals (signals w v x parent true) v) (frame-stepped w o (place x parent before))

@@ -1,0 +1,155 @@
+-- A dispatch as a group has it: of one of its nodes the same in two worlds of which it has the same, and of another node nothing, or the
+-- outward event at its host.
+use Rattle.std.proofs.Common.{◌≡◌, ◌≢◌, Bool, true, false, not, ◌&&◌, List, [], ◌∷◌, ◌++◌, filter, Option, Some, None, option_map, unwrap_or}
+use Rattle.std.proofs.Common.{refl, sym, ap, ◌∙◌, subst, true≢false, append-nil}
+use Rattle.std.specs.Prelude.{if◌then◌else◌, is_some, option_to_list}
+use Rattle.std.specs.List.{AllByRecursion}
+use Rattle.std.proofs.lemmas.List.Elements.{filter-append}
+use Rattle.dom_base.specs.declared.Owner.{Owner}
+use Rattle.dom_base.specs.declared.Owner.TheVariants.{Page}
+use Rattle.dom_base.specs.declared.NodeName.{NodeName}
+use Rattle.dom_model.specs.Names.{owner_eq, owner_depth, last_of}
+use Rattle.dom_model.specs.Command.{EventWords}
+use Rattle.dom_model.specs.Output.{Output}
+use Rattle.dom_model.specs.Paths.{views}
+use Rattle.dom_model.specs.Runs.{Run, quiet, run_then, run_each}
+use Rattle.dom_model.specs.World.{World, host_above, host_chain, is_in_shadow_tree}
+use Rattle.dom_model.specs.Dispatch.{Dispatched, dispatch_in}
+use Rattle.dom_model.specs.Groups.{KeepsFamilies, group_world, group_outputs, group_run, outward_words, outward_in}
+use Rattle.dom_model.specs.Trace.{OutwardEvent, is_page, is_of, owner_of_output, outermost_host, outward_of}
+use Rattle.dom_model.proofs.OwnerLaws.{owner_eq-true, owner_eq-false}
+use Rattle.dom_isolation.specs.Laws.{IsQuiet}
+use Rattle.dom_isolation.proofs.Chains.{below-host, hosts-alone, no_host}
+use Rattle.dom_isolation.proofs.ComponentEvents.{outward_at, HasSameRoot, above-sibling}
+use Rattle.dom_isolation.proofs.Tests.{by_cases}
+use Rattle.dom_families.proofs.GroupParts.{in_node}
+use Rattle.dom_families.proofs.GroupVisits.{in_view, group_dispatched, same_dispatch, no_dispatch}
+use Rattle.dom_families.proofs.GroupViews.{IsNear, Inside, Outside, views-in}
+use Rattle.dom_families.proofs.OutsideViews.{HasExit, has-exit, exit-away, exit-host, views-exit, views-kept_in, views-far, views-related}
+
+-- an outward event, if there is one
+abbrev pub outward_run : World → Option OutwardEvent → Run World
+outward_run w o = run_each outward_in w (option_to_list o)
+
+-- one event alone
+outward-alone : (w : World) (e : OutwardEvent) → outward_run w (Some e) ≡ outward_in w e
+outward-alone w e = ap (λ ls. ((outward_in w e).0, ls)) (append-nil (outward_in w e).1)
+
+-- the outermost host is a page node
+pub outermost-page : (w : World) (x host : NodeName) → outermost_host w x ≡ Some host → host.owner ≡ Page
+outermost-page w x host h =
+    let last = unwrap_or (last_of (host_chain w x)) x in
+    by_test (is_in_shadow_tree w x) (is_page last.owner) refl h
+  where
+    by_test : (a b : Bool) → is_page (unwrap_or (last_of (host_chain w x)) x).owner ≡ b →
+        (if a && b then Some (unwrap_or (last_of (host_chain w x)) x) else None) ≡ Some host → host.owner ≡ Page
+    by_test true true t e =
+        let last = unwrap_or (last_of (host_chain w x)) x in
+        let same : last ≡ host = cc in
+        ap (λ (y : NodeName). y.owner) (sym same) ∙ owner_eq-true last.owner Page t
+    by_test true false t e = cc
+    by_test false b t e = cc
+
+module _ (g : Owner → Bool) (closed : KeepsFamilies g) where
+  -- Two runs of which the group has the same, and then two more.
+  pub runs-then : (r s : Run World) (f h : World → Run World) → group_run g r ≡ group_run g s → group_run g (f r.0) ≡ group_run g (h s.0) →
+      group_run g (run_then r f) ≡ group_run g (run_then s h)
+  runs-then r s f h a b =
+      let test : Output → Bool = λ l. is_of g (owner_of_output l) in
+      ap (λ ls. (group_world g (f r.0).0, ls)) (filter-append test r.1 (f r.0).1)
+      ∙ ap (λ (q : Run World). (q.0, group_outputs g r.1 ++ q.1)) b
+      ∙ ap (λ (q : Run World). (group_world g (h s.0).0, q.1 ++ group_outputs g (h s.0).1)) a
+      ∙ sym (ap (λ ls. (group_world g (h s.0).0, ls)) (filter-append test s.1 (h s.0).1))
+
+  -- a run that shows nothing comes first
+  pub quiet-then : (r : Run World) (w : World) (f : World → Run World) (s : Run World) → group_run g r ≡ (group_world g w, []) →
+      group_run g (f r.0) ≡ group_run g s → group_run g (run_then r f) ≡ group_run g s
+  quiet-then r w f s a b =
+      let test : Output → Bool = λ l. is_of g (owner_of_output l) in
+      ap (λ ls. (group_world g (f r.0).0, ls)) (filter-append test r.1 (f r.0).1)
+      ∙ ap (λ (q : Run World). (group_world g (f r.0).0, q.1 ++ group_outputs g (f r.0).1)) a ∙ b
+
+  -- A dispatch at a node of the group.
+  pub dispatch-in : (w v : World) → IsQuiet w → IsQuiet v → group_world g w ≡ group_world g v → (x : NodeName) (r : Option NodeName) (e : EventWords) →
+      in_node g x ≡ true → AllByRecursion (λ y. in_node g y ≡ true) (option_to_list r) →
+      group_dispatched g (dispatch_in w x r e) ≡ group_dispatched g (dispatch_in v x r e)
+  dispatch-in w v q p same x r e h k =
+      same_dispatch g closed w v x x r r e (q.logs refl) (p.logs refl) same
+      (views-in g closed w q.world x r e.composed h k ∙ ap (λ u. views u x r e.composed) same ∙ sym (views-in g closed v p.world x r e.composed h k))
+
+  -- an outward event, in two such worlds
+  pub outward-in : (w v : World) → IsQuiet w → IsQuiet v → group_world g w ≡ group_world g v → (o : Option OutwardEvent) →
+      ((e : OutwardEvent) → o ≡ Some e → e.host.owner ≡ Page) → group_run g (outward_run w o) ≡ group_run g (outward_run v o)
+  outward-in w v q p same None page = ap (λ u. (u, [])) same
+  outward-in w v q p same (Some e) page =
+      ap (group_run g) (outward-alone w e)
+      ∙ ap (λ (d : Dispatched World). d.run) (dispatch-in w v q p same e.host None (outward_words e) (ap g (page e refl) ∙ closed.page) tt)
+      ∙ ap (group_run g) (sym (outward-alone v e))
+
+  -- no view at a node of the group
+  abbrev NoView : World → NodeName → Option NodeName → Bool → Type 0
+  NoView w x r composed = filter (in_view g) (views w x r composed) ≡ []
+
+  -- A dispatch at another node.
+  pub dispatch-out : (w : World) → IsQuiet w → (x : NodeName) (r : Option NodeName) (e : EventWords) → in_node g x ≡ false → HasSameRoot w x r →
+      group_run g (dispatch_in w x r e).run ≡ group_run g (outward_run w (outward_at w x e r))
+  dispatch-out w q x r e h same =
+      by_cases e.composed (λ c. by_cases (is_in_shadow_tree w x) (λ t. inside c t r same) (λ t. outside c t)) kept
+    where
+      none : (r : Option NodeName) → outward_at w x e r ≡ None → NoView w x r e.composed →
+          group_run g (dispatch_in w x r e).run ≡ group_run g (outward_run w (outward_at w x e r))
+      none r o k = no_dispatch g closed w x r e (q.logs refl) k ∙ sym (ap (λ o. group_run g (outward_run w o)) o)
+
+      kept_none : (r : Option NodeName) → e.composed ≡ false → outward_at w x e r ≡ None
+      kept_none None c = ap (λ b. if b then option_map (outward_of e) (outermost_host w x) else None) c
+      kept_none (Some y) c = refl
+
+      kept : e.composed ≡ false → group_run g (dispatch_in w x r e).run ≡ group_run g (outward_run w (outward_at w x e r))
+      kept c = none r (kept_none r c) (subst (NoView w x r) (sym c) (views-kept_in g closed w q.world x r h))
+
+      outside_none : (r : Option NodeName) → is_in_shadow_tree w x ≡ false → e.composed ≡ true → outward_at w x e r ≡ None
+      outside_none None t c =
+          ap (λ b. if b then option_map (outward_of e) (outermost_host w x) else None) c
+          ∙ ap (λ b. option_map (outward_of e)
+          (if b && is_page (unwrap_or (last_of (host_chain w x)) x).owner then Some (unwrap_or (last_of (host_chain w x)) x) else None)) t
+      outside_none (Some y) t c = refl
+
+      outside : e.composed ≡ true → is_in_shadow_tree w x ≡ false → group_run g (dispatch_in w x r e).run ≡ group_run g (outward_run w (outward_at w x e r))
+      outside c t =
+          none r (outside_none r t c) (views-far g closed w q.world x r e.composed
+          (subst (AllByRecursion (λ y. in_node g y ≡ false)) (sym (hosts-alone (owner_depth x.owner) w x (no_host (host_above w x) t))) (h, tt)))
+
+      exit_is : is_in_shadow_tree w x ≡ true → (k : HasExit g closed w q.world x) → (b : Bool) → is_page k.last.owner ≡ b →
+          outermost_host w x ≡ (if b then Some k.last else None)
+      exit_is t k b p = exit-host g closed w q.world x k t ∙ ap (λ b. if b then Some k.last else None) p
+
+      at_exit : e.composed ≡ true → (o : Option NodeName) → outermost_host w x ≡ o → outward_at w x e None ≡ option_map (outward_of e) o
+      at_exit c o t = ap (λ b. if b then option_map (outward_of e) (outermost_host w x) else None) c ∙ ap (option_map (outward_of e)) t
+
+      alone : e.composed ≡ true → is_in_shadow_tree w x ≡ true →
+          group_run g (dispatch_in w x None e).run ≡ group_run g (outward_run w (outward_at w x e None))
+      alone c t =
+          let k = has-exit g closed w q.world x h in
+          let host = k.last in
+          by_cases (is_page host.owner)
+          (λ p. let page = owner_eq-true host.owner Page p in
+          let seen = subst (λ b. filter (in_view g) (views w x None b) ≡ filter (in_view g) (views w host None b)) (sym c) (views-exit g closed w q.world x k page) in
+          let words : e ≡ outward_words (outward_of e host) = ap (λ b. record e { composed = b }) c in
+          ap (λ (d : Dispatched World). d.run) (same_dispatch g closed w w x host None None e (q.logs refl) (q.logs refl) refl seen)
+          ∙ ap (λ e. group_run g (dispatch_in w host None e).run) words
+          ∙ sym (ap (group_run g) (outward-alone w (outward_of e host)))
+          ∙ sym (ap (λ o. group_run g (outward_run w o)) (at_exit c (Some host) (exit_is t k true p))))
+          (λ p. none None (at_exit c None (exit_is t k false p))
+          (views-far g closed w q.world x None e.composed (exit-away g closed w q.world x k (owner_eq-false host.owner Page p))))
+
+      inside : e.composed ≡ true → is_in_shadow_tree w x ≡ true → (r : Option NodeName) → HasSameRoot w x r →
+          group_run g (dispatch_in w x r e).run ≡ group_run g (outward_run w (outward_at w x e r))
+      inside c t None s = alone c t
+      inside c t (Some y) s = from (host_above w x) refl
+        where
+          from : (o : Option NodeName) → host_above w x ≡ o → group_run g (dispatch_in w x (Some y) e).run ≡ group_run g (outward_run w (outward_at w x e (Some y)))
+          from None k = absurd (true≢false (sym t ∙ ap is_some k))
+          from (Some host) k =
+              none (Some y) refl (subst (NoView w x (Some y)) (sym c)
+              (views-related g closed w q.world x y host h (below-host w q.world x host k)
+              (below-host w q.world y host (above-sibling w x y host k s.0.0 s.0.1))))
