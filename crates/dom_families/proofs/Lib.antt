@@ -8,3 +8,4 @@ mod GroupPaths
 mod GroupViews
 mod OutsideViews
 mod GroupDispatches
+mod GroupTurns

@@ -1,0 +1,167 @@
+-- Notifications and the endings of turns as a group has them: its own tasks do the same in two worlds of which it has the same, and
+-- others' tasks do nothing.
+use Rattle.std.proofs.Common.{◌≡◌, ◌≢◌, Bool, true, false, not, List, [], ◌∷◌, ◌++◌, filter, Option, Some, None, refl, sym, ap, ◌∙◌, subst, true≢false, append-nil}
+use Rattle.std.specs.Prelude.{is_some, is_none, ◌&&◌, if◌then◌else◌}
+use Rattle.std.specs.List.{AllByRecursion}
+use Rattle.std.specs.Option.{option_map_or}
+use Rattle.std.proofs.lemmas.Bool.{cond-true, cond-false}
+use Rattle.dom_base.specs.declared.Owner.{Owner}
+use Rattle.dom_base.specs.declared.Owner.TheVariants.{Page, Component}
+use Rattle.dom_base.specs.declared.NodeName.{NodeName}
+use Rattle.dom_model.specs.Names.{owner_eq}
+use Rattle.dom_model.specs.Output.{Output, says, micro_ran}
+use Rattle.dom_model.specs.Part.{Part}
+use Rattle.dom_model.specs.Runs.{Run, quiet, run_then, run_each}
+use Rattle.dom_model.specs.World.{World, Task, micro_task, notify_task, part_of, with_part, some_if}
+use Rattle.dom_model.specs.Dispatch.{Dispatched, dispatch_in, visits_of}
+use Rattle.dom_model.specs.Turns.{slotchange, firing_slotchange, is_owned_by, without_signals, notifying, notified, notified_lines, running_task, ending_turn}
+use Rattle.dom_model.specs.Turns.{is_other_component, has_other_turn, ending_other_turn, ending_any_turn}
+use Rattle.dom_model.specs.Groups.{KeepsFamilies, group_world, group_turn, group_outputs, group_run, is_task_of}
+use Rattle.dom_model.specs.Trace.{is_of, owner_of_output}
+use Rattle.dom_model.proofs.OwnerLaws.{owner_eq-true}
+use Rattle.dom_model.proofs.PartLaws.{owner-part_of}
+use Rattle.dom_isolation.specs.Laws.{IsQuiet}
+use Rattle.dom_isolation.proofs.Lists.{all-then, all-passed, filter_all, filter_none, filter_same, filter-filter}
+use Rattle.dom_isolation.proofs.Tests.{by_cases}
+use Rattle.dom_isolation.proofs.TurnEndings.{told_in, quiet-told, quiet-dispatch, quiet-running, quiet-at_end, IsLineOf, lines-notified}
+use Rattle.dom_families.proofs.GroupParts.{in_node, part-in, with_part-in, with_part-out, filter-here, filter-away}
+use Rattle.dom_families.proofs.GroupVisits.{no_dispatch}
+use Rattle.dom_families.proofs.OutsideViews.{views-kept_in}
+use Rattle.dom_families.proofs.GroupDispatches.{runs-then, quiet-then, dispatch-in}
+
+-- a test on the items of which another holds anyway
+filter-sub : {X : Type 0} (p t : X → Bool) → ((x : X) → p x ≡ true → t x ≡ true) → (xs : List X) → filter p (filter t xs) ≡ filter p xs
+filter-sub p t f xs =
+    filter-filter p t xs ∙ filter_all t (filter p xs) (all-then (λ x. p x ≡ true) (λ x. t x ≡ true) f (filter p xs) (all-passed (λ x. p x ≡ true) p (λ x h. h) xs))
+
+module _ (g : Owner → Bool) (closed : KeepsFamilies g) where
+  -- an owner's nodes are of the group where the owner is
+  owned-in : (o : Owner) → g o ≡ true → (s : NodeName) → is_owned_by o s ≡ true → in_node g s ≡ true
+  owned-in o h s e = ap g (owner_eq-true s.owner o e) ∙ h
+
+  -- and outside where it is not
+  owned-out : (o : Owner) → g o ≡ false → (s : NodeName) → is_owned_by o s ≡ true → in_node g s ≡ false
+  owned-out o h s e = ap g (owner_eq-true s.owner o e) ∙ h
+
+  -- The part of an owner of the group in two worlds of which the group has the same.
+  pub same-part : (w v : World) → group_world g w ≡ group_world g v → (o : Owner) → g o ≡ true → part_of w o ≡ part_of v o
+  same-part w v same o h = sym (part-in g w o h) ∙ ap (λ u. part_of u o) same ∙ part-in g v o h
+
+  -- Events at the signalled slots of the group,
+  firings-in : (ss : List NodeName) (w v : World) → IsQuiet w → IsQuiet v → group_world g w ≡ group_world g v →
+      AllByRecursion (λ s. in_node g s ≡ true) ss → group_run g (run_each firing_slotchange w ss) ≡ group_run g (run_each firing_slotchange v ss)
+  firings-in [] w v q p same h = ap (λ u. (u, [])) same
+  firings-in (s ∷ ss) w v q p same h =
+      let first : group_run g (firing_slotchange w s) ≡ group_run g (firing_slotchange v s) =
+      ap (λ (d : Dispatched World). d.run) (dispatch-in g closed w v q p same s None slotchange h.0 tt) in
+      runs-then g closed (firing_slotchange w s) (firing_slotchange v s) (λ u. run_each firing_slotchange u ss) (λ u. run_each firing_slotchange u ss) first
+      (firings-in ss (firing_slotchange w s).0 (firing_slotchange v s).0 (quiet-dispatch w s None slotchange q) (quiet-dispatch v s None slotchange p)
+      (ap (λ (r : Run World). r.0) first) h.1)
+
+  -- and at others'
+  firings-out : (ss : List NodeName) (w : World) → IsQuiet w → AllByRecursion (λ s. in_node g s ≡ false) ss →
+      group_run g (run_each firing_slotchange w ss) ≡ (group_world g w, [])
+  firings-out [] w q h = refl
+  firings-out (s ∷ ss) w q h =
+      let first : group_run g (firing_slotchange w s) ≡ (group_world g w, []) =
+      no_dispatch g closed w s None slotchange (q.logs refl) (views-kept_in g closed w q.world s None h.0) in
+      quiet-then g closed (firing_slotchange w s) w (λ u. run_each firing_slotchange u ss) (w, []) first
+      (firings-out ss (firing_slotchange w s).0 (quiet-dispatch w s None slotchange q) h.1 ∙ ap (λ (r : Run World). (r.0, [])) first)
+
+  -- The first part of a notification of the group.
+  told-group : (w : World) (o : Owner) → g o ≡ true → group_world g (told_in w o) ≡ told_in (group_world g w) o
+  told-group w o h =
+      with_part-in g (without_signals w o) (notified (part_of w o)) (ap g (owner-part_of w o) ∙ h)
+      ∙ ap (λ ss. with_part (record (group_world g w) { signalled = ss }) (notified (part_of w o)))
+      (filter-filter (in_node g) (λ s. not (is_owned_by o s)) w.signalled)
+      ∙ ap (λ p. with_part (without_signals (group_world g w) o) (notified p)) (sym (part-in g w o h))
+
+  -- a notification of the group
+  notifying-in : (w v : World) → IsQuiet w → IsQuiet v → group_world g w ≡ group_world g v → (o : Owner) → g o ≡ true →
+      group_run g (notifying w o) ≡ group_run g (notifying v o)
+  notifying-in w v q p same o h =
+      let slots : World → List NodeName = λ u. filter (is_owned_by o) u.signalled in
+      let told = told-group w o h ∙ ap (λ u. told_in u o) same ∙ sym (told-group v o h) in
+      let first : group_run g (told_in w o, notified_lines (part_of w o)) ≡ group_run g (told_in v o, notified_lines (part_of v o)) =
+      ap (λ u. (u, group_outputs g (notified_lines (part_of w o)))) told
+      ∙ ap (λ a. (group_world g (told_in v o), group_outputs g (notified_lines a))) (same-part w v same o h) in
+      let same_slots : slots w ≡ slots v =
+      sym (filter-sub (is_owned_by o) (in_node g) (owned-in o h) w.signalled) ∙ ap slots same
+      ∙ filter-sub (is_owned_by o) (in_node g) (owned-in o h) v.signalled in
+      runs-then g closed (told_in w o, notified_lines (part_of w o)) (told_in v o, notified_lines (part_of v o))
+      (λ u. run_each firing_slotchange u (slots w)) (λ u. run_each firing_slotchange u (slots v)) first
+      (firings-in (slots w) (told_in w o) (told_in v o) (quiet-told w o q) (quiet-told v o p) told
+      (all-passed (λ s. in_node g s ≡ true) (is_owned_by o) (owned-in o h) w.signalled)
+      ∙ ap (λ ss. group_run g (run_each firing_slotchange (told_in v o) ss)) same_slots)
+
+  -- another's lines are not the group's
+  lines-out : (p : Part) → g p.owner ≡ false → group_outputs g (notified_lines p) ≡ []
+  lines-out p h =
+      filter_none (λ l. is_of g (owner_of_output l)) (notified_lines p)
+      (all-then (IsLineOf p.owner) (λ l. is_of g (owner_of_output l) ≡ false) (λ l e. ap (is_of g) e ∙ h) (notified_lines p) (lines-notified p))
+
+  -- a notification of another owner
+  notifying-out : (w : World) → IsQuiet w → (o : Owner) → g o ≡ false → group_run g (notifying w o) ≡ (group_world g w, [])
+  notifying-out w q o h =
+      let slots = filter (is_owned_by o) w.signalled in
+      let away = ap g (owner-part_of w o) ∙ h in
+      let told : group_world g (told_in w o) ≡ group_world g w =
+      with_part-out g (without_signals w o) (notified (part_of w o)) away
+      ∙ ap (λ ss. record (group_world g w) { signalled = ss })
+      (filter-sub (in_node g) (λ s. not (is_owned_by o s)) kept w.signalled) in
+      quiet-then g closed (told_in w o, notified_lines (part_of w o)) w (λ u. run_each firing_slotchange u slots) (w, [])
+      (ap (λ u. (u, group_outputs g (notified_lines (part_of w o)))) told ∙ ap (λ ls. (group_world g w, ls)) (lines-out (part_of w o) away))
+      (firings-out slots (told_in w o) (quiet-told w o q) (all-passed (λ s. in_node g s ≡ false) (is_owned_by o) (owned-out o h) w.signalled)
+      ∙ ap (λ u. (u, [])) told)
+    where
+      kept : (s : NodeName) → in_node g s ≡ true → not (is_owned_by o s) ≡ true
+      kept s t = ap not (by_cases (is_owned_by o s) (λ e. absurd (true≢false (sym t ∙ owned-out o h s e))) (λ e. e))
+
+  -- Tasks: one of the group,
+  running-in : (w v : World) → IsQuiet w → IsQuiet v → group_world g w ≡ group_world g v → (t : Task) → is_task_of g t ≡ true →
+      group_run g (running_task w t) ≡ group_run g (running_task v t)
+  running-in w v q p same (micro_task o label) h = ap (λ u. (u, group_outputs g (running_task v (micro_task o label)).1)) same
+  running-in w v q p same (notify_task o) h = notifying-in w v q p same o h
+
+  -- and one of another owner
+  running-out : (w : World) → IsQuiet w → (t : Task) → is_task_of g t ≡ false → group_run g (running_task w t) ≡ (group_world g w, [])
+  running-out w q (micro_task o label) h =
+      ap (λ ls. (group_world g w, ls)) (filter-away (λ l. is_of g (owner_of_output l)) (says o (micro_ran label)) [] h)
+  running-out w q (notify_task o) h = notifying-out w q o h
+
+  -- all of them do what those of the group do
+  running-all : (ts : List Task) (w v : World) → IsQuiet w → IsQuiet v → group_world g w ≡ group_world g v →
+      group_run g (run_each running_task w ts) ≡ group_run g (run_each running_task v (filter (is_task_of g) ts))
+  running-all [] w v q p same = ap (λ u. (u, [])) same
+  running-all (t ∷ ts) w v q p same =
+      by_cases (is_task_of g t)
+      (λ h. let first = running-in w v q p same t h in
+      runs-then g closed (running_task w t) (running_task v t) (λ u. run_each running_task u ts) (λ u. run_each running_task u (filter (is_task_of g) ts)) first
+      (running-all ts (running_task w t).0 (running_task v t).0 (quiet-running w q t) (quiet-running v p t) (ap (λ (r : Run World). r.0) first))
+      ∙ sym (ap (λ us. group_run g (run_each running_task v us)) (filter-here (is_task_of g) t ts h)))
+      (λ h. let first = running-out w q t h in
+      quiet-then g closed (running_task w t) w (λ u. run_each running_task u ts) (run_each running_task v (filter (is_task_of g) ts)) first
+      (running-all ts (running_task w t).0 v (quiet-running w q t) p (ap (λ (r : Run World). r.0) first ∙ same))
+      ∙ sym (ap (λ us. group_run g (run_each running_task v us)) (filter-away (is_task_of g) t ts h)))
+
+  -- The ending of a turn: in two worlds of which the group has the same,
+  pub ending-in : (w v : World) → IsQuiet w → IsQuiet v → group_world g w ≡ group_world g v → group_run g (ending_turn w) ≡ group_run g (ending_turn v)
+  ending-in w v q p same =
+      let at_end : World → World = λ u. record u { tasks = []; turn = None } in
+      let same_end = ap at_end same in
+      running-all w.tasks (at_end w) (at_end v) (quiet-at_end w q) (quiet-at_end v p) same_end
+      ∙ ap (λ ts. group_run g (run_each running_task (at_end v) ts)) (ap (λ (u : World). u.tasks) same)
+      ∙ sym (running-all v.tasks (at_end v) (at_end v) (quiet-at_end v p) (quiet-at_end v p) refl)
+
+  -- Where no turn of the group is open it has no tasks.
+  abbrev pub IsCalm : World → Type 0
+  IsCalm w = group_turn g w.turn ≡ None → filter (is_task_of g) w.tasks ≡ []
+
+  -- then the ending of a turn does nothing
+  pub ending-out : (w : World) → IsQuiet w → IsCalm w → group_turn g w.turn ≡ None → group_run g (ending_turn w) ≡ (group_world g w, [])
+  ending-out w q calm h =
+      let at_end : World → World = λ u. record u { tasks = []; turn = None } in
+      running-all w.tasks (at_end w) (at_end w) (quiet-at_end w q) (quiet-at_end w q) refl
+      ∙ ap (λ ts. group_run g (run_each running_task (at_end w) ts)) (calm h)
+      ∙ ap (λ ts. (record (group_world g w) { tasks = ts; turn = None }, [])) (sym (calm h))
+      ∙ ap (λ t. (record (group_world g w) { turn = t }, [])) (sym h)
