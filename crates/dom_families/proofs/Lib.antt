@@ -9,3 +9,5 @@ mod GroupViews
 mod OutsideViews
 mod GroupDispatches
 mod GroupTurns
+mod GroupBegins
+mod GroupCommands
