@@ -11,3 +11,4 @@ mod GroupDispatches
 mod GroupTurns
 mod GroupBegins
 mod GroupCommands
+mod OutsideCommands

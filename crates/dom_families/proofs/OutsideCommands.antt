@@ -1,0 +1,236 @@
+-- A command of a component outside the group does nothing to the group, or what its outward event does.
+use Rattle.std.proofs.Common.{◌≡◌, ◌≢◌, Bool, true, false, not, ◌&&◌, ◌||◌, List, [], ◌∷◌, ◌++◌, length, map, filter, Option, Some, None, option_map, refl, sym, ap, ◌∙◌}
+use Rattle.std.proofs.Common.{subst, true≢false, append-nil}
+use Rattle.std.specs.Prelude.{is_none, if◌then◌else◌, option_to_list}
+use Rattle.std.specs.Option.{option_map_or}
+use Rattle.std.proofs.lemmas.List.Elements.{filter-append}
+use Rattle.dom_base.specs.declared.Owner.{Owner}
+use Rattle.dom_base.specs.declared.Owner.TheVariants.{Page, Component}
+use Rattle.dom_base.specs.declared.NodeName.{NodeName}
+use Rattle.dom_base.specs.declared.Kind.TheVariants.{Shadow}
+use Rattle.dom_base.specs.declared.Refusal.{Refusal}
+use Rattle.dom_model.specs.Names.{ComponentName, owner_eq}
+use Rattle.dom_model.specs.Tree.{node_in, root_of}
+use Rattle.dom_model.specs.Command.{Command, Spelled, EventWords}
+use Rattle.dom_model.specs.Output.{Output, Said, Value, says, replied, refused, nothing, a_truth, a_component}
+use Rattle.dom_model.specs.Part.{Part}
+use Rattle.dom_model.specs.Runs.{Run, quiet, run_then, answering, unless_refused}
+use Rattle.dom_model.specs.CommandRefusals.{is_command_of, part_refusal}
+use Rattle.dom_model.specs.CommandNames.{named}
+use Rattle.dom_model.specs.Effects.{Effect, tables, changes, effect}
+use Rattle.dom_model.specs.World.{World, Task, micro_task, part_of, with_part, component_made}
+use Rattle.dom_model.specs.WorldSteps.{world_after}
+use Rattle.dom_model.specs.Dispatch.{dispatch_in}
+use Rattle.dom_model.specs.Turns.{ending_turn, opening_turn, has_other_turn, is_other_component, is_page_turn}
+use Rattle.dom_model.specs.DocumentMachine.{refusal, effect_in, attaching, part_with_root, perform, accepted, run_command}
+use Rattle.dom_model.specs.Groups.{KeepsFamilies, group_world, group_turn, group_outputs, group_run, is_task_of}
+use Rattle.dom_model.specs.Trace.{OutwardEvent, is_page, is_of, owner_of_output, outward_of, outward_dispatch, outward_command, outermost_host}
+use Rattle.dom_model.proofs.OwnerLaws.{owner_eq-true}
+use Rattle.dom_model.proofs.PartLaws.{owner-part_of}
+use Rattle.dom_model.proofs.StepLaws.{Component-IsNoPage}
+use Rattle.dom_isolation.specs.Laws.{IsQuiet}
+use Rattle.dom_isolation.proofs.Acceptance.{accepted-facts, attach-may}
+use Rattle.dom_isolation.proofs.ComponentCommands.{related-near, opened-event}
+use Rattle.dom_isolation.proofs.ComponentEvents.{outward_at, HasSameRoot}
+use Rattle.dom_isolation.proofs.LineBegins.{part_of-opening}
+use Rattle.dom_isolation.proofs.PageCommands.{owner-named}
+use Rattle.dom_isolation.proofs.TableCommands.{Holds}
+use Rattle.dom_isolation.proofs.TableEffects.{KeepsBase, base-effect}
+use Rattle.dom_isolation.proofs.Tests.{by_cases}
+use Rattle.dom_families.proofs.GroupParts.{in_node, with_part-out, filter-here, filter-away}
+use Rattle.dom_families.proofs.GroupSlots.{IsGround, ground-of}
+use Rattle.dom_families.proofs.GroupSteps.{steps-out}
+use Rattle.dom_families.proofs.GroupDispatches.{outward_run, quiet-then, outward-in, dispatch-out, outermost-page}
+use Rattle.dom_families.proofs.GroupTurns.{IsCalm, ending-out}
+use Rattle.dom_families.proofs.GroupBegins.{turn-none, same-turn, same-calm, opening-out, opened-quiet}
+
+-- the host of an outward event is a page node
+pub event-page : (w : World) (o : Owner) (c : Command) (e : OutwardEvent) → outward_dispatch w o c ≡ Some e → e.host.owner ≡ Page
+event-page w o (Command.dispatch x words None) e h =
+    by_test (not (is_page o) && words.composed) (outermost_host w (named (part_of w o) x)) refl h
+  where
+    by_test : (b : Bool) (m : Option NodeName) → outermost_host w (named (part_of w o) x) ≡ m →
+        (if b then option_map (outward_of words) m else None) ≡ Some e → e.host.owner ≡ Page
+    by_test true None t k = cc
+    by_test true (Some host) t k =
+        let same : outward_of words host ≡ e = cc in
+        ap (λ (e : OutwardEvent). e.host.owner) (sym same) ∙ outermost-page w (named (part_of w o) x) host t
+    by_test false m t k = cc
+event-page w o (Command.dispatch x words (Some y)) e h = cc
+event-page w o c e h = cc
+
+-- of a command, where it is accepted
+pub command_event-page : (w : World) (o : Owner) (c : Command) (e : OutwardEvent) → outward_command w o c ≡ Some e → e.host.owner ≡ Page
+command_event-page w o c e h = by_test (is_none (refusal w o c)) h
+  where
+    by_test : (b : Bool) → (if b then outward_dispatch w o c else None) ≡ Some e → e.host.owner ≡ Page
+    by_test true k = event-page w o c e k
+    by_test false k = cc
+
+module _ (g : Owner → Bool) (closed : KeepsFamilies g) where
+  -- a run of which the group has nothing
+  abbrev pub ShowsNothing : World → Run World → Type 0
+  ShowsNothing w r = group_run g r ≡ (group_world g w, [])
+
+  -- a reply of a component outside
+  answered-out : (o : Owner) → g o ≡ false → (a : Value) (w u : World) → group_world g u ≡ group_world g w → ShowsNothing w (answering o a u)
+  answered-out o h a w u same =
+      ap (λ x. (x, group_outputs g (says o (replied a) ∷ []))) same
+      ∙ ap (λ ls. (group_world g w, ls)) (filter-away (λ l. is_of g (owner_of_output l)) (says o (replied a)) [] h)
+
+  -- its lines
+  says-out : (o : Owner) → g o ≡ false → (ls : List Said) → group_outputs g (map (says o) ls) ≡ []
+  says-out o h [] = refl
+  says-out o h (s ∷ ls) = filter-away (λ l. is_of g (owner_of_output l)) (says o s) (map (says o) ls) h ∙ says-out o h ls
+
+  -- Effects.
+  effect-out : (w : World) → IsGround w → (o : Owner) → g o ≡ false → (e : Effect) → KeepsBase (part_of w o) e → Holds (part_of w o) e →
+      ShowsNothing w (effect_in w o e)
+  effect-out w i o h (tables p lines a) k f =
+      let here = with_part-out g w p (ap g (k.0 ∙ owner-part_of w o) ∙ h) in
+      quiet-then g closed (with_part w p, map (says o) lines) w (answering o a) (w, [])
+      (ap (λ u. (u, group_outputs g (map (says o) lines))) here ∙ ap (λ ls. (group_world g w, ls)) (says-out o h lines))
+      (answered-out o h a w (with_part w p) here)
+  effect-out w i o h (changes steps a) k f = answered-out o h a w (world_after o w steps) (steps-out g closed o h steps w i f)
+
+  -- An attach writes two parts outside.
+  attaching-out : (w : World) (o : Owner) → g o ≡ false → (x : NodeName) → g (component_made o (length (part_of w o).attached)) ≡ false →
+      ShowsNothing w (attaching w o x)
+  attaching-out w o h x t =
+      let p = part_of w o in
+      let c = component_made o (length p.attached) in
+      let q : Part = record p { attached = p.attached ++ x ∷ [] } in
+      let root = part_with_root c Shadow (node_in p.trees x).document in
+      answered-out o h (a_component c) w (with_part (with_part w q) root)
+      (with_part-out g (with_part w q) root t ∙ with_part-out g w q (ap g (owner-part_of w o) ∙ h))
+
+  -- the group's answer to a command
+  abbrev pub Shows : World → Run World → Option OutwardEvent → Type 0
+  Shows w r e = group_run g r ≡ group_run g (outward_run w e)
+
+  -- A dispatch.
+  dispatched-out : (w : World) (k : ComponentName) → IsQuiet w → g (Component k) ≡ false → (x : Spelled) (e : EventWords) (r : Option Spelled) →
+      part_refusal (part_of w (Component k)) (Command.dispatch x e r) ≡ None →
+      Shows w (perform w (Component k) (Command.dispatch x e r)) (outward_dispatch w (Component k) (Command.dispatch x e r))
+  dispatched-out w k q h x e r a =
+      let o = Component k in
+      let p = part_of w o in
+      let d = dispatch_in w (named p x) (option_map (named p) r) e in
+      let shown = dispatch-out g closed w q (named p x) (option_map (named p) r) e (ap g (owner-named p x ∙ owner-part_of w o) ∙ h) (near r a) in
+      after_reply d.run (outward_run w (outward_at w (named p x) e (option_map (named p) r))) (a_truth d.answer) shown
+      ∙ ap (λ v. group_run g (outward_run w v)) (same_event r)
+    where
+      after_reply : (u s : Run World) (v : Value) → group_run g u ≡ group_run g s → group_run g (run_then u (answering (Component k) v)) ≡ group_run g s
+      after_reply u s v same =
+          let test : Output → Bool = λ l. is_of g (owner_of_output l) in
+          ap (λ ls. (group_world g u.0, ls))
+          (filter-append test u.1 (says (Component k) (replied v) ∷ [])
+          ∙ ap (λ ls. group_outputs g u.1 ++ ls) (filter-away test (says (Component k) (replied v)) [] h) ∙ append-nil (group_outputs g u.1))
+          ∙ same
+
+      near : (r : Option Spelled) → part_refusal (part_of w (Component k)) (Command.dispatch x e r) ≡ None →
+          HasSameRoot w (named (part_of w (Component k)) x) (option_map (named (part_of w (Component k))) r)
+      near None a = tt
+      near (Some y) a =
+          let p = part_of w (Component k) in
+          let o = owner-part_of w (Component k) in
+          let at_y : (named p y).owner ≡ Component k = owner-named p y ∙ o in
+          let at_x : (named p x).owner ≡ Component k = owner-named p x ∙ o in (
+            (
+              at_y ∙ sym at_x,
+              ap (λ q. root_of (part_of w q).trees (named p y)) at_y ∙ related-near p k x e y o a ∙
+                  ap (λ q. root_of (part_of w q).trees (named p x)) (sym at_x),
+            ),
+            tt,
+          )
+
+      same_event : (r : Option Spelled) → outward_at w (named (part_of w (Component k)) x) e
+          (option_map (named (part_of w (Component k))) r) ≡ outward_dispatch w (Component k) (Command.dispatch x e r)
+      same_event None = refl
+      same_event (Some y) = refl
+
+  -- Any accepted command.
+  perform-out : (w : World) (k : ComponentName) → IsQuiet w → g (Component k) ≡ false → IsCalm g closed w → is_of g w.turn ≡ false → (c : Command) →
+      is_command_of (Component k) c ≡ true → part_refusal (part_of w (Component k)) c ≡ None →
+      Holds (part_of w (Component k)) (effect (part_of w (Component k)) c) →
+      Shows w (perform w (Component k) c) (outward_dispatch w (Component k) c)
+  perform-out w k q h calm t (Command.attach a) m r f =
+      let o = Component k in
+      attaching-out w o h (named (part_of w o) a)
+      (closed.made o (length (part_of w o).attached) (attach-may o a m) (λ e. Component-IsNoPage k e) ∙ h)
+  perform-out w k q h calm t (Command.connected a) m r f = answered-out (Component k) h _ w w refl
+  perform-out w k q h calm t (Command.assigned a) m r f = answered-out (Component k) h _ w w refl
+  perform-out w k q h calm t (Command.dispatch a b c) m r f = dispatched-out w k q h a b c r
+  perform-out w k q h calm t (Command.micro a) m r f =
+      let u : World = record w { tasks = w.tasks ++ micro_task (Component k) a ∷ [] } in
+      answered-out (Component k) h nothing w u
+      (ap (λ ts. record (group_world g w) { tasks = ts })
+      (filter-append (is_task_of g) w.tasks (micro_task (Component k) a ∷ [])
+      ∙ ap (λ ts. filter (is_task_of g) w.tasks ++ ts) (filter-away (is_task_of g) (micro_task (Component k) a) [] h) ∙ append-nil (filter (is_task_of g) w.tasks)))
+  perform-out w k q h calm t Command.end_turn m r f =
+      let first = ending-out g closed w q calm (turn-none g closed w.turn t) in
+      quiet-then g closed (ending_turn w) w (answering (Component k) nothing) (w, []) first
+      (answered-out (Component k) h nothing w (ending_turn w).0 (ap (λ (r : Run World). r.0) first))
+  perform-out w k q h calm t c m r f =
+      effect-out w (ground-of w q.world) (Component k) h (effect (part_of w (Component k)) c) (base-effect (part_of w (Component k)) c) f
+
+  -- The turn that is open before a line of a component outside, where it is not the page's, is not the group's.
+  turn-out : (w : World) (k : ComponentName) → g (Component k) ≡ false → has_other_turn w (Component k) ≡ false → is_page_turn w.turn ≡ false →
+      is_of g w.turn ≡ false
+  turn-out w k h a b = from w.turn a b
+    where
+      from : (t : Option Owner) → option_map_or (is_other_component (Component k)) t false ≡ false → is_page_turn t ≡ false →
+          is_of g t ≡ false
+      from None a b = refl
+      from (Some Page) a b = absurd (true≢false b)
+      from (Some (Component j)) a b =
+          by_cases (owner_eq (Component j) (Component k))
+          (λ s. ap g (owner_eq-true (Component j) (Component k) s) ∙ h) (λ s. absurd (true≢false (sym (ap not s) ∙ a)))
+
+  -- with the turn that it opens
+  opened : (w : World) (k : ComponentName) → IsQuiet w → g (Component k) ≡ false → IsCalm g closed w → has_other_turn w (Component k) ≡ false →
+      is_of g w.turn ≡ false → (c : Command) → is_command_of (Component k) c ≡ true → part_refusal (part_of w (Component k)) c ≡ None →
+      Holds (part_of w (Component k)) (effect (part_of w (Component k)) c) →
+      Shows w (perform (opening_turn w (Component k)) (Component k) c) (outward_dispatch w (Component k) c)
+  opened w k q h calm a t c m r f =
+      let o = Component k in
+      let u = opening_turn w o in
+      let same = opening-out g closed w o h in
+      let p = opened-quiet w q o a in
+      let still : is_of g u.turn ≡ false = by_cases (is_of g u.turn)
+      (λ e. absurd (true≢false (sym e ∙ ap (is_of g) (same-turn g closed u w same e) ∙ t))) (λ e. e) in
+      perform-out u k p h (same-calm g closed w u (sym same) calm) still c m (ap (λ x. part_refusal x c) (part_of-opening w o o) ∙ r)
+      (subst (λ x. Holds x (effect x c)) (sym (part_of-opening w o o)) f)
+      ∙ outward-in g closed u w p q same (outward_dispatch u o c) (event-page u o c)
+      ∙ ap (λ e. group_run g (outward_run w e)) (opened-event w k c)
+
+  -- `.` apart, which opens none
+  accepted-out : (w : World) (k : ComponentName) → IsQuiet w → g (Component k) ≡ false → IsCalm g closed w → has_other_turn w (Component k) ≡ false →
+      is_of g w.turn ≡ false → (c : Command) → is_command_of (Component k) c ≡ true → part_refusal (part_of w (Component k)) c ≡ None →
+      Holds (part_of w (Component k)) (effect (part_of w (Component k)) c) →
+      Shows w (accepted w (Component k) c) (outward_dispatch w (Component k) c)
+  accepted-out w k q h calm a t Command.end_turn m r f = perform-out w k q h calm t Command.end_turn m r f
+  accepted-out w k q h calm a t c m r f = opened w k q h calm a t c m r f
+
+  -- A command, refused or accepted. What it does fits where it is accepted.
+  pub command-out : (w : World) (k : ComponentName) → IsQuiet w → g (Component k) ≡ false → IsCalm g closed w → has_other_turn w (Component k) ≡ false →
+      (c : Command) → (refusal w (Component k) c ≡ None → Holds (part_of w (Component k)) (effect (part_of w (Component k)) c)) →
+      Shows w (run_command (Component k) c w) (outward_command w (Component k) c)
+  command-out w k q h calm a c f = from (refusal w (Component k) c) refl
+    where
+      not_open : (b : Bool) → (b && true) ≡ false → b ≡ false
+      not_open true e = absurd (true≢false e)
+      not_open false e = refl
+
+      from : (r : Option Refusal) → refusal w (Component k) c ≡ r →
+          Shows w (unless_refused (Component k) (refusal w (Component k) c) w (accepted w (Component k) c))
+          (if is_none (refusal w (Component k) c) then outward_dispatch w (Component k) c else None)
+      from (Some r) e =
+          ap (λ o. group_run g (unless_refused (Component k) o w (accepted w (Component k) c))) e
+          ∙ ap (λ ls. (group_world g w, ls)) (filter-away (λ l. is_of g (owner_of_output l)) (says (Component k) (refused r)) [] h)
+          ∙ sym (ap (λ o. group_run g (outward_run w (if is_none o then outward_dispatch w (Component k) c else None))) e)
+      from None e =
+          let known = accepted-facts w (Component k) c e in
+          ap (λ o. group_run g (unless_refused (Component k) o w (accepted w (Component k) c))) e
+          ∙ accepted-out w k q h calm a (turn-out w k h a (not_open (is_page_turn w.turn) known.calm)) c known.grammar known.part (f e)
+          ∙ sym (ap (λ o. group_run g (outward_run w (if is_none o then outward_dispatch w (Component k) c else None))) e)
