@@ -62,7 +62,7 @@ opened-quiet w q o h = quiet-opening w q o (λ e. subst (λ a. has_other_turn w 
 
 module _ (g : Owner → Bool) (closed : KeepsFamilies g) where
   -- A turn of the group, and of none of it.
-  turn-kept : (t : Option Owner) → is_of g t ≡ true → group_turn g t ≡ t
+  pub turn-kept : (t : Option Owner) → is_of g t ≡ true → group_turn g t ≡ t
   turn-kept None h = absurd (true≢false (sym h))
   turn-kept (Some o) h = cond-true (g o) (Some o) None h
 
@@ -188,3 +188,13 @@ module _ (g : Owner → Bool) (closed : KeepsFamilies g) where
           ap (λ t. group_world g (if is_some t then w else record w { turn = Some o })) e
           ∙ ap (λ t. record (group_world g w) { turn = t }) (cond-false (g o) (Some o) None h ∙ sym (ap (group_turn g) e))
       from (Some x) e = ap (λ t. group_world g (if is_some t then w else record w { turn = Some o })) e
+
+  -- then the turn is the group's
+  pub opening-own : (w : World) (o : Owner) → g o ≡ true → has_other_turn w o ≡ false → is_of g (opening_turn w o).turn ≡ true
+  opening-own w o h a = from w.turn refl
+    where
+      from : (t : Option Owner) → w.turn ≡ t → is_of g (if is_some w.turn then w else record w { turn = Some o }).turn ≡ true
+      from None e = ap (λ t. is_of g (if is_some t then w else record w { turn = Some o }).turn) e ∙ h
+      from (Some x) e =
+          ap (λ t. is_of g (if is_some t then w else record w { turn = Some o }).turn) e
+          ∙ turn-is_of w.turn ∙ ap is_some (turn-own w o h a ∙ e)

@@ -30,7 +30,7 @@ use Rattle.dom_families.proofs.OutsideViews.{views-kept_in}
 use Rattle.dom_families.proofs.GroupDispatches.{runs-then, quiet-then, dispatch-in}
 
 -- a test on the items of which another holds anyway
-filter-sub : {X : Type 0} (p t : X → Bool) → ((x : X) → p x ≡ true → t x ≡ true) → (xs : List X) → filter p (filter t xs) ≡ filter p xs
+pub filter-sub : {X : Type 0} (p t : X → Bool) → ((x : X) → p x ≡ true → t x ≡ true) → (xs : List X) → filter p (filter t xs) ≡ filter p xs
 filter-sub p t f xs =
     filter-filter p t xs ∙ filter_all t (filter p xs) (all-then (λ x. p x ≡ true) (λ x. t x ≡ true) f (filter p xs) (all-passed (λ x. p x ≡ true) p (λ x h. h) xs))
 

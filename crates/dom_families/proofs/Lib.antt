@@ -12,3 +12,5 @@ mod GroupTurns
 mod GroupBegins
 mod GroupCommands
 mod OutsideCommands
+mod GroupLines
+mod GroupRuns

@@ -20,7 +20,7 @@ run_then-assoc : {S : Type 0} (r : Run S) (f g : S → Run S) → run_then (run_
 run_then-assoc r f g = ap (λ ls. ((g (f r.0).0).0, ls)) (append_assoc r.1 (f r.0).1 (g (f r.0).0).1)
 
 -- a list in two parts
-run_each-append : {S A : Type 0} (f : S → A → Run S) (s : S) (xs ys : List A) → run_each f s (xs ++ ys) ≡ run_then (run_each f s xs) (λ t. run_each f t ys)
+pub run_each-append : {S A : Type 0} (f : S → A → Run S) (s : S) (xs ys : List A) → run_each f s (xs ++ ys) ≡ run_then (run_each f s xs) (λ t. run_each f t ys)
 run_each-append f s [] ys = refl
 run_each-append f s (x ∷ xs) ys =
     ap (λ (r : Run _). (r.0, (f s x).1 ++ r.1)) (run_each-append f (f s x).0 xs ys) ∙ sym (run_then-assoc (f s x) (λ t. run_each f t xs) (λ t. run_each f t ys))

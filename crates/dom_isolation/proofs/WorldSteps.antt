@@ -160,7 +160,7 @@ module _ {only_log : Bool} where
   quiet-world_step o w s t m q = quiet-stepped w o s m q
 
 -- the turn and the hosts stay
-pub SameFrame : World → World → Type 0
+SameFrame : World → World → Type 0
 SameFrame v w = (v.turn ≡ w.turn) × ((o : Owner) → host_of v o ≡ host_of w o)
 
 -- one and then another
@@ -199,7 +199,7 @@ frame-documents (c ∷ cs) d w = frame-then (fold (with_shadow_document d) w (c 
     (frame-documents cs d (with_shadow_document d w c)) (frame-stepped w c (set_document (shadow_root_of c) d))
 
 -- a step in the world
-pub frame-world_step : (o : Owner) (w : World) (s : Step) → SameFrame (world_step o w s) w
+frame-world_step : (o : Owner) (w : World) (s : Step) → SameFrame (world_step o w s) w
 frame-world_step o w (place x parent before) =
     let v = stepped o w (place x parent before) in frame-then (world_step o w (place x parent before)) v w
     (frame-signals (signals w v x parent true) v) (frame-stepped w o (place x parent before))
@@ -216,6 +216,12 @@ frame-world_step o w (queue_record c) =
     let v = stepped o w (queue_record c) in frame-then (world_step o w (queue_record c)) v w (frame-notify (is_taken (part_of w o) c) o v)
     (frame-stepped w o (queue_record c))
 frame-world_step o w s = frame-stepped w o s
+
+-- so many steps leave the turn
+pub turn-world_after : (o : Owner) (steps : List Step) (w : World) → (world_after o w steps).turn ≡ w.turn
+unfolding SameFrame
+turn-world_after o [] w = refl
+turn-world_after o (s ∷ steps) w = turn-world_after o steps (world_step o w s) ∙ (frame-world_step o w s).0
 
 module _ {only_log : Bool} where
   -- All steps of a change.
