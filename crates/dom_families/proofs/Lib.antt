@@ -14,3 +14,4 @@ mod GroupCommands
 mod OutsideCommands
 mod GroupLines
 mod GroupRuns
+mod GroupLaws

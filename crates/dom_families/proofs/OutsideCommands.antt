@@ -109,7 +109,7 @@ module _ (g : Owner → Bool) (closed : KeepsFamilies g) where
   Shows w r e = group_run g r ≡ group_run g (outward_run w e)
 
   -- A dispatch.
-  dispatched-out : (w : World) (k : ComponentName) → IsQuiet w → g (Component k) ≡ false → (x : Spelled) (e : EventWords) (r : Option Spelled) →
+  pub dispatched-out : (w : World) (k : ComponentName) → IsQuiet w → g (Component k) ≡ false → (x : Spelled) (e : EventWords) (r : Option Spelled) →
       part_refusal (part_of w (Component k)) (Command.dispatch x e r) ≡ None →
       Shows w (perform w (Component k) (Command.dispatch x e r)) (outward_dispatch w (Component k) (Command.dispatch x e r))
   dispatched-out w k q h x e r a =

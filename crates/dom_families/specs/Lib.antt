@@ -1,2 +1,3 @@
--- What one family of components sees of others: the laws, one step after another.
+-- What one family of components sees of the others: the laws, one piece after another. Unmarked: own rules.
 pub mod Groups
+pub mod Laws

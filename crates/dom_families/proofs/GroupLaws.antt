@@ -1,0 +1,92 @@
+-- The laws, from the lemmas on their pieces.
+use Rattle.std.proofs.Common.{◌≡◌, true, false, [], Option, Some, None, refl, sym, ap, ◌∙◌, true≢false, Bool}
+use Rattle.std.specs.Prelude.{if◌then◌else◌, unwrap_or, ◌&&◌}
+use Rattle.dom_base.specs.declared.Owner.{Owner}
+use Rattle.dom_base.specs.declared.Owner.TheVariants.{Page, Component}
+use Rattle.dom_base.specs.declared.NodeName.{NodeName}
+use Rattle.dom_model.specs.Dispatch.{Dispatched}
+use Rattle.dom_model.specs.Groups.{KeepsFamilies, group_world}
+use Rattle.dom_model.specs.Names.{last_of}
+use Rattle.dom_model.specs.Paths.{views}
+use Rattle.dom_model.specs.Trace.{is_page, outermost_host}
+use Rattle.dom_model.specs.World.{World, host_chain, is_in_shadow_tree}
+use Rattle.dom_model.proofs.OwnerLaws.{owner_eq-true}
+use Rattle.dom_isolation.specs.Worlds.{IsWorld}
+use Rattle.dom_isolation.proofs.Tests.{by_cases}
+use Rattle.dom_families.specs.Laws.{AssignedAgree, SignalsAgree, StepAgrees, ViewsAgree, OutwardViewsAgree, DispatchAgrees, OtherDispatchAgrees, EndingAgrees}
+use Rattle.dom_families.specs.Laws.{LineAgrees, OtherLineAgrees, FinishAgrees}
+use Rattle.dom_families.proofs.GroupBegins.{ending_any-in}
+use Rattle.dom_families.proofs.GroupDispatches.{dispatch-in}
+use Rattle.dom_families.proofs.GroupLines.{line-in, line-out}
+use Rattle.dom_families.proofs.GroupSignals.{signals-group}
+use Rattle.dom_families.proofs.GroupSlots.{ground-of, assigned-in}
+use Rattle.dom_families.proofs.GroupSteps.{step-in}
+use Rattle.dom_families.proofs.GroupTurns.{ending-in}
+use Rattle.dom_families.proofs.GroupViews.{views-in}
+use Rattle.dom_families.proofs.OutsideCommands.{dispatched-out}
+use Rattle.dom_families.proofs.OutsideViews.{HasExit, has-exit, exit-host, views-exit}
+
+-- slots
+pub assigned-agree : AssignedAgree
+assigned-agree g closed w i s h = assigned-in g closed w (ground-of w i) s h
+
+-- signals
+pub signals-agree : SignalsAgree
+signals-agree g closed was now i j x around is_move = signals-group g closed was now (ground-of was i) (ground-of now j) x around is_move
+
+-- steps
+pub step-agrees : StepAgrees
+step-agrees g closed o h w i s = step-in g closed o h w (ground-of w i) s
+
+-- views
+pub views-agree : ViewsAgree
+views-agree g closed w i x related composed h k = views-in g closed w i x related composed h k
+
+-- a node with an outermost host is in a shadow tree
+hosted-in_tree : (w : World) (x host : NodeName) → outermost_host w x ≡ Some host → is_in_shadow_tree w x ≡ true
+hosted-in_tree w x host e =
+    by_cases (is_in_shadow_tree w x) (λ h. h)
+    (λ h. let last = unwrap_or (last_of (host_chain w x)) x in
+    let none_at : outermost_host w x ≡ None = ap (λ b. if b && is_page last.owner then Some last else None) h in
+    let both : None ≡ Some host = sym none_at ∙ e in
+    cc)
+
+-- views of an event that goes out
+pub outward_views-agree : OutwardViewsAgree
+outward_views-agree g closed w i x host h e =
+    let k = has-exit g closed w i x h in
+    let at = exit-host g closed w i x k (hosted-in_tree w x host e) in
+    by_cases (is_page k.last.owner)
+    (λ p. let found : Some k.last ≡ Some host = sym (at ∙ ap (λ b. if b then Some k.last else None) p) ∙ e in
+    let same : k.last ≡ host = cc in
+    let page = owner_eq-true k.last.owner Page p in
+    views-exit g closed w i x k page ∙ views-in g closed w i k.last None true (ap g page ∙ closed.page) tt
+    ∙ ap (λ y. views (group_world g w) y None true) same)
+    (λ p. let both : None ≡ Some host = sym (at ∙ ap (λ b. if b then Some k.last else None) p) ∙ e in cc)
+
+-- a dispatch
+pub dispatch-agrees : DispatchAgrees
+dispatch-agrees g closed w v q p same x related e h k =
+    let shown = dispatch-in g closed w v q p same x related e h k in
+    (ap (λ (d : Dispatched World). d.run) shown, ap (λ (d : Dispatched World). d.answer) shown)
+
+-- of a component outside
+pub other_dispatch-agrees : OtherDispatchAgrees
+other_dispatch-agrees g closed w Page h q x e related r = absurd (true≢false (sym closed.page ∙ h))
+other_dispatch-agrees g closed w (Component k) h q x e related r = dispatched-out g closed w k q h x e related r
+
+-- the ending of a turn
+pub ending-agrees : EndingAgrees
+ending-agrees g closed w v q p same = ending-in g closed w v q p same
+
+-- lines
+pub line-agrees : LineAgrees
+line-agrees g closed w v q p same calm l h = line-in g closed w v q p same calm l h
+
+-- of others
+pub other_line-agrees : OtherLineAgrees
+other_line-agrees g closed w r k calm l h t = line-out g closed w r k calm l h t
+
+-- the end of input
+pub finish-agrees : FinishAgrees
+finish-agrees g closed w v q p same calm = ending_any-in g closed w v q p same calm
