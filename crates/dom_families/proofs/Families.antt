@@ -1,10 +1,10 @@
 -- The page alone is a group of whole families, and so is the page with one family.
-use Rattle.std.proofs.Common.{◌≡◌, ◌≢◌, ℕ, true, false, ◌||◌, refl, sym, ap, ◌∙◌}
+use Rattle.std.proofs.Common.{◌≡◌, ◌≢◌, ℕ, ◌||◌, refl, sym, ap, ◌∙◌}
 use Rattle.dom_base.specs.declared.Owner.{Owner}
 use Rattle.dom_base.specs.declared.Owner.TheVariants.{Page}
 use Rattle.dom_model.specs.Names.{owner_eq}
 use Rattle.dom_model.specs.World.{component_made, MayAttach}
-use Rattle.dom_model.specs.Groups.{KeepsFamilies, family_group, is_in_family, top_owner}
+use Rattle.dom_model.specs.Groups.{is_in_family, top_owner}
 use Rattle.dom_model.specs.Trace.{is_page}
 use Rattle.dom_model.proofs.OwnerLaws.{ne-owner_eq, component_made-no_page, maker-is_page}
 use Rattle.dom_families.specs.Groups.{PageIsGroup, FamilyIsGroup}

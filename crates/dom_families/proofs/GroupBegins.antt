@@ -1,5 +1,5 @@
 -- What comes before a line, and at the end of input, as a group has it: the ending of a turn, and the turn that a line opens.
-use Rattle.std.proofs.Common.{◌≡◌, ◌≢◌, Bool, true, false, not, List, [], ◌∷◌, filter, Option, Some, None, refl, sym, ap, ◌∙◌, subst, true≢false}
+use Rattle.std.proofs.Common.{◌≡◌, Bool, true, false, not, List, [], ◌∷◌, filter, Option, Some, None, refl, sym, ap, ◌∙◌, subst, true≢false}
 use Rattle.std.specs.Prelude.{is_some, if◌then◌else◌}
 use Rattle.std.specs.Option.{option_map_or}
 use Rattle.std.proofs.lemmas.Bool.{cond-true, cond-false}
@@ -18,12 +18,13 @@ use Rattle.dom_model.specs.Turns.{is_other_component, has_other_turn, ending_oth
 use Rattle.dom_model.specs.Groups.{KeepsFamilies, group_world, group_turn, group_run, is_task_of}
 use Rattle.dom_model.specs.Trace.{is_of}
 use Rattle.dom_model.proofs.OwnerLaws.{owner_eq-true, ne-owner_eq}
-use Rattle.dom_isolation.specs.Laws.{IsQuiet, IsSound}
+use Rattle.dom_isolation.specs.Laws.{IsQuiet}
 use Rattle.dom_isolation.proofs.LineBegins.{turn-ending_turn, quiet-opening}
 use Rattle.dom_isolation.proofs.Tests.{by_cases}
 use Rattle.dom_isolation.proofs.Visits.{rest-visits}
+use Rattle.dom_families.specs.Laws.{IsCalm}
 use Rattle.dom_families.proofs.GroupSlots.{outside-no_page}
-use Rattle.dom_families.proofs.GroupTurns.{IsCalm, ending-in, ending-out}
+use Rattle.dom_families.proofs.GroupTurns.{ending-in, ending-out}
 
 -- A dispatch queues no task, and so no task does.
 pub tasks-dispatch : (w : World) (x : NodeName) (r : Option NodeName) (e : EventWords) → (dispatch_in w x r e).run.0.tasks ≡ w.tasks
@@ -88,7 +89,7 @@ module _ (g : Owner → Bool) (closed : KeepsFamilies g) where
       ∙ turn-kept v.turn (turn-is_of v.turn ∙ ap is_some (sym turns) ∙ sym (turn-is_of w.turn) ∙ h)
 
   -- the other is as calm
-  pub same-calm : (w v : World) → group_world g w ≡ group_world g v → IsCalm g closed w → IsCalm g closed v
+  pub same-calm : (w v : World) → group_world g w ≡ group_world g v → IsCalm g w → IsCalm g v
   same-calm w v same calm h = sym (ap (λ (u : World). u.tasks) same) ∙ calm (ap (λ (u : World). u.turn) same ∙ h)
 
   -- whether the page's turn is open
@@ -103,7 +104,7 @@ module _ (g : Owner → Bool) (closed : KeepsFamilies g) where
   same-page_turn w v same = sym (page_turn-group w.turn) ∙ ap (λ (u : World). is_page_turn u.turn) same ∙ page_turn-group v.turn
 
   -- Where no turn of the group is open, the ending of another's before a line, or at the end, does nothing.
-  pub ending_other-out : (w : World) → IsQuiet w → IsCalm g closed w → is_of g w.turn ≡ false → (o : Owner) →
+  pub ending_other-out : (w : World) → IsQuiet w → IsCalm g w → is_of g w.turn ≡ false → (o : Owner) →
       group_run g (ending_other_turn w o) ≡ (group_world g w, [])
   ending_other-out w q calm h o =
       by_cases (has_other_turn w o)
@@ -111,7 +112,7 @@ module _ (g : Owner → Bool) (closed : KeepsFamilies g) where
       (λ e. ap (group_run g) (cond-false (has_other_turn w o) (ending_turn w) (quiet w) e))
 
   -- at the end
-  ending_any-out : (w : World) → IsQuiet w → IsCalm g closed w → is_of g w.turn ≡ false → group_run g (ending_any_turn w) ≡ (group_world g w, [])
+  ending_any-out : (w : World) → IsQuiet w → IsCalm g w → is_of g w.turn ≡ false → group_run g (ending_any_turn w) ≡ (group_world g w, [])
   ending_any-out w q calm h =
       by_cases (is_some w.turn)
       (λ e. ap (group_run g) (cond-true (is_some w.turn) (ending_turn w) (quiet w) e) ∙ ending-out g closed w q calm (turn-none w.turn h))
@@ -122,7 +123,7 @@ module _ (g : Owner → Bool) (closed : KeepsFamilies g) where
   same-none w v same h = turn-is_of v.turn ∙ ap is_some (sym (ap (λ (u : World). u.turn) same)) ∙ sym (turn-is_of w.turn) ∙ h
 
   -- Before a line, in two such worlds.
-  pub ending_other-in : (w v : World) → IsQuiet w → IsQuiet v → group_world g w ≡ group_world g v → IsCalm g closed w → (o : Owner) →
+  pub ending_other-in : (w v : World) → IsQuiet w → IsQuiet v → group_world g w ≡ group_world g v → IsCalm g w → (o : Owner) →
       group_run g (ending_other_turn w o) ≡ group_run g (ending_other_turn v o)
   ending_other-in w v q p same calm o =
       by_cases (is_of g w.turn)
@@ -136,7 +137,7 @@ module _ (g : Owner → Bool) (closed : KeepsFamilies g) where
       ∙ sym (ending_other-out v p (same-calm w v same calm) (same-none w v same h) o))
 
   -- At the end of input.
-  pub ending_any-in : (w v : World) → IsQuiet w → IsQuiet v → group_world g w ≡ group_world g v → IsCalm g closed w →
+  pub ending_any-in : (w v : World) → IsQuiet w → IsQuiet v → group_world g w ≡ group_world g v → IsCalm g w →
       group_run g (ending_any_turn w) ≡ group_run g (ending_any_turn v)
   ending_any-in w v q p same calm =
       by_cases (is_of g w.turn)
@@ -149,12 +150,12 @@ module _ (g : Owner → Bool) (closed : KeepsFamilies g) where
       (λ h. ending_any-out w q calm h ∙ ap (λ u. (u, [])) same ∙ sym (ending_any-out v p (same-calm w v same calm) (same-none w v same h)))
 
   -- after the ending the group has tasks in a turn of its own alone
-  pub calm-ended : (w : World) → IsCalm g closed w → (o : Owner) → IsCalm g closed (ending_other_turn w o).0
+  pub calm-ended : (w : World) → IsCalm g w → (o : Owner) → IsCalm g (ending_other_turn w o).0
   calm-ended w calm o =
       by_cases (has_other_turn w o)
-      (λ e. subst (λ (r : Run World). IsCalm g closed r.0) (sym (cond-true (has_other_turn w o) (ending_turn w) (quiet w) e))
+      (λ e. subst (λ (r : Run World). IsCalm g r.0) (sym (cond-true (has_other_turn w o) (ending_turn w) (quiet w) e))
       (λ h. ap (filter (is_task_of g)) (tasks-ending_turn w)))
-      (λ e. subst (λ (r : Run World). IsCalm g closed r.0) (sym (cond-false (has_other_turn w o) (ending_turn w) (quiet w) e)) calm)
+      (λ e. subst (λ (r : Run World). IsCalm g r.0) (sym (cond-false (has_other_turn w o) (ending_turn w) (quiet w) e)) calm)
 
   -- The turn that is open before a line of the group is the group's.
   turn-own : (w : World) (o : Owner) → g o ≡ true → has_other_turn w o ≡ false → group_turn g w.turn ≡ w.turn
@@ -176,7 +177,8 @@ module _ (g : Owner → Bool) (closed : KeepsFamilies g) where
       by_cases (is_some w.turn)
       (λ e. ap (group_world g) (cond-true (is_some w.turn) w (record w { turn = Some o }) e) ∙ same
       ∙ sym (ap (group_world g) (cond-true (is_some v.turn) v (record v { turn = Some o }) (ap is_some (sym turns) ∙ e))))
-      (λ e. ap (group_world g) (cond-false (is_some w.turn) w (record w { turn = Some o }) e) ∙ ap (λ (u : World). record u { turn = group_turn g (Some o) }) same
+      (λ e. ap (group_world g) (cond-false (is_some w.turn) w (record w { turn = Some o }) e)
+      ∙ ap (λ (u : World). record u { turn = group_turn g (Some o) }) same
       ∙ sym (ap (group_world g) (cond-false (is_some v.turn) v (record v { turn = Some o }) (ap is_some (sym turns) ∙ e))))
 
   -- and one that another line opens

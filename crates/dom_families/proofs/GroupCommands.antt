@@ -1,5 +1,6 @@
 -- A command of the group does the same to the group in two worlds of which the group has the same.
-use Rattle.std.proofs.Common.{◌≡◌, Bool, true, false, not, ◌&&◌, List, [], ◌∷◌, ◌++◌, length, map, filter, Option, Some, None, option_map, unwrap_or, refl, sym, ap, ◌∙◌, subst}
+use Rattle.std.proofs.Common.{◌≡◌, Bool, true, false, not, ◌&&◌, List, [], ◌∷◌, ◌++◌, length, map, filter, Option, Some, None, option_map, unwrap_or, refl}
+use Rattle.std.proofs.Common.{sym, ap, ◌∙◌}
 use Rattle.std.specs.Prelude.{option_to_list}
 use Rattle.std.specs.List.{AllByRecursion, last_or}
 use Rattle.std.specs.Option.{option_or}
@@ -20,7 +21,7 @@ use Rattle.dom_model.specs.Validity.{first_refusal}
 use Rattle.dom_model.specs.CommandRefusals.{is_command_of, part_refusal}
 use Rattle.dom_model.specs.CommandNames.{named, names_foreign}
 use Rattle.dom_model.specs.Effects.{Effect, tables, changes, effect}
-use Rattle.dom_model.specs.World.{World, Task, micro_task, part_of, with_part, is_there, kind_at, is_connected, component_made, shadow_including_ancestors}
+use Rattle.dom_model.specs.World.{World, micro_task, part_of, with_part, is_there, kind_at, is_connected, component_made, shadow_including_ancestors}
 use Rattle.dom_model.specs.WorldSteps.{world_after}
 use Rattle.dom_model.specs.Slots.{assigned}
 use Rattle.dom_model.specs.Dispatch.{Dispatched, dispatch_in}
@@ -35,14 +36,14 @@ use Rattle.dom_isolation.proofs.Tests.{by_cases}
 use Rattle.dom_families.proofs.GroupParts.{in_node, part-in, there-in, with_part-in, with_part-out, filter-here}
 use Rattle.dom_families.proofs.GroupSlots.{IsGround, ground-of, assigned-in}
 use Rattle.dom_families.proofs.GroupSteps.{steps-in}
-use Rattle.dom_families.proofs.GroupVisits.{group_dispatched}
 use Rattle.dom_families.proofs.GroupPaths.{In, including-in, including-inside}
 use Rattle.dom_families.proofs.GroupDispatches.{runs-then, dispatch-in}
 use Rattle.dom_families.proofs.GroupTurns.{same-part, ending-in}
 use Rattle.dom_families.proofs.GroupBegins.{same-page_turn, opening-in, opened-quiet}
 
 -- what holds of all holds of the last, or of another
-last-all : (P : NodeName → Type 0) (d : Option NodeName) (xs : List NodeName) (x : NodeName) → AllByRecursion P xs → P (unwrap_or d x) → P (unwrap_or (last_or d xs) x)
+last-all : (P : NodeName → Type 0) (d : Option NodeName) (xs : List NodeName) (x : NodeName) → AllByRecursion P xs → P (unwrap_or d x) →
+    P (unwrap_or (last_or d xs) x)
 last-all P d [] x a h = h
 last-all P d (y ∷ ys) x a h = last-all P (Some y) ys x a.1 a.0
 
@@ -62,7 +63,8 @@ module _ (g : Owner → Bool) (closed : KeepsFamilies g) where
   answered o a u v same = ap (λ x. (x, group_outputs g (says o (replied a) ∷ []))) same
 
   -- Effects.
-  pub effect-in : (w v : World) → IsGround w → IsGround v → group_world g w ≡ group_world g v → (o : Owner) → g o ≡ true → (e : Effect) → KeepsBase (part_of w o) e →
+  pub effect-in : (w v : World) → IsGround w → IsGround v → group_world g w ≡ group_world g v → (o : Owner) → g o ≡ true → (e : Effect) →
+      KeepsBase (part_of w o) e →
       group_run g (effect_in w o e) ≡ group_run g (effect_in v o e)
   effect-in w v i j same o h (tables p lines a) k =
       let mine = ap g (k.0 ∙ owner-part_of w o) ∙ h in
@@ -102,7 +104,8 @@ module _ (g : Owner → Bool) (closed : KeepsFamilies g) where
       (part-in g w last.owner (last-all (In g closed w i) None (shadow_including_ancestors w x) x (including-inside g closed w i x h) h))
 
   -- a dispatch with its answer
-  dispatched-in : (w v : World) → IsQuiet w → IsQuiet v → group_world g w ≡ group_world g v → (o : Owner) → (x : NodeName) (r : Option NodeName) (e : EventWords) →
+  dispatched-in : (w v : World) → IsQuiet w → IsQuiet v → group_world g w ≡ group_world g v → (o : Owner) →
+      (x : NodeName) (r : Option NodeName) (e : EventWords) →
       in_node g x ≡ true → AllByRecursion (λ y. in_node g y ≡ true) (option_to_list r) →
       group_run g (run_then (dispatch_in w x r e).run (answering o (a_truth (dispatch_in w x r e).answer)))
       ≡ group_run g (run_then (dispatch_in v x r e).run (answering o (a_truth (dispatch_in v x r e).answer)))

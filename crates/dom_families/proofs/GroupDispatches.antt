@@ -1,6 +1,6 @@
 -- A dispatch as a group has it: of one of its nodes the same in two worlds of which it has the same, and of another node nothing, or the
 -- outward event at its host.
-use Rattle.std.proofs.Common.{◌≡◌, ◌≢◌, Bool, true, false, not, ◌&&◌, List, [], ◌∷◌, ◌++◌, filter, Option, Some, None, option_map, unwrap_or}
+use Rattle.std.proofs.Common.{◌≡◌, Bool, true, false, ◌&&◌, [], ◌++◌, filter, Option, Some, None, option_map, unwrap_or}
 use Rattle.std.proofs.Common.{refl, sym, ap, ◌∙◌, subst, true≢false, append-nil}
 use Rattle.std.specs.Prelude.{if◌then◌else◌, is_some, option_to_list}
 use Rattle.std.specs.List.{AllByRecursion}
@@ -8,11 +8,11 @@ use Rattle.std.proofs.lemmas.List.Elements.{filter-append}
 use Rattle.dom_base.specs.declared.Owner.{Owner}
 use Rattle.dom_base.specs.declared.Owner.TheVariants.{Page}
 use Rattle.dom_base.specs.declared.NodeName.{NodeName}
-use Rattle.dom_model.specs.Names.{owner_eq, owner_depth, last_of}
+use Rattle.dom_model.specs.Names.{owner_depth, last_of}
 use Rattle.dom_model.specs.Command.{EventWords}
 use Rattle.dom_model.specs.Output.{Output}
 use Rattle.dom_model.specs.Paths.{views}
-use Rattle.dom_model.specs.Runs.{Run, quiet, run_then, run_each}
+use Rattle.dom_model.specs.Runs.{Run, run_then, run_each}
 use Rattle.dom_model.specs.World.{World, host_above, host_chain, is_in_shadow_tree}
 use Rattle.dom_model.specs.Dispatch.{Dispatched, dispatch_in}
 use Rattle.dom_model.specs.Groups.{KeepsFamilies, group_world, group_outputs, group_run, outward_words, outward_in}
@@ -24,7 +24,7 @@ use Rattle.dom_isolation.proofs.ComponentEvents.{outward_at, HasSameRoot, above-
 use Rattle.dom_isolation.proofs.Tests.{by_cases}
 use Rattle.dom_families.proofs.GroupParts.{in_node}
 use Rattle.dom_families.proofs.GroupVisits.{in_view, group_dispatched, same_dispatch, no_dispatch}
-use Rattle.dom_families.proofs.GroupViews.{IsNear, Inside, Outside, views-in}
+use Rattle.dom_families.proofs.GroupViews.{views-in}
 use Rattle.dom_families.proofs.OutsideViews.{HasExit, has-exit, exit-away, exit-host, views-exit, views-kept_in, views-far, views-related}
 
 -- an outward event, if there is one
@@ -133,7 +133,8 @@ module _ (g : Owner → Bool) (closed : KeepsFamilies g) where
           let host = k.last in
           by_cases (is_page host.owner)
           (λ p. let page = owner_eq-true host.owner Page p in
-          let seen = subst (λ b. filter (in_view g) (views w x None b) ≡ filter (in_view g) (views w host None b)) (sym c) (views-exit g closed w q.world x k page) in
+          let seen = subst (λ b. filter (in_view g) (views w x None b) ≡ filter (in_view g) (views w host None b)) (sym c)
+          (views-exit g closed w q.world x k page) in
           let words : e ≡ outward_words (outward_of e host) = ap (λ b. record e { composed = b }) c in
           ap (λ (d : Dispatched World). d.run) (same_dispatch g closed w w x host None None e (q.logs refl) (q.logs refl) refl seen)
           ∙ ap (λ e. group_run g (dispatch_in w host None e).run) words
@@ -147,7 +148,8 @@ module _ (g : Owner → Bool) (closed : KeepsFamilies g) where
       inside c t None s = alone c t
       inside c t (Some y) s = from (host_above w x) refl
         where
-          from : (o : Option NodeName) → host_above w x ≡ o → group_run g (dispatch_in w x (Some y) e).run ≡ group_run g (outward_run w (outward_at w x e (Some y)))
+          from : (o : Option NodeName) → host_above w x ≡ o →
+              group_run g (dispatch_in w x (Some y) e).run ≡ group_run g (outward_run w (outward_at w x e (Some y)))
           from None k = absurd (true≢false (sym t ∙ ap is_some k))
           from (Some host) k =
               none (Some y) refl (subst (NoView w x (Some y)) (sym c)

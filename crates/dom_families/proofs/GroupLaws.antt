@@ -1,17 +1,15 @@
 -- The laws, from the lemmas on their pieces.
-use Rattle.std.proofs.Common.{◌≡◌, true, false, [], Option, Some, None, refl, sym, ap, ◌∙◌, true≢false, Bool}
+use Rattle.std.proofs.Common.{◌≡◌, true, Some, None, sym, ap, ◌∙◌, true≢false}
 use Rattle.std.specs.Prelude.{if◌then◌else◌, unwrap_or, ◌&&◌}
-use Rattle.dom_base.specs.declared.Owner.{Owner}
 use Rattle.dom_base.specs.declared.Owner.TheVariants.{Page, Component}
 use Rattle.dom_base.specs.declared.NodeName.{NodeName}
 use Rattle.dom_model.specs.Dispatch.{Dispatched}
-use Rattle.dom_model.specs.Groups.{KeepsFamilies, group_world}
+use Rattle.dom_model.specs.Groups.{group_world}
 use Rattle.dom_model.specs.Names.{last_of}
 use Rattle.dom_model.specs.Paths.{views}
 use Rattle.dom_model.specs.Trace.{is_page, outermost_host}
 use Rattle.dom_model.specs.World.{World, host_chain, is_in_shadow_tree}
 use Rattle.dom_model.proofs.OwnerLaws.{owner_eq-true}
-use Rattle.dom_isolation.specs.Worlds.{IsWorld}
 use Rattle.dom_isolation.proofs.Tests.{by_cases}
 use Rattle.dom_families.specs.Laws.{AssignedAgree, SignalsAgree, StepAgrees, ViewsAgree, OutwardViewsAgree, DispatchAgrees, OtherDispatchAgrees, EndingAgrees}
 use Rattle.dom_families.specs.Laws.{LineAgrees, OtherLineAgrees, FinishAgrees}
@@ -24,7 +22,7 @@ use Rattle.dom_families.proofs.GroupSteps.{step-in}
 use Rattle.dom_families.proofs.GroupTurns.{ending-in}
 use Rattle.dom_families.proofs.GroupViews.{views-in}
 use Rattle.dom_families.proofs.OutsideCommands.{dispatched-out}
-use Rattle.dom_families.proofs.OutsideViews.{HasExit, has-exit, exit-host, views-exit}
+use Rattle.dom_families.proofs.OutsideViews.{has-exit, exit-host, views-exit}
 
 -- slots
 pub assigned-agree : AssignedAgree

@@ -1,14 +1,13 @@
 -- One line: of the group it does the same to the group in two worlds of which it has the same; of another owner, where it ends no turn of the
 -- group, it does what its outward event does.
-use Rattle.std.proofs.Common.{◌≡◌, ◌≢◌, Bool, true, false, not, ◌&&◌, ◌||◌, List, [], ◌∷◌, filter, fold, Option, Some, None, option_map, refl, sym, ap, ◌∙◌}
-use Rattle.std.proofs.Common.{subst, true≢false}
-use Rattle.std.specs.Prelude.{is_none, IsTrue}
-use Rattle.std.proofs.lemmas.Bool.{cond-true, cond-false}
+use Rattle.std.proofs.Common.{◌≡◌, Bool, true, false, not, ◌&&◌, ◌||◌, [], ◌∷◌, filter, Option, Some, None, option_map, refl, sym, ap, ◌∙◌}
+use Rattle.std.proofs.Common.{true≢false}
+use Rattle.std.specs.Prelude.{is_none}
+use Rattle.std.proofs.lemmas.Bool.{cond-false}
 use Rattle.dom_base.specs.declared.Owner.{Owner}
 use Rattle.dom_base.specs.declared.Owner.TheVariants.{Page, Component}
 use Rattle.dom_base.specs.declared.Refusal.{Refusal}
 use Rattle.dom_base.specs.declared.Refusal.TheVariants.{Syntax}
-use Rattle.dom_model.specs.Names.{ComponentName}
 use Rattle.dom_model.specs.Command.{Command, Line, no_owner, no_command, command}
 use Rattle.dom_model.specs.Output.{says, refused}
 use Rattle.dom_model.specs.Runs.{Run, quiet, refusing, unless_refused}
@@ -17,7 +16,7 @@ use Rattle.dom_model.specs.World.{World, part_of}
 use Rattle.dom_model.specs.CommandNames.{named}
 use Rattle.dom_model.specs.Turns.{ending_turn, has_other_turn, ending_other_turn, opening_turn}
 use Rattle.dom_model.specs.DocumentMachine.{refusal, effect_in, perform, accepted, run_command, step}
-use Rattle.dom_model.specs.Groups.{KeepsFamilies, group_world, group_turn, group_outputs, group_run, is_task_of, outward_words, ends_other_turn, ends_group_turn}
+use Rattle.dom_model.specs.Groups.{KeepsFamilies, group_world, group_turn, group_outputs, group_run, is_task_of, outward_words, ends_group_turn}
 use Rattle.dom_model.specs.Trace.{OutwardEvent, is_page, is_log, is_of, owner_of_line, owner_of_output, outward_event, outward_command, may_stop, line_may_stop}
 use Rattle.dom_isolation.specs.Laws.{IsQuiet, IsReached}
 use Rattle.dom_isolation.specs.Tables.{IsWhole}
@@ -28,14 +27,15 @@ use Rattle.dom_isolation.proofs.TableCommands.{Holds}
 use Rattle.dom_isolation.proofs.TableLines.{ending-keeps_whole}
 use Rattle.dom_isolation.proofs.TableRegisters.{holds-effect}
 use Rattle.dom_isolation.proofs.Tests.{by_cases}
-use Rattle.dom_isolation.proofs.TurnEndings.{turn-dispatch, quiet-dispatch}
+use Rattle.dom_isolation.proofs.TurnEndings.{turn-dispatch}
 use Rattle.dom_isolation.proofs.WorldSteps.{turn-world_after}
+use Rattle.dom_families.specs.Laws.{IsCalm}
 use Rattle.dom_families.proofs.GroupParts.{filter-away}
 use Rattle.dom_families.proofs.GroupDispatches.{outward_run, runs-then, quiet-then, outward-in}
-use Rattle.dom_families.proofs.GroupTurns.{IsCalm}
-use Rattle.dom_families.proofs.GroupBegins.{tasks-dispatch, tasks-ending_turn, no_other-ended, same-calm, ending_other-in, ending_other-out, calm-ended, opening-own, turn-kept}
+use Rattle.dom_families.proofs.GroupBegins.{tasks-dispatch, tasks-ending_turn, no_other-ended, ending_other-in, ending_other-out, calm-ended, opening-own}
+use Rattle.dom_families.proofs.GroupBegins.{turn-kept}
 use Rattle.dom_families.proofs.GroupCommands.{refusal-in, command-in}
-use Rattle.dom_families.proofs.OutsideCommands.{Shows, ShowsNothing, command-out, command_event-page}
+use Rattle.dom_families.proofs.OutsideCommands.{ShowsNothing, command-out, command_event-page}
 
 -- an effect leaves the turn
 turn-effect : (w : World) (o : Owner) (e : Effect) → (effect_in w o e).0.turn ≡ w.turn
@@ -55,7 +55,7 @@ may_stop-same w v o c e = refl
 
 module _ (g : Owner → Bool) (closed : KeepsFamilies g) where
   -- A line of the group.
-  pub line-in : (w v : World) → IsQuiet w → IsQuiet v → group_world g w ≡ group_world g v → IsCalm g closed w → (l : Line) →
+  pub line-in : (w v : World) → IsQuiet w → IsQuiet v → group_world g w ≡ group_world g v → IsCalm g w → (l : Line) →
       is_of g (owner_of_line l) ≡ true → group_run g (step w l) ≡ group_run g (step v l)
   line-in w v q p same calm no_owner h = absurd (true≢false (sym h))
   line-in w v q p same calm (no_command o) h =
@@ -69,7 +69,7 @@ module _ (g : Owner → Bool) (closed : KeepsFamilies g) where
       (ap (λ (r : Run World). r.0) first) o h (no_other-ended w o) (no_other-ended v o) c)
 
   -- it stops in both or in none
-  pub may_stop-in : (w v : World) → IsQuiet w → IsQuiet v → group_world g w ≡ group_world g v → IsCalm g closed w → (l : Line) →
+  pub may_stop-in : (w v : World) → IsQuiet w → IsQuiet v → group_world g w ≡ group_world g v → IsCalm g w → (l : Line) →
       is_of g (owner_of_line l) ≡ true → line_may_stop w l ≡ line_may_stop v l
   may_stop-in w v q p same calm no_owner h = refl
   may_stop-in w v q p same calm (no_command o) h = refl
@@ -79,7 +79,7 @@ module _ (g : Owner → Bool) (closed : KeepsFamilies g) where
       (refusal-in g closed (ending_other_turn w o).0 (ending_other_turn v o).0 (ap (λ (r : Run World). r.0) first) o h c)
 
   -- Before a line of another owner that ends no turn of the group nothing happens to the group.
-  ended-out : (w : World) → IsQuiet w → IsCalm g closed w → (o : Owner) → (is_of g w.turn && has_other_turn w o) ≡ false →
+  ended-out : (w : World) → IsQuiet w → IsCalm g w → (o : Owner) → (is_of g w.turn && has_other_turn w o) ≡ false →
       ShowsNothing g closed w (ending_other_turn w o)
   ended-out w q calm o h =
       by_cases (is_of g w.turn)
@@ -87,7 +87,7 @@ module _ (g : Owner → Bool) (closed : KeepsFamilies g) where
       (λ t. ending_other-out g closed w q calm t o)
 
   -- such a line
-  pub line-out : (w : World) → IsReached true w → IsWhole w → IsCalm g closed w → (l : Line) → is_of g (owner_of_line l) ≡ false →
+  pub line-out : (w : World) → IsReached true w → IsWhole w → IsCalm g w → (l : Line) → is_of g (owner_of_line l) ≡ false →
       ends_group_turn g w l ≡ false → group_run g (step w l) ≡ group_run g (outward_run w (outward_event w l))
   line-out w r k calm no_owner h t = refl
   line-out w r k calm (no_command o) h t =
@@ -110,21 +110,21 @@ module _ (g : Owner → Bool) (closed : KeepsFamilies g) where
       ∙ outward-in g closed u w p q same e (command_event-page u o c))
 
   -- Where the group has tasks, a turn of its own is open: outward events keep that,
-  pub calm-outward : (w : World) → IsCalm g closed w → (o : Option OutwardEvent) → IsCalm g closed (outward_run w o).0
+  pub calm-outward : (w : World) → IsCalm g w → (o : Option OutwardEvent) → IsCalm g (outward_run w o).0
   calm-outward w calm None = calm
   calm-outward w calm (Some e) =
       λ h. ap (filter (is_task_of g)) (tasks-dispatch w e.host None (outward_words e))
       ∙ calm (sym (ap (group_turn g) (turn-dispatch w e.host None (outward_words e))) ∙ h)
 
   -- and so does each command of the group. In a turn of the group,
-  open-calm : (w u : World) → is_of g w.turn ≡ true → u.turn ≡ w.turn → IsCalm g closed u
+  open-calm : (w u : World) → is_of g w.turn ≡ true → u.turn ≡ w.turn → IsCalm g u
   open-calm w u t e h =
       let kept = turn-kept g closed w.turn t in
       let none : w.turn ≡ None = sym kept ∙ sym (ap (group_turn g) e) ∙ h in
       absurd (true≢false (sym t ∙ ap (is_of g) none))
 
   -- what a command does
-  perform-calm : (w : World) (o : Owner) → is_of g w.turn ≡ true → (c : Command) → IsCalm g closed (perform w o c).0
+  perform-calm : (w : World) (o : Owner) → is_of g w.turn ≡ true → (c : Command) → IsCalm g (perform w o c).0
   perform-calm w o t (Command.attach a) = open-calm w (perform w o (Command.attach a)).0 t refl
   perform-calm w o t (Command.connected a) = open-calm w (perform w o (Command.connected a)).0 t refl
   perform-calm w o t (Command.assigned a) = open-calm w (perform w o (Command.assigned a)).0 t refl
@@ -135,12 +135,12 @@ module _ (g : Owner → Bool) (closed : KeepsFamilies g) where
   perform-calm w o t c = open-calm w (perform w o c).0 t (turn-effect w o (effect (part_of w o) c))
 
   -- an accepted one
-  accepted-calm : (w : World) (o : Owner) → g o ≡ true → has_other_turn w o ≡ false → (c : Command) → IsCalm g closed (accepted w o c).0
+  accepted-calm : (w : World) (o : Owner) → g o ≡ true → has_other_turn w o ≡ false → (c : Command) → IsCalm g (accepted w o c).0
   accepted-calm w o h a Command.end_turn = λ t. ap (filter (is_task_of g)) (tasks-ending_turn w)
   accepted-calm w o h a c = perform-calm (opening_turn w o) o (opening-own g closed w o h a) c
 
   -- a line
-  pub calm-in : (w : World) → IsCalm g closed w → (l : Line) → is_of g (owner_of_line l) ≡ true → IsCalm g closed (step w l).0
+  pub calm-in : (w : World) → IsCalm g w → (l : Line) → is_of g (owner_of_line l) ≡ true → IsCalm g (step w l).0
   calm-in w calm no_owner h = calm
   calm-in w calm (no_command o) h = calm-ended g closed w calm o
   calm-in w calm (command o c) h = from (refusal u o c)
@@ -148,7 +148,7 @@ module _ (g : Owner → Bool) (closed : KeepsFamilies g) where
       u : World
       u = (ending_other_turn w o).0
 
-      from : (r : Option Refusal) → IsCalm g closed (unless_refused o r u (accepted u o c)).0
+      from : (r : Option Refusal) → IsCalm g (unless_refused o r u (accepted u o c)).0
       from (Some r) = calm-ended g closed w calm o
       from None = accepted-calm u o h (no_other-ended w o) c
 

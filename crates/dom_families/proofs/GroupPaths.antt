@@ -1,7 +1,7 @@
 -- The path of an event of a node of the group: its nodes of the group are the path where no others are, all others on it are hidden from
 -- them, and so they are shown the same.
-use Rattle.std.proofs.Common.{◌≡◌, ℕ, zero, suc, Bool, true, false, not, ◌&&◌, ◌||◌, List, [], ◌∷◌, ◌++◌, filter, find, flat_map, take_while, map, Option, Some}
-use Rattle.std.proofs.Common.{None, option_map, unwrap_or, refl, sym, ap, ◌∙◌, subst, true≢false, append-nil}
+use Rattle.std.proofs.Common.{◌≡◌, ℕ, zero, suc, Bool, true, false, not, ◌&&◌, ◌||◌, List, [], ◌∷◌, ◌++◌, filter, find, flat_map, take_while, Option, Some}
+use Rattle.std.proofs.Common.{None, unwrap_or, refl, sym, ap, ◌∙◌, subst, true≢false}
 use Rattle.std.specs.Prelude.{if◌then◌else◌, is_some, option_to_list}
 use Rattle.std.specs.List.{AllByRecursion}
 use Rattle.std.proofs.lemmas.Bool.{cond-true, cond-false}
@@ -11,21 +11,19 @@ use Rattle.dom_base.specs.declared.NodeName.{NodeName}
 use Rattle.dom_model.specs.Names.{name_eq, owner_depth, max_depth, is_in}
 use Rattle.dom_model.specs.Tree.{inclusive_ancestors, root_of}
 use Rattle.dom_model.specs.Part.{Part}
-use Rattle.dom_model.specs.World.{World, part_of, root_at, ancestors_at, host_above, host_chain, hosts_from, shadow_root_of, shadow_including_ancestors}
+use Rattle.dom_model.specs.World.{World, root_at, ancestors_at, host_above, host_chain, hosts_from, shadow_including_ancestors}
 use Rattle.dom_model.specs.World.{is_in_shadow_tree}
 use Rattle.dom_model.specs.Slots.{slot_of}
-use Rattle.dom_model.specs.Paths.{View, is_hidden_from, retarget, retarget_related, is_node, with_slots, way_up, whole_path, ends_at, event_path, view_at, views}
+use Rattle.dom_model.specs.Paths.{is_hidden_from, retarget, retarget_related, with_slots, way_up, whole_path}
 use Rattle.dom_model.specs.Groups.{KeepsFamilies, group_world}
-use Rattle.dom_isolation.specs.Worlds.{IsWorld, IsOf}
+use Rattle.dom_isolation.specs.Worlds.{IsOf}
 use Rattle.dom_isolation.proofs.Chains.{above-host}
 use Rattle.dom_isolation.proofs.Hiding.{IsInTree, in_tree}
-use Rattle.dom_isolation.proofs.Lists.{all-append, all-then, all-passed, all-flat_map, all-take_while, filter-map, filter_none, map_same, take_while-yes, take_while-no}
-use Rattle.dom_isolation.proofs.PagePaths.{IsInSome, slot_way, slots-behind, slot_way-in_some}
+use Rattle.dom_isolation.proofs.Lists.{all-append, all-then, all-flat_map, filter_none, take_while-yes, take_while-no}
 use Rattle.dom_isolation.proofs.Tests.{by_cases, either_way}
 use Rattle.dom_isolation.proofs.Trees.{name_eq-true}
 use Rattle.dom_families.proofs.GroupParts.{in_node, part-in, filter-here, filter-away}
-use Rattle.dom_families.proofs.GroupSlots.{IsGround, ground-of, ancestors-of, slot-outside, slot-group, host-inside, host_above-in}
-use Rattle.dom_families.proofs.GroupVisits.{in_view}
+use Rattle.dom_families.proofs.GroupSlots.{IsGround, ancestors-of, slot-outside, slot-group, host-inside, host_above-in}
 
 module _ {X : Type 0} where
   -- two functions that agree on the items
@@ -146,8 +144,10 @@ module _ (g : Owner → Bool) (closed : KeepsFamilies g) (w : World) (ground : I
   -- What is hidden from a node of the group, of nodes of the group, is the same;
   pub hidden-in : (x y : NodeName) → In x → In y → is_hidden_from (group_world g w) x y ≡ is_hidden_from w x y
   hidden-in x y h k =
-      ap (λ o. is_some o && not (is_in name_eq (root_at (group_world g w) y) (shadow_including_ancestors (group_world g w) x))) (host_above-in g closed w ground y k)
-      ∙ ap (λ (p : Part). is_in_shadow_tree w y && not (is_in name_eq (root_of p.trees y) (shadow_including_ancestors (group_world g w) x))) (part-in g w y.owner k)
+      ap (λ o. is_some o && not (is_in name_eq (root_at (group_world g w) y) (shadow_including_ancestors (group_world g w) x)))
+      (host_above-in g closed w ground y k)
+      ∙ ap (λ (p : Part). is_in_shadow_tree w y && not (is_in name_eq (root_of p.trees y) (shadow_including_ancestors (group_world g w) x)))
+      (part-in g w y.owner k)
       ∙ ap (λ xs. is_in_shadow_tree w y && not (is_in name_eq (root_at w y) xs)) (including-in x h)
 
   -- a node outside is not among nodes of the group
@@ -162,7 +162,8 @@ module _ (g : Owner → Bool) (closed : KeepsFamilies g) (w : World) (ground : I
   pub hidden-outside : (c : Owner) (x y : NodeName) → In x → Out y → IsInTree w c y → is_hidden_from w x y ≡ true
   hidden-outside c x y h k t =
       ap (λ b. b && not (is_in name_eq (root_at w y) (shadow_including_ancestors w x))) (in_tree w c y t)
-      ∙ ap not (not_among (root_at w y) (shadow_including_ancestors w x) (ap (λ (r : NodeName). g r.owner) t.root ∙ ap g (sym t.owner) ∙ k) (including-inside x h))
+      ∙ ap not (not_among (root_at w y) (shadow_including_ancestors w x) (ap (λ (r : NodeName). g r.owner) t.root ∙ ap g (sym t.owner)
+      ∙ k) (including-inside x h))
 
   -- What is seen in place of a node of the group is of the group,
   pub retarget-inside : (a b : NodeName) → In a → In (retarget w a b)
@@ -174,7 +175,8 @@ module _ (g : Owner → Bool) (closed : KeepsFamilies g) (w : World) (ground : I
       ap (λ xs. unwrap_or (find (λ x. not (is_hidden_from (group_world g w) b x)) xs) a) (chain-in a h)
       ∙ ap (λ o. unwrap_or o a)
       (find_same (λ x. not (is_hidden_from (group_world g w) b x)) (λ x. not (is_hidden_from w b x)) (host_chain w a)
-      (all-then In (λ x. not (is_hidden_from (group_world g w) b x) ≡ not (is_hidden_from w b x)) (λ x e. ap not (hidden-in b x k e)) (host_chain w a) (chain-inside a h)))
+      (all-then In (λ x. not (is_hidden_from (group_world g w) b x) ≡ not (is_hidden_from w b x)) (λ x e. ap not (hidden-in b x k e)) (host_chain w a)
+      (chain-inside a h)))
 
   -- of a related node
   abbrev pub AreIn : Option NodeName → Type 0

@@ -1,20 +1,20 @@
 -- Whole scripts: a group has of a script what it has of its trace where all others are silent. So two scripts with one trace show it the same.
-use Rattle.std.proofs.Common.{◌≡◌, Bool, true, false, not, ◌&&◌, ◌||◌, List, [], ◌∷◌, ◌++◌, map, filter, Option, Some, None, refl, sym, ap, ◌∙◌, append-nil, subst}
-use Rattle.std.specs.Prelude.{IsTrue, option_to_list}
+use Rattle.std.proofs.Common.{◌≡◌, Bool, true, false, not, ◌&&◌, List, [], ◌∷◌, map, Option, Some, None, refl, sym, ap, ◌∙◌, append-nil, subst}
+use Rattle.std.specs.Prelude.{option_to_list}
 use Rattle.std.proofs.lemmas.Bool.{cond-true, cond-false, and_parts, not-true}
 use Rattle.dom_base.specs.declared.Owner.{Owner}
 use Rattle.dom_model.specs.Names.{owner_eq}
 use Rattle.dom_model.specs.Command.{Line}
 use Rattle.dom_model.specs.Output.{Output}
-use Rattle.dom_model.specs.Runs.{Run, quiet, run_then, run_each}
+use Rattle.dom_model.specs.Runs.{Run, run_each}
 use Rattle.dom_model.specs.World.{World}
-use Rattle.dom_model.specs.Dispatch.{dispatch_in}
 use Rattle.dom_model.specs.DocumentMachine.{first_world, step, finish, run_lines}
-use Rattle.dom_model.specs.Groups.{KeepsFamilies, is_in_family, family_group, group_world, group_outputs, group_run, outward_words, silent_step, ends_other_turn}
+use Rattle.dom_model.specs.Groups.{KeepsFamilies, is_in_family, family_group, group_world, group_outputs, group_run, outward_words, silent_step}
+use Rattle.dom_model.specs.Groups.{ends_other_turn}
 use Rattle.dom_model.specs.Groups.{ends_group_turn}
-use Rattle.dom_model.specs.Trace.{OutwardEvent, TraceItem, line, outward, is_page, is_of, owner_of_line, owner_of_output, outputs_for, outward_event, line_may_stop}
+use Rattle.dom_model.specs.Trace.{OutwardEvent, line, outward, is_page, is_of, owner_of_line, owner_of_output, outputs_for, outward_event, line_may_stop}
 use Rattle.dom_model.specs.Trace.{items_of, trace_from, no_component_stops, no_component_stops_from}
-use Rattle.dom_model.specs.Isolation.{output_of, output_for, family_trace, turns_are_closed, turns_are_closed_from, has_component_turn, group_turns_stand}
+use Rattle.dom_model.specs.Isolation.{output_of, turns_are_closed_from, group_turns_stand}
 use Rattle.dom_model.specs.Isolation.{group_turns_stand_from, silent_output, GroupSeesItsTrace, SameGroup, SameFamily, SameFamilyWhileTurnsStand}
 use Rattle.dom_model.proofs.OwnerLaws.{owner_eq-true}
 use Rattle.dom_isolation.specs.Laws.{IsQuiet, IsReached}
@@ -26,9 +26,10 @@ use Rattle.dom_isolation.proofs.StepKeeps.{quiet-step}
 use Rattle.dom_isolation.proofs.TableLines.{first-is_whole, step-keeps_whole}
 use Rattle.dom_isolation.proofs.Tests.{by_cases, or-second}
 use Rattle.dom_isolation.proofs.TurnEndings.{quiet-dispatch}
+use Rattle.dom_families.specs.Laws.{IsCalm}
 use Rattle.dom_families.proofs.Families.{family-is_group}
 use Rattle.dom_families.proofs.GroupDispatches.{outward_run, runs-then, outward-in}
-use Rattle.dom_families.proofs.GroupTurns.{IsCalm, filter-sub}
+use Rattle.dom_families.proofs.GroupTurns.{filter-sub}
 use Rattle.dom_families.proofs.GroupBegins.{same-calm, ending_any-in}
 use Rattle.dom_families.proofs.GroupLines.{line-in, line-out, may_stop-in, calm-in, calm-outward, event-host}
 use Rattle.dom_families.proofs.GroupViews.{and-no}
@@ -43,7 +44,7 @@ pub record IsPair (g : Owner → Bool) (closed : KeepsFamilies g) (w v : World) 
   pub left : IsReached true w
   pub whole : IsWhole w
   pub right : IsQuiet v
-  pub calm : IsCalm g closed w
+  pub calm : IsCalm g w
 
 -- runs to two such worlds, of which the group has the same
 pub record AreRuns (g : Owner → Bool) (closed : KeepsFamilies g) (r s : Run World) : Type 0 where
@@ -125,7 +126,8 @@ module _ (g : Owner → Bool) (closed : KeepsFamilies g) where
         let later = lines-group ls u silent.0 first.pair stops.1 stands.1 in
         subst (AreRuns g closed (run_lines w (map read (l ∷ ls)))) (sym (run_each-append (silent_step read) v items rest))
         (record {
-          shown = runs-then g closed (step w (read l)) silent (λ t. run_lines t (map read ls)) (λ t. run_each (silent_step read) t rest) first.shown later.shown;
+          shown = runs-then g closed (step w (read l)) silent (λ t. run_lines t (map read ls)) (λ t. run_each
+              (silent_step read) t rest) first.shown later.shown;
           pair = later.pair;
         })
 

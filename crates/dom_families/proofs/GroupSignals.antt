@@ -1,20 +1,20 @@
 -- The signals of a step, and the components in a tree, as a group has them.
-use Rattle.std.proofs.Common.{◌≡◌, ℕ, zero, suc, Bool, true, false, not, ◌&&◌, List, [], ◌∷◌, ◌++◌, map, filter, flat_map, filter_map, position}
-use Rattle.std.proofs.Common.{option_map, Option, Some, None, refl, sym, ap, ◌∙◌, subst, true≢false}
+use Rattle.std.proofs.Common.{◌≡◌, ℕ, zero, suc, Bool, true, false, not, ◌&&◌, List, [], ◌∷◌, ◌++◌, filter, flat_map, filter_map, position}
+use Rattle.std.proofs.Common.{option_map, Option, Some, None, refl, sym, ap, ◌∙◌, true≢false}
 use Rattle.std.specs.Prelude.{if◌then◌else◌, is_some, option_to_list}
 use Rattle.std.specs.List.{AllByRecursion, cons_option}
-use Rattle.std.proofs.lemmas.Bool.{cond-true, cond-false}
 use Rattle.std.proofs.lemmas.List.Elements.{filter-append}
 use Rattle.dom_base.specs.declared.Owner.{Owner}
 use Rattle.dom_base.specs.declared.NodeName.{NodeName}
 use Rattle.dom_model.specs.Names.{name_eq, is_empty, list_eq, distinct}
-use Rattle.dom_model.specs.Tree.{Trees, Node, nodes, names_of, node_in, root_of, subtree, inclusive_descendants}
+use Rattle.dom_model.specs.Tree.{Node, nodes, names_of, node_in, root_of, subtree, inclusive_descendants}
 use Rattle.dom_model.specs.Part.{Part}
-use Rattle.dom_model.specs.World.{World, part_of, trees_with, node_at, root_at, component_at, component_made, shadow_root_of, is_in_shadow_tree, components_below}
+use Rattle.dom_model.specs.World.{World, part_of, trees_with, node_at, root_at, component_at, component_made, shadow_root_of, is_in_shadow_tree}
+use Rattle.dom_model.specs.World.{components_below}
 use Rattle.dom_model.specs.Slots.{assigned, is_changed, slot_of, slots_among, is_slot_element, is_bare_slot, own_slots, other_slots, signals}
 use Rattle.dom_model.specs.Groups.{KeepsFamilies, group_world}
 use Rattle.dom_isolation.specs.Worlds.{IsOf}
-use Rattle.dom_isolation.proofs.Lists.{all-filter, all-then, all-from, all-passed, all-distinct, all-map, filter_all, filter_none, filter_same, filter-filter}
+use Rattle.dom_isolation.proofs.Lists.{all-filter, all-then, all-passed, all-distinct, all-map, filter_all, filter_none, filter_same, filter-filter}
 use Rattle.dom_isolation.proofs.Tests.{by_cases}
 use Rattle.dom_isolation.proofs.Trees.{name_eq-true}
 use Rattle.dom_families.proofs.GroupParts.{in_node, part-in, part-out, filter-here, filter-away}
@@ -24,7 +24,8 @@ module _ {X : Type 0} where
   -- a test on the items of which another holds, where two tests agree
   filter-as : (test p q : X → Bool) → ((x : X) → test x ≡ true → p x ≡ q x) → (xs : List X) → filter p (filter test xs) ≡ filter test (filter q xs)
   filter-as test p q same xs =
-      filter_same p q (filter test xs) (all-then (λ x. test x ≡ true) (λ x. p x ≡ q x) same (filter test xs) (all-passed (λ x. test x ≡ true) test (λ x h. h) xs))
+      filter_same p q (filter test xs) (all-then (λ x. test x ≡ true) (λ x. p x ≡ q x) same (filter test xs) (all-passed (λ x. test x ≡ true) test
+      (λ x h. h) xs))
       ∙ filter-filter q test xs
 
   -- each item once, of those that pass
@@ -104,7 +105,8 @@ module _ (g : Owner → Bool) (closed : KeepsFamilies g) where
 
       inside : in_node g around ≡ true → bare_slots true v around ≡ filter (in_node g) (bare_slots true w around)
       inside h =
-          ap (λ (p : Part). if is_slot_element (node_in p.trees around) && (is_in_shadow_tree v around && is_empty (assigned v around)) then around ∷ [] else [])
+          ap (λ (p : Part). if is_slot_element (node_in p.trees around) && (is_in_shadow_tree v around && is_empty
+          (assigned v around)) then around ∷ [] else [])
           (part-in g w around.owner h)
           ∙ ap (λ o. if is_slot_element (node_at w around) && (is_some o && is_empty (assigned v around)) then around ∷ [] else [])
           (host_above-in g closed w i around h)
@@ -118,7 +120,8 @@ module _ (g : Owner → Bool) (closed : KeepsFamilies g) where
 
       outside : in_node g around ≡ false → bare_slots true v around ≡ filter (in_node g) (bare_slots true w around)
       outside h =
-          ap (λ (p : Part). if is_slot_element (node_in p.trees around) && (is_in_shadow_tree v around && is_empty (assigned v around)) then around ∷ [] else [])
+          ap (λ (p : Part). if is_slot_element (node_in p.trees around) && (is_in_shadow_tree v around && is_empty
+          (assigned v around)) then around ∷ [] else [])
           (part-out g w around.owner h)
           ∙ dropped (is_bare_slot w around)
         where
@@ -195,7 +198,8 @@ module _ (g : Owner → Bool) (closed : KeepsFamilies g) where
   -- one component with those below it
   in-each : (w : World) → IsGround w → (depth : ℕ) → IsOut w depth → IsSame w depth → (o : Owner) → g o ≡ true → (ys : List NodeName) →
       AllByRecursion (IsOf o) ys →
-      filter g (trees_of (group_world g w) depth (filter_map (component_at (group_world g w)) ys)) ≡ filter g (trees_of w depth (filter_map (component_at w) ys))
+      filter g (trees_of (group_world g w) depth (filter_map (component_at (group_world g w)) ys)) ≡ filter g (trees_of w depth (filter_map
+      (component_at w) ys))
   in-each w i depth out same o h [] k = refl
   in-each w i depth out same o h (y ∷ ys) k =
       ap (λ (p : Part). filter g (trees_of v depth (cons_option (option_map (component_made y.owner) (position (name_eq y) p.attached))

@@ -1,34 +1,31 @@
 -- Hosts, slots and signals as a group has them: what is assigned to its slots is the same, and its own signals are those of the world
 -- with its own parts alone.
-use Rattle.std.proofs.Common.{◌≡◌, ◌≢◌, ℕ, zero, suc, ◌≤◌, ◌<◌, Bool, true, false, not, ◌&&◌, ◌||◌, List, [], ◌∷◌, ◌++◌, map, filter, find, position, length}
-use Rattle.std.proofs.Common.{flat_map, filter_map, option_map, Option, Some, None, refl, sym, ap, ◌∙◌, subst, true≢false, append-nil, arith}
-use Rattle.std.specs.Prelude.{if◌then◌else◌, is_some, slice_get, option_to_list, unwrap_or}
-use Rattle.std.specs.List.{AllByRecursion, cons_option}
+use Rattle.std.proofs.Common.{◌≡◌, ◌≢◌, ℕ, ◌≤◌, Bool, true, false, ◌||◌, List, [], ◌∷◌, filter, find, position}
+use Rattle.std.proofs.Common.{option_map, Option, Some, None, refl, sym, ap, ◌∙◌, true≢false, arith}
+use Rattle.std.specs.Prelude.{is_some, slice_get, option_to_list}
+use Rattle.std.specs.List.{AllByRecursion}
 use Rattle.std.specs.Option.{option_and_then, option_map_or}
-use Rattle.std.proofs.lemmas.Bool.{cond-true, cond-false}
-use Rattle.std.proofs.lemmas.List.Elements.{filter-append}
 use Rattle.dom_base.specs.declared.Owner.{Owner}
 use Rattle.dom_base.specs.declared.Owner.TheVariants.{Page}
 use Rattle.dom_base.specs.declared.NodeName.{NodeName}
-use Rattle.dom_model.specs.Names.{DomString, name_eq, owner_eq, first_of, is_in, is_empty, list_eq, distinct}
-use Rattle.dom_model.specs.Tree.{Trees, none, Node, nodes, names_of, node_in, parent_of, root_of, inclusive_ancestors, subtree, children_of, inclusive_descendants}
-use Rattle.dom_model.specs.Part.{Part, empty_part}
-use Rattle.dom_model.specs.World.{World, part_of, trees_with, node_at, root_at, parent_at, ancestors_at, component_at, component_made, made_by, host_of, MayAttach}
-use Rattle.dom_model.specs.World.{host_above, some_if, shadow_root_of, shadow_tree, is_in_shadow_tree, components_below}
-use Rattle.dom_model.specs.Slots.{slot_of, slot_in, slottable_name, has_slot_name, assigned, assigned_below, is_assigned_to, is_changed, slots_among}
-use Rattle.dom_model.specs.Slots.{is_slot_element, is_bare_slot, own_slots, other_slots, signals}
+use Rattle.dom_model.specs.Names.{DomString, name_eq, owner_eq, is_in}
+use Rattle.dom_model.specs.Tree.{none, Node, nodes, node_in, parent_of, root_of, inclusive_ancestors, subtree, children_of}
+use Rattle.dom_model.specs.Part.{Part}
+use Rattle.dom_model.specs.World.{World, part_of, trees_with, node_at, root_at, parent_at, component_at, component_made, made_by, host_of, MayAttach}
+use Rattle.dom_model.specs.World.{host_above, some_if, shadow_root_of, shadow_tree}
+use Rattle.dom_model.specs.Slots.{slot_of, slot_in, slottable_name, has_slot_name, assigned, assigned_below, is_assigned_to}
 use Rattle.dom_model.specs.Groups.{KeepsFamilies, group_world}
 use Rattle.dom_model.proofs.OwnerLaws.{owner_eq-true, owner_eq-false, made_by-is}
 use Rattle.dom_isolation.specs.Worlds.{IsPart, IsWorld, IsOf, HasMakers, times_in}
 use Rattle.dom_model.proofs.PartLaws.{owner-part_of}
 use Rattle.dom_isolation.proofs.Hiding.{slot_in-there}
-use Rattle.dom_isolation.proofs.Lists.{all-append, all-filter, all-then, all-from, all-passed, all-distinct, all-dropped, all-map, filter_all, filter_none, filter_same}
-use Rattle.dom_isolation.proofs.Lists.{filter-filter, get-all, get-below}
+use Rattle.dom_isolation.proofs.Lists.{all-then, all-from, all-dropped, filter_same}
+use Rattle.dom_isolation.proofs.Lists.{get-all, get-below}
 use Rattle.dom_isolation.proofs.Chains.{above-host}
-use Rattle.dom_isolation.proofs.Makers.{IsMade, component-made, component-maker, hosted, hosted-maker}
+use Rattle.dom_isolation.proofs.Makers.{component-made, component-maker, hosted, hosted-maker}
 use Rattle.dom_isolation.proofs.Tests.{by_cases}
 use Rattle.dom_isolation.proofs.Trees.{name_eq-true, ancestors-there, times-subtree, nodes-there}
-use Rattle.dom_families.proofs.GroupParts.{in_node, part-in, part-out, filter-here, filter-away, filter-twice}
+use Rattle.dom_families.proofs.GroupParts.{in_node, part-in, part-out, filter-here, filter-away}
 
 -- What is asked of a world: nodes and hosts are their owners', and whoever has hosts may attach.
 pub record IsGround (w : World) : Type 0 where
@@ -151,7 +148,8 @@ module _ (g : Owner → Bool) (closed : KeepsFamilies g) where
 
       outside : in_node g x ≡ false → option_to_list (slot_of v x) ≡ filter (in_node g) (option_to_list (slot_of w x))
       outside out =
-          ap (λ (p : Part). option_to_list (slot_from v (node_in p.trees x) (option_and_then (component_at v) (parent_of p.trees x)))) (part-out g w x.owner out)
+          ap (λ (p : Part). option_to_list (slot_from v (node_in p.trees x) (option_and_then (component_at v) (parent_of p.trees x))))
+          (part-out g w x.owner out)
           ∙ sym (none_kept (slot_of w x) (λ s e. slot-outside w i x s e out))
 
       by_component : (p : NodeName) → parent_at w x ≡ Some p → in_node g x ≡ true → (o : Option Owner) → component_at w p ≡ o →

@@ -1,5 +1,6 @@
 -- Steps as a group has them: those of its owners are the same in the world with its own parts alone, and others' are none.
-use Rattle.std.proofs.Common.{◌≡◌, ℕ, Bool, true, false, not, List, [], ◌∷◌, ◌++◌, filter, fold, Option, Some, None, refl, sym, ap, ◌∙◌, subst, true≢false, append-nil}
+use Rattle.std.proofs.Common.{◌≡◌, Bool, true, false, not, List, [], ◌∷◌, ◌++◌, filter, fold, Option, Some, None, refl, sym, ap, ◌∙◌, subst, true≢false}
+use Rattle.std.proofs.Common.{append-nil}
 use Rattle.std.specs.Prelude.{⊤, ◌&&◌, ◌||◌, if◌then◌else◌}
 use Rattle.std.specs.List.{AllByRecursion, list_any}
 use Rattle.std.proofs.lemmas.Bool.{cond-true, cond-false}
@@ -19,15 +20,15 @@ use Rattle.dom_model.specs.Groups.{KeepsFamilies, group_world, is_task_of}
 use Rattle.dom_model.proofs.OwnerLaws.{owner_eq-true, name_eq-same}
 use Rattle.dom_model.proofs.PartLaws.{owner-part_of}
 use Rattle.dom_model.proofs.StepLaws.{owner-part_step}
-use Rattle.dom_isolation.specs.Worlds.{IsPart, IsOf}
+use Rattle.dom_isolation.specs.Worlds.{IsOf}
 use Rattle.dom_isolation.proofs.Lists.{filter_none, all-from}
 use Rattle.dom_isolation.proofs.PartSteps.{rest-step}
 use Rattle.dom_isolation.proofs.TableSteps.{Fits, MadeIn}
 use Rattle.dom_isolation.proofs.TableWorlds.{Ground, ground-stepped, ground-world_step, part-own_step}
 use Rattle.dom_isolation.proofs.Tests.{by_cases}
-use Rattle.dom_isolation.proofs.WorldParts.{HoldsIn, IsKeptIn, holds-world_after}
+use Rattle.dom_isolation.proofs.WorldParts.{IsKeptIn, holds-world_after}
 use Rattle.dom_isolation.proofs.WorldSteps.{attached-with_part}
-use Rattle.dom_families.proofs.GroupParts.{same_world, in_node, part-in, part-out, with_part-in, with_part-out, group-twice, filter-here, filter-away}
+use Rattle.dom_families.proofs.GroupParts.{in_node, part-in, part-out, with_part-in, with_part-out, group-twice, filter-here, filter-away}
 use Rattle.dom_families.proofs.GroupSlots.{IsGround, owned-by, parent-in, is_in-kept}
 use Rattle.dom_families.proofs.GroupSignals.{signals-group, below-outside, below-group}
 

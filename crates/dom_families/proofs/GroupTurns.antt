@@ -1,29 +1,24 @@
 -- Notifications and the endings of turns as a group has them: its own tasks do the same in two worlds of which it has the same, and
 -- others' tasks do nothing.
-use Rattle.std.proofs.Common.{◌≡◌, ◌≢◌, Bool, true, false, not, List, [], ◌∷◌, ◌++◌, filter, Option, Some, None, refl, sym, ap, ◌∙◌, subst, true≢false, append-nil}
-use Rattle.std.specs.Prelude.{is_some, is_none, ◌&&◌, if◌then◌else◌}
+use Rattle.std.proofs.Common.{◌≡◌, Bool, true, false, not, List, [], ◌∷◌, filter, None, refl, sym, ap, ◌∙◌, true≢false}
 use Rattle.std.specs.List.{AllByRecursion}
-use Rattle.std.specs.Option.{option_map_or}
-use Rattle.std.proofs.lemmas.Bool.{cond-true, cond-false}
 use Rattle.dom_base.specs.declared.Owner.{Owner}
-use Rattle.dom_base.specs.declared.Owner.TheVariants.{Page, Component}
 use Rattle.dom_base.specs.declared.NodeName.{NodeName}
-use Rattle.dom_model.specs.Names.{owner_eq}
-use Rattle.dom_model.specs.Output.{Output, says, micro_ran}
+use Rattle.dom_model.specs.Output.{says, micro_ran}
 use Rattle.dom_model.specs.Part.{Part}
-use Rattle.dom_model.specs.Runs.{Run, quiet, run_then, run_each}
-use Rattle.dom_model.specs.World.{World, Task, micro_task, notify_task, part_of, with_part, some_if}
-use Rattle.dom_model.specs.Dispatch.{Dispatched, dispatch_in, visits_of}
+use Rattle.dom_model.specs.Runs.{Run, run_each}
+use Rattle.dom_model.specs.World.{World, Task, micro_task, notify_task, part_of, with_part}
+use Rattle.dom_model.specs.Dispatch.{Dispatched}
 use Rattle.dom_model.specs.Turns.{slotchange, firing_slotchange, is_owned_by, without_signals, notifying, notified, notified_lines, running_task, ending_turn}
-use Rattle.dom_model.specs.Turns.{is_other_component, has_other_turn, ending_other_turn, ending_any_turn}
 use Rattle.dom_model.specs.Groups.{KeepsFamilies, group_world, group_turn, group_outputs, group_run, is_task_of}
 use Rattle.dom_model.specs.Trace.{is_of, owner_of_output}
 use Rattle.dom_model.proofs.OwnerLaws.{owner_eq-true}
 use Rattle.dom_model.proofs.PartLaws.{owner-part_of}
 use Rattle.dom_isolation.specs.Laws.{IsQuiet}
-use Rattle.dom_isolation.proofs.Lists.{all-then, all-passed, filter_all, filter_none, filter_same, filter-filter}
+use Rattle.dom_isolation.proofs.Lists.{all-then, all-passed, filter_all, filter_none, filter-filter}
 use Rattle.dom_isolation.proofs.Tests.{by_cases}
 use Rattle.dom_isolation.proofs.TurnEndings.{told_in, quiet-told, quiet-dispatch, quiet-running, quiet-at_end, IsLineOf, lines-notified}
+use Rattle.dom_families.specs.Laws.{IsCalm}
 use Rattle.dom_families.proofs.GroupParts.{in_node, part-in, with_part-in, with_part-out, filter-here, filter-away}
 use Rattle.dom_families.proofs.GroupVisits.{no_dispatch}
 use Rattle.dom_families.proofs.OutsideViews.{views-kept_in}
@@ -32,7 +27,8 @@ use Rattle.dom_families.proofs.GroupDispatches.{runs-then, quiet-then, dispatch-
 -- a test on the items of which another holds anyway
 pub filter-sub : {X : Type 0} (p t : X → Bool) → ((x : X) → p x ≡ true → t x ≡ true) → (xs : List X) → filter p (filter t xs) ≡ filter p xs
 filter-sub p t f xs =
-    filter-filter p t xs ∙ filter_all t (filter p xs) (all-then (λ x. p x ≡ true) (λ x. t x ≡ true) f (filter p xs) (all-passed (λ x. p x ≡ true) p (λ x h. h) xs))
+    filter-filter p t xs ∙ filter_all t (filter p xs) (all-then (λ x. p x ≡ true) (λ x. t x ≡ true) f (filter p xs) (all-passed (λ x. p x ≡ true) p
+    (λ x h. h) xs))
 
 module _ (g : Owner → Bool) (closed : KeepsFamilies g) where
   -- an owner's nodes are of the group where the owner is
@@ -153,12 +149,8 @@ module _ (g : Owner → Bool) (closed : KeepsFamilies g) where
       ∙ ap (λ ts. group_run g (run_each running_task (at_end v) ts)) (ap (λ (u : World). u.tasks) same)
       ∙ sym (running-all v.tasks (at_end v) (at_end v) (quiet-at_end v p) (quiet-at_end v p) refl)
 
-  -- Where no turn of the group is open it has no tasks.
-  abbrev pub IsCalm : World → Type 0
-  IsCalm w = group_turn g w.turn ≡ None → filter (is_task_of g) w.tasks ≡ []
-
-  -- then the ending of a turn does nothing
-  pub ending-out : (w : World) → IsQuiet w → IsCalm w → group_turn g w.turn ≡ None → group_run g (ending_turn w) ≡ (group_world g w, [])
+  -- Where no turn of the group is open, and so it has no tasks, the ending of a turn does nothing.
+  pub ending-out : (w : World) → IsQuiet w → IsCalm g w → group_turn g w.turn ≡ None → group_run g (ending_turn w) ≡ (group_world g w, [])
   ending-out w q calm h =
       let at_end : World → World = λ u. record u { tasks = []; turn = None } in
       running-all w.tasks (at_end w) (at_end w) (quiet-at_end w q) (quiet-at_end w q) refl

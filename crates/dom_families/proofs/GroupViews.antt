@@ -1,5 +1,5 @@
 -- What an event of a node of the group shows at the group's nodes: what it shows where no others are.
-use Rattle.std.proofs.Common.{◌≡◌, Bool, true, false, not, ◌&&◌, List, [], ◌∷◌, ◌++◌, filter, flat_map, take_while, map, Option, Some, None}
+use Rattle.std.proofs.Common.{◌≡◌, Bool, true, false, not, ◌&&◌, List, [], filter, take_while, map, Option}
 use Rattle.std.proofs.Common.{refl, sym, ap, ◌∙◌, subst, true≢false}
 use Rattle.std.specs.Prelude.{if◌then◌else◌}
 use Rattle.std.specs.List.{AllByRecursion}
@@ -7,7 +7,8 @@ use Rattle.dom_base.specs.declared.Owner.{Owner}
 use Rattle.dom_base.specs.declared.NodeName.{NodeName}
 use Rattle.dom_model.specs.Names.{name_eq, max_depth}
 use Rattle.dom_model.specs.World.{World, ancestors_at}
-use Rattle.dom_model.specs.Paths.{is_hidden_from, retarget, retarget_related, is_node, with_slots, way_up, whole_path, ends_at, event_path, view_at, views, View}
+use Rattle.dom_model.specs.Paths.{is_hidden_from, retarget, retarget_related, is_node, with_slots, way_up, whole_path, ends_at, event_path, view_at, views}
+use Rattle.dom_model.specs.Paths.{View}
 use Rattle.dom_model.specs.Groups.{KeepsFamilies, group_world}
 use Rattle.dom_isolation.specs.Worlds.{IsWorld}
 use Rattle.dom_isolation.proofs.Lists.{all-then, all-passed, all-flat_map, all-take_while, filter-map, map_same}
@@ -17,7 +18,7 @@ use Rattle.dom_isolation.proofs.Trees.{name_eq-true}
 use Rattle.dom_families.proofs.GroupParts.{in_node}
 use Rattle.dom_families.proofs.GroupSlots.{IsGround, ground-of}
 use Rattle.dom_families.proofs.GroupVisits.{in_view}
-use Rattle.dom_families.proofs.GroupPaths.{In, Out, AreIn, begins, begins-inside, ancestors-inside, hidden-in, hidden-outside, retarget-inside, retarget-in}
+use Rattle.dom_families.proofs.GroupPaths.{AreIn, begins, begins-inside, ancestors-inside, hidden-in, hidden-outside, retarget-inside, retarget-in}
 use Rattle.dom_families.proofs.GroupPaths.{related-in, whole-in, take_while-filter, filter-within}
 
 -- a test that fails with another
@@ -89,7 +90,8 @@ module _ (g : Owner → Bool) (closed : KeepsFamilies g) (w : World) (i : IsWorl
   path-veiled : (x : NodeName) (r : Option NodeName) (composed : Bool) → Inside x → AllByRecursion IsVeiled (event_path w x r composed)
   path-veiled x r composed h =
       let whole = all-flat_map IsVeiled (way_up w) (begins g closed w ground w x composed)
-      (all-then Inside (λ y. AllByRecursion IsVeiled (way_up w y)) way-veiled (begins g closed w ground w x composed) (begins-inside g closed w ground x composed h)) in
+      (all-then Inside (λ y. AllByRecursion IsVeiled (way_up w y)) way-veiled (begins g closed w ground w x composed)
+      (begins-inside g closed w ground x composed h)) in
       either_way (AllByRecursion IsVeiled) (is_node x (retarget_related w r x) && not (is_node x r)) []
       (take_while (λ y. not (ends_at w x r y)) (whole_path w x composed)) tt
       (all-take_while IsVeiled (λ y. not (ends_at w x r y)) (whole_path w x composed) whole)
@@ -109,7 +111,8 @@ module _ (g : Owner → Bool) (closed : KeepsFamilies g) (w : World) (i : IsWorl
       ap (λ t. shown t (retarget_related w r y) near) (sym (retarget-in g closed w ground x y h j))
       ∙ ap (λ q. shown (retarget v x y) q near) (sym (related-in g closed w ground r y k j))
       ∙ ap (shown (retarget v x y) (retarget_related v r y))
-      (filter-within (in_node g) (λ z. not (is_hidden_from w y z)) (λ z. not (is_hidden_from v y z)) (λ z e. ap not (sym (hidden-in g closed w ground y z j e))) path
+      (filter-within (in_node g) (λ z. not (is_hidden_from w y z)) (λ z. not (is_hidden_from v y z)) (λ z e. ap not (sym
+      (hidden-in g closed w ground y z j e))) path
       (all-then IsVeiled (λ z. Outside z → not (is_hidden_from w y z) ≡ false) (λ z t. veiled-hidden y j z t) path s))
 
   -- The views.

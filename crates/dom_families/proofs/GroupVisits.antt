@@ -1,6 +1,6 @@
 -- Visits as a group has them: one at a node of the group does what it does where no others are, and one at another node, whose listeners
 -- only log, does nothing.
-use Rattle.std.proofs.Common.{◌≡◌, ◌≢◌, Bool, true, false, not, ◌||◌, List, [], ◌∷◌, ◌++◌, filter, fold, map, reverse, Option, refl, sym, ap, ◌∙◌, append-nil, subst}
+use Rattle.std.proofs.Common.{◌≡◌, Bool, true, false, not, ◌||◌, List, [], ◌∷◌, ◌++◌, filter, fold, map, reverse, Option, refl, sym, ap, ◌∙◌, append-nil, subst}
 use Rattle.std.proofs.lemmas.Bool.{cond-true, cond-false}
 use Rattle.std.specs.List.{AllByRecursion}
 use Rattle.std.proofs.lemmas.List.Elements.{filter-append}
@@ -11,7 +11,7 @@ use Rattle.dom_base.specs.declared.Action.TheVariants.{Log, Stop, StopNow, Cance
 use Rattle.dom_model.specs.Names.{name_eq}
 use Rattle.dom_model.specs.Command.{EventWords}
 use Rattle.dom_model.specs.Output.{EventLine}
-use Rattle.dom_model.specs.Listeners.{Listener, Visit, Dispatching, visited, called, hears, is_listener, kept_after, after_action, may_cancel, line_of}
+use Rattle.dom_model.specs.Listeners.{Listener, Visit, visited, called, hears, is_listener, kept_after, after_action, may_cancel, line_of}
 use Rattle.dom_model.specs.Listeners.{begun}
 use Rattle.dom_model.specs.Part.{Part}
 use Rattle.dom_model.specs.Paths.{View, views}
@@ -106,7 +106,8 @@ module _ (g : Owner → Bool) where
 
   -- At another node, with listeners that only log: the flags stay, and no line is the group's.
   abbrev IsUnseen : Going → Going → Type 0
-  IsUnseen a b = ((ls : List (Listener NodeName)) → record (seen a) { listeners = ls } ≡ record (seen b) { listeners = ls }) × AllByRecursion OnlyLogs a.listeners
+  IsUnseen a b = ((ls : List (Listener NodeName)) → record (seen a) { listeners = ls } ≡ record
+      (seen b) { listeners = ls }) × AllByRecursion OnlyLogs a.listeners
 
   -- a call
   unseen-call : (e : EventWords) (v : Visit NodeName) → in_visit v ≡ false → (d : Going) (l : Listener NodeName) → OnlyLogs l →
@@ -147,7 +148,8 @@ module _ (g : Owner → Bool) where
   group_going s = (group_world g s.0, record s.1 { listeners = []; lines = filter in_line s.1.lines })
 
   -- a visit at a node of the group does what it does where no others are
-  visit-in : (e : EventWords) (s : InWorld) (v : Visit NodeName) → in_visit v ≡ true → group_going (world_visit e s v) ≡ group_going (world_visit e (group_going s) v)
+  visit-in : (e : EventWords) (s : InWorld) (v : Visit NodeName) → in_visit v ≡ true →
+      group_going (world_visit e s v) ≡ group_going (world_visit e (group_going s) v)
   visit-in e s v h =
       let o = v.current.owner in
       let u = group_world g s.0 in
@@ -175,7 +177,8 @@ module _ (g : Owner → Bool) where
       let p = part_of s.0 v.current.owner in
       let start : Going = record s.1 { listeners = p.listeners } in
       let heard = visited name_eq e start v in
-      ap (λ w. (w, record (seen heard) { listeners = [] })) (with_part-out g s.0 (with_listeners p heard.listeners) (ap g (owner-part_of s.0 v.current.owner) ∙ f))
+      ap (λ w. (w, record (seen heard) { listeners = [] })) (with_part-out g s.0 (with_listeners p heard.listeners) (ap g
+      (owner-part_of s.0 v.current.owner) ∙ f))
       ∙ ap (λ d. (group_world g s.0, d)) ((unseen-visited e v f start logs).0 [])
 
   -- The visits at nodes of the group are those of the views there.
@@ -223,8 +226,8 @@ module _ (g : Owner → Bool) (closed : KeepsFamilies g) where
       let seen_end : (t : InWorld) → group_dispatched g (dispatched t.0 t.1) ≡ ending (group_going g t) =
       λ t. ap (λ ls. record { run = (group_world g t.0, ls); answer = not t.1.cancelled }) (outputs-event_lines g t.1.lines) in
       let at : (u : World) (z : NodeName) (q : Option NodeName) → ComponentsOnlyLog u → group_world g w ≡ group_world g u →
-          group_going g (end u z q)
-          ≡ group_going g (fold (world_visit e) (group_world g w, begun []) (visits_of name_eq e.bubbles (filter (in_view g) (views u z q e.composed)))) =
+      group_going g (end u z q)
+      ≡ group_going g (fold (world_visit e) (group_world g w, begun []) (visits_of name_eq e.bubbles (filter (in_view g) (views u z q e.composed)))) =
       λ u z q l k. visits-group e (visits_of name_eq e.bubbles (views u z q e.composed)) (u, begun []) (group_world g w, begun []) l
       (ap (λ a. (a, begun [])) (sym k ∙ sym (group-twice g w)))
       ∙ ap (λ us. group_going g (fold (world_visit e) (group_world g w, begun []) us)) (group_visits g e.bubbles (views u z q e.composed)) in

@@ -1,7 +1,7 @@
 -- A command of a component outside the group does nothing to the group, or what its outward event does.
-use Rattle.std.proofs.Common.{◌≡◌, ◌≢◌, Bool, true, false, not, ◌&&◌, ◌||◌, List, [], ◌∷◌, ◌++◌, length, map, filter, Option, Some, None, option_map, refl, sym, ap, ◌∙◌}
+use Rattle.std.proofs.Common.{◌≡◌, Bool, true, false, not, ◌&&◌, List, [], ◌∷◌, ◌++◌, length, map, filter, Option, Some, None, option_map, refl, sym, ap, ◌∙◌}
 use Rattle.std.proofs.Common.{subst, true≢false, append-nil}
-use Rattle.std.specs.Prelude.{is_none, if◌then◌else◌, option_to_list}
+use Rattle.std.specs.Prelude.{is_none, if◌then◌else◌}
 use Rattle.std.specs.Option.{option_map_or}
 use Rattle.std.proofs.lemmas.List.Elements.{filter-append}
 use Rattle.dom_base.specs.declared.Owner.{Owner}
@@ -14,16 +14,16 @@ use Rattle.dom_model.specs.Tree.{node_in, root_of}
 use Rattle.dom_model.specs.Command.{Command, Spelled, EventWords}
 use Rattle.dom_model.specs.Output.{Output, Said, Value, says, replied, refused, nothing, a_truth, a_component}
 use Rattle.dom_model.specs.Part.{Part}
-use Rattle.dom_model.specs.Runs.{Run, quiet, run_then, answering, unless_refused}
+use Rattle.dom_model.specs.Runs.{Run, run_then, answering, unless_refused}
 use Rattle.dom_model.specs.CommandRefusals.{is_command_of, part_refusal}
 use Rattle.dom_model.specs.CommandNames.{named}
 use Rattle.dom_model.specs.Effects.{Effect, tables, changes, effect}
-use Rattle.dom_model.specs.World.{World, Task, micro_task, part_of, with_part, component_made}
+use Rattle.dom_model.specs.World.{World, micro_task, part_of, with_part, component_made}
 use Rattle.dom_model.specs.WorldSteps.{world_after}
 use Rattle.dom_model.specs.Dispatch.{dispatch_in}
 use Rattle.dom_model.specs.Turns.{ending_turn, opening_turn, has_other_turn, is_other_component, is_page_turn}
 use Rattle.dom_model.specs.DocumentMachine.{refusal, effect_in, attaching, part_with_root, perform, accepted, run_command}
-use Rattle.dom_model.specs.Groups.{KeepsFamilies, group_world, group_turn, group_outputs, group_run, is_task_of}
+use Rattle.dom_model.specs.Groups.{KeepsFamilies, group_world, group_outputs, group_run, is_task_of}
 use Rattle.dom_model.specs.Trace.{OutwardEvent, is_page, is_of, owner_of_output, outward_of, outward_dispatch, outward_command, outermost_host}
 use Rattle.dom_model.proofs.OwnerLaws.{owner_eq-true}
 use Rattle.dom_model.proofs.PartLaws.{owner-part_of}
@@ -37,11 +37,12 @@ use Rattle.dom_isolation.proofs.PageCommands.{owner-named}
 use Rattle.dom_isolation.proofs.TableCommands.{Holds}
 use Rattle.dom_isolation.proofs.TableEffects.{KeepsBase, base-effect}
 use Rattle.dom_isolation.proofs.Tests.{by_cases}
-use Rattle.dom_families.proofs.GroupParts.{in_node, with_part-out, filter-here, filter-away}
+use Rattle.dom_families.specs.Laws.{IsCalm}
+use Rattle.dom_families.proofs.GroupParts.{with_part-out, filter-away}
 use Rattle.dom_families.proofs.GroupSlots.{IsGround, ground-of}
 use Rattle.dom_families.proofs.GroupSteps.{steps-out}
 use Rattle.dom_families.proofs.GroupDispatches.{outward_run, quiet-then, outward-in, dispatch-out, outermost-page}
-use Rattle.dom_families.proofs.GroupTurns.{IsCalm, ending-out}
+use Rattle.dom_families.proofs.GroupTurns.{ending-out}
 use Rattle.dom_families.proofs.GroupBegins.{turn-none, same-turn, same-calm, opening-out, opened-quiet}
 
 -- the host of an outward event is a page node
@@ -150,7 +151,7 @@ module _ (g : Owner → Bool) (closed : KeepsFamilies g) where
       same_event (Some y) = refl
 
   -- Any accepted command.
-  perform-out : (w : World) (k : ComponentName) → IsQuiet w → g (Component k) ≡ false → IsCalm g closed w → is_of g w.turn ≡ false → (c : Command) →
+  perform-out : (w : World) (k : ComponentName) → IsQuiet w → g (Component k) ≡ false → IsCalm g w → is_of g w.turn ≡ false → (c : Command) →
       is_command_of (Component k) c ≡ true → part_refusal (part_of w (Component k)) c ≡ None →
       Holds (part_of w (Component k)) (effect (part_of w (Component k)) c) →
       Shows w (perform w (Component k) c) (outward_dispatch w (Component k) c)
@@ -166,7 +167,8 @@ module _ (g : Owner → Bool) (closed : KeepsFamilies g) where
       answered-out (Component k) h nothing w u
       (ap (λ ts. record (group_world g w) { tasks = ts })
       (filter-append (is_task_of g) w.tasks (micro_task (Component k) a ∷ [])
-      ∙ ap (λ ts. filter (is_task_of g) w.tasks ++ ts) (filter-away (is_task_of g) (micro_task (Component k) a) [] h) ∙ append-nil (filter (is_task_of g) w.tasks)))
+      ∙ ap (λ ts. filter (is_task_of g) w.tasks ++ ts) (filter-away (is_task_of g) (micro_task (Component k) a) [] h)
+      ∙ append-nil (filter (is_task_of g) w.tasks)))
   perform-out w k q h calm t Command.end_turn m r f =
       let first = ending-out g closed w q calm (turn-none g closed w.turn t) in
       quiet-then g closed (ending_turn w) w (answering (Component k) nothing) (w, []) first
@@ -188,7 +190,7 @@ module _ (g : Owner → Bool) (closed : KeepsFamilies g) where
           (λ s. ap g (owner_eq-true (Component j) (Component k) s) ∙ h) (λ s. absurd (true≢false (sym (ap not s) ∙ a)))
 
   -- with the turn that it opens
-  opened : (w : World) (k : ComponentName) → IsQuiet w → g (Component k) ≡ false → IsCalm g closed w → has_other_turn w (Component k) ≡ false →
+  opened : (w : World) (k : ComponentName) → IsQuiet w → g (Component k) ≡ false → IsCalm g w → has_other_turn w (Component k) ≡ false →
       is_of g w.turn ≡ false → (c : Command) → is_command_of (Component k) c ≡ true → part_refusal (part_of w (Component k)) c ≡ None →
       Holds (part_of w (Component k)) (effect (part_of w (Component k)) c) →
       Shows w (perform (opening_turn w (Component k)) (Component k) c) (outward_dispatch w (Component k) c)
@@ -205,7 +207,7 @@ module _ (g : Owner → Bool) (closed : KeepsFamilies g) where
       ∙ ap (λ e. group_run g (outward_run w e)) (opened-event w k c)
 
   -- `.` apart, which opens none
-  accepted-out : (w : World) (k : ComponentName) → IsQuiet w → g (Component k) ≡ false → IsCalm g closed w → has_other_turn w (Component k) ≡ false →
+  accepted-out : (w : World) (k : ComponentName) → IsQuiet w → g (Component k) ≡ false → IsCalm g w → has_other_turn w (Component k) ≡ false →
       is_of g w.turn ≡ false → (c : Command) → is_command_of (Component k) c ≡ true → part_refusal (part_of w (Component k)) c ≡ None →
       Holds (part_of w (Component k)) (effect (part_of w (Component k)) c) →
       Shows w (accepted w (Component k) c) (outward_dispatch w (Component k) c)
@@ -213,7 +215,7 @@ module _ (g : Owner → Bool) (closed : KeepsFamilies g) where
   accepted-out w k q h calm a t c m r f = opened w k q h calm a t c m r f
 
   -- A command, refused or accepted. What it does fits where it is accepted.
-  pub command-out : (w : World) (k : ComponentName) → IsQuiet w → g (Component k) ≡ false → IsCalm g closed w → has_other_turn w (Component k) ≡ false →
+  pub command-out : (w : World) (k : ComponentName) → IsQuiet w → g (Component k) ≡ false → IsCalm g w → has_other_turn w (Component k) ≡ false →
       (c : Command) → (refusal w (Component k) c ≡ None → Holds (part_of w (Component k)) (effect (part_of w (Component k)) c)) →
       Shows w (run_command (Component k) c w) (outward_command w (Component k) c)
   command-out w k q h calm a c f = from (refusal w (Component k) c) refl

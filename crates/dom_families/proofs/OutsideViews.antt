@@ -1,5 +1,5 @@
 -- What an event of a node outside the group shows at the group's nodes: nothing, or where it goes out, what it shows at its outermost host.
-use Rattle.std.proofs.Common.{◌≡◌, ◌≢◌, ℕ, zero, suc, ◌≤◌, Bool, true, false, not, ◌&&◌, List, [], ◌∷◌, ◌++◌, filter, find, flat_map, take_while, map}
+use Rattle.std.proofs.Common.{◌≡◌, ◌≢◌, ℕ, zero, suc, ◌≤◌, Bool, true, false, not, ◌&&◌, List, [], ◌∷◌, ◌++◌, filter, find, flat_map, map}
 use Rattle.std.proofs.Common.{Option, Some, None, unwrap_or, refl, sym, ap, ◌∙◌, subst, true≢false, append-nil, arith}
 use Rattle.std.specs.Prelude.{if◌then◌else◌, is_some}
 use Rattle.std.specs.List.{AllByRecursion, last_or}
@@ -10,7 +10,8 @@ use Rattle.dom_base.specs.declared.Owner.TheVariants.{Page}
 use Rattle.dom_base.specs.declared.NodeName.{NodeName}
 use Rattle.dom_model.specs.Names.{name_eq, owner_eq, owner_depth, max_depth, last_of}
 use Rattle.dom_model.specs.World.{World, trees_with, ancestors_at, host_above, host_chain, is_in_shadow_tree}
-use Rattle.dom_model.specs.Paths.{View, is_hidden_from, retarget, retarget_related, is_node, with_slots, way_up, whole_path, ends_at, event_path, view_at, views}
+use Rattle.dom_model.specs.Paths.{View, is_hidden_from, retarget, retarget_related, is_node, with_slots, way_up, whole_path, ends_at, event_path, view_at}
+use Rattle.dom_model.specs.Paths.{views}
 use Rattle.dom_model.specs.Groups.{KeepsFamilies}
 use Rattle.dom_model.specs.Trace.{is_page, outermost_host}
 use Rattle.dom_model.proofs.OwnerLaws.{owner_eq-true, owner_eq-false, made_by-is}
@@ -25,10 +26,9 @@ use Rattle.dom_isolation.proofs.Tests.{by_cases, either_way}
 use Rattle.dom_isolation.proofs.Trees.{by_times, ancestors-absent, ancestors-present}
 use Rattle.std.proofs.lemmas.List.Elements.{filter-append}
 use Rattle.dom_families.proofs.GroupParts.{in_node}
-use Rattle.dom_families.proofs.GroupSlots.{maker-inside}
 use Rattle.dom_families.proofs.GroupVisits.{in_view}
 use Rattle.dom_families.proofs.GroupPaths.{hidden-outside, way-outside}
-use Rattle.dom_families.proofs.GroupViews.{ground, Inside, Outside, IsVeiled, way-veiled, veiled-hidden, and-no}
+use Rattle.dom_families.proofs.GroupViews.{ground, Inside, Outside, veiled-hidden, and-no}
 
 -- the last item of a list that has one behind
 last-push : (o : Option NodeName) (xs : List NodeName) (y : NodeName) → last_or o (xs ++ y ∷ []) ≡ Some y
@@ -135,7 +135,12 @@ module _ (g : Owner → Bool) (closed : KeepsFamilies g) (w : World) (i : IsWorl
   climb : (depth : ℕ) (x : NodeName) → Away x → owner_depth x.owner ≤ depth → (o : Option NodeName) → host_above w x ≡ o → HasExit x
   climb depth x h d None e =
       record {
-        inner = []; last = x; chain = hosts-alone (owner_depth x.owner) w x e; trees = tt; away = tt; out = λ off. h;
+        inner = [];
+        last = x;
+        chain = hosts-alone (owner_depth x.owner) w x e;
+        trees = tt;
+        away = tt;
+        out = λ off. h;
         start = λ page off. absurd (off page);
       }
   climb zero x h d (Some host) e = let b = (below-host w i x host e).deeper in absurd (omega (arith, d, b))
@@ -144,15 +149,25 @@ module _ (g : Owner → Bool) (closed : KeepsFamilies g) (w : World) (i : IsWorl
       by_cases (owner_eq host.owner Page)
       (λ t. let page = owner_eq-true host.owner Page t in
       record {
-        inner = x ∷ []; last = host; chain = chain-below w x host b ∙ ap (λ xs. x ∷ xs) (host_chain-page w host page); trees = (b.tree, tt);
-        away = (h, tt); out = λ off. absurd (off page); start = λ p off. ap is_some e;
+        inner = x ∷ [];
+        last = host;
+        chain = chain-below w x host b ∙ ap (λ xs. x ∷ xs) (host_chain-page w host page);
+        trees = (b.tree, tt);
+        away = (h, tt);
+        out = λ off. absurd (off page);
+        start = λ p off. ap is_some e;
       })
       (λ t. let off = owner_eq-false host.owner Page t in
       let deep = b.deeper in
       let k = climb depth host (host-away x host h e off) (omega (arith, d, deep)) (host_above w host) refl in
       record {
-        inner = x ∷ k.inner; last = k.last; chain = chain-below w x host b ∙ ap (λ xs. x ∷ xs) k.chain; trees = (b.tree, k.trees);
-        away = (h, k.away); out = k.out; start = λ p f. ap is_some e;
+        inner = x ∷ k.inner;
+        last = k.last;
+        chain = chain-below w x host b ∙ ap (λ xs. x ∷ xs) k.chain;
+        trees = (b.tree, k.trees);
+        away = (h, k.away);
+        out = k.out;
+        start = λ p f. ap is_some e;
       })
 
   -- any
@@ -229,7 +244,7 @@ module _ (g : Owner → Bool) (closed : KeepsFamilies g) (w : World) (i : IsWorl
       let kept : filter (in_node g) (inner ++ outer) ≡ mine =
       filter-append (in_node g) inner outer ∙ ap (λ xs. xs ++ mine) (filter_none (in_node g) inner (inner-away x k)) in
       let hidden : (y : NodeName) → Inside g closed w i y →
-          filter (λ z. not (is_hidden_from w y z)) (inner ++ outer) ≡ filter (λ z. not (is_hidden_from w y z)) outer =
+      filter (λ z. not (is_hidden_from w y z)) (inner ++ outer) ≡ filter (λ z. not (is_hidden_from w y z)) outer =
       λ y h. filter-append (λ z. not (is_hidden_from w y z)) inner outer
       ∙ ap (λ xs. xs ++ filter (λ z. not (is_hidden_from w y z)) outer)
       (filter_none (λ z. not (is_hidden_from w y z)) inner

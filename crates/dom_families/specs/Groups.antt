@@ -1,5 +1,4 @@
 -- Groups.
-use Rattle.std.specs.Prelude.{◌≡◌, Bool, true}
 use Rattle.dom_base.specs.declared.Owner.{Owner}
 use Rattle.dom_model.specs.Groups.{KeepsFamilies, family_group}
 use Rattle.dom_model.specs.Trace.{is_page}

@@ -1,6 +1,6 @@
 -- The laws, each about one piece of what the document machine does: a group of whole families has of it what it would have where no
 -- others were, and of others their outward events.
-use Rattle.std.specs.Prelude.{◌≡◌, ◌≢◌, Bool, true, false, IsTrue, [], filter, Option, None, Some, option_to_list, is_some}
+use Rattle.std.specs.Prelude.{◌≡◌, Bool, true, false, IsTrue, [], filter, Option, None, Some, option_to_list}
 use Rattle.std.specs.List.{AllByRecursion}
 use Rattle.dom_base.specs.declared.Owner.{Owner}
 use Rattle.dom_base.specs.declared.NodeName.{NodeName}
@@ -10,11 +10,11 @@ use Rattle.dom_model.specs.Dispatch.{dispatch_in}
 use Rattle.dom_model.specs.DocumentMachine.{step, perform, finish}
 use Rattle.dom_model.specs.Groups.{KeepsFamilies, group_world, group_turn, group_run, is_task_of, outward_in, ends_group_turn}
 use Rattle.dom_model.specs.Paths.{View, views}
-use Rattle.dom_model.specs.Runs.{Run, quiet, run_each}
+use Rattle.dom_model.specs.Runs.{run_each}
 use Rattle.dom_model.specs.Slots.{assigned, signals}
 use Rattle.dom_model.specs.Steps.{Step}
-use Rattle.dom_model.specs.Trace.{OutwardEvent, is_of, owner_of_line, outermost_host, outward_dispatch, outward_event}
-use Rattle.dom_model.specs.Turns.{notifying, ending_turn}
+use Rattle.dom_model.specs.Trace.{is_of, owner_of_line, outermost_host, outward_dispatch, outward_event}
+use Rattle.dom_model.specs.Turns.{ending_turn}
 use Rattle.dom_model.specs.World.{World, part_of}
 use Rattle.dom_model.specs.WorldSteps.{world_step}
 use Rattle.dom_isolation.specs.Laws.{IsQuiet, IsReached}
@@ -68,7 +68,8 @@ DispatchAgrees =
 -- one of a component outside: nothing, or its outward event
 abbrev pub OtherDispatchAgrees : Type 0
 OtherDispatchAgrees =
-    (group : Owner → Bool) → KeepsFamilies group → (w : World) (o : Owner) → group o ≡ false → IsQuiet w → (x : Spelled) (e : EventWords) (related : Option Spelled) →
+    (group : Owner → Bool) → KeepsFamilies group → (w : World) (o : Owner) → group o ≡ false → IsQuiet w →
+    (x : Spelled) (e : EventWords) (related : Option Spelled) →
     let c = Command.dispatch x e related in
     part_refusal (part_of w o) c ≡ None →
     group_run group (perform w o c) ≡ group_run group (run_each outward_in w (option_to_list (outward_dispatch w o c)))
@@ -80,24 +81,24 @@ EndingAgrees =
     group_run group (ending_turn w) ≡ group_run group (ending_turn v)
 
 -- The group has tasks in a turn of its own alone.
-abbrev pub HasCalm : (Owner → Bool) → World → Type 0
-HasCalm group w = group_turn group w.turn ≡ None → filter (is_task_of group) w.tasks ≡ []
+abbrev pub IsCalm : (Owner → Bool) → World → Type 0
+IsCalm group w = group_turn group w.turn ≡ None → filter (is_task_of group) w.tasks ≡ []
 
 -- One line of the group, in two such worlds.
 abbrev pub LineAgrees : Type 0
 LineAgrees =
-    (group : Owner → Bool) → KeepsFamilies group → (w v : World) → IsQuiet w → IsQuiet v → group_world group w ≡ group_world group v → HasCalm group w →
+    (group : Owner → Bool) → KeepsFamilies group → (w v : World) → IsQuiet w → IsQuiet v → group_world group w ≡ group_world group v → IsCalm group w →
     (l : Line) → IsTrue (is_of group (owner_of_line l)) → group_run group (step w l) ≡ group_run group (step v l)
 
 -- A line of another owner, which ends no turn of the group: its outward event.
 abbrev pub OtherLineAgrees : Type 0
 OtherLineAgrees =
-    (group : Owner → Bool) → KeepsFamilies group → (w : World) → IsReached true w → IsWhole w → HasCalm group w →
+    (group : Owner → Bool) → KeepsFamilies group → (w : World) → IsReached true w → IsWhole w → IsCalm group w →
     (l : Line) → is_of group (owner_of_line l) ≡ false → ends_group_turn group w l ≡ false →
     group_run group (step w l) ≡ group_run group (run_each outward_in w (option_to_list (outward_event w l)))
 
 -- The end of input.
 abbrev pub FinishAgrees : Type 0
 FinishAgrees =
-    (group : Owner → Bool) → KeepsFamilies group → (w v : World) → IsQuiet w → IsQuiet v → group_world group w ≡ group_world group v → HasCalm group w →
+    (group : Owner → Bool) → KeepsFamilies group → (w v : World) → IsQuiet w → IsQuiet v → group_world group w ≡ group_world group v → IsCalm group w →
     group_run group (finish w) ≡ group_run group (finish v)

@@ -35,9 +35,9 @@ mod PlainCommands
 pub mod PlainLines
 pub mod PlainTexts
 pub mod WorldSteps
-pub mod OwnerSteps
+mod OwnerSteps
 pub mod OwnerDispatches
-pub mod OwnerCommands
+mod OwnerCommands
 mod KindCommands
 pub mod KindLines
 pub mod Acceptance
