@@ -1,37 +1,39 @@
--- Whether a shadow root may be attached to a node of the page, and the raw parts from which one is attached.
-use Rattle.std.proofs.Common.{◌≡◌, ℕ, ◌+◌, ◌<◌, ◌≤◌, inl, inr, Bool, true, false, not, ◌||◌, List, [], ◌∷◌, ◌++◌, Option, Some, None, length, refl}
+-- Whether a shadow root may be attached to a node, which component it will belong to, and the raw parts from which one is attached.
+use Rattle.std.proofs.Common.{◌≡◌, ◌≢◌, ℕ, ◌+◌, ◌<◌, ◌≤◌, inl, inr, Bool, true, false, not, ◌||◌, List, [], ◌∷◌, ◌++◌, Option, Some, None, length, refl}
 use Rattle.std.proofs.Common.{sym, ap, subst, ◌∙◌, arith}
 use Rattle.std.specs.Prelude.{nat_eq, nat_lt, find, option_map, is_some, if◌then◌else◌}
-use Rattle.std.proofs.lemmas.Bool.{cases_Bool, lt-ltb, le-ltb, ltb-false}
+use Rattle.std.proofs.lemmas.Bool.{cases_Bool, cases_lt, lt-ltb, le-ltb, ltb-false}
 use Rattle.std.proofs.lemmas.List.{length-map}
 use Rattle.dom_base.specs.declared.Kind.TheVariants.{Shadow}
 use Rattle.dom_base.specs.declared.NodeName.{NodeName}
-use Rattle.dom_base.specs.declared.Owner.TheVariants.{Page, Component}
+use Rattle.dom_base.specs.declared.Owner.{Owner}
 use Rattle.dom_base.specs.declared.Refusal.{Refusal}
 use Rattle.dom_base.specs.declared.Refusal.TheVariants.{NotSupported, Limit}
-use Rattle.dom_model.specs.Names.{name_eq, is_in, node_of}
+use Rattle.dom_model.specs.Names.{owner_eq, name_eq, is_in, node_of}
 use Rattle.dom_model.specs.Tree.{Node, node_in}
 use Rattle.dom_model.specs.TreeChanges.{with_node}
 use Rattle.dom_model.specs.DocumentMachine.{new_root, attaching}
 use Rattle.dom_model.specs.CommandRefusals.{may_be_host}
 use Rattle.dom_model.specs.Part.{Part}
-use Rattle.dom_model.specs.World.{is_there, part_of, component_made, shadow_root_of}
+use Rattle.dom_model.specs.World.{MayAttach, is_there, part_of, component_made, shadow_root_of}
+use Rattle.dom_model.proofs.OwnerLaws.{owner_eq-false}
 use Rattle.dom_slots.specs.Hosts.{ShadowHost, HostsAreNodes, root_of_host}
 use Rattle.dom_slots.specs.Kept.{SlotsNow, AreSlotsOf}
 use Rattle.dom_slots.proofs.Hosted.{AreDistinct, key-test}
+use Rattle.dom_traversal.proofs.Lists.{name_eq-other}
 use Rattle.dom_tree.specs.Forest.{NamedTrees, name_at, next_name, count_of}
 use Rattle.dom_tree.specs.Owners.{trees_of_owner}
 use Rattle.dom_tree.proofs.Owned.{read_own}
 use Rattle.dom_parts.specs.Contents.{part_in}
-use Rattle.dom_parts.specs.Hosting.{host_names}
+use Rattle.dom_parts.specs.Hosting.{maker_of, hosts_of, host_names, attached_of, host_owners, AreMadeBehind}
 use Rattle.dom_cursors.specs.OwnTables.{KeyedTables, no_keyed_tables}
 use Rattle.dom_parts.specs.AllTables.{AllTables}
 use Rattle.dom_parts.specs.Doc.{DocState, contents, world_from, state_from, IsHeld, name_in, owner_in, attaching_refusal}
-use Rattle.dom_parts.proofs.Attached.{HasOneHostMore, attached_held, attached_state}
-use Rattle.dom_parts.proofs.AttachedWorlds.{count_none, component_new}
+use Rattle.dom_parts.proofs.Attached.{HasOneHostMore, component_for, attached_held, attached_state}
+use Rattle.dom_parts.proofs.AttachedWorlds.{count_none, component_absent}
 use Rattle.dom_parts.proofs.Held.{are_hosts}
-use Rattle.dom_parts.proofs.HostedWorlds.{page_hosted}
-use Rattle.dom_parts.proofs.Worlds.{part_at}
+use Rattle.dom_parts.proofs.HostsOfOwners.{count_hosts, own-host, other-host, owner_in as component_in_owners, few_hosts}
+use Rattle.dom_parts.proofs.Worlds.{In, part_at}
 
 -- a node is a host by its key where it is one by its name
 hosted_key : (names : List NodeName) → AreDistinct names → (hosts : List ShadowHost) → HostsAreNodes names hosts → (k : ℕ) → k < length names →
@@ -48,100 +50,189 @@ hosted_key names distinct (h ∷ hosts) nodes k at =
     pick true rest = refl
     pick false rest = rest
 
+-- a node is among all hosts where it is among its owner's
+own_hosted : (names : List NodeName) (hosts : List ShadowHost) (x : NodeName) →
+    is_in name_eq x (host_names names hosts) ≡ is_in name_eq x (attached_of names hosts x.owner)
+own_hosted names [] x = refl
+own_hosted names (h ∷ hosts) x = elim (cases_Bool (owner_eq (maker_of names h) x.owner)) [
+  | inl e ↦ ap (λ b. name_eq x (name_at names h.host) || b) (own_hosted names hosts x) ∙
+      sym (ap (λ hs. is_in name_eq x (host_names names hs)) (own-host names h hosts x.owner e))
+  | inr e ↦
+      ap (λ b. b || is_in name_eq x (host_names names hosts))
+      (name_eq-other x (name_at names h.host) (λ same. owner_eq-false (maker_of names h) x.owner e (ap (λ (y : NodeName). y.owner) (sym same))))
+      ∙ (own_hosted names hosts x ∙ sym (ap (λ hs. is_in name_eq x (host_names names hs)) (other-host names h hosts x.owner e)))
+]
+
+-- the components of hosts have nodes
+owner_node : (names : List NodeName) (earlier hosts : List ShadowHost) (o : Owner) → AreMadeBehind names earlier hosts → HostsAreNodes names hosts →
+    In o (host_owners hosts) → (k : ℕ) × (k < length names) × ((name_at names k).owner ≡ o)
+owner_node names earlier [] o made nodes i = absurd i
+owner_node names earlier (h ∷ hosts) o made nodes (inl e) = (h.root, nodes.1, ap (λ (x : NodeName). x.owner) made.0.root ∙ e)
+owner_node names earlier (h ∷ hosts) o made nodes (inr i) = owner_node names (earlier ++ h ∷ []) hosts o made.1 nodes.2 i
+
 none_there : {X : Type 0} (o : Option X) → is_some o ≡ false → o ≡ None
 none_there None e = refl
 none_there (Some x) e = cc
 
 -- the refusal from what is looked up
 abbrev pub refusal_from : Bool → Bool → ℕ → Option Refusal
-refusal_from hosted may n = if hosted || not may then Some NotSupported else if nat_lt 1000 n then Some Limit else None
+refusal_from hosted may n = if hosted || not may then Some NotSupported else if nat_lt 1000 (n + 1) then Some Limit else None
 
-accepted_parts : (hosted may : Bool) (n : ℕ) → refusal_from hosted may n ≡ None → (hosted ≡ false) × (n ≤ 1000)
+accepted_parts : (hosted may : Bool) (n : ℕ) → refusal_from hosted may n ≡ None → (hosted ≡ false) × (n < 1000)
 accepted_parts true may n e = cc
 accepted_parts false false n e = cc
-accepted_parts false true n e = elim (cases_Bool (nat_lt 1000 n)) [ inl h ↦ (refl, absurd (let more = rw h at e in cc)) | inr h ↦ (refl, ltb-false 1000 n h) ]
+accepted_parts false true n e = elim (cases_Bool (nat_lt 1000 (n + 1))) [
+  | inl h ↦ (refl, absurd (let more = rw h at e in cc))
+  | inr h ↦ (refl, (let few = ltb-false 1000 (n + 1) h in omega (arith, few)))
+]
+
+-- ---- how many components an owner has made
+
+module _ (f : NamedTrees) (was : AllTables) (held : IsHeld f.names f.trees was) (m : Owner) (may : MayAttach m) where
+  abbrev made_already : ℕ
+  made_already = count_hosts f.names was.slots.hosts m
+
+  nodes_of : (k : ℕ) → k < made_already → count_of (component_made m k) f.names ≢ 0
+  nodes_of k below none =
+      let i = component_in_owners f.names [] was.slots.hosts m k held.made (omega arith) (omega (arith, below)) in
+      let node = owner_node f.names [] was.slots.hosts (component_made m k) held.made held.signals.slots.hosts i in
+      let number = held.numbered node.0 node.1 in
+      let count = ap (λ (o : Owner). count_of o f.names) node.2 in
+      omega (arith, number, count, none)
+
+  no_nodes_of : (k : ℕ) → made_already ≤ k → count_of (component_made m k) f.names ≡ 0
+  no_nodes_of k later = count_none (component_made m k) f.names (λ j j< e.
+      let on = sym (ap (is_there (world_from f.names f.trees was)) e) ∙ held.present j j< in
+      let off = component_absent (contents f.names f.trees was) was.slots.hosts (are_hosts f.names f.trees was held) m may k later in
+      cc)
+
+  -- what the count asks
+  pub components_run : (j k : ℕ) → j ≤ k → count_of (component_made m j) f.names ≡ 0 → count_of (component_made m k) f.names ≡ 0
+  components_run j k le none = elim (cases_lt j made_already) [
+    | inl h ↦ absurd (nodes_of j h none)
+    | inr h ↦ no_nodes_of k (omega (arith, h, le))
+  ]
+
+  -- what it answers
+  pub count_is : (r : ℕ) → ((k : ℕ) → k < r → count_of (component_made m k) f.names ≢ 0) → (r < 1000 → count_of (component_made m r) f.names ≡ 0) →
+      r ≤ 1000 → r ≡ count_hosts f.names was.slots.hosts m
+  count_is r made next few =
+      let most = few_hosts f.names [] was.slots.hosts m held.made (omega arith) in
+      elim (cases_lt r made_already) [
+        | inl h ↦ absurd (nodes_of r h (next (omega (arith, h, most))))
+        | inr h ↦ elim (cases_lt made_already r) [
+          | inl g ↦ absurd (made made_already g (no_nodes_of made_already (omega arith)))
+          | inr g ↦ omega (arith, h, g)
+        ]
+      ]
+
+-- ---- the refusal
 
 module _ (f : NamedTrees) (was : AllTables) (held : IsHeld f.names f.trees was) (distinct : AreDistinct f.names) (d : DocState)
     (is_d : state_from f.names f.trees was ≡ d) (host : ℕ)
-    (within : host < length d.names) (own : owner_in d host ≡ Page) where
+    (within : host < length d.names) (may_attach : MayAttach (owner_in d host)) where
   abbrev hosted : Bool
   hosted = is_some (root_of_host was.slots.hosts host)
 
   abbrev may : Bool
   may = may_be_host (node_in f.trees (name_at f.names host)).element
 
+  abbrev o : Owner
+  o = (name_at f.names host).owner
+
   within_names : host < length f.names
   within_names = subst (λ (e : DocState). host < length e.names) (sym is_d) within
 
-  own_name : (name_at f.names host).owner ≡ Page
-  own_name = subst (λ (e : DocState). owner_in e host ≡ Page) (sym is_d) own
+  -- in the names of the forest
+  pub may_of_name : MayAttach (name_at f.names host).owner
+  may_of_name = subst (λ (e : DocState). MayAttach (owner_in e host)) (sym is_d) may_attach
 
-  page_part : part_of (world_from f.names f.trees was) Page ≡ part_in (contents f.names f.trees was) Page
-  page_part = part_at (contents f.names f.trees was) Page (page_hosted (contents f.names f.trees was) was.slots.hosts (are_hosts f.names f.trees was held))
+  -- the count that is made of the owner's components
+  pub count_at : (y : NodeName) → name_at f.names host ≡ y → (r : ℕ) → ((k : ℕ) → k < r → count_of (component_made y.owner k) f.names ≢ 0) →
+      (r < 1000 → count_of (component_made y.owner r) f.names ≡ 0) → r ≤ 1000 → r ≡ count_hosts f.names was.slots.hosts (name_at f.names host).owner
+  count_at y e r =
+      subst (λ (z : NodeName). ((k : ℕ) → k < r → count_of (component_made z.owner k) f.names ≢ 0) →
+      (r < 1000 → count_of (component_made z.owner r) f.names ≡ 0) → r ≤ 1000 → r ≡ count_hosts f.names was.slots.hosts o) e
+      (count_is f was held o may_of_name r)
+
+  own_part : part_of (world_from f.names f.trees was) o ≡ part_in (contents f.names f.trees was) o
+  own_part = part_at (contents f.names f.trees was) o (held.present host within_names)
+
+  -- how many the owner has
+  has_attached : count_hosts f.names was.slots.hosts o ≡ length (attached_of f.names was.slots.hosts o)
+  has_attached = sym (length-map (hosts_of f.names was.slots.hosts o) (λ h. name_at f.names h.host))
+
+  -- the next component
+  pub next_is_for : component_made (owner_in d host) (length (part_of d.world (owner_in d host)).attached) ≡ component_for f was host
+  next_is_for = subst (λ (e : DocState). component_made (owner_in e host) (length (part_of e.world (owner_in e host)).attached) ≡ component_for f was host) is_d
+      (ap (component_made o) (ap (λ (p : Part). length p.attached) own_part ∙ sym has_attached))
 
   -- the refusal is the one that is looked up
-  pub refusal_is : refusal_from hosted may (length was.each) ≡ attaching_refusal (part_of d.world Page) (name_in d host)
-  refusal_is = subst (λ (e : DocState). refusal_from hosted may (length was.each) ≡ attaching_refusal (part_of e.world Page) (name_in e host)) is_d by
+  refusal_is : refusal_from hosted may (count_hosts f.names was.slots.hosts o) ≡ attaching_refusal (part_of d.world (owner_in d host)) (name_in d host)
+  refusal_is = subst (λ (e : DocState). refusal_from hosted may (count_hosts f.names was.slots.hosts o) ≡
+      attaching_refusal (part_of e.world (owner_in e host)) (name_in e host)) is_d by
     where
       x : NodeName
       x = name_at f.names host
 
-      count : length was.each ≡ length (host_names f.names was.slots.hosts) + 1
-      count = let counted = held.counted in let long = length-map was.slots.hosts (λ h. name_at f.names h.host) in omega (arith, counted, long)
-
-      by : refusal_from hosted may (length was.each) ≡ attaching_refusal (part_of (world_from f.names f.trees was) Page) (name_at f.names host)
+      by : refusal_from hosted may (count_hosts f.names was.slots.hosts o) ≡ attaching_refusal (part_of (world_from f.names f.trees was) o) (name_at f.names host)
       by =
-          ap (λ b. refusal_from b may (length was.each)) (hosted_key f.names distinct was.slots.hosts held.signals.slots.hosts host within_names)
-          ∙ (ap (λ (n : Node). refusal_from (is_in name_eq (name_at f.names host) (host_names f.names was.slots.hosts)) (may_be_host n.element)
-          (length was.each)) (read_own f.trees held.owned Page (name_at f.names host) own_name).node
-          ∙ (ap (λ n. refusal_from (is_in name_eq (name_at f.names host) (host_names f.names was.slots.hosts))
-          (may_be_host (node_in (trees_of_owner Page f.trees) (name_at f.names host)).element) n) count
-          ∙ ap (λ (p : Part). attaching_refusal p (name_at f.names host)) (sym page_part)))
+          ap (λ b. refusal_from b may (count_hosts f.names was.slots.hosts o))
+          (hosted_key f.names distinct was.slots.hosts held.signals.slots.hosts host within_names ∙ own_hosted f.names was.slots.hosts (name_at f.names host))
+          ∙ (ap (λ (n : Node). refusal_from (is_in name_eq (name_at f.names host) (attached_of f.names was.slots.hosts o)) (may_be_host n.element)
+          (count_hosts f.names was.slots.hosts o)) (read_own f.trees held.owned o (name_at f.names host) refl).node
+          ∙ (ap (λ n. refusal_from (is_in name_eq (name_at f.names host) (attached_of f.names was.slots.hosts o))
+          (may_be_host (node_in (trees_of_owner o f.trees) (name_at f.names host)).element) n) has_attached
+          ∙ ap (λ (p : Part). attaching_refusal p (name_at f.names host)) (sym own_part)))
 
-  pub accepted : None ≡ attaching_refusal (part_of d.world Page) (name_in d host) → (root_of_host was.slots.hosts host ≡ None) × (length was.each ≤ 1000)
-  accepted e = let parts = accepted_parts hosted may (length was.each) (refusal_is ∙ sym e) in (none_there (root_of_host was.slots.hosts host) parts.0, parts.1)
+  pub accepted : None ≡ attaching_refusal (part_of d.world (owner_in d host)) (name_in d host) →
+      (root_of_host was.slots.hosts host ≡ None) × (count_hosts f.names was.slots.hosts (name_at f.names host).owner < 1000)
+  accepted e =
+      let parts = accepted_parts hosted may (count_hosts f.names was.slots.hosts o) (refusal_is ∙ sym e) in
+      (none_there (root_of_host was.slots.hosts host) parts.0, parts.1)
 
-  pub refused_host : hosted ≡ true → Some NotSupported ≡ attaching_refusal (part_of d.world Page) (name_in d host)
-  refused_host e = ap (λ b. refusal_from b may (length was.each)) (sym e) ∙ refusal_is
+  pub refused_host : hosted ≡ true → Some NotSupported ≡ attaching_refusal (part_of d.world (owner_in d host)) (name_in d host)
+  refused_host e = ap (λ b. refusal_from b may (count_hosts f.names was.slots.hosts o)) (sym e) ∙ refusal_is
 
-  pub refused_name : hosted ≡ false → may ≡ false → Some NotSupported ≡ attaching_refusal (part_of d.world Page) (name_in d host)
-  refused_name e m = ap (λ b. refusal_from false b (length was.each)) (sym m) ∙ (ap (λ b. refusal_from b may (length was.each)) (sym e) ∙ refusal_is)
+  pub refused_name : hosted ≡ false → may ≡ false → Some NotSupported ≡ attaching_refusal (part_of d.world (owner_in d host)) (name_in d host)
+  refused_name e m =
+      ap (λ b. refusal_from false b (count_hosts f.names was.slots.hosts o)) (sym m) ∙
+      (ap (λ b. refusal_from b may (count_hosts f.names was.slots.hosts o)) (sym e) ∙ refusal_is)
 
-  pub refused_limit : hosted ≡ false → may ≡ true → 1000 < length was.each → Some Limit ≡ attaching_refusal (part_of d.world Page) (name_in d host)
-  refused_limit e m more =
-      ap (λ (b : Bool). if b then Some Limit else None) (sym (lt-ltb 1000 (length was.each) more)) ∙
-      (ap (λ b. refusal_from false b (length was.each)) (sym m) ∙ (ap (λ b. refusal_from b may (length was.each)) (sym e) ∙ refusal_is))
+  pub refused_limit : hosted ≡ false → may ≡ true → (n : ℕ) → n ≡ count_hosts f.names was.slots.hosts (name_at f.names host).owner → n ≡ 1000 →
+      Some Limit ≡ attaching_refusal (part_of d.world (owner_in d host)) (name_in d host)
+  refused_limit e m n is most =
+      ap (λ (b : Bool). if b then Some Limit else None) (sym (lt-ltb 1000 (count_hosts f.names was.slots.hosts o + 1) (omega (arith, is, most)))) ∙
+      (ap (λ b. refusal_from false b (count_hosts f.names was.slots.hosts o)) (sym m) ∙
+      (ap (λ b. refusal_from b may (count_hosts f.names was.slots.hosts o)) (sym e) ∙ refusal_is))
 
-  pub taken : hosted ≡ false → may ≡ true → length was.each ≤ 1000 → None ≡ attaching_refusal (part_of d.world Page) (name_in d host)
-  taken e m few =
-      ap (λ (b : Bool). if b then Some Limit else None) (sym (le-ltb 1000 (length was.each) few)) ∙
-      (ap (λ b. refusal_from false b (length was.each)) (sym m) ∙ (ap (λ b. refusal_from b may (length was.each)) (sym e) ∙ refusal_is))
+  pub taken : hosted ≡ false → may ≡ true → (n : ℕ) → n ≡ count_hosts f.names was.slots.hosts (name_at f.names host).owner → n < 1000 →
+      None ≡ attaching_refusal (part_of d.world (owner_in d host)) (name_in d host)
+  taken e m n is few =
+      ap (λ (b : Bool). if b then Some Limit else None) (sym (le-ltb 1000 (count_hosts f.names was.slots.hosts o + 1) (omega (arith, is, few)))) ∙
+      (ap (λ b. refusal_from false b (count_hosts f.names was.slots.hosts o)) (sym m) ∙
+      (ap (λ b. refusal_from b may (count_hosts f.names was.slots.hosts o)) (sym e) ∙ refusal_is))
 
 -- ---- the new owner
 
-module _ (f : NamedTrees) (was : AllTables) (held : IsHeld f.names f.trees was) (n : ℕ) (n_is : n ≡ length was.each) where
-  uncounted : count_of (component_made Page (length was.slots.hosts)) f.names ≡ 0
-  uncounted = count_none (component_made Page (length was.slots.hosts)) f.names (λ k k< e.
-      let on = sym (ap (is_there (world_from f.names f.trees was)) e) ∙ held.present k k< in
-      let off = component_new (contents f.names f.trees was) was.slots.hosts (are_hosts f.names f.trees was held) in
-      cc)
-
-  owner_is : Component n ≡ component_made Page (length was.slots.hosts)
-  owner_is = ap Component (n_is ∙ held.counted)
+module _ (f : NamedTrees) (was : AllTables) (held : IsHeld f.names f.trees was) (host : ℕ) (may : MayAttach (name_at f.names host).owner)
+    (new : Owner) (new_is : new ≡ component_for f was host) where
+  uncounted : count_of (component_for f was host) f.names ≡ 0
+  uncounted = no_nodes_of f was held (name_at f.names host).owner may (count_hosts f.names was.slots.hosts (name_at f.names host).owner) (omega arith)
 
   -- has no nodes yet
-  pub new_owner : count_of (Component n) f.names ≡ 0
-  new_owner = ap (λ o. count_of o f.names) owner_is ∙ uncounted
+  pub new_owner : count_of new f.names ≡ 0
+  new_owner = ap (λ o. count_of o f.names) new_is ∙ uncounted
 
-  next_is : next_name (Component n) f.names ≡ shadow_root_of (component_made Page (length was.slots.hosts))
-  next_is = ap (λ o. next_name o f.names) owner_is ∙ ap (node_of (component_made Page (length was.slots.hosts))) uncounted
+  next_is : next_name new f.names ≡ shadow_root_of (component_for f was host)
+  next_is = ap (λ o. next_name o f.names) new_is ∙ ap (node_of (component_for f was host)) uncounted
 
   -- the parts of a `Doc` then
-  module _ (g : NamedTrees) (each : List KeyedTables) (slots : SlotsNow) (host : ℕ) (document : Option NodeName)
-      (names : g.names ≡ f.names ++ next_name (Component n) f.names ∷ [])
-      (trees : g.trees ≡ with_node (new_root (next_name (Component n) f.names) Shadow document) f.trees)
+  module _ (g : NamedTrees) (each : List KeyedTables) (slots : SlotsNow) (document : Option NodeName)
+      (names : g.names ≡ f.names ++ next_name new f.names ∷ [])
+      (trees : g.trees ≡ with_node (new_root (next_name new f.names) Shadow document) f.trees)
       (tables : each ≡ was.each ++ no_keyed_tables ∷ [])
-      (hosts : slots.hosts ≡ was.slots.hosts ++ record { host = host; root = length f.names; owner = Component n } ∷ [])
+      (hosts : slots.hosts ≡ was.slots.hosts ++ record { host = host; root = length f.names; owner = new } ∷ [])
       (free : slots.begun ≡ None) (of : AreSlotsOf g slots) where
     abbrev now : AllTables
     now = record was { each = each; slots = slots }
@@ -155,30 +246,25 @@ module _ (f : NamedTrees) (was : AllTables) (held : IsHeld f.names f.trees was) 
       tasks = refl;
       signalled = refl;
       ranges = refl;
-      hosts = hosts ∙ ap (λ o. was.slots.hosts ++ record { host = host; root = length f.names; owner = o } ∷ []) owner_is;
+      hosts = hosts ∙ ap (λ o. was.slots.hosts ++ record { host = host; root = length f.names; owner = o } ∷ []) new_is;
       free = free;
       slots = of;
     }
 
-    module _ (d : DocState) (is_d : state_from f.names f.trees was ≡ d) (within : host < length d.names) (own : owner_in d host ≡ Page) where
-      pub held_then : length was.each ≤ 1000 → IsHeld g.names g.trees (record was { each = each; slots = slots })
-      held_then few =
-          attached_held f g was now host document held (subst (λ (e : DocState). host < length e.names) (sym is_d) within)
-          (subst (λ (e : DocState). owner_in e host ≡ Page) (sym is_d) own) host_more
-          (let counted = held.counted in omega (arith, counted, few))
+    pub held_then : host < length f.names → count_hosts f.names was.slots.hosts (name_at f.names host).owner < 1000 →
+        IsHeld g.names g.trees (record was { each = each; slots = slots })
+    held_then within few = attached_held f g was now host document held within may host_more few
 
-      pub names_then : g.names ≡ d.names ++ shadow_root_of (component_made Page (length (part_of d.world Page).attached)) ∷ []
-      names_then = subst (λ (e : DocState). g.names ≡ e.names ++ shadow_root_of (component_made Page (length (part_of e.world Page).attached)) ∷ []) is_d
-          (host_more.names ∙ ap (λ k. f.names ++ shadow_root_of (component_made Page k) ∷ []) count)
-        where
-          count : length was.slots.hosts ≡ length (part_of (world_from f.names f.trees was) Page).attached
-          count = sym (ap (λ (p : Part). length p.attached)
-              (part_at (contents f.names f.trees was) Page
-              (page_hosted (contents f.names f.trees was) was.slots.hosts (are_hosts f.names f.trees was held))) ∙
-              length-map was.slots.hosts (λ h. name_at f.names h.host))
+    module _ (d : DocState) (is_d : state_from f.names f.trees was ≡ d) (within : host < length d.names) where
+      pub names_then : new ≡ component_made (owner_in d host) (length (part_of d.world (owner_in d host)).attached) →
+          g.names ≡ d.names ++ shadow_root_of (component_made (owner_in d host) (length (part_of d.world (owner_in d host)).attached)) ∷ []
+      names_then same =
+          names
+          ∙ (ap (λ x. f.names ++ x ∷ []) (next_is ∙ ap shadow_root_of (sym new_is ∙ same)) ∙
+          ap (λ (e : DocState). e.names ++ shadow_root_of (component_made (owner_in d host) (length (part_of d.world (owner_in d host)).attached)) ∷ []) is_d)
 
       pub world_then : document ≡ (node_in f.trees (name_at f.names host)).document →
-          world_from g.names g.trees (record was { each = each; slots = slots }) ≡ (attaching d.world Page (name_in d host)).0
-      world_then same = subst (λ (e : DocState). world_from g.names g.trees now ≡ (attaching e.world Page (name_in e host)).0) is_d
-          (attached_state f g was now host document held (subst (λ (e : DocState). host < length e.names) (sym is_d) within)
-          (subst (λ (e : DocState). owner_in e host ≡ Page) (sym is_d) own) host_more same)
+          world_from g.names g.trees (record was { each = each; slots = slots }) ≡ (attaching d.world (owner_in d host) (name_in d host)).0
+      world_then same =
+          subst (λ (e : DocState). world_from g.names g.trees now ≡ (attaching e.world (owner_in e host) (name_in e host)).0) is_d
+          (attached_state f g was now host document held (subst (λ (e : DocState). host < length e.names) (sym is_d) within) may host_more same)

@@ -20,8 +20,8 @@ use Rattle.dom_model.specs.Names.{owner_eq, node_of}
 use Rattle.dom_model.specs.Tree.{node_in}
 use Rattle.dom_model.specs.TreeChanges.{with_node}
 use Rattle.dom_model.specs.DocumentMachine.{new_root, attaching}
-use Rattle.dom_model.specs.World.{Task, is_there, component_made, shadow_root_of}
-use Rattle.dom_model.proofs.OwnerLaws.{owner_eq-true, owner_eq-false}
+use Rattle.dom_model.specs.World.{Task, MayAttach, is_there, component_made, shadow_root_of}
+use Rattle.dom_model.proofs.OwnerLaws.{owner_eq-true, owner_eq-false, owner_eq-same, ne-owner_eq, component_made-other}
 use Rattle.dom_slots.specs.Hosts.{ShadowHost}
 use Rattle.dom_slots.specs.Kept.{AreSlotsOf}
 use Rattle.dom_observers.specs.Tables.{TablesOf, no_tables as no_observers}
@@ -35,11 +35,13 @@ use Rattle.dom_parts.specs.Numbering.{AreNumbered}
 use Rattle.dom_parts.specs.Ranging.{AreRangesOf}
 use Rattle.dom_cursors.specs.OwnTables.{KeyedTables, no_keyed_tables, owners_up_to, owner_at, table_of}
 use Rattle.dom_parts.specs.AllTables.{AllTables, tables_view, AreTablesOf}
-use Rattle.dom_parts.specs.Hosting.{AreMadeFrom, host_names, AreHostsOf, IsAttached}
+use Rattle.dom_parts.specs.Hosting.{maker_of, hosts_of, AreMadeBehind, host_names, attached_of, AreHostsOf, IsAttached}
 use Rattle.dom_parts.specs.Doc.{named_trees, own_tables, shown_tables, contents, world_from, IsHeld, IsDue}
 use Rattle.dom_parts.proofs.AttachedWorlds.{count_none, counted_other, counted_new, component_new, attached_world, attached_hosts}
 use Rattle.dom_parts.proofs.Held.{are_hosts, no_cursors, due_kept}
-use Rattle.dom_parts.proofs.HostedSteps.{names_pushed, names_renamed}
+use Rattle.dom_parts.proofs.HostedKeys.{next_place}
+use Rattle.dom_parts.proofs.HostsOfOwners.{count_hosts, own-pushed, other-pushed}
+use Rattle.dom_parts.proofs.HostedSteps.{KeepsNames, names_pushed, attached_renamed}
 use Rattle.dom_parts.proofs.Keeping.{tables_more, view_same, speaks_grown}
 use Rattle.dom_parts.proofs.Numbers.{numbered_more}
 use Rattle.dom_parts.proofs.RangedKeeping.{named_grown}
@@ -69,23 +71,30 @@ table_other xs x n long (Component (suc k)) other = get_other xs x (suc k) (λ e
 
 -- ---- one host more
 
+-- the next component of a node's owner
+abbrev pub component_for : NamedTrees → AllTables → ℕ → Owner
+component_for f was host = component_made (name_at f.names host).owner (count_hosts f.names was.slots.hosts (name_at f.names host).owner)
+
 -- what is made of a forest and tables, when a shadow root is attached to a node
 pub record HasOneHostMore (f g : NamedTrees) (was now : AllTables) (host : ℕ) (d : Option NodeName) : Type 0 where
-  pub names : g.names ≡ f.names ++ shadow_root_of (component_made Page (length was.slots.hosts)) ∷ []
-  pub trees : g.trees ≡ with_node (new_root (shadow_root_of (component_made Page (length was.slots.hosts))) Shadow d) f.trees
+  pub names : g.names ≡ f.names ++ shadow_root_of (component_for f was host) ∷ []
+  pub trees : g.trees ≡ with_node (new_root (shadow_root_of (component_for f was host)) Shadow d) f.trees
   pub each : now.each ≡ was.each ++ no_keyed_tables ∷ []
   pub observers : now.observers ≡ was.observers
   pub tasks : now.tasks ≡ was.tasks
   pub signalled : now.signalled ≡ was.signalled
   pub ranges : now.ranges ≡ was.ranges
-  pub hosts : now.slots.hosts ≡ was.slots.hosts ++ record { host = host; root = length f.names; owner = component_made Page (length was.slots.hosts) } ∷ []
+  pub hosts : now.slots.hosts ≡ was.slots.hosts ++ record { host = host; root = length f.names; owner = component_for f was host } ∷ []
   pub free : now.slots.begun ≡ None
   pub slots : AreSlotsOf g now.slots
 
 module _ (f g : NamedTrees) (was now : AllTables) (host : ℕ) (d : Option NodeName) (held : IsHeld f.names f.trees was) (within : host < length f.names)
-    (own : (name_at f.names host).owner ≡ Page) (more : HasOneHostMore f g was now host d) where
+    (may : MayAttach (name_at f.names host).owner) (more : HasOneHostMore f g was now host d) where
+  abbrev m : Owner
+  m = (name_at f.names host).owner
+
   abbrev c : Owner
-  c = component_made Page (length was.slots.hosts)
+  c = component_for f was host
 
   abbrev grown : List NodeName
   grown = f.names ++ shadow_root_of c ∷ []
@@ -93,18 +102,33 @@ module _ (f g : NamedTrees) (was now : AllTables) (host : ℕ) (d : Option NodeN
   abbrev hosts_were : List ShadowHost
   hosts_were = was.slots.hosts
 
+  -- the component is not there yet
+  is_new : is_there (world_from f.names f.trees was) c ≡ false
+  is_new = component_new (contents f.names f.trees was) hosts_were (are_hosts f.names f.trees was held) m may
+
+  -- its maker is
+  maker_there : is_there (world_from f.names f.trees was) m ≡ true
+  maker_there = held.present host within
+
   -- the new name is no other node's
   new_name : (k : ℕ) → k < length f.names → name_at f.names k ≢ shadow_root_of c
   new_name k k< e =
       let on = sym (ap (λ (x : NodeName). is_there (world_from f.names f.trees was) x.owner) e) ∙ held.present k k< in
-      let off = component_new (contents f.names f.trees was) hosts_were (are_hosts f.names f.trees was held) in
+      let off = is_new in
       cc
 
+  -- its tables stand behind the others
+  at_end : c ≡ Component (suc (length hosts_were))
+  at_end = next_place f.names hosts_were m may held.made
+
   table_new : table_of now.each c ≡ Some no_keyed_tables
-  table_new = ap (λ ts. table_of ts c) more.each ∙ table_push was.each no_keyed_tables (length hosts_were) held.counted
+  table_new =
+      ap (λ ts. table_of ts c) more.each
+      ∙ (ap (table_of (was.each ++ no_keyed_tables ∷ [])) at_end ∙ table_push was.each no_keyed_tables (length hosts_were) held.counted)
 
   table_rest : (q : Owner) → q ≢ c → table_of now.each q ≡ table_of was.each q
-  table_rest q other = ap (λ ts. table_of ts q) more.each ∙ table_other was.each no_keyed_tables (length hosts_were) held.counted q other
+  table_rest q other = ap (λ ts. table_of ts q) more.each ∙ table_other was.each no_keyed_tables (length hosts_were) held.counted q
+      (λ e. other (e ∙ sym at_end))
 
   own_rest : (q : Owner) → q ≢ c → own_tables now q ≡ own_tables was q
   own_rest q other = ap (λ t. unwrap_or t no_keyed_tables) (table_rest q other)
@@ -129,7 +153,7 @@ module _ (f g : NamedTrees) (was now : AllTables) (host : ℕ) (d : Option NodeN
 
   live_new : named_ranges g.names (ranges_of now.ranges c) ≡ []
   live_new = live_now c ∙ ap (named_ranges f.names)
-      (held.ranges.absent c (component_new (contents f.names f.trees was) hosts_were (are_hosts f.names f.trees was held)))
+      (held.ranges.absent c is_new)
 
   view_now : (q : Owner) → q ≢ c → tables_view g.names (own_tables now q) (now.observers q) ≡ tables_view f.names (own_tables was q) (was.observers q)
   view_now q other =
@@ -139,28 +163,59 @@ module _ (f g : NamedTrees) (was now : AllTables) (host : ℕ) (d : Option NodeN
 
   unobserved_new : now.observers c ≡ no_observers
   unobserved_new = ap (λ (os : Owner → TablesOf ℕ). os c) more.observers ∙
-      held.unobserved c (component_new (contents f.names f.trees was) hosts_were (are_hosts f.names f.trees was held))
+      held.unobserved c is_new
 
-  hosts_now : host_names g.names now.slots.hosts ≡ host_names f.names hosts_were ++ name_at f.names host ∷ []
+  new_host : ShadowHost
+  new_host = record { host = host; root = length f.names; owner = c }
+
+  keeps : KeepsNames f.names grown
+  keeps = names_pushed f.names (shadow_root_of c)
+
+  host_name : name_at grown host ≡ name_at f.names host
+  host_name = keeps.same host within
+
+  -- the hosts of the maker, and of others
+  hosts_now : attached_of g.names now.slots.hosts m ≡ attached_of f.names hosts_were m ++ name_at f.names host ∷ []
+  unfolding new_host
   hosts_now =
-      let kept = names_pushed f.names (shadow_root_of c) in
-      ap (λ ns. host_names ns now.slots.hosts) more.names
-      ∙ (ap (host_names grown) more.hosts
-      ∙ (map-append (λ (h : ShadowHost). name_at grown h.host) hosts_were _
-      ∙ (ap (λ xs. xs ++ name_at grown host ∷ []) (sym (names_renamed f.names grown kept hosts_were held.signals.slots.hosts)) ∙
-      ap (λ x. host_names f.names hosts_were ++ x ∷ []) (kept.same host within))))
+      ap (λ ns. attached_of ns now.slots.hosts m) more.names
+      ∙ (ap (λ hs. attached_of grown hs m) more.hosts
+      ∙ (ap (host_names grown) (own-pushed grown hosts_were new_host m (ap (λ (y : NodeName). owner_eq y.owner m) host_name ∙ owner_eq-same m))
+      ∙ (map-append (λ (h : ShadowHost). name_at grown h.host) (hosts_of grown hosts_were m) (new_host ∷ [])
+      ∙ (ap (λ xs. xs ++ name_at grown host ∷ []) (sym (attached_renamed f.names grown keeps hosts_were m held.signals.slots.hosts)) ∙
+      ap (λ x. attached_of f.names hosts_were m ++ x ∷ []) host_name))))
+
+  hosts_other : (q : Owner) → q ≢ m → attached_of g.names now.slots.hosts q ≡ attached_of f.names hosts_were q
+  unfolding new_host
+  hosts_other q apart =
+      ap (λ ns. attached_of ns now.slots.hosts q) more.names
+      ∙ (ap (λ hs. attached_of grown hs q) more.hosts
+      ∙ (ap (host_names grown) (other-pushed grown hosts_were new_host q
+      (ne-owner_eq (maker_of grown new_host) q (λ e. apart (sym e ∙ ap (λ (y : NodeName). y.owner) host_name))))
+      ∙ sym (attached_renamed f.names grown keeps hosts_were q held.signals.slots.hosts)))
+
+  -- the component is another one than its maker
+  next : c ≢ m
+  next = component_made-other m (count_hosts f.names hosts_were m) may
+
+  no_hosts : attached_of g.names now.slots.hosts c ≡ []
+  no_hosts = hosts_other c next ∙ (are_hosts f.names f.trees was held).unhosted c is_new
 
   one : IsAttached (contents f.names f.trees was) (contents g.names g.trees now) c (name_at f.names host) d
   one = record {
-    owners = ap (λ ts. owners_up_to (length ts)) more.each ∙ (ap owners_up_to long ∙ ap (λ n. owners_up_to (length was.each) ++ owner_at n ∷ []) held.counted);
+    owners = ap (λ ts. owners_up_to (length ts)) more.each
+        ∙ (ap owners_up_to long ∙ (ap (λ n. owners_up_to (length was.each) ++ owner_at n ∷ []) held.counted ∙
+        ap (λ o. owners_up_to (length was.each) ++ o ∷ []) (sym at_end)));
     names = more.names;
     trees = more.trees;
-    page = (λ i. with_those (view_now Page (λ e. cc) i) (hosts_now i) (live_now Page i));
-    new = ap (λ t. with_those (tables_view g.names (unwrap_or t no_keyed_tables) (now.observers c)) []
+    maker = (λ i. with_those (view_now m (λ e. next (sym e)) i) (hosts_now i) (live_now m i));
+    new = ap (λ t. with_those (tables_view g.names (unwrap_or t no_keyed_tables) (now.observers c)) (attached_of g.names now.slots.hosts c)
         (named_ranges g.names (ranges_of now.ranges c))) table_new
-        ∙ (ap (λ (r : TablesOf ℕ). with_those (tables_view g.names no_keyed_tables r) [] (named_ranges g.names (ranges_of now.ranges c)))
-        unobserved_new ∙ ap (with_those (tables_view g.names no_keyed_tables no_observers) []) live_new);
-    rest = λ q page other. by q page other;
+        ∙ (ap (λ (r : TablesOf ℕ). with_those (tables_view g.names no_keyed_tables r) (attached_of g.names now.slots.hosts c)
+        (named_ranges g.names (ranges_of now.ranges c))) unobserved_new
+        ∙ (ap (λ xs. with_those (tables_view g.names no_keyed_tables no_observers) xs (named_ranges g.names (ranges_of now.ranges c))) no_hosts
+        ∙ ap (with_those (tables_view g.names no_keyed_tables no_observers) []) live_new));
+    rest = λ q apart other. (λ i. with_those (view_now q other i) (hosts_other q apart i) (live_now q i));
     signalled = more.signalled;
     tasks = more.tasks;
   }
@@ -168,19 +223,13 @@ module _ (f g : NamedTrees) (was now : AllTables) (host : ℕ) (d : Option NodeN
       long : length (was.each ++ no_keyed_tables ∷ []) ≡ suc (length was.each)
       long = let pushed = length_push was.each no_keyed_tables in omega (arith, pushed)
 
-      by : (q : Owner) → q ≢ Page → q ≢ c
-          → shown_tables g.names now.slots.hosts q (own_tables now q) (now.observers q) (ranges_of now.ranges q) ≡ shown_tables f.names hosts_were
-          q (own_tables was q) (was.observers q) (ranges_of was.ranges q)
-      by Page page other = absurd (page refl)
-      by (Component k) page other = (λ i. with_those (view_now (Component k) other i) [] (live_now (Component k) i))
-
   abbrev new_hosts : List ShadowHost
   new_hosts = hosts_were ++ record { host = host; root = length f.names; owner = c } ∷ []
 
-  hosts_after : AreHostsOf (contents g.names g.trees now) new_hosts
-  hosts_after =
-      attached_hosts (contents f.names f.trees was) hosts_were (are_hosts f.names f.trees was held) held.present (contents g.names g.trees now)
-      (name_at f.names host) d one host within refl own
+  hosts_after : count_hosts f.names hosts_were m < 1000 → AreHostsOf (contents g.names g.trees now) new_hosts
+  hosts_after room =
+      attached_hosts (contents f.names f.trees was) hosts_were (are_hosts f.names f.trees was held) m may held.present (contents g.names g.trees now)
+      (name_at f.names host) refl maker_there d one host within refl room
 
   -- who was there still is
   there_after : (q : Owner) → is_there (world_from f.names f.trees was) q ≡ true → is_there (world_from g.names g.trees now) q ≡ true
@@ -208,12 +257,12 @@ module _ (f g : NamedTrees) (was now : AllTables) (host : ℕ) (d : Option NodeN
   limited_after : (p : Owner) → count_of p g.names ≤ 1000000
   limited_after p = elim (cases_Bool (owner_eq p c)) [
     | inl e ↦
-        let count = counted_new (contents f.names f.trees was) hosts_were (are_hosts f.names f.trees was held) held.present
-        (contents g.names g.trees now) (name_at f.names host) d one in
+        let count = counted_new (contents f.names f.trees was) hosts_were (are_hosts f.names f.trees was held) m may held.present
+        (contents g.names g.trees now) (name_at f.names host) refl maker_there d one in
         let same = ap (λ (q : Owner). count_of q g.names) (owner_eq-true p c e) in omega (arith, count, same)
     | inr e ↦
-        let count = counted_other (contents f.names f.trees was) hosts_were (are_hosts f.names f.trees was held) held.present
-        (contents g.names g.trees now) (name_at f.names host) d one p (owner_eq-false p c e) in
+        let count = counted_other (contents f.names f.trees was) hosts_were (are_hosts f.names f.trees was held) m may held.present
+        (contents g.names g.trees now) (name_at f.names host) refl maker_there d one p (owner_eq-false p c e) in
         let few = held.limited p in omega (arith, count, few)
   ]
 
@@ -238,23 +287,21 @@ module _ (f g : NamedTrees) (was now : AllTables) (host : ℕ) (d : Option NodeN
   uncounted : (k : ℕ) → k < length f.names → (name_at f.names k).owner ≢ c
   uncounted k k< e =
       let on = sym (ap (is_there (world_from f.names f.trees was)) e) ∙ held.present k k< in
-      let off = component_new (contents f.names f.trees was) hosts_were (are_hosts f.names f.trees was held) in
+      let off = is_new in
       cc
 
   -- it is held
-  pub attached_held : length was.slots.hosts < 1000 → IsHeld g.names g.trees now
+  pub attached_held : count_hosts f.names was.slots.hosts (name_at f.names host).owner < 1000 → IsHeld g.names g.trees now
   attached_held room = record {
-    owned = hosts_after.owned;
+    owned = (hosts_after room).owned;
     present = present_after;
-    absent = hosts_after.absent;
+    absent = (hosts_after room).absent;
     limited = limited_after;
     own = own_after;
     counted = ap length more.each ∙ (let pushed = length_push was.each no_keyed_tables in let counted = held.counted in let hosts = ap length
         more.hosts in let longer = length_push hosts_were (record { host = host; root = length f.names; owner = c }) in omega
         (arith, pushed, counted, hosts, longer));
-    few = let hosts = ap length more.hosts in let longer =
-        length_push hosts_were (record { host = host; root = length f.names; owner = c }) in omega (arith, hosts, longer, room);
-    made = subst (AreMadeFrom g.names 0) (sym more.hosts) hosts_after.made;
+    made = subst (AreMadeBehind g.names []) (sym more.hosts) (hosts_after room).made;
     signals = record { free = more.free; slots = more.slots; nodes = nodes_after };
     speaks = λ p. subst (λ ns. SpeaksOf (IsKey ns) (now.observers p)) (sym more.names)
         (subst (λ (os : Owner → TablesOf ℕ). SpeaksOf (IsKey grown) (os p)) (sym more.observers)
@@ -264,7 +311,7 @@ module _ (f g : NamedTrees) (was now : AllTables) (host : ℕ) (d : Option NodeN
         (due_kept (world_from f.names f.trees was) (world_from g.names g.trees now) there_after was.tasks held.due);
     ranges = subst (AreRangesOf (contents g.names g.trees now)) (sym more.ranges)
         (ranges_attached (contents f.names f.trees was) (contents g.names g.trees now) was.ranges c (name_at f.names host) d
-        (component_new (contents f.names f.trees was) hosts_were (are_hosts f.names f.trees was held)) one held.ranges);
+        is_new one held.ranges);
     numbered = subst AreNumbered (sym more.names)
         (subst (λ n. AreNumbered (f.names ++ node_of c n ∷ [])) (count_none c f.names uncounted) (numbered_more f.names c held.numbered));
   }
@@ -275,7 +322,7 @@ module _ (f g : NamedTrees) (was now : AllTables) (host : ℕ) (d : Option NodeN
 
   -- and its world is the one after the command
   pub attached_state : d ≡ (node_in f.trees (name_at f.names host)).document →
-      world_from g.names g.trees now ≡ (attaching (world_from f.names f.trees was) Page (name_at f.names host)).0
+      world_from g.names g.trees now ≡ (attaching (world_from f.names f.trees was) (name_at f.names host).owner (name_at f.names host)).0
   attached_state document =
-      attached_world (contents f.names f.trees was) hosts_were (are_hosts f.names f.trees was held) held.present (contents g.names g.trees now)
-      (name_at f.names host) d one own document
+      attached_world (contents f.names f.trees was) hosts_were (are_hosts f.names f.trees was held) m may held.present (contents g.names g.trees now)
+      (name_at f.names host) refl maker_there d one document

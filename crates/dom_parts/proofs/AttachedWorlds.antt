@@ -1,23 +1,25 @@
 -- Attaching in the world of what is held with hosts: the component that is made was not there, the world is the one after
 -- the command, and the list of hosts with the new one belongs to what is held then.
-use Rattle.std.proofs.Common.{◌≡◌, ◌≢◌, ℕ, suc, ◌+◌, ◌<◌, Bool, true, false, cond, List, [], ◌∷◌, ◌++◌, Option, Some, None, length, refl, sym, ap}
+use Rattle.std.proofs.Common.{◌≡◌, ◌≢◌, ℕ, suc, ◌+◌, ◌<◌, ◌≤◌, Bool, true, false, cond, List, [], ◌∷◌, ◌++◌, Option, Some, None, length, refl, sym, ap}
 use Rattle.std.proofs.Common.{subst, ◌∙◌, ◌⊎◌, inl, inr, arith, zero-add}
 use Rattle.std.specs.Prelude.{nat_eq, find, option_map, if◌then◌else◌}
 use Rattle.std.proofs.lemmas.Bool.{cases_Bool, false_from_ne_true, or_parts}
-use Rattle.std.proofs.lemmas.List.{length-map, length_push, map-append}
+use Rattle.std.proofs.lemmas.List.{length-map, length_push, map-append, append-nil, append_assoc}
 use Rattle.std.proofs.lemmas.List.Sums.{sum_by-cons}
+use Rattle.std.proofs.lemmas.Option.{same_Some}
 use Rattle.std.proofs.Math.Seq.{get_or-append_seam}
 use Rattle.dom_base.specs.declared.Kind.TheVariants.{Shadow}
 use Rattle.dom_base.specs.declared.NodeName.{NodeName}
 use Rattle.dom_base.specs.declared.Owner.{Owner}
 use Rattle.dom_base.specs.declared.Owner.TheVariants.{Page}
+use Rattle.dom_base.specs.declared.TheConstants.{MAX_COMPONENTS}
 use Rattle.dom_model.specs.Names.{owner_eq, name_eq, is_in, node_of}
 use Rattle.dom_model.specs.Tree.{none, tree, Node, node_in}
 use Rattle.dom_model.specs.TreeChanges.{with_node}
 use Rattle.dom_model.specs.DocumentMachine.{new_root, part_with_root, attaching}
 use Rattle.dom_model.specs.Part.{Part}
-use Rattle.dom_model.specs.World.{World, with_part, is_there, component_made, shadow_root_of}
-use Rattle.dom_model.proofs.OwnerLaws.{owner_eq-true, owner_eq-false, owner_eq-same, ne-owner_eq}
+use Rattle.dom_model.specs.World.{World, MayAttach, with_part, is_there, component_made, made_by, shadow_root_of}
+use Rattle.dom_model.proofs.OwnerLaws.{owner_eq-true, owner_eq-false, owner_eq-same, ne-owner_eq, made_by-made, component_made-no_page, component_made-other}
 use Rattle.dom_slots.specs.Hosts.{ShadowHost, HostsAreNodes, root_of_host}
 use Rattle.dom_slots.proofs.Hosted.{AreDistinct, key-test}
 use Rattle.dom_tree.specs.Forest.{name_at, count_of}
@@ -25,34 +27,22 @@ use Rattle.dom_tree.specs.Owners.{AreOwned, IsOwnChange, trees_of_owner}
 use Rattle.dom_tree.proofs.OwnPlacings.{added}
 use Rattle.dom_tree.proofs.Owned.{read_own}
 use Rattle.dom_parts.specs.Contents.{Contents, Tables, part_with, part_in, world_of}
-use Rattle.dom_parts.specs.Hosting.{IsMadeAs, AreMadeFrom, host_names, host_owners, AreHostsOf, IsAttached}
+use Rattle.dom_parts.specs.Hosting.{maker_of, hosts_of, IsMadeAs, AreMadeBehind, host_names, attached_of, host_owners, AreHostsOf, IsAttached}
 use Rattle.dom_parts.proofs.Numbers.{count_more}
-use Rattle.dom_parts.proofs.HostedSteps.{names_pushed, nodes_renamed, made_renamed, names_renamed}
-use Rattle.dom_parts.proofs.HostedWorlds.{made-number, made-no_page, single_hosted, page_hosted}
+use Rattle.dom_parts.proofs.HostedSteps.{KeepsNames, names_pushed, nodes_pushed, nodes_renamed, hosts_renamed, made_renamed, attached_renamed}
+use Rattle.dom_parts.proofs.HostedWorlds.{single_hosted}
+use Rattle.dom_parts.proofs.HostsOfOwners.{count_hosts, own-pushed, other-pushed, placed}
 use Rattle.dom_parts.proofs.Places.{In-push, In-end}
 use Rattle.dom_parts.proofs.Worlds.{In, there_in, in_there, there_same, part_at, changed, joined}
 
 -- ---- the list of hosts
 
--- a host's component has a number below that of the next attach
-owner_below : (names : List NodeName) (hosts : List ShadowHost) (k : ℕ) (o : Owner) → AreMadeFrom names k hosts → In o (host_owners hosts) →
-    (j : ℕ) × (j < k + length hosts) × (component_made Page j ≡ o)
-owner_below names [] k o made i = absurd i
-owner_below names (h ∷ hosts) k o made (inl e) = (k, omega arith, sym made.0.owner ∙ e)
-owner_below names (h ∷ hosts) k o made (inr i) = let d = owner_below names hosts (suc k) o made.1 i in (d.0, (let lt = d.1 in omega arith), d.2)
-
 -- one host more
-made_pushed : (names : List NodeName) (hosts : List ShadowHost) (k : ℕ) (h : ShadowHost) → AreMadeFrom names k hosts →
-    IsMadeAs names (k + length hosts) h → AreMadeFrom names k (hosts ++ h ∷ [])
-made_pushed names [] k h made one = let first : k + 0 ≡ k = omega arith in (subst (λ i. IsMadeAs names i h) first one, tt)
-made_pushed names (g ∷ hosts) k h made one =
-    let later : k + suc (length hosts) ≡ suc k + length hosts = omega arith in
-    (made.0, made_pushed names hosts (suc k) h made.1 (subst (λ i. IsMadeAs names i h) later one))
-
-nodes_pushed : (names : List NodeName) (hosts : List ShadowHost) (h : ShadowHost) → HostsAreNodes names hosts → h.host < length names →
-    h.root < length names → HostsAreNodes names (hosts ++ h ∷ [])
-nodes_pushed names [] h nodes host root = (host, root, tt)
-nodes_pushed names (g ∷ hosts) h nodes host root = (nodes.0, nodes.1, nodes_pushed names hosts h nodes.2 host root)
+made_pushed : (names : List NodeName) (earlier hosts : List ShadowHost) (h : ShadowHost) → AreMadeBehind names earlier hosts →
+    IsMadeAs names (earlier ++ hosts) h → AreMadeBehind names earlier (hosts ++ h ∷ [])
+made_pushed names earlier [] h made one = (subst (λ gs. IsMadeAs names gs h) (append-nil earlier) one, tt)
+made_pushed names earlier (g ∷ hosts) h made one =
+    (made.0, made_pushed names (earlier ++ g ∷ []) hosts h made.1 (subst (λ gs. IsMadeAs names gs h) (sym (append_assoc earlier (g ∷ []) hosts)) one))
 
 -- a node that is no host by its name is none by its key: what `attach` of dom_slots asks of a host
 pub unhosted_key : (names : List NodeName) → AreDistinct names → (hosts : List ShadowHost) → HostsAreNodes names hosts → (k : ℕ) →
@@ -76,22 +66,35 @@ count_none o (x ∷ names) other =
 
 -- ---- the command
 
-module _ (a : Contents) (hosts : List ShadowHost) (held : AreHostsOf a hosts) where
-  -- the component of the next attach
+module _ (a : Contents) (hosts : List ShadowHost) (held : AreHostsOf a hosts) (m : Owner) (may : MayAttach m) where
+  -- the component of the owner's next attach
   abbrev pub next_component : Owner
-  next_component = component_made Page (length hosts)
+  next_component = component_made m (count_hosts a.names hosts m)
 
-  -- is not there yet
-  pub component_new : is_there (world_of a) next_component ≡ false
-  component_new = false_from_ne_true _ (λ there. by (subst (In next_component) held.owners (there_in a next_component there)))
+  -- is not there yet, nor is any later one
+  pub component_absent : (k : ℕ) → count_hosts a.names hosts m ≤ k → is_there (world_of a) (component_made m k) ≡ false
+  component_absent k later = false_from_ne_true _ (λ there. by (subst (In (component_made m k)) held.owners (there_in a (component_made m k) there)))
     where
-      by : In next_component (Page ∷ host_owners hosts) → ⊥
-      by (inl e) = made-no_page (length hosts) (sym e)
-      by (inr i) = let d = owner_below a.names hosts 0 next_component held.made i in let same = made-number d.0 (length hosts) d.2 in let lt =
-          d.1 in omega arith
+      by : In (component_made m k) (Page ∷ host_owners hosts) → ⊥
+      by (inl e) = component_made-no_page m k (sym e)
+      by (inr i) =
+          let p = placed a.names [] hosts (component_made m k) held.made i in
+          let both = same_Some (p.maker, p.number) (m, k) (sym (made_by-made p.maker p.number p.may) ∙ (ap made_by p.made ∙ made_by-made m k may)) in
+          let number : p.number ≡ k = ap (λ (q : Owner × ℕ). q.1) both in
+          let below : p.number < 0 + count_hosts a.names hosts m =
+          subst (λ (q : Owner). p.number < 0 + count_hosts a.names hosts q) (ap (λ (q : Owner × ℕ). q.0) both) p.below in
+          omega (arith, number, below, later)
+
+  pub component_new : is_there (world_of a) next_component ≡ false
+  component_new = component_absent (count_hosts a.names hosts m) (omega arith)
+
+  -- nor its maker
+  pub next_other : next_component ≢ m
+  next_other = component_made-other m (count_hosts a.names hosts m) may
 
   module _ (present : (k : ℕ) → k < length a.names → is_there (world_of a) (name_at a.names k).owner ≡ true) (b : Contents) (x : NodeName)
-      (d : Option NodeName) (one : IsAttached a b (component_made Page (length hosts)) x d) where
+      (own : x.owner ≡ m) (there : is_there (world_of a) m ≡ true)
+      (d : Option NodeName) (one : IsAttached a b (component_made m (count_hosts a.names hosts m)) x d) where
     abbrev root : Node
     root = new_root (shadow_root_of next_component) Shadow d
 
@@ -120,22 +123,30 @@ module _ (a : Contents) (hosts : List ShadowHost) (held : AreHostsOf a hosts) wh
     trees_other : (q : Owner) → q ≢ next_component → trees_of_owner q b.trees ≡ trees_of_owner q a.trees
     trees_other q other = ap (trees_of_owner q) one.trees ∙ new_change.others q other
 
-    -- the page's part marked, and no component yet
+    -- the tables of the maker, and of others
+    maker_tables : b.tables m ≡ record (a.tables m) { attached = (a.tables m).attached ++ x ∷ [] }
+    maker_tables = subst (λ (o : Owner). b.tables o ≡ record (a.tables o) { attached = (a.tables o).attached ++ x ∷ [] }) own one.maker
+
+    rest_tables : (q : Owner) → q ≢ m → q ≢ next_component → b.tables q ≡ a.tables q
+    rest_tables q apart other = one.rest q (λ e. apart (e ∙ own)) other
+
+    -- the maker's part marked, and no component yet
     abbrev marked : Contents
-    marked = record a { tables = λ q. if owner_eq q Page then b.tables Page else a.tables q }
+    marked = record a { tables = λ q. if owner_eq q m then b.tables m else a.tables q }
 
     abbrev marked_part : Part
-    marked_part = record (part_in a Page) { attached = (a.tables Page).attached ++ x ∷ [] }
+    marked_part = record (part_in a m) { attached = (a.tables m).attached ++ x ∷ [] }
 
     marked_world : world_of marked ≡ with_part (world_of a) marked_part
     marked_world =
-        changed a marked Page marked_part (single_hosted a hosts held) (page_hosted a hosts held) record {
+        changed a marked m marked_part (single_hosted a hosts held) there record {
           owners = refl;
           signalled = refl;
           tasks = refl;
-          own = ap (λ t. part_with Page (trees_of_owner Page a.trees) (count_of Page a.names) t) one.page;
+          own = ap (λ (t : Bool). part_with m (trees_of_owner m a.trees) (count_of m a.names) (if t then b.tables m else a.tables m)) (owner_eq-same m) ∙
+              ap (λ t. part_with m (trees_of_owner m a.trees) (count_of m a.names) t) maker_tables;
           others = λ q other. ap (λ (t : Bool). part_with q (trees_of_owner q a.trees) (count_of q a.names)
-              (if t then b.tables Page else a.tables q)) (ne-owner_eq q Page other);
+              (if t then b.tables m else a.tables q)) (ne-owner_eq q m other);
         }
 
     with_component : world_of b ≡ with_part (world_of marked) (part_in b next_component)
@@ -145,11 +156,11 @@ module _ (a : Contents) (hosts : List ShadowHost) (held : AreHostsOf a hosts) wh
         others q other =
             ap (λ us. part_with q us (count_of q b.names) (b.tables q)) (trees_other q other)
             ∙ (ap (λ n. part_with q (trees_of_owner q a.trees) n (b.tables q)) (counted_other q other) ∙
-            ap (part_with q (trees_of_owner q a.trees) (count_of q a.names)) (by (cases_Bool (owner_eq q Page))))
+            ap (part_with q (trees_of_owner q a.trees) (count_of q a.names)) (by (cases_Bool (owner_eq q m))))
           where
-            by : (owner_eq q Page ≡ true) ⊎ (owner_eq q Page ≡ false) → b.tables q ≡ (if owner_eq q Page then b.tables Page else a.tables q)
-            by (inl e) = ap b.tables (owner_eq-true q Page e) ∙ sym (ap (λ (t : Bool). if t then b.tables Page else a.tables q) e)
-            by (inr e) = one.rest q (owner_eq-false q Page e) other ∙ sym (ap (λ (t : Bool). if t then b.tables Page else a.tables q) e)
+            by : (owner_eq q m ≡ true) ⊎ (owner_eq q m ≡ false) → b.tables q ≡ (if owner_eq q m then b.tables m else a.tables q)
+            by (inl e) = ap b.tables (owner_eq-true q m e) ∙ sym (ap (λ (t : Bool). if t then b.tables m else a.tables q) e)
+            by (inr e) = rest_tables q (owner_eq-false q m e) other ∙ sym (ap (λ (t : Bool). if t then b.tables m else a.tables q) e)
 
     new_part : part_in b next_component ≡ part_with_root next_component Shadow d
     new_part =
@@ -157,9 +168,13 @@ module _ (a : Contents) (hosts : List ShadowHost) (held : AreHostsOf a hosts) wh
         ∙ (ap (λ n. part_with next_component (tree root none none) n (b.tables next_component)) counted_new ∙
         ap (part_with next_component (tree root none none) 1) one.new)
 
+    -- how many the owner has attached before
+    pub attached_count : count_hosts a.names hosts m ≡ length (a.tables m).attached
+    attached_count = sym (ap length (held.attached m) ∙ length-map (hosts_of a.names hosts m) (λ h. name_at a.names h.host))
+
     -- the world after the command
-    pub attached_world : x.owner ≡ Page → d ≡ (node_in a.trees x).document → world_of b ≡ (attaching (world_of a) Page x).0
-    attached_world own document =
+    pub attached_world : d ≡ (node_in a.trees x).document → world_of b ≡ (attaching (world_of a) m x).0
+    attached_world document =
         let after : Part → Owner → World =
         λ p c. with_part (with_part (world_of a) (record p { attached = p.attached ++ x ∷ [] }))
         (part_with_root c Shadow (node_in p.trees x).document) in
@@ -167,49 +182,93 @@ module _ (a : Contents) (hosts : List ShadowHost) (held : AreHostsOf a hosts) wh
         ∙ (ap (with_part (world_of marked)) new_part
         ∙ (ap (λ w. with_part w (part_with_root next_component Shadow d)) marked_world
         ∙ (ap (λ e. with_part (with_part (world_of a) marked_part) (part_with_root next_component Shadow e))
-        (document ∙ ap (λ (n : Node). n.document) (read_own a.trees held.owned Page x own).node)
-        ∙ (ap (λ n. after (part_in a Page) (component_made Page n)) count ∙ ap (λ p. after p (component_made Page (length p.attached)))
-        (sym (part_at a Page (page_hosted a hosts held)))))))
-      where
-        count : length hosts ≡ length (a.tables Page).attached
-        count = sym (ap length held.attached ∙ length-map hosts (λ h. name_at a.names h.host))
+        (document ∙ ap (λ (n : Node). n.document) (read_own a.trees held.owned m x own).node)
+        ∙ (ap (λ n. after (part_in a m) (component_made m n)) attached_count ∙ ap (λ p. after p (component_made m (length p.attached)))
+        (sym (part_at a m there))))))
 
     -- the hosts then
-    pub attached_hosts : (k : ℕ) → k < length a.names → name_at a.names k ≡ x → x.owner ≡ Page
-        → AreHostsOf b (hosts ++ record { host = k; root = length a.names; owner = component_made Page (length hosts) } ∷ [])
-    attached_hosts k within is own =
-        let h : ShadowHost = record { host = k; root = length a.names; owner = component_made Page (length hosts) } in
-        let more = names_pushed a.names (shadow_root_of next_component) in
-        let long : length b.names ≡ length a.names + 1 = ap length one.names ∙ length_push a.names (shadow_root_of next_component) in
-        let host_name : name_at b.names k ≡ x = ap (λ ns. name_at ns k) one.names ∙ (more.same k within ∙ is) in
-        let made = made_renamed a.names (a.names ++ shadow_root_of next_component ∷ []) more hosts 0 held.nodes held.made in
-        let nodes = nodes_renamed a.names (a.names ++ shadow_root_of next_component ∷ []) more hosts held.nodes in
-        let named = names_renamed a.names (a.names ++ shadow_root_of next_component ∷ []) more hosts held.nodes in
+    pub attached_hosts : (k : ℕ) → k < length a.names → name_at a.names k ≡ x → count_hosts a.names hosts m < MAX_COMPONENTS
+        → AreHostsOf b (hosts ++ record { host = k; root = length a.names; owner = component_made m (count_hosts a.names hosts m) } ∷ [])
+    attached_hosts k within is room =
         record {
           owners = one.owners ∙ (ap (λ os. os ++ next_component ∷ []) held.owners ∙
               ap (λ os. Page ∷ os) (sym (map-append (λ (g : ShadowHost). g.owner) hosts (h ∷ []))));
-          made = made_pushed b.names hosts 0 h (subst (λ ns. AreMadeFrom ns 0 hosts) (sym one.names) made) record {
-            owner = ap (component_made Page) (sym (zero-add (length hosts)));
-            root = ap (λ ns. name_at ns (length a.names)) one.names ∙ get_or-append_seam a.names (shadow_root_of next_component) [] (node_of Page 0);
-            host = ap (λ (y : NodeName). y.owner) host_name ∙ own;
-          };
-          nodes = nodes_pushed b.names hosts h (subst (λ ns. HostsAreNodes ns hosts) (sym one.names) nodes) (omega (arith, long)) (omega (arith, long));
-          attached = ap (λ (t : Tables). t.attached) one.page
-              ∙ (ap (λ xs. xs ++ x ∷ []) (held.attached ∙ (named ∙ ap (λ ns. host_names ns hosts) (sym one.names)))
-              ∙ (ap (λ y. host_names b.names hosts ++ y ∷ []) (sym host_name) ∙ sym (map-append (λ (g : ShadowHost). name_at b.names g.host) hosts (h ∷ []))));
-          unhosted = λ q other. elim (cases_Bool (owner_eq q next_component)) [
-            | inl e ↦ ap (λ r. (b.tables r).attached) (owner_eq-true q next_component e) ∙ ap (λ (t : Tables). t.attached) one.new
-            | inr e ↦ ap (λ (t : Tables). t.attached) (one.rest q other (owner_eq-false q next_component e)) ∙ held.unhosted q other
-          ];
+          made = made_pushed b.names [] hosts h (subst (λ ns. AreMadeBehind ns [] hosts) (sym one.names)
+              (made_renamed a.names grown keeps [] hosts tt held.nodes held.made)) (subst (λ ns. IsMadeAs ns hosts h) (sym one.names) record {
+                maker = subst MayAttach (sym host_maker) may;
+                few = subst (λ n. n < MAX_COMPONENTS) (sym as_many) room;
+                owner = sym (ap (λ (o : Owner). component_made o (count_hosts grown hosts (maker_of grown h))) host_maker ∙ ap (component_made m) as_many);
+                root = get_or-append_seam a.names (shadow_root_of next_component) [] (node_of Page 0);
+              });
+          nodes = nodes_pushed b.names hosts h (subst (λ ns. HostsAreNodes ns hosts) (sym one.names) (nodes_renamed a.names grown keeps hosts held.nodes))
+              (omega (arith, long, within)) (omega (arith, long));
+          attached = λ q. attached_then q (cases_Bool (owner_eq q m)) (cases_Bool (owner_eq q next_component));
+          unhosted = λ q off. ap (λ (t : Tables). t.attached) (rest_tables q (not_maker q off) (not_next q off)) ∙ held.unhosted q (off_before q off);
           owned = subst AreOwned (sym one.trees) new_change.owned;
-          absent = λ q off.
-              let apart : q ≢ next_component = λ e.
-              let on : is_there (world_of b) q ≡ true =
-              in_there b q (subst (In q) (sym one.owners)
-              (subst (λ p. In p (a.owners ++ next_component ∷ [])) (sym e) (In-end a.owners next_component))) in
-              cc in
-              trees_other q apart
-              ∙ held.absent q (false_from_ne_true _
-              (λ there. let on : is_there (world_of b) q ≡ true = in_there b q
-              (subst (In q) (sym one.owners) (In-push q a.owners next_component (there_in a q there))) in cc));
+          absent = λ q off. trees_other q (not_next q off) ∙ held.absent q (off_before q off);
         }
+      where
+        h : ShadowHost
+        h = record { host = k; root = length a.names; owner = component_made m (count_hosts a.names hosts m) }
+
+        grown : List NodeName
+        grown = a.names ++ shadow_root_of next_component ∷ []
+
+        keeps : KeepsNames a.names grown
+        keeps = names_pushed a.names (shadow_root_of next_component)
+
+        long : length b.names ≡ length a.names + 1
+        long = ap length one.names ∙ length_push a.names (shadow_root_of next_component)
+
+        host_name : name_at grown k ≡ x
+        host_name = keeps.same k within ∙ is
+
+        host_maker : maker_of grown h ≡ m
+        host_maker = ap (λ (y : NodeName). y.owner) host_name ∙ own
+
+        as_many : count_hosts grown hosts (maker_of grown h) ≡ count_hosts a.names hosts m
+        as_many = ap (count_hosts grown hosts) host_maker ∙ ap length (hosts_renamed a.names grown keeps hosts m held.nodes)
+
+        -- whoever is not there then was not there before, and is neither of the two
+        off_before : (q : Owner) → is_there (world_of b) q ≡ false → is_there (world_of a) q ≡ false
+        off_before q off = false_from_ne_true _
+            (λ on. let then_on : is_there (world_of b) q ≡ true = in_there b q
+            (subst (In q) (sym one.owners) (In-push q a.owners next_component (there_in a q on))) in cc)
+
+        not_maker : (q : Owner) → is_there (world_of b) q ≡ false → q ≢ m
+        not_maker q off e = let on = ap (is_there (world_of a)) e ∙ there in let gone = off_before q off in cc
+
+        not_next : (q : Owner) → is_there (world_of b) q ≡ false → q ≢ next_component
+        not_next q off e =
+            let on : is_there (world_of b) q ≡ true =
+            in_there b q (subst (In q) (sym one.owners)
+            (subst (λ p. In p (a.owners ++ next_component ∷ [])) (sym e) (In-end a.owners next_component))) in
+            cc
+
+        -- the hosts of an owner who attached none
+        others_hosts : (q : Owner) → q ≢ m → attached_of b.names (hosts ++ h ∷ []) q ≡ attached_of a.names hosts q
+        others_hosts q apart =
+            ap (λ ns. attached_of ns (hosts ++ h ∷ []) q) one.names
+            ∙ (ap (host_names grown) (other-pushed grown hosts h q (ne-owner_eq (maker_of grown h) q (λ e. apart (sym e ∙ host_maker))))
+            ∙ sym (attached_renamed a.names grown keeps hosts q held.nodes))
+
+        attached_then : (q : Owner) → (owner_eq q m ≡ true) ⊎ (owner_eq q m ≡ false) → (owner_eq q next_component ≡ true) ⊎ (owner_eq q next_component ≡ false)
+            → (b.tables q).attached ≡ attached_of b.names (hosts ++ h ∷ []) q
+        attached_then q (inl e) new =
+            let same = owner_eq-true q m e in
+            ap (λ o. (b.tables o).attached) same
+            ∙ (ap (λ (t : Tables). t.attached) maker_tables
+            ∙ (ap (λ xs. xs ++ x ∷ []) (held.attached m ∙ attached_renamed a.names grown keeps hosts m held.nodes)
+            ∙ (ap (λ y. attached_of grown hosts m ++ y ∷ []) (sym host_name)
+            ∙ (sym (map-append (λ (g : ShadowHost). name_at grown g.host) (hosts_of grown hosts m) (h ∷ []))
+            ∙ (sym (ap (host_names grown) (own-pushed grown hosts h m (ap (λ o. owner_eq o m) host_maker ∙ owner_eq-same m)))
+            ∙ (sym (ap (λ ns. attached_of ns (hosts ++ h ∷ []) m) one.names) ∙ ap (attached_of b.names (hosts ++ h ∷ [])) (sym same)))))))
+        attached_then q (inr e) (inl f) =
+            let same = owner_eq-true q next_component f in
+            ap (λ o. (b.tables o).attached) same
+            ∙ (ap (λ (t : Tables). t.attached) one.new
+            ∙ (sym (sym (held.attached next_component) ∙ held.unhosted next_component component_new)
+            ∙ (ap (attached_of a.names hosts) (sym same) ∙ sym (others_hosts q (owner_eq-false q m e)))))
+        attached_then q (inr e) (inr f) =
+            ap (λ (t : Tables). t.attached) (rest_tables q (owner_eq-false q m e) (owner_eq-false q next_component f))
+            ∙ (held.attached q ∙ sym (others_hosts q (owner_eq-false q m e)))

@@ -6,7 +6,6 @@ use Rattle.std.specs.Option.{ForSome}
 use Rattle.std.proofs.lemmas.Option.{slice_get_within, none-some}
 use Rattle.dom_base.specs.declared.NodeName.{NodeName}
 use Rattle.dom_base.specs.declared.Owner.{Owner}
-use Rattle.dom_base.specs.declared.Owner.TheVariants.{Page, Component}
 use Rattle.dom_model.specs.Tree.{Trees}
 use Rattle.dom_model.specs.World.{World, is_there, Task, micro_task, notify_task}
 use Rattle.dom_tree.specs.Forest.{NamedTrees, name_at, count_of}
@@ -16,13 +15,15 @@ use Rattle.dom_observers.specs.Naming.{IsKey, SpeaksOf}
 use Rattle.dom_cursors.specs.OwnTables.{KeyedTables, place_of, owner_at, owners_up_to, table_of, no_keyed_tables}
 use Rattle.dom_parts.specs.AllTables.{AreTablesOf, AllTables, signals_of, with_queue, with_observers}
 use Rattle.dom_node_trees.specs.Signalled.{AreSignals}
-use Rattle.dom_parts.specs.Hosting.{AreMadeFrom, AreHostsOf}
+use Rattle.dom_parts.specs.Hosting.{maker_of, hosts_of, host_names, AreMadeBehind, AreHostsOf}
 use Rattle.dom_parts.specs.Numbering.{AreNumbered}
 use Rattle.dom_parts.specs.Ranging.{AreRangesOf}
-use Rattle.dom_slots.specs.Hosts.{ShadowHost}
+use Rattle.dom_slots.specs.Hosts.{ShadowHost, HostsAreNodes}
 use Rattle.dom_slots.specs.Kept.{AreSlotsOf}
+use Rattle.dom_model.proofs.OwnerLaws.{ne-owner_eq}
 use Rattle.dom_parts.proofs.HostedKeys.{owners_made}
-use Rattle.dom_parts.specs.Doc.{named_trees, attached_of, contents, world_from, IsHeld, IsDue}
+use Rattle.dom_parts.proofs.HostsOfOwners.{other-host}
+use Rattle.dom_parts.specs.Doc.{named_trees, contents, world_from, IsHeld, IsDue}
 use Rattle.dom_parts.proofs.Worlds.{there_in, in_there, there_same}
 use Rattle.dom_parts.proofs.Places.{place_within, owners_in, table_place, table_owner}
 use Rattle.dom_tree_laws.proofs.Standing.{KeepsAbove}
@@ -38,21 +39,25 @@ no_cursors f o = record {
   few_walkers = omega arith;
 }
 
+-- whoever is not there has no hosts
+none_of : (w : World) (names : List NodeName) → ((k : ℕ) → k < length names → is_there w (name_at names k).owner ≡ true) → (o : Owner) →
+    is_there w o ≡ false → (hosts : List ShadowHost) → HostsAreNodes names hosts → hosts_of names hosts o ≡ []
+none_of w names present o off [] nodes = refl
+none_of w names present o off (h ∷ hosts) nodes =
+    other-host names h hosts o (ne-owner_eq (maker_of names h) o (λ e. let on = sym (ap (is_there w) e) ∙ present h.host nodes.0 in cc))
+    ∙ none_of w names present o off hosts nodes.2
+
 -- it has just its hosts
 pub are_hosts : (names : List NodeName) (ts : Trees) (tables : AllTables) → IsHeld names ts tables → AreHostsOf (contents names ts tables) tables.slots.hosts
 are_hosts names ts tables held = record {
   owners = ap owners_up_to held.counted ∙ owners_made names tables.slots.hosts held.made;
   made = held.made;
   nodes = held.signals.slots.hosts;
-  attached = refl;
-  unhosted = λ o other. by o other;
+  attached = λ o. refl;
+  unhosted = λ o off. ap (host_names names) (none_of (world_from names ts tables) names held.present o off tables.slots.hosts held.signals.slots.hosts);
   owned = held.owned;
   absent = held.absent;
 }
-  where
-    by : (o : Owner) → o ≢ Page → attached_of names tables.slots.hosts o ≡ []
-    by Page other = absurd (other refl)
-    by (Component k) other = refl
 
 -- an owner that is there has tables
 pub table_there : (names : List NodeName) (ts : Trees) (tables : AllTables) (o : Owner) → is_there (world_from names ts tables) o ≡ true →
@@ -87,7 +92,7 @@ module _ (names : List NodeName) (ts : Trees) (tables : AllTables) (held : IsHel
 
   pub held_with : AreOwned us → ((p : Owner) → p ≢ o → trees_of_owner p us ≡ trees_of_owner p ts)
       → ((k : ℕ) → k < length more → is_there (world_from names ts tables) (name_at more k).owner ≡ true) → ((p : Owner) → count_of p more ≤ 1000000)
-      → ((p : Owner) → ForSome (table_of others.each p) (AreTablesOf (named_trees more us) p)) → AreMadeFrom more 0 tables.slots.hosts →
+      → ((p : Owner) → ForSome (table_of others.each p) (AreTablesOf (named_trees more us) p)) → AreMadeBehind more [] tables.slots.hosts →
       AreSignals more us (signals_of others)
       → ((p : Owner) → SpeaksOf (IsKey more) (others.observers p)) →
       ((p : Owner) → is_there (world_from names ts tables) p ≡ false → others.observers p ≡ no_observers)
@@ -102,8 +107,7 @@ module _ (names : List NodeName) (ts : Trees) (tables : AllTables) (held : IsHel
     limited = limited;
     own = own;
     counted = same ∙ (held.counted ∙ ap (λ (hs : List ShadowHost). suc (length hs)) (sym hosts));
-    few = subst (λ (hs : List ShadowHost). length hs ≤ 1000) (sym hosts) held.few;
-    made = subst (AreMadeFrom more 0) (sym hosts) made;
+    made = subst (AreMadeBehind more []) (sym hosts) made;
     signals = signals;
     speaks = speaks;
     unobserved = λ p off. unobserved p (sym (who p) ∙ off);
@@ -132,7 +136,6 @@ held_observers names ts tables held observers speaks unobserved = record {
   limited = held.limited;
   own = held.own;
   counted = held.counted;
-  few = held.few;
   made = held.made;
   signals = record { free = held.signals.free; slots = held.signals.slots; nodes = held.signals.nodes };
   speaks = speaks;
@@ -155,7 +158,6 @@ held_tasks names ts tables held tasks due = record {
   limited = held.limited;
   own = held.own;
   counted = held.counted;
-  few = held.few;
   made = held.made;
   signals = record { free = held.signals.free; slots = held.signals.slots; nodes = held.signals.nodes };
   speaks = held.speaks;

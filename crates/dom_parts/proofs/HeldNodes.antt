@@ -35,10 +35,11 @@ use Rattle.dom_cursors.specs.OwnTables.{KeyedTables, table_of, no_keyed_tables}
 use Rattle.dom_parts.specs.AllTables.{tables_view, AreTablesOf, AllTables, no_slots, first_tables, AreFirst, with_live}
 use Rattle.dom_slots.specs.Kept.{AreSlotsOf, StandsOnce, HasOneMore}
 use Rattle.dom_slots.proofs.Added.{slots-more}
-use Rattle.dom_parts.proofs.HostedSteps.{names_pushed, made_renamed, names_renamed, plain_step}
+use Rattle.dom_parts.proofs.HostedSteps.{names_pushed, made_renamed, attached_renamed, plain_step}
 use Rattle.std.proofs.lemmas.List.Elements.{All-nil}
 use Rattle.dom_node_trees.proofs.Named.{names_grown}
-use Rattle.dom_parts.specs.Doc.{DocState, named_trees, own_tables, attached_of, shown_tables, contents, world_from, state_from, IsHeld}
+use Rattle.dom_parts.specs.Doc.{DocState, named_trees, own_tables, shown_tables, contents, world_from, state_from, IsHeld}
+use Rattle.dom_parts.specs.Hosting.{attached_of}
 use Rattle.dom_parts.proofs.Worlds.{part_at}
 use Rattle.dom_parts.proofs.Keeping.{tables_more, view_same, speaks_grown}
 use Rattle.dom_parts.proofs.Numbers.{count_more, numbered_more}
@@ -83,7 +84,7 @@ module _ (names : List NodeName) (ts : Trees) (tables : AllTables) (held : IsHel
       (present_more names ts tables (next_name o names) there held.present)
       (λ p. limited_more names o p (count_of o names) (held.limited o) (held.limited p) room)
       (λ p t e. tables_more names (next_name o names) ts n is new p t (held.own p t e))
-      (made_renamed names grown (names_pushed names (next_name o names)) tables.slots.hosts 0 held.signals.slots.hosts held.made)
+      (made_renamed names grown (names_pushed names (next_name o names)) [] tables.slots.hosts tt held.signals.slots.hosts held.made)
       record { free = held.signals.free; slots = slots; nodes = names_grown names (next_name o names) tables.signalled held.signals.nodes }
       (λ p. speaks_grown names (next_name o names) (tables.observers p) (held.speaks p)) held.unobserved held.due
       (ranges_grown (contents names ts tables) (contents grown (with_node n ts) tables) tables.ranges (next_name o names) held.ranges refl refl
@@ -104,8 +105,7 @@ module _ (names : List NodeName) (ts : Trees) (tables : AllTables) (held : IsHel
       with_those t xs rs = record t { attached = xs; ranges = rs }
 
       hosts_grown : (p : Owner) → attached_of grown tables.slots.hosts p ≡ attached_of names tables.slots.hosts p
-      hosts_grown Page = sym (names_renamed names grown (names_pushed names (next_name o names)) tables.slots.hosts held.signals.slots.hosts)
-      hosts_grown (Component k) = refl
+      hosts_grown p = sym (attached_renamed names grown (names_pushed names (next_name o names)) tables.slots.hosts p held.signals.slots.hosts)
 
       by : (m : Option KeyedTables) → table_of tables.each q ≡ m →
           tables_view grown (unwrap_or m no_keyed_tables) (tables.observers q) ≡ tables_view names (unwrap_or m no_keyed_tables) (tables.observers q)
@@ -238,7 +238,6 @@ empty_held rs empty = record {
   absent = λ o off. refl;
   limited = λ o. omega arith;
   counted = refl;
-  few = omega arith;
   made = tt;
   signals = record { free = refl; slots = no_slots_of (named_trees [] none); nodes = All-nil (λ x. is_in name_eq x [] ≡ true) };
   own = λ o t e. subst (AreTablesOf (named_trees [] none) o) (same_own o t e) (no_cursors (named_trees [] none) o);

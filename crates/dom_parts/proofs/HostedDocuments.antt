@@ -72,7 +72,7 @@ roots_components : (a : Contents) (hosts : List ShadowHost) → AreHostsOf a hos
     filter_map (root_named a.names hosts) ys ≡ map shadow_root_of (filter_map (component_named a.names hosts) ys)
 roots_components a hosts held [] = refl
 roots_components a hosts held (y ∷ ys) =
-    (λ j. cons_option (root-component a.names hosts 0 y held.made j) (roots_components a hosts held ys j)) ∙ by (component_named a.names hosts y)
+    (λ j. cons_option (root-component a.names [] hosts y held.made j) (roots_components a hosts held ys j)) ∙ by (component_named a.names hosts y)
   where
     by : (m : Option Owner) → cons_option (option_map shadow_root_of m) (map shadow_root_of (filter_map (component_named a.names hosts) ys)) ≡ map
         shadow_root_of (cons_option m (filter_map (component_named a.names hosts) ys))

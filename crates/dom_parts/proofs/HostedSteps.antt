@@ -1,6 +1,6 @@
 -- Steps in the world of what is held with hosts: where one owner's part changes as the step says, and the slots are
 -- signalled that the hosts tell, the world is the one after the step.
-use Rattle.std.proofs.Common.{◌≡◌, ℕ, suc, ◌<◌, ◌≤◌, Bool, true, false, List, [], ◌∷◌, ◌++◌, Option, Some, None, fold, length, refl, sym, ap, subst}
+use Rattle.std.proofs.Common.{◌≡◌, ℕ, ◌<◌, ◌≤◌, Bool, true, false, List, [], ◌∷◌, ◌++◌, Option, Some, None, filter, fold, length, refl, sym, ap, subst}
 use Rattle.std.proofs.Common.{◌∙◌, inl, inr, arith}
 use Rattle.std.specs.Prelude.{option_map, if◌then◌else◌}
 use Rattle.std.specs.Option.{option_map_or}
@@ -10,6 +10,7 @@ use Rattle.std.proofs.Math.ListN.{get_or-append}
 use Rattle.dom_base.specs.declared.NodeName.{NodeName}
 use Rattle.dom_base.specs.declared.Owner.{Owner}
 use Rattle.dom_base.specs.declared.Owner.TheVariants.{Page}
+use Rattle.dom_base.specs.declared.TheConstants.{MAX_COMPONENTS}
 use Rattle.dom_model.specs.Names.{Word, DomString, name_eq, owner_eq, append_once, node_of}
 use Rattle.dom_model.specs.Tree.{Trees, parent_of}
 use Rattle.dom_model.specs.Output.{Change}
@@ -17,7 +18,7 @@ use Rattle.dom_model.specs.Part.{Part}
 use Rattle.dom_model.specs.Slots.{with_signal}
 use Rattle.dom_model.specs.Steps.{Step, make, make_room, place, take_out, set_document, set_attribute, replace_data, split_at, join_at, set_range}
 use Rattle.dom_model.specs.Steps.{queue_record, part_step, leave, is_taken}
-use Rattle.dom_model.specs.World.{World, Task, part_of, is_there, queued_notify}
+use Rattle.dom_model.specs.World.{World, Task, MayAttach, part_of, is_there, component_made, queued_notify}
 use Rattle.dom_model.specs.WorldSteps.{world_step, stepped, with_signals, with_removal_signals, with_notify_if}
 use Rattle.dom_model.proofs.OwnerLaws.{owner_eq-true, owner_eq-false}
 use Rattle.dom_slots.specs.Hosts.{ShadowHost, HostsAreNodes}
@@ -29,7 +30,7 @@ use Rattle.dom_tree.specs.Forest.{name_at}
 use Rattle.dom_tree.specs.Owners.{AreOwned}
 use Rattle.dom_tree.proofs.Owned.{read_own}
 use Rattle.dom_parts.specs.Contents.{Contents, Tables, part_in, world_of}
-use Rattle.dom_parts.specs.Hosting.{AreMadeFrom, host_names, AreHostsOf, shadows_in, signal_in, signals_in}
+use Rattle.dom_parts.specs.Hosting.{maker_of, hosts_of, IsMadeAs, AreMadeBehind, host_names, attached_of, AreHostsOf, shadows_in, signal_in, signals_in}
 use Rattle.dom_parts.proofs.Worlds.{IsChangeOf, part_at, changed, there_same}
 use Rattle.dom_parts.proofs.HostedWorlds.{single_hosted, trees_hosted, world_shown}
 
@@ -75,26 +76,58 @@ names_same ns = record { longer = omega arith; same = λ k h. refl }
 pub names_pushed : (ns : List NodeName) (x : NodeName) → KeepsNames ns (ns ++ x ∷ [])
 names_pushed ns x = record { longer = omega (arith, length_push ns x); same = λ k h. get_or-append ns (x ∷ []) (node_of Page 0) k h }
 
+-- hosts are nodes, with one more, and some of them
+pub nodes_pushed : (names : List NodeName) (hosts : List ShadowHost) (h : ShadowHost) → HostsAreNodes names hosts → h.host < length names →
+    h.root < length names → HostsAreNodes names (hosts ++ h ∷ [])
+nodes_pushed names [] h nodes host root = (host, root, tt)
+nodes_pushed names (g ∷ hosts) h nodes host root = (nodes.0, nodes.1, nodes_pushed names hosts h nodes.2 host root)
+
+nodes_kept : (names : List NodeName) (p : ShadowHost → Bool) (hosts : List ShadowHost) → HostsAreNodes names hosts → HostsAreNodes names (filter p hosts)
+nodes_kept names p [] nodes = tt
+nodes_kept names p (h ∷ hosts) nodes = by (p h) (nodes_kept names p hosts nodes.2)
+  where
+    by : (b : Bool) → HostsAreNodes names (filter p hosts) → HostsAreNodes names (if b then h ∷ filter p hosts else filter p hosts)
+    by true rest = (nodes.0, nodes.1, rest)
+    by false rest = rest
+
 module _ (ns ms : List NodeName) (keeps : KeepsNames ns ms) where
   pub nodes_renamed : (hosts : List ShadowHost) → HostsAreNodes ns hosts → HostsAreNodes ms hosts
   nodes_renamed [] nodes = tt
   nodes_renamed (h ∷ hosts) nodes = let longer = keeps.longer in let host = nodes.0 in let root =
       nodes.1 in (omega arith, omega arith, nodes_renamed hosts nodes.2)
 
-  pub made_renamed : (hosts : List ShadowHost) (k : ℕ) → HostsAreNodes ns hosts → AreMadeFrom ns k hosts → AreMadeFrom ms k hosts
-  made_renamed [] k nodes made = tt
-  made_renamed (h ∷ hosts) k nodes made = (
+  pub hosts_renamed : (hosts : List ShadowHost) (o : Owner) → HostsAreNodes ns hosts → hosts_of ms hosts o ≡ hosts_of ns hosts o
+  hosts_renamed [] o nodes = refl
+  hosts_renamed (h ∷ hosts) o nodes =
+      ap (λ (x : NodeName). if owner_eq x.owner o then h ∷ hosts_of ms hosts o else hosts_of ms hosts o) (keeps.same h.host nodes.0)
+      ∙ ap (λ (hs : List ShadowHost). if owner_eq (maker_of ns h) o then h ∷ hs else hs) (hosts_renamed hosts o nodes.2)
+
+  pub made_renamed : (earlier hosts : List ShadowHost) → HostsAreNodes ns earlier → HostsAreNodes ns hosts → AreMadeBehind ns earlier hosts →
+      AreMadeBehind ms earlier hosts
+  made_renamed earlier [] before nodes made = tt
+  made_renamed earlier (h ∷ hosts) before nodes made = (
     record {
-      owner = made.0.owner;
+      maker = subst (λ (x : NodeName). MayAttach x.owner) same made.0.maker;
+      few = subst (λ (hs : List ShadowHost). length hs < MAX_COMPONENTS) (sym (hosts_renamed earlier (maker_of ms h) before))
+          (subst (λ (x : NodeName). length (hosts_of ns earlier x.owner) < MAX_COMPONENTS) same made.0.few);
+      owner = made.0.owner ∙ (ap (λ (x : NodeName). component_made x.owner (length (hosts_of ns earlier x.owner))) same ∙
+          ap (λ (hs : List ShadowHost). component_made (maker_of ms h) (length hs)) (sym (hosts_renamed earlier (maker_of ms h) before)));
       root = keeps.same h.root nodes.1 ∙ made.0.root;
-      host = ap (λ (x : NodeName). x.owner) (keeps.same h.host nodes.0) ∙ made.0.host;
     },
-    made_renamed hosts (suc k) nodes.2 made.1,
+    made_renamed (earlier ++ h ∷ []) hosts (nodes_pushed ns earlier h before nodes.0 nodes.1) nodes.2 made.1,
   )
+    where
+      same : name_at ns h.host ≡ name_at ms h.host
+      same = sym (keeps.same h.host nodes.0)
 
   pub names_renamed : (hosts : List ShadowHost) → HostsAreNodes ns hosts → host_names ns hosts ≡ host_names ms hosts
   names_renamed [] nodes = refl
   names_renamed (h ∷ hosts) nodes = let here = sym (keeps.same h.host nodes.0) in let rest = names_renamed hosts nodes.2 in λ j. here j ∷ rest j
+
+  pub attached_renamed : (hosts : List ShadowHost) (o : Owner) → HostsAreNodes ns hosts → attached_of ns hosts o ≡ attached_of ms hosts o
+  attached_renamed hosts o nodes =
+      names_renamed (hosts_of ns hosts o) (nodes_kept ns (λ h. owner_eq (maker_of ns h) o) hosts nodes) ∙
+      ap (host_names ms) (sym (hosts_renamed hosts o nodes))
 
 -- a step keeps the hosts of its owner's part
 pub attached_step : (p : Part) (s : Step) → (part_step p s).attached ≡ p.attached
@@ -119,10 +152,10 @@ pub hosts_stepped : (a b : Contents) (hosts : List ShadowHost) (o : Owner) (s : 
     → KeepsNames a.names b.names → AreOwned b.trees → IsChangeOf a b o (part_step (part_in a o) s) → AreHostsOf b hosts
 hosts_stepped a b hosts o s held there keeps owned change = record {
   owners = change.owners ∙ held.owners;
-  made = made_renamed a.names b.names keeps hosts 0 held.nodes held.made;
+  made = made_renamed a.names b.names keeps [] hosts tt held.nodes held.made;
   nodes = nodes_renamed a.names b.names keeps hosts held.nodes;
-  attached = attached_in Page ∙ (held.attached ∙ names_renamed a.names b.names keeps hosts held.nodes);
-  unhosted = λ q other. attached_in q ∙ held.unhosted q other;
+  attached = λ q. attached_in q ∙ (held.attached q ∙ attached_renamed a.names b.names keeps hosts q held.nodes);
+  unhosted = λ q off. attached_in q ∙ held.unhosted q (sym (there_same b a change.owners q) ∙ off);
   owned = owned;
   absent = λ q off. let gone = sym (there_same b a change.owners q) ∙ off in
       ap (λ (p : Part). p.trees) (change.others q

@@ -3,15 +3,20 @@ use Rattle.std.proofs.Common.{◌≡◌, ◌≢◌, ℕ, zero, suc, ◌+◌, ◌
 use Rattle.std.proofs.Common.{position, length, refl, sym, ap, subst, ◌∙◌, ◌⊎◌, inl, inr, arith, zero-add}
 use Rattle.std.specs.Prelude.{find, if◌then◌else◌, slice_get, option_map}
 use Rattle.std.specs.List.{AllByRecursion, cons_option, position_or_len}
+use Rattle.std.specs.Option.{option_and_then}
 use Rattle.std.proofs.lemmas.Bool.{cases_Bool, lt-ltb, le-ltb, cases_lt}
+use Rattle.std.proofs.lemmas.List.{length-map}
+use Rattle.std.proofs.lemmas.Option.{same_Some, none-some}
 use Rattle.std.proofs.Math.Numerals.{one-add}
 use Rattle.dom_base.specs.declared.NodeName.{NodeName}
 use Rattle.dom_base.specs.declared.Owner.{Owner}
-use Rattle.dom_base.specs.declared.Owner.TheVariants.{Page, Component}
+use Rattle.dom_base.specs.declared.Owner.TheVariants.{Page}
 use Rattle.dom_model.specs.Names.{owner_eq, name_eq}
+use Rattle.dom_model.specs.Part.{Part}
 use Rattle.dom_model.specs.Tree.{inclusive_descendants}
-use Rattle.dom_model.specs.World.{part_of, is_there, component_at, component_made, components_below, host_of, shadow_root_of, trees_with}
-use Rattle.dom_model.proofs.OwnerLaws.{owner_eq-true, owner_eq-false}
+use Rattle.dom_model.specs.World.{MayAttach, part_of, is_there, component_at, component_made, made_by, components_below, host_of, shadow_root_of, trees_with}
+use Rattle.dom_model.proofs.OwnerLaws.{owner_eq-true, owner_eq-false, made_by-is, made_by-made}
+use Rattle.dom_isolation.specs.Worlds.{HasMakers}
 use Rattle.dom_slots.specs.Hosts.{ShadowHost, host_named, root_named}
 use Rattle.dom_slots.specs.Shadows.{IsShownBy, shadow_trees}
 use Rattle.dom_traversal.proofs.Lists.{name_eq-from, name_eq-other}
@@ -19,8 +24,9 @@ use Rattle.dom_tree.specs.Forest.{name_at}
 use Rattle.dom_tree.specs.Owners.{trees_of_owner}
 use Rattle.dom_tree.proofs.Owned.{read_own}
 use Rattle.dom_parts.specs.Contents.{Contents, world_of}
-use Rattle.dom_parts.specs.Hosting.{AreMadeFrom, host_names, host_owners, component_named, AreHostsOf}
-use Rattle.dom_cursors.specs.OwnTables.{place_of}
+use Rattle.dom_parts.specs.Hosting.{maker_of, hosts_of, AreMadeBehind, host_names, attached_of, host_owners, component_named, AreHostsOf}
+use Rattle.dom_parts.proofs.HostsOfOwners.{count_hosts, own-host, other-host, own-counted, other-counted, made-named, single_owners_of, no_page-owners}
+use Rattle.dom_parts.proofs.HostsOfOwners.{may_of}
 use Rattle.dom_parts.proofs.Worlds.{In, Single, part_at, part_off, in_there}
 
 -- ---- places in a list
@@ -49,68 +55,62 @@ module _ {X : Type 0} (p : X → Bool) (x : X) (xs : List X) where
 
 -- ---- the list of hosts
 
--- components tell the attaches apart
-pub made-number : (j k : ℕ) → component_made Page j ≡ component_made Page k → j ≡ k
-made-number j k e = let same : suc j ≡ suc k = ap place_of e in omega arith
-
--- and none is the page
-pub made-no_page : (j : ℕ) → component_made Page j ≡ Page → ⊥
-made-no_page j e = cc
-
 module _ (names : List NodeName) where
-  -- each owner is the component of an attach
-  owner_from : (hosts : List ShadowHost) (k : ℕ) (o : Owner) → AreMadeFrom names k hosts → In o (host_owners hosts) → (j : ℕ) × (k ≤ j) ×
-      (component_made Page j ≡ o)
-  owner_from [] k o made i = absurd i
-  owner_from (h ∷ hosts) k o made (inl e) = (k, omega arith, sym made.0.owner ∙ e)
-  owner_from (h ∷ hosts) k o made (inr i) = let d = owner_from hosts (suc k) o made.1 i in (d.0, (let le = d.1 in omega arith), d.2)
+  -- the component of a node, from that many on, by its place among these
+  abbrev among : NodeName → ℕ → List NodeName → Option Owner
+  among x n xs = option_map (λ j. component_made x.owner (n + j)) (position (name_eq x) xs)
 
-  -- each once
-  single_from : (hosts : List ShadowHost) (k : ℕ) → AreMadeFrom names k hosts → Single (host_owners hosts)
-  single_from [] k made = tt
-  single_from (h ∷ hosts) k made = (
-    λ i. let d = owner_from hosts (suc k) h.owner made.1 i in let same = made-number d.0 k (d.2 ∙ made.0.owner) in let le = d.1 in omega arith,
-    single_from hosts (suc k) made.1,
-  )
-
-  -- a node that is not the page's is no host
-  component_none : (hosts : List ShadowHost) (k : ℕ) (x : NodeName) → AreMadeFrom names k hosts → x.owner ≢ Page → component_named names hosts x ≡ None
-  component_none [] k x made other = refl
-  component_none (h ∷ hosts) k x made other =
-      let miss = name_eq-other x (name_at names h.host) (λ e. other (ap (λ (y : NodeName). y.owner) e ∙ made.0.host)) in
-      ap (λ (b : Bool). option_map (λ (g : ShadowHost). g.owner) (if b then Some h else find (λ g. name_eq x (name_at names g.host)) hosts))
-      miss ∙ component_none hosts (suc k) x made.1 other
-
-  -- the component of a host is that of its place
-  component_from : (hosts : List ShadowHost) (k : ℕ) (x : NodeName) → AreMadeFrom names k hosts →
-      component_named names hosts x ≡ option_map (λ j. component_made Page (k + j)) (position (name_eq x) (host_names names hosts))
-  component_from [] k x made = refl
-  component_from (h ∷ hosts) k x made = by (name_eq x (name_at names h.host)) refl (component_from hosts (suc k) x made.1)
+  -- the component of a host is that of its place among its owner's hosts
+  component_from : (earlier hosts : List ShadowHost) (x : NodeName) → AreMadeBehind names earlier hosts → component_named names hosts x ≡
+      option_map (λ j. component_made x.owner (count_hosts names earlier x.owner + j)) (position (name_eq x) (attached_of names hosts x.owner))
+  component_from earlier [] x made = refl
+  component_from earlier (h ∷ hosts) x made =
+      at (cases_Bool (owner_eq (maker_of names h) x.owner)) (cases_Bool (name_eq x (name_at names h.host)))
+      (component_from (earlier ++ h ∷ []) hosts x made.1)
     where
-      place : (o : Option ℕ) → option_map (λ j. component_made Page (suc k + j)) o ≡ option_map (λ j. component_made Page (k + j)) (option_map suc o)
-      place None = refl
-      place (Some j) = let same : suc k + j ≡ k + suc j = omega arith in ap (λ i. Some (component_made Page i)) same
+      looked : (b : Bool) → name_eq x (name_at names h.host) ≡ b → component_named names (h ∷ hosts) x ≡
+          (if b then Some h.owner else component_named names hosts x)
+      looked true e = ap (λ (b : Bool). option_map (λ (g : ShadowHost). g.owner) (if b then Some h else find (λ g. name_eq x (name_at names g.host)) hosts)) e
+      looked false e = ap (λ (b : Bool). option_map (λ (g : ShadowHost). g.owner) (if b then Some h else find (λ g. name_eq x (name_at names g.host)) hosts)) e
 
-      by : (b : Bool) → name_eq x (name_at names h.host) ≡ b
-          → component_named names hosts x ≡ option_map (λ j. component_made Page (suc k + j)) (position (name_eq x) (host_names names hosts))
-          → component_named names (h ∷ hosts) x ≡ option_map (λ j. component_made Page (k + j)) (position (name_eq x) (host_names names (h ∷ hosts)))
-      by true e deeper =
-          let first : k ≡ k + 0 = omega arith in
-          ap (λ (b : Bool). option_map (λ (g : ShadowHost). g.owner) (if b then Some h else find (λ g. name_eq x (name_at names g.host)) hosts)) e
-          ∙ (ap (λ o. Some o) (made.0.owner ∙ ap (component_made Page) first) ∙
-          sym (ap (option_map (λ j. component_made Page (k + j))) (position-yes (name_eq x) (name_at names h.host) (host_names names hosts) e)))
-      by false e deeper =
-          ap (λ (b : Bool). option_map (λ (g : ShadowHost). g.owner) (if b then Some h else find (λ g. name_eq x (name_at names g.host)) hosts)) e
-          ∙ (deeper ∙ (place (position (name_eq x) (host_names names hosts)) ∙
-          sym (ap (option_map (λ j. component_made Page (k + j))) (position-no (name_eq x) (name_at names h.host) (host_names names hosts) e))))
+      next : (n : ℕ) (m : Option ℕ) → option_map (λ j. component_made x.owner (suc n + j)) m ≡
+          option_map (λ j. component_made x.owner (n + j)) (option_map suc m)
+      next n None = refl
+      next n (Some j) = let same : suc n + j ≡ n + suc j = omega arith in ap (λ i. Some (component_made x.owner i)) same
+
+      at : (owner_eq (maker_of names h) x.owner ≡ true) ⊎ (owner_eq (maker_of names h) x.owner ≡ false)
+          → (name_eq x (name_at names h.host) ≡ true) ⊎ (name_eq x (name_at names h.host) ≡ false)
+          → component_named names hosts x ≡ among x (count_hosts names (earlier ++ h ∷ []) x.owner) (attached_of names hosts x.owner)
+          → component_named names (h ∷ hosts) x ≡ among x (count_hosts names earlier x.owner) (attached_of names (h ∷ hosts) x.owner)
+      at (inl e) (inl hit) deeper =
+          let same = owner_eq-true (maker_of names h) x.owner e in
+          let first : count_hosts names earlier x.owner ≡ count_hosts names earlier x.owner + 0 = omega arith in
+          looked true hit
+          ∙ (ap (λ q. Some q) (made.0.owner ∙ (ap (λ (m : Owner). component_made m (count_hosts names earlier m)) same ∙ ap (component_made x.owner) first))
+          ∙ (sym (ap (option_map (λ j. component_made x.owner (count_hosts names earlier x.owner + j)))
+          (position-yes (name_eq x) (name_at names h.host) (attached_of names hosts x.owner) hit))
+          ∙ sym (ap (λ hs. among x (count_hosts names earlier x.owner) (host_names names hs)) (own-host names h hosts x.owner e))))
+      at (inl e) (inr miss) deeper =
+          looked false miss
+          ∙ (deeper
+          ∙ (ap (λ n. among x n (attached_of names hosts x.owner)) (own-counted names earlier h x.owner e)
+          ∙ (next (count_hosts names earlier x.owner) (position (name_eq x) (attached_of names hosts x.owner))
+          ∙ (sym (ap (option_map (λ j. component_made x.owner (count_hosts names earlier x.owner + j)))
+          (position-no (name_eq x) (name_at names h.host) (attached_of names hosts x.owner) miss))
+          ∙ sym (ap (λ hs. among x (count_hosts names earlier x.owner) (host_names names hs)) (own-host names h hosts x.owner e))))))
+      at (inr e) hit deeper =
+          looked false (name_eq-other x (name_at names h.host) (λ same. owner_eq-false (maker_of names h) x.owner e (ap (λ (y : NodeName). y.owner) (sym same))))
+          ∙ (deeper
+          ∙ (ap (λ n. among x n (attached_of names hosts x.owner)) (other-counted names earlier h x.owner e)
+          ∙ sym (ap (λ hs. among x (count_hosts names earlier x.owner) (host_names names hs)) (other-host names h hosts x.owner e))))
 
   -- the shadow root of a host is its component's
-  pub root-component : (hosts : List ShadowHost) (k : ℕ) (x : NodeName) → AreMadeFrom names k hosts →
+  pub root-component : (earlier hosts : List ShadowHost) (x : NodeName) → AreMadeBehind names earlier hosts →
       root_named names hosts x ≡ option_map shadow_root_of (component_named names hosts x)
-  root-component [] k x made = refl
-  root-component (h ∷ hosts) k x made =
+  root-component earlier [] x made = refl
+  root-component earlier (h ∷ hosts) x made =
       (λ j. picked (name_eq x (name_at names h.host)) (λ g. name_at names g.root) j)
-      ∙ ((λ j. if name_eq x (name_at names h.host) then Some (made.0.root j) else root-component hosts (suc k) x made.1 j)
+      ∙ ((λ j. if name_eq x (name_at names h.host) then Some (made.0.root j) else root-component (earlier ++ h ∷ []) hosts x made.1 j)
       ∙ (chosen (name_eq x (name_at names h.host)) ∙ sym (ap (option_map shadow_root_of) (picked (name_eq x (name_at names h.host)) (λ g. g.owner)))))
     where
       picked : {A : Type 0} (b : Bool) (f : ShadowHost → A) →
@@ -124,32 +124,64 @@ module _ (names : List NodeName) where
       chosen true = refl
       chosen false = refl
 
-  -- a node that is no component's first node has no host
-  host_none : (hosts : List ShadowHost) (k : ℕ) (x : NodeName) → AreMadeFrom names k hosts →
-      ((j : ℕ) → x ≡ shadow_root_of (component_made Page j) → ⊥) → host_named names hosts x ≡ None
-  host_none [] k x made other = refl
-  host_none (h ∷ hosts) k x made other =
-      let miss = name_eq-other x (name_at names h.root) (λ e. other k (e ∙ (made.0.root ∙ ap shadow_root_of made.0.owner))) in
+  -- a node that is the shadow root of no component that was made has no host
+  host_none : (earlier hosts : List ShadowHost) (x : NodeName) → AreMadeBehind names earlier hosts →
+      ((m : Owner) (k : ℕ) → MayAttach m → x ≡ shadow_root_of (component_made m k) → ⊥) → host_named names hosts x ≡ None
+  host_none earlier [] x made other = refl
+  host_none earlier (h ∷ hosts) x made other =
+      let miss = name_eq-other x (name_at names h.root) (λ e. other (maker_of names h) (count_hosts names earlier (maker_of names h)) made.0.maker
+      (e ∙ (made.0.root ∙ ap shadow_root_of made.0.owner))) in
       ap (λ (b : Bool). option_map (λ (g : ShadowHost). name_at names g.host)
-      (if b then Some h else find (λ g. name_eq x (name_at names g.root)) hosts)) miss ∙ host_none hosts (suc k) x made.1 other
+      (if b then Some h else find (λ g. name_eq x (name_at names g.root)) hosts)) miss ∙ host_none (earlier ++ h ∷ []) hosts x made.1 other
 
-  -- the host of a component is at its place
-  host_from : (hosts : List ShadowHost) (k i : ℕ) → AreMadeFrom names k hosts →
-      host_named names hosts (shadow_root_of (component_made Page (k + i))) ≡ slice_get (host_names names hosts) i
-  host_from [] k i made = refl
-  host_from (h ∷ hosts) k zero made =
-      let first : k + 0 ≡ k = omega arith in
-      let hit = name_eq-from (shadow_root_of (component_made Page (k + 0))) (name_at names h.root)
-      (ap (λ i. shadow_root_of (component_made Page i)) first ∙ sym (made.0.root ∙ ap shadow_root_of made.0.owner)) in
-      ap (λ (b : Bool). option_map (λ (g : ShadowHost). name_at names g.host)
-      (if b then Some h else find (λ g. name_eq (shadow_root_of (component_made Page (k + 0))) (name_at names g.root)) hosts)) hit
-  host_from (h ∷ hosts) k (suc i) made =
-      let later : k + suc i ≡ suc k + i = omega arith in
-      let miss = name_eq-other (shadow_root_of (component_made Page (k + suc i))) (name_at names h.root)
-      (λ e. let same = made-number (k + suc i) k (ap (λ (y : NodeName). y.owner) (e ∙ (made.0.root ∙ ap shadow_root_of made.0.owner))) in omega arith) in
-      ap (λ (b : Bool). option_map (λ (g : ShadowHost). name_at names g.host)
-      (if b then Some h else find (λ g. name_eq (shadow_root_of (component_made Page (k + suc i))) (name_at names g.root)) hosts)) miss
-      ∙ (ap (λ n. host_named names hosts (shadow_root_of (component_made Page n))) later ∙ host_from hosts (suc k) i made.1)
+  -- the host of a component is at its place among its maker's
+  host_from : (earlier hosts : List ShadowHost) (o m : Owner) (i : ℕ) → made_by o ≡ Some (m, count_hosts names earlier m + i) →
+      AreMadeBehind names earlier hosts → host_named names hosts (shadow_root_of o) ≡ slice_get (attached_of names hosts m) i
+  host_from earlier [] o m i named made = refl
+  host_from earlier (h ∷ hosts) o m i named made =
+      at (cases_Bool (owner_eq (maker_of names h) m)) i named (λ j again. host_from (earlier ++ h ∷ []) hosts o m j again made.1)
+    where
+      looked : (b : Bool) → name_eq (shadow_root_of o) (name_at names h.root) ≡ b → host_named names (h ∷ hosts) (shadow_root_of o) ≡
+          (if b then Some (name_at names h.host) else host_named names hosts (shadow_root_of o))
+      looked true e = ap (λ (b : Bool). option_map (λ (g : ShadowHost). name_at names g.host)
+          (if b then Some h else find (λ g. name_eq (shadow_root_of o) (name_at names g.root)) hosts)) e
+      looked false e = ap (λ (b : Bool). option_map (λ (g : ShadowHost). name_at names g.host)
+          (if b then Some h else find (λ g. name_eq (shadow_root_of o) (name_at names g.root)) hosts)) e
+
+      -- where it is another component it is not this host
+      missed : (j : ℕ) → made_by o ≡ Some (m, count_hosts names earlier m + j) →
+          ((maker_of names h ≡ m) → count_hosts names earlier (maker_of names h) ≡ count_hosts names earlier m + j → ⊥) →
+          name_eq (shadow_root_of o) (name_at names h.root) ≡ false
+      missed j named other = name_eq-other (shadow_root_of o) (name_at names h.root) (λ same.
+          let both = same_Some (maker_of names h, count_hosts names earlier (maker_of names h)) (m, count_hosts names earlier m + j)
+          (sym (made-named names earlier h made.0) ∙ (ap made_by (sym (ap (λ (y : NodeName). y.owner) (same ∙ made.0.root))) ∙ named)) in
+          other (ap (λ (p : Owner × ℕ). p.0) both) (ap (λ (p : Owner × ℕ). p.1) both))
+
+      at : (owner_eq (maker_of names h) m ≡ true) ⊎ (owner_eq (maker_of names h) m ≡ false)
+          → (j : ℕ) → made_by o ≡ Some (m, count_hosts names earlier m + j)
+          → ((k : ℕ) → made_by o ≡ Some (m, count_hosts names (earlier ++ h ∷ []) m + k) →
+          host_named names hosts (shadow_root_of o) ≡ slice_get (attached_of names hosts m) k)
+          → host_named names (h ∷ hosts) (shadow_root_of o) ≡ slice_get (attached_of names (h ∷ hosts) m) j
+      at (inl e) zero named deeper =
+          let same = owner_eq-true (maker_of names h) m e in
+          let first : count_hosts names earlier m + 0 ≡ count_hosts names earlier m = omega arith in
+          let is : o ≡ h.owner = sym (made_by-is o m (count_hosts names earlier m + 0) named)
+          ∙ (ap (component_made m) first ∙ (ap (λ (q : Owner). component_made q (count_hosts names earlier q)) (sym same) ∙ sym made.0.owner)) in
+          looked true (name_eq-from (shadow_root_of o) (name_at names h.root) (ap shadow_root_of is ∙ sym made.0.root))
+          ∙ sym (ap (λ hs. slice_get (host_names names hs) 0) (own-host names h hosts m e))
+      at (inl e) (suc j) named deeper =
+          let one_more = own-counted names earlier h m e in
+          let later : count_hosts names earlier m + suc j ≡ count_hosts names (earlier ++ h ∷ []) m + j = omega (arith, one_more) in
+          looked false (missed (suc j) named (λ same number.
+          let here = ap (count_hosts names earlier) same in omega (arith, here, number)))
+          ∙ (deeper j (named ∙ ap (λ n. Some (m, n)) later)
+          ∙ sym (ap (λ hs. slice_get (host_names names hs) (suc j)) (own-host names h hosts m e)))
+      at (inr e) j named deeper =
+          let as_many = other-counted names earlier h m e in
+          let later : count_hosts names earlier m + j ≡ count_hosts names (earlier ++ h ∷ []) m + j = omega (arith, as_many) in
+          looked false (missed j named (λ same number. owner_eq-false (maker_of names h) m e same))
+          ∙ (deeper j (named ∙ ap (λ n. Some (m, n)) later)
+          ∙ sym (ap (λ hs. slice_get (host_names names hs) j) (other-host names h hosts m e)))
 
   -- a component that is found is one of the owners
   component_in : (hosts : List ShadowHost) (x : NodeName) (o : Owner) → component_named names hosts x ≡ Some o → In o (host_owners hosts)
@@ -172,9 +204,7 @@ module _ (names : List NodeName) where
 module _ (c : Contents) (hosts : List ShadowHost) (held : AreHostsOf c hosts) where
   -- each owner stands there once
   pub single_hosted : Single c.owners
-  single_hosted =
-      subst Single (sym held.owners)
-      (λ i. let d = owner_from c.names hosts 0 Page held.made i in made-no_page d.0 d.2, single_from c.names hosts 0 held.made)
+  single_hosted = subst Single (sym held.owners) (no_page-owners c.names [] hosts held.made, single_owners_of c.names [] hosts held.made)
 
   -- the page is there
   pub page_hosted : is_there (world_of c) Page ≡ true
@@ -184,48 +214,49 @@ module _ (c : Contents) (hosts : List ShadowHost) (held : AreHostsOf c hosts) wh
   pub component_hosted : (o : Owner) → In o (host_owners hosts) → is_there (world_of c) o ≡ true
   component_hosted o i = in_there c o (subst (In o) (sym held.owners) (inr i))
 
-  -- the hosts of the page, and of others
-  pub attached_page : (part_of (world_of c) Page).attached ≡ host_names c.names hosts
-  attached_page = ap (λ (p : Rattle.dom_model.specs.Part.Part). p.attached) (part_at c Page page_hosted) ∙ held.attached
-
-  pub attached_other : (o : Owner) → o ≢ Page → (part_of (world_of c) o).attached ≡ []
-  attached_other o other = elim (cases_Bool (is_there (world_of c) o)) [
-    | inl there ↦ ap (λ (p : Rattle.dom_model.specs.Part.Part). p.attached) (part_at c o there) ∙ held.unhosted o other
-    | inr off ↦ ap (λ (p : Rattle.dom_model.specs.Part.Part). p.attached) (part_off c o off)
+  -- the hosts of each owner
+  pub attached_hosted : (o : Owner) → (part_of (world_of c) o).attached ≡ attached_of c.names hosts o
+  attached_hosted o = elim (cases_Bool (is_there (world_of c) o)) [
+    | inl there ↦ ap (λ (p : Part). p.attached) (part_at c o there) ∙ held.attached o
+    | inr off ↦ ap (λ (p : Part). p.attached) (part_off c o off) ∙ sym (sym (held.attached o) ∙ held.unhosted o off)
   ]
+
+  -- whoever has some may attach
+  pub makers_hosted : HasMakers (world_of c)
+  makers_hosted o some = may_of c.names [] hosts o held.made
+      (let as_many = ap length (attached_hosted o) in let named = length-map (hosts_of c.names hosts o) (λ h. name_at c.names h.host) in
+      omega (arith, some, as_many, named))
 
   -- an owner's trees
   pub trees_hosted : (o : Owner) → (part_of (world_of c) o).trees ≡ trees_of_owner o c.trees
   trees_hosted o = elim (cases_Bool (is_there (world_of c) o)) [
-    | inl there ↦ ap (λ (p : Rattle.dom_model.specs.Part.Part). p.trees) (part_at c o there)
-    | inr off ↦ ap (λ (p : Rattle.dom_model.specs.Part.Part). p.trees) (part_off c o off) ∙ sym (held.absent o off)
+    | inl there ↦ ap (λ (p : Part). p.trees) (part_at c o there)
+    | inr off ↦ ap (λ (p : Part). p.trees) (part_off c o off) ∙ sym (held.absent o off)
   ]
 
   -- the component at a node, looked up among the hosts
   pub component_looked : (x : NodeName) → component_at (world_of c) x ≡ component_named c.names hosts x
-  component_looked x = elim (cases_Bool (owner_eq x.owner Page)) [
-    | inl e ↦
-        ap (λ o. option_map (component_made o) (position (name_eq x) (part_of (world_of c) o).attached)) (owner_eq-true x.owner Page e)
-        ∙ (ap (λ xs. option_map (component_made Page) (position (name_eq x) xs)) attached_page
-        ∙ (first (position (name_eq x) (host_names c.names hosts)) ∙ sym (component_from c.names hosts 0 x held.made)))
-    | inr e ↦
-        ap (λ xs. option_map (component_made x.owner) (position (name_eq x) xs)) (attached_other x.owner (owner_eq-false x.owner Page e))
-        ∙ sym (component_none c.names hosts 0 x held.made (owner_eq-false x.owner Page e))
-  ]
+  component_looked x =
+      ap (λ xs. option_map (component_made x.owner) (position (name_eq x) xs)) (attached_hosted x.owner)
+      ∙ (first (position (name_eq x) (attached_of c.names hosts x.owner)) ∙ sym (component_from c.names [] hosts x held.made))
     where
-      first : (o : Option ℕ) → option_map (component_made Page) o ≡ option_map (λ j. component_made Page (0 + j)) o
+      first : (o : Option ℕ) → option_map (component_made x.owner) o ≡ option_map (λ j. component_made x.owner (0 + j)) o
       first None = refl
-      first (Some j) = ap (λ i. Some (component_made Page i)) (sym (zero-add j))
+      first (Some j) = ap (λ i. Some (component_made x.owner i)) (sym (zero-add j))
 
   -- the host of a component's shadow root, looked up too
   pub host_looked : (o : Owner) → host_of (world_of c) o ≡ host_named c.names hosts (shadow_root_of o)
-  host_looked Page = sym (host_none c.names hosts 0 (shadow_root_of Page) held.made (λ j e. made-no_page j (sym (ap (λ (y : NodeName). y.owner) e))))
-  host_looked (Component zero) =
-      sym (host_none c.names hosts 0 (shadow_root_of (Component 0)) held.made
-      (λ j e. let same : 0 ≡ suc j = ap (λ (y : NodeName). place_of y.owner) e in omega arith))
-  host_looked (Component (suc k)) =
-      ap (λ xs. slice_get xs k) attached_page
-      ∙ (sym (host_from c.names hosts 0 k held.made) ∙ ap (λ i. host_named c.names hosts (shadow_root_of (component_made Page i))) (zero-add k))
+  host_looked o = by (made_by o) refl
+    where
+      by : (m : Option (Owner × ℕ)) → made_by o ≡ m → host_of (world_of c) o ≡ host_named c.names hosts (shadow_root_of o)
+      by None e =
+          ap (option_and_then (λ (m : Owner × ℕ). slice_get (part_of (world_of c) m.0).attached m.1)) e
+          ∙ sym (host_none c.names [] hosts (shadow_root_of o) held.made (λ maker k may same.
+          none-some (maker, k) (sym e ∙ (ap (λ (y : NodeName). made_by y.owner) same ∙ made_by-made maker k may))))
+      by (Some (maker, k)) e =
+          ap (option_and_then (λ (m : Owner × ℕ). slice_get (part_of (world_of c) m.0).attached m.1)) e
+          ∙ (ap (λ xs. slice_get xs k) (attached_hosted maker)
+          ∙ sym (host_from c.names [] hosts o maker k (e ∙ ap (λ n. Some (maker, n)) (sym (zero-add k))) held.made))
 
   -- The world has just these trees and hosts: so its slots, assigned nodes and signals are those of the hosts
   -- (`slots_are_of_worlds` of dom_slots).
@@ -233,9 +264,9 @@ module _ (c : Contents) (hosts : List ShadowHost) (held : AreHostsOf c hosts) wh
   world_shown = record {
     trees = trees_hosted;
     owned = held.owned;
-    roots = λ x. root-component c.names hosts 0 x held.made ∙ sym (ap (option_map shadow_root_of) (component_looked x));
+    roots = λ x. root-component c.names [] hosts x held.made ∙ sym (ap (option_map shadow_root_of) (component_looked x));
     hosts = λ o. sym (host_looked o);
-    only = λ x other. host_none c.names hosts 0 x held.made (λ j e. other (e ∙ ap (λ (y : NodeName). shadow_root_of y.owner) (sym e)));
+    only = λ x other. host_none c.names [] hosts x held.made (λ m k may e. other (e ∙ ap (λ (y : NodeName). shadow_root_of y.owner) (sym e)));
   }
 
   -- the components of the hosts in the tree of a node

@@ -12,6 +12,7 @@ mod HostedDocuments
 mod HostedKeys
 mod HostedSteps
 mod HostedWorlds
+mod HostsOfOwners
 mod JoinedEach
 mod Keeping
 mod Limits

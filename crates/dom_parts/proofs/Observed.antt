@@ -23,7 +23,8 @@ use Rattle.dom_ranges.specs.Settings.{named_ranges}
 use Rattle.dom_ranges.specs.Tables.{ranges_of}
 use Rattle.dom_parts.specs.Contents.{part_with}
 use Rattle.dom_parts.specs.AllTables.{tables_with, AllTables, with_observers}
-use Rattle.dom_parts.specs.Doc.{own_tables, attached_of, shown_tables, contents, world_from, IsHeld, MakesSaying}
+use Rattle.dom_parts.specs.Doc.{own_tables, shown_tables, contents, world_from, IsHeld, MakesSaying}
+use Rattle.dom_parts.specs.Hosting.{attached_of}
 use Rattle.dom_parts.proofs.Worlds.{IsChangeOf, there_same, part_at, part_off, changed}
 use Rattle.dom_parts.proofs.Places.{single_owners}
 use Rattle.dom_parts.proofs.Held.{held_observers}

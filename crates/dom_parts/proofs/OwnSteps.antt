@@ -1,35 +1,26 @@
--- An owner's steps do in its own part what they do in a part alone: the page's always, and a component's where it has no
--- hosts and sets the node documents of its own nodes.
-use Rattle.std.proofs.Common.{◌≡◌, ◌≢◌, ℕ, zero, suc, Bool, true, false, List, [], ◌∷◌, ◌++◌, Option, Some, None, filter_map, flat_map, position}
-use Rattle.std.proofs.Common.{option_map, refl, sym, ap, subst, ◌∙◌, inl, inr}
+-- An owner's steps do in its own part what they do in a part alone, where they set the node documents of its own nodes.
+use Rattle.std.proofs.Common.{◌≡◌, Bool, true, false, List, [], ◌∷◌, ◌++◌, Option, Some, None, refl, sym, ap, ◌∙◌}
 use Rattle.std.specs.Prelude.{if◌then◌else◌}
-use Rattle.std.specs.List.{AllByRecursion, cons_option}
+use Rattle.std.specs.List.{AllByRecursion}
 use Rattle.std.specs.Option.{option_map_or}
-use Rattle.std.proofs.lemmas.Bool.{cases_Bool}
 use Rattle.dom_base.specs.declared.NodeName.{NodeName}
 use Rattle.dom_base.specs.declared.Owner.{Owner}
-use Rattle.dom_base.specs.declared.Owner.TheVariants.{Page}
-use Rattle.dom_model.specs.Names.{name_eq, owner_eq, max_depth, is_in}
-use Rattle.dom_model.specs.Tree.{Trees, none, tree, Node, nodes, names_of, subtree, parent_of, inclusive_descendants}
+use Rattle.dom_model.specs.Names.{name_eq, is_in}
+use Rattle.dom_model.specs.Tree.{Trees, none, tree, Node, subtree, parent_of, inclusive_descendants}
 use Rattle.dom_model.specs.TreeChanges.{with_name, with_node, placed, taken_out, map_nodes, with_document, with_attribute, with_data_replaced}
 use Rattle.dom_model.specs.Changes.{Plan, ◌and_then◌}
 use Rattle.dom_model.specs.Part.{Part, next_name}
 use Rattle.dom_model.specs.Steps.{Step, make, make_room, place, take_out, set_document, set_attribute, replace_data, split_at, join_at, set_range}
 use Rattle.dom_model.specs.Steps.{queue_record, part_step, after, leave}
-use Rattle.dom_model.specs.World.{World, part_of, component_at, component_made, components_below, shadow_root_of, trees_with}
+use Rattle.dom_model.specs.World.{World, part_of}
 use Rattle.dom_model.specs.WorldSteps.{world_step, world_after}
-use Rattle.dom_model.proofs.OwnerLaws.{owner_eq-true, owner_eq-false}
 use Rattle.dom_model.proofs.PartLaws.{owner-part_of}
-use Rattle.dom_model.proofs.StepLaws.{IsOther, IsApart, part_of-own_step, part_of-world_after}
-use Rattle.dom_slots.specs.Hosts.{ShadowHost}
+use Rattle.dom_model.proofs.StepLaws.{part_of-own_step}
+use Rattle.dom_isolation.proofs.TableWorlds.{Ground, ground-world_step, part-own_step}
 use Rattle.dom_tree.specs.Owners.{AreOf}
-use Rattle.dom_tree.proofs.Owned.{AreOf-own}
-use Rattle.dom_parts.specs.Contents.{Contents, world_of}
 use Rattle.dom_parts.specs.Doc.{made}
-use Rattle.dom_parts.specs.Hosting.{AreHostsOf, SetsOwnDocuments, OwnsNoHosts}
+use Rattle.dom_parts.specs.Hosting.{SetsOwnDocuments}
 use Rattle.dom_parts.proofs.EveryNode.{EachNode, each_subtree, each_placed, each_taken, each_put_root, each_mapped}
-use Rattle.dom_parts.proofs.HostedSteps.{attached_step}
-use Rattle.dom_parts.proofs.HostedWorlds.{attached_other, trees_hosted}
 
 -- ---- a step keeps nodes an owner's
 
@@ -86,53 +77,12 @@ module _ (o : Owner) where
   own_step p (set_range k r) is own = own
   own_step p (queue_record c) is own = own
 
-  -- the names of an owner's trees are the owner's
-  own_names : (ts : Trees) → AreOf o ts → AllByRecursion (λ (x : NodeName). x.owner ≡ o) (names_of (nodes ts))
-  own_names none h = tt
-  own_names (tree n c r) h = (h.0, both (nodes c) (own_names c h.1) (own_names r h.2))
-    where
-      both : (ms : List Node) → AllByRecursion (λ (x : NodeName). x.owner ≡ o) (names_of ms) →
-          AllByRecursion (λ (x : NodeName). x.owner ≡ o) (names_of (nodes r)) →
-          AllByRecursion (λ (x : NodeName). x.owner ≡ o) (names_of (ms ++ nodes r))
-      both [] a b = b
-      both (m ∷ ms) a b = (a.0, both ms a.1 b)
-
 -- ---- the steps
 
-module _ (w : World) (o : Owner) (free : OwnsNoHosts w o) where
-  -- none of its nodes is a host
-  none_at : (ys : List NodeName) → AllByRecursion (λ (x : NodeName). x.owner ≡ o) ys → filter_map (component_at w) ys ≡ []
-  none_at [] own = refl
-  none_at (y ∷ ys) own =
-      let none : component_at w y ≡ None =
-      ap (λ q. option_map (component_made q) (position (name_eq y) (part_of w q).attached)) own.0 ∙
-      ap (λ xs. option_map (component_made o) (position (name_eq y) xs)) free.attached in
-      ap (λ m. cons_option m (filter_map (component_at w) ys)) none ∙ none_at ys own.1
-
-  pub none_below : (depth : ℕ) (x : NodeName) → x.owner ≡ o → components_below depth w x ≡ []
-  none_below zero x own = refl
-  none_below (suc depth) x own =
-      ap (flat_map (λ c. c ∷ components_below depth w (shadow_root_of c)))
-      (none_at (inclusive_descendants (trees_with w x) x)
-      (own_names o (subtree (trees_with w x) x) (own_subtree o (trees_with w x) x (subst (λ q. AreOf o (part_of w q).trees) (sym own) free.own))))
-
-  -- so its steps are made in its own trees alone
-  step_apart : (s : Step) → SetsOwnDocuments o s → IsApart o w s
-  step_apart (set_document x d) h = subst (AllByRecursion (IsOther o)) (sym (none_below max_depth x h)) tt
-  step_apart s h = tt
-
-  -- a step does in its owner's part what it does in a part alone
-  pub step_alone : (s : Step) → SetsOwnDocuments o s → part_of (world_step o w s) o ≡ part_step (part_of w o) s
-  step_alone s h = part_of-own_step o w s (step_apart s h)
-
-  -- and the owner has no hosts after it either
-  pub free_after : (s : Step) → SetsOwnDocuments o s → OwnsNoHosts (world_step o w s) o
-  free_after s h =
-      let is = step_alone s h in
-      record {
-        attached = ap (λ (p : Part). p.attached) is ∙ (attached_step (part_of w o) s ∙ free.attached);
-        own = subst (λ (p : Part). AreOf o p.trees) (sym is) (own_step o (part_of w o) s (owner-part_of w o) free.own);
-      }
+-- a step does in its owner's part what it does in a part alone: the components below a node are deeper than its owner
+pub step_alone : (o : Owner) (w : World) → Ground w → (s : Step) → SetsOwnDocuments o s → part_of (world_step o w s) o ≡ part_step (part_of w o) s
+step_alone o w ground (set_document x d) h = part-own_step o w (set_document x d) ground (h ∙ sym (owner-part_of w o))
+step_alone o w ground s h = part_of-own_step o w s tt
 
 -- steps after others
 pub after_more : (o : Owner) (w : World) (steps more : List Step) → world_after o w (steps ++ more) ≡ world_after o (world_after o w steps) more
@@ -140,30 +90,11 @@ after_more o w [] more = refl
 after_more o w (s ∷ steps) more = after_more o (world_step o w s) steps more
 
 -- many steps
-pub steps_alone : (o : Owner) (steps : List Step) (w : World) → OwnsNoHosts w o → AllByRecursion (SetsOwnDocuments o) steps →
+pub steps_alone : (o : Owner) (steps : List Step) (w : World) → Ground w → AllByRecursion (SetsOwnDocuments o) steps →
     part_of (world_after o w steps) o ≡ after (part_of w o) steps
-steps_alone o [] w free h = refl
-steps_alone o (s ∷ steps) w free h = steps_alone o steps (world_step o w s) (free_after w o free s h.0) h.1 ∙
-    ap (λ p. after p steps) (step_alone w o free s h.0)
-
--- ---- with hosts
-
-module _ (c : Contents) (hosts : List ShadowHost) (held : AreHostsOf c hosts) where
-  -- a component has no hosts
-  pub component_free : (o : Owner) → o ≢ Page → OwnsNoHosts (world_of c) o
-  component_free o other = record {
-    attached = attached_other c hosts held o other;
-    own = subst (AreOf o) (sym (trees_hosted c hosts held o)) (AreOf-own o c.trees held.owned.owners);
-  }
-
-  -- so of each owner's steps
-  pub hosted_alone : (o : Owner) (steps : List Step) → AllByRecursion (SetsOwnDocuments o) steps →
-      part_of (world_after o (world_of c) steps) o ≡ after (part_of (world_of c) o) steps
-  hosted_alone o steps h = elim (cases_Bool (owner_eq o Page)) [
-    | inl e ↦ let is = owner_eq-true o Page e in subst (λ q. part_of (world_after q (world_of c) steps) q ≡ after (part_of (world_of c) q) steps)
-        (sym is) (part_of-world_after (world_of c) steps)
-    | inr e ↦ steps_alone o steps (world_of c) (component_free o (owner_eq-false o Page e)) h
-  ]
+steps_alone o [] w ground h = refl
+steps_alone o (s ∷ steps) w ground h = steps_alone o steps (world_step o w s) (ground-world_step o w s ground) h.1 ∙
+    ap (λ p. after p steps) (step_alone o w ground s h.0)
 
 -- one plan and then another, where the first one's steps do in the owner's part what they do in a part alone
 pub made_then_alone : (o : Owner) (f g : Plan) (w : World) →

@@ -3,7 +3,6 @@ use Rattle.std.proofs.Common.{◌≡◌, ℕ, true, false, List, [], ◌∷◌, 
 use Rattle.std.proofs.lemmas.Bool.{cases_Bool, false_from_ne_true}
 use Rattle.dom_base.specs.declared.NodeName.{NodeName}
 use Rattle.dom_base.specs.declared.Owner.{Owner}
-use Rattle.dom_base.specs.declared.Owner.TheVariants.{Page}
 use Rattle.dom_model.specs.Names.{owner_eq}
 use Rattle.dom_model.specs.Ranges.{Range}
 use Rattle.dom_model.specs.World.{is_there, shadow_root_of}
@@ -43,15 +42,15 @@ ranges_attached a b t c x d off one held = record {
 }
   where
     lists : (o : Owner) → (b.tables o).ranges ≡ named_ranges a.names (ranges_of t o)
-    lists o = elim (cases_Bool (owner_eq o Page)) [
-      | inl e ↦ let same = owner_eq-true o Page e in ap (λ p. (b.tables p).ranges) same ∙
-          (ap (λ (u : Tables). u.ranges) one.page ∙ (held.shown Page ∙ ap (λ p. named_ranges a.names (ranges_of t p)) (sym same)))
+    lists o = elim (cases_Bool (owner_eq o x.owner)) [
+      | inl e ↦ let same = owner_eq-true o x.owner e in ap (λ p. (b.tables p).ranges) same ∙
+          (ap (λ (u : Tables). u.ranges) one.maker ∙ (held.shown x.owner ∙ ap (λ p. named_ranges a.names (ranges_of t p)) (sym same)))
       | inr e ↦ other e (cases_Bool (owner_eq o c))
     ]
       where
-        other : owner_eq o Page ≡ false → (owner_eq o c ≡ true) ⊎ (owner_eq o c ≡ false) → (b.tables o).ranges ≡ named_ranges a.names (ranges_of t o)
+        other : owner_eq o x.owner ≡ false → (owner_eq o c ≡ true) ⊎ (owner_eq o c ≡ false) → (b.tables o).ranges ≡ named_ranges a.names (ranges_of t o)
         other e (inl f) =
             let same = owner_eq-true o c f in
             ap (λ p. (b.tables p).ranges) same ∙
             (ap (λ (u : Tables). u.ranges) one.new ∙ ap (named_ranges a.names) (sym (held.absent c off) ∙ ap (ranges_of t) (sym same)))
-        other e (inr f) = ap (λ (u : Tables). u.ranges) (one.rest o (owner_eq-false o Page e) (owner_eq-false o c f)) ∙ held.shown o
+        other e (inr f) = ap (λ (u : Tables). u.ranges) (one.rest o (owner_eq-false o x.owner e) (owner_eq-false o c f)) ∙ held.shown o

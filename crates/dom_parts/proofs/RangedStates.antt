@@ -55,7 +55,6 @@ held_live names ts tables held live stand = record {
   limited = held.limited;
   own = held.own;
   counted = held.counted;
-  few = held.few;
   made = held.made;
   signals = record { free = held.signals.free; slots = held.signals.slots; nodes = held.signals.nodes };
   speaks = held.speaks;

@@ -35,7 +35,8 @@ use Rattle.dom_ranges.specs.Tables.{ranges_of}
 use Rattle.dom_parts.specs.Contents.{Contents, part_with, part_in, world_of}
 use Rattle.dom_cursors.specs.OwnTables.{KeyedTables, place_of, table_of, AreLeft, no_keyed_tables}
 use Rattle.dom_parts.specs.AllTables.{tables_with, AreTablesOf, AllTables, with_table, with_observers}
-use Rattle.dom_parts.specs.Doc.{named_trees, own_tables, attached_of, shown_tables, contents, world_from, IsHeld}
+use Rattle.dom_parts.specs.Doc.{named_trees, own_tables, shown_tables, contents, world_from, IsHeld}
+use Rattle.dom_parts.specs.Hosting.{attached_of}
 use Rattle.dom_parts.proofs.Worlds.{IsChangeOf}
 use Rattle.dom_parts.proofs.Places.{table_set, table_set_other}
 use Rattle.dom_parts.proofs.Quiet.{untaken, untold_part}

@@ -30,7 +30,6 @@ module _ (f : NamedTrees) {tables : AllTables} (held : IsHeld f.names f.trees ta
       limited = held.limited;
       own = held.own;
       counted = held.counted;
-      few = held.few;
       made = held.made;
       signals = record {
         free = held.signals.free;

@@ -31,7 +31,7 @@ use Rattle.dom_isolation.specs.Bounds.{HasBounds}
 use Rattle.dom_parts.specs.Contents.{Contents, Tables, world_of}
 use Rattle.dom_slots.specs.Hosts.{ShadowHost}
 use Rattle.dom_node_trees.specs.Signalled.{AreSignals}
-use Rattle.dom_parts.specs.Hosting.{host_names, AreMadeFrom}
+use Rattle.dom_parts.specs.Hosting.{attached_of, AreMadeBehind}
 use Rattle.dom_parts.specs.Ranging.{AreRangesOf}
 use Rattle.dom_parts.specs.Numbering.{AreNumbered}
 use Rattle.dom_cursors.specs.OwnTables.{KeyedTables, no_keyed_tables, owners_up_to, table_of}
@@ -63,11 +63,6 @@ all_tables d = tables_of d.tables.items (observers_of d.observers) d.queue d.slo
 abbrev pub own_tables : AllTables → Owner → KeyedTables
 own_tables tables o = unwrap_or (table_of tables.each o) no_keyed_tables
 
--- the hosts that an owner has: all are the page's (DOM Standard, concept: shadow host)
-abbrev pub attached_of : List NodeName → List ShadowHost → Owner → List NodeName
-attached_of names hosts Page = host_names names hosts
-attached_of names hosts (Component k) = []
-
 -- an owner's tables in names, with its hosts and its live ranges
 abbrev pub shown_tables : List NodeName → List ShadowHost → Owner → KeyedTables → TablesOf ℕ → RangeList → Tables
 shown_tables names hosts o t r rs = record (tables_view names t r) { attached = attached_of names hosts o; ranges = named_ranges names rs }
@@ -97,7 +92,7 @@ IsDue w (notify_task o) = is_there w o ≡ true
 
 -- what holds of a `Doc`: each tree has one owner, each node's owner is there and no other one has trees, no owner has more
 -- nodes than it may make, each owner's tables are of its own nodes; the owners are the page and one component for each host,
--- of which there are no more than there may be; the slots are those of the trees, no step is begun, and signalled slots are
+-- which its maker made next; the slots are those of the trees, no step is begun, and signalled slots are
 -- nodes; registrations and records name nodes alone, who is not there has no observers, and the notifications that are
 -- queued are of owners that are there; live ranges are at their owner's nodes, and nodes are numbered below their count
 pub record IsHeld (names : List NodeName) (ts : Trees) (tables : AllTables) : Type 0 where
@@ -107,8 +102,7 @@ pub record IsHeld (names : List NodeName) (ts : Trees) (tables : AllTables) : Ty
   pub limited : (o : Owner) → count_of o names ≤ 1000000
   pub own : (o : Owner) → ForSome (table_of tables.each o) (AreTablesOf (named_trees names ts) o)
   pub counted : length tables.each ≡ suc (length tables.slots.hosts)
-  pub few : length tables.slots.hosts ≤ 1000
-  pub made : AreMadeFrom names 0 tables.slots.hosts
+  pub made : AreMadeBehind names [] tables.slots.hosts
   pub signals : AreSignals names ts (signals_of tables)
   pub speaks : (o : Owner) → SpeaksOf (IsKey names) (tables.observers o)
   pub unobserved : (o : Owner) → is_there (world_from names ts tables) o ≡ false → tables.observers o ≡ no_observers

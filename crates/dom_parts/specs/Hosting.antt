@@ -1,13 +1,14 @@
 -- How a list of hosts and what is held belong together; signals, node documents and attaching in what is held; and the
 -- steps and plans that stay in their owner's part.
-use Rattle.std.specs.Prelude.{◌≡◌, ◌≢◌, ℕ, zero, suc, false, List, [], ◌∷◌, ◌++◌, map, fold, find, Option, None, option_map}
+use Rattle.std.specs.Prelude.{◌≡◌, ◌≢◌, ℕ, zero, suc, ◌<◌, false, List, [], ◌∷◌, ◌++◌, map, filter, fold, find, length, Option, None, option_map}
 use Rattle.std.specs.List.{AllByRecursion}
 use Rattle.std.specs.Option.{option_map_or}
 use Rattle.dom_base.specs.declared.Kind.TheVariants.{Shadow}
 use Rattle.dom_base.specs.declared.NodeName.{NodeName}
 use Rattle.dom_base.specs.declared.Owner.{Owner}
 use Rattle.dom_base.specs.declared.Owner.TheVariants.{Page}
-use Rattle.dom_model.specs.Names.{name_eq, append_once, max_depth}
+use Rattle.dom_base.specs.declared.TheConstants.{MAX_COMPONENTS}
+use Rattle.dom_model.specs.Names.{name_eq, owner_eq, append_once, max_depth}
 use Rattle.dom_model.specs.Tree.{Trees, none, kind_of, parent_of, root_of}
 use Rattle.dom_model.specs.TreeChanges.{with_node, change_subtree, with_document}
 use Rattle.dom_model.specs.DocumentMachine.{new_root}
@@ -15,7 +16,7 @@ use Rattle.dom_model.specs.Changes.{Plan}
 use Rattle.dom_model.specs.Part.{Part}
 use Rattle.dom_model.specs.Steps.{Step, set_document, after}
 use Rattle.dom_model.specs.WorldSteps.{world_after}
-use Rattle.dom_model.specs.World.{World, component_made, shadow_root_of, part_of, is_there, queued_notify}
+use Rattle.dom_model.specs.World.{World, MayAttach, component_made, shadow_root_of, part_of, is_there, queued_notify}
 use Rattle.dom_slots.specs.Hosts.{ShadowHost, HostsAreNodes}
 use Rattle.dom_slots.specs.Shadows.{ShadowTrees, shadow_trees}
 use Rattle.dom_node_trees.specs.Documents.{roots_within}
@@ -25,17 +26,25 @@ use Rattle.dom_parts.specs.Contents.{Contents, no_tables, world_of}
 
 -- ---- hosts
 
--- the host of the page's attach number k: a node of the page; its shadow root is node 0 of the component that was made
--- then (own rule)
-pub record IsMadeAs (names : List NodeName) (k : ℕ) (h : ShadowHost) : Type 0 where
-  pub owner : h.owner ≡ component_made Page k
-  pub root : name_at names h.root ≡ shadow_root_of h.owner
-  pub host : (name_at names h.host).owner ≡ Page
+-- who attached a host's shadow root: the owner of the host (own rule)
+abbrev pub maker_of : List NodeName → ShadowHost → Owner
+maker_of names h = (name_at names h.host).owner
 
--- those of attach number k and of the later ones, in order (own rule)
-abbrev pub AreMadeFrom : List NodeName → ℕ → List ShadowHost → Type 0
-AreMadeFrom names k [] = Unit {0}
-AreMadeFrom names k (h ∷ hosts) = IsMadeAs names k h × AreMadeFrom names (suc k) hosts
+-- an owner's hosts, in the order of attaching (own rule)
+abbrev pub hosts_of : List NodeName → List ShadowHost → Owner → List ShadowHost
+hosts_of names hosts o = filter (λ h. owner_eq (maker_of names h) o) hosts
+
+-- a host behind earlier ones: its shadow root is node 0 of its maker's next component, of which there may be so many (own rule)
+pub record IsMadeAs (names : List NodeName) (earlier : List ShadowHost) (h : ShadowHost) : Type 0 where
+  pub maker : MayAttach (maker_of names h)
+  pub few : length (hosts_of names earlier (maker_of names h)) < MAX_COMPONENTS
+  pub owner : h.owner ≡ component_made (maker_of names h) (length (hosts_of names earlier (maker_of names h)))
+  pub root : name_at names h.root ≡ shadow_root_of h.owner
+
+-- hosts behind earlier ones, in order (own rule)
+abbrev pub AreMadeBehind : List NodeName → List ShadowHost → List ShadowHost → Type 0
+AreMadeBehind names earlier [] = Unit {0}
+AreMadeBehind names earlier (h ∷ hosts) = IsMadeAs names earlier h × AreMadeBehind names (earlier ++ h ∷ []) hosts
 
 -- the names of the hosts (DOM Standard, concept: shadow host)
 abbrev pub host_names : List NodeName → List ShadowHost → List NodeName
@@ -45,19 +54,23 @@ host_names names hosts = map (λ h. name_at names h.host) hosts
 abbrev pub host_owners : List ShadowHost → List Owner
 host_owners hosts = map (λ h. h.owner) hosts
 
+-- the nodes of an owner that are hosts, in the order of attaching (DOM Standard, concept: shadow host)
+abbrev pub attached_of : List NodeName → List ShadowHost → Owner → List NodeName
+attached_of names hosts o = host_names names (hosts_of names hosts o)
+
 -- the component whose shadow root was attached to a node (DOM Standard, concept: shadow host)
 abbrev pub component_named : List NodeName → List ShadowHost → NodeName → Option Owner
 component_named names hosts x = option_map (λ h. h.owner) (find (λ h. name_eq x (name_at names h.host)) hosts)
 
--- What is held has just these hosts: the owners are the page and one component for each host, in the order of attaching;
--- the page's table has their names, and no component has hosts. Each tree is one owner's, and whoever is not there has
--- none (own rule).
+-- What is held has just these hosts: the owners are the page and one component for each host, in the order of attaching; each
+-- owner's table has the names of its hosts, and whoever is not there has none. Each tree is one owner's, and whoever is not there
+-- has none (own rule).
 pub record AreHostsOf (c : Contents) (hosts : List ShadowHost) : Type 0 where
   pub owners : c.owners ≡ Page ∷ host_owners hosts
-  pub made : AreMadeFrom c.names 0 hosts
+  pub made : AreMadeBehind c.names [] hosts
   pub nodes : HostsAreNodes c.names hosts
-  pub attached : (c.tables Page).attached ≡ host_names c.names hosts
-  pub unhosted : (o : Owner) → o ≢ Page → (c.tables o).attached ≡ []
+  pub attached : (o : Owner) → (c.tables o).attached ≡ attached_of c.names hosts o
+  pub unhosted : (o : Owner) → is_there (world_of c) o ≡ false → (c.tables o).attached ≡ []
   pub owned : AreOwned c.trees
   pub absent : (o : Owner) → is_there (world_of c) o ≡ false → trees_of_owner o c.trees ≡ none
 
@@ -113,11 +126,6 @@ abbrev pub SetsOwnDocuments : Owner → Step → Type 0
 SetsOwnDocuments o (set_document x d) = x.owner ≡ o
 SetsOwnDocuments o s = Unit {0}
 
--- an owner without hosts, all of whose nodes are its own (own rule)
-pub record OwnsNoHosts (w : World) (o : Owner) : Type 0 where
-  pub attached : (part_of w o).attached ≡ []
-  pub own : AreOf o (part_of w o).trees
-
 -- an owner with its own nodes alone: its steps, where they set the node documents of its own nodes alone, do in its part
 -- what they do in a part alone (own rule)
 pub record IsAlone (w : World) (o : Owner) : Type 0 where
@@ -126,15 +134,15 @@ pub record IsAlone (w : World) (o : Owner) : Type 0 where
 
 -- ---- attaching
 
--- what is held, with one host more: a node gets a shadow root, node 0 of a new component, under this node document (own
--- rule; DOM Standard, concept: attach a shadow root)
+-- what is held, with one host more: a node gets a shadow root, node 0 of a new component of its owner, under this node document
+-- (own rule; DOM Standard, concept: attach a shadow root)
 pub record IsAttached (a b : Contents) (c : Owner) (x : NodeName) (d : Option NodeName) : Type 0 where
   pub owners : b.owners ≡ a.owners ++ c ∷ []
   pub names : b.names ≡ a.names ++ shadow_root_of c ∷ []
   pub trees : b.trees ≡ with_node (new_root (shadow_root_of c) Shadow d) a.trees
-  pub page : b.tables Page ≡ record (a.tables Page) { attached = (a.tables Page).attached ++ x ∷ [] }
+  pub maker : b.tables x.owner ≡ record (a.tables x.owner) { attached = (a.tables x.owner).attached ++ x ∷ [] }
   pub new : b.tables c ≡ no_tables
-  pub rest : (q : Owner) → q ≢ Page → q ≢ c → b.tables q ≡ a.tables q
+  pub rest : (q : Owner) → q ≢ x.owner → q ≢ c → b.tables q ≡ a.tables q
   pub signalled : b.signalled ≡ a.signalled
   pub tasks : b.tasks ≡ a.tasks
 

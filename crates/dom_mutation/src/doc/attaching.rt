@@ -1,10 +1,9 @@
 //! Shadow roots (DOM Standard, concept: attach a shadow root).
 ghost use Rattle.std.specs.Prelude.{◌≡◌, ◌<◌, ◌↔◌, ◌++◌, ◌∷◌, [], length, Some, IfOk, OnOk};
-ghost use Rattle.dom_base.specs.declared.Owner.TheVariants.{Page};
 ghost use Rattle.dom_base.specs.declared.Kind.TheVariants.{Shadow};
 ghost use Rattle.dom_base.specs.declared.Refusal.{Refusal as RefusalOf};
 ghost use Rattle.dom_model.specs.DocumentMachine.{attaching};
-ghost use Rattle.dom_model.specs.World.{part_of, component_made, shadow_root_of};
+ghost use Rattle.dom_model.specs.World.{MayAttach, part_of, component_made, shadow_root_of};
 ghost use Rattle.dom_mutation.specs.Doc.{name_in, owner_in, attaching_refusal};
 ghost use Rattle.dom_mutation.specs.Ready.{IsReady};
 
@@ -13,19 +12,19 @@ use dom_base::Fault;
 use node_arena::Key;
 
 impl Doc {
-    /// Attaches a shadow root to an element of the page: node 0 of a new component, with the element's node document; the
+    /// Attaches a shadow root to an element: node 0 of a new component of its owner, with the element's node document; the
     /// answer is its key. Refused with `NotSupported` to a host and to an element whose name may be no host's, and then with
-    /// `Limit` where there are as many components as there may be, with nothing changed (DOM Standard, attach a shadow root; the
+    /// `Limit` where the owner has made as many components as it may, with nothing changed (DOM Standard, attach a shadow root; the
     /// limit is an own rule). Where memory is refused, the document is only to be dropped.
     pub fn attach(&mut self, host: Key) -> Result<Key, Fault>
         requires host_is_node { host < length self.old.names }
-        requires host_is_page { owner_in self.old host ≡ Page }
+        requires may_attach { MayAttach (owner_in self.old host) }
         ensures key { IfOk result (λ key. key ≡ length self.old.names) }
         ensures names { OnOk result (self.new.names ≡ self.old.names ++
-            shadow_root_of (component_made Page (length (part_of self.old.world Page).attached)) ∷ []) }
-        ensures world { OnOk result (self.new.world ≡ (attaching self.old.world Page (name_in self.old host)).0) }
-        ensures refused { (r : RefusalOf) →
-            (result ≡ Err (Fault.Refused r)) ↔ (attaching_refusal (part_of self.old.world Page) (name_in self.old host) ≡ Some r) }
+            shadow_root_of (component_made (owner_in self.old host) (length (part_of self.old.world (owner_in self.old host)).attached)) ∷ []) }
+        ensures world { OnOk result (self.new.world ≡ (attaching self.old.world (owner_in self.old host) (name_in self.old host)).0) }
+        ensures refused { (r : RefusalOf) → (result ≡ Err (Fault.Refused r)) ↔
+            (attaching_refusal (part_of self.old.world (owner_in self.old host)) (name_in self.old host) ≡ Some r) }
         ensures unchanged { (r : RefusalOf) → result ≡ Err (Fault.Refused r) → self.new ≡ self.old }
         ensures ready { IsReady self.old → OnOk result (IsReady self.new) }
     {

@@ -1,12 +1,11 @@
 //! Shadow roots (DOM Standard, concept: attach a shadow root).
-ghost use Rattle.std.specs.Prelude.{◌≡◌, ◌<◌, ◌≤◌, ◌↔◌, ◌++◌, ◌∷◌, [], length, None, Some, IfOk, OnOk};
-ghost use Rattle.dom_base.specs.declared.Owner.TheVariants.{Page};
+ghost use Rattle.std.specs.Prelude.{◌≡◌, ◌≢◌, ℕ, ◌<◌, ◌≤◌, ◌↔◌, ◌++◌, ◌∷◌, [], length, None, Some, IfOk, OnOk};
 ghost use Rattle.dom_base.specs.declared.Kind.TheVariants.{Shadow};
 ghost use Rattle.dom_base.specs.declared.Refusal.{Refusal as RefusalOf};
 ghost use Rattle.dom_model.specs.Tree.{node_in};
 ghost use Rattle.dom_model.specs.TreeChanges.{with_node};
 ghost use Rattle.dom_model.specs.DocumentMachine.{attaching, new_root};
-ghost use Rattle.dom_model.specs.World.{part_of, component_made, shadow_root_of};
+ghost use Rattle.dom_model.specs.World.{MayAttach, part_of, component_made, shadow_root_of};
 ghost use Rattle.dom_slots.specs.Hosts.{root_of_host};
 ghost use Rattle.dom_slots.specs.Kept.{AreSlotsOf};
 ghost use Rattle.dom_tree.specs.Forest.{name_at, next_name, count_of, err_of};
@@ -25,26 +24,26 @@ use node_arena::Key;
 use std::alloc::{AllocError, Global};
 
 impl Parts {
-    /// Attaches a shadow root to an element of the page: node 0 of a new component, with the element's node document; the
+    /// Attaches a shadow root to an element: node 0 of a new component of its owner, with the element's node document; the
     /// answer is its key. Refused with `NotSupported` to a host and to an element whose name may be no host's, and then with
-    /// `Limit` where there are as many components as there may be, with nothing changed (DOM Standard, attach a shadow root; the
+    /// `Limit` where the owner has made as many components as it may, with nothing changed (DOM Standard, attach a shadow root; the
     /// limit is an own rule). Where memory is refused, the document is only to be dropped.
     pub fn attach(&mut self, host: Key) -> Result<Key, Fault>
         requires host_is_node { host < length self.old.names }
-        requires host_is_page { owner_in self.old host ≡ Page }
+        requires may_attach { MayAttach (owner_in self.old host) }
         ensures key { IfOk result (λ key. key ≡ length self.old.names) }
         ensures names { OnOk result (self.new.names ≡ self.old.names ++
-            shadow_root_of (component_made Page (length (part_of self.old.world Page).attached)) ∷ []) }
-        ensures world { OnOk result (self.new.world ≡ (attaching self.old.world Page (name_in self.old host)).0) }
-        ensures refused { (r : RefusalOf) →
-            (result ≡ Err (Fault.Refused r)) ↔ (attaching_refusal (part_of self.old.world Page) (name_in self.old host) ≡ Some r) }
+            shadow_root_of (component_made (owner_in self.old host) (length (part_of self.old.world (owner_in self.old host)).attached)) ∷ []) }
+        ensures world { OnOk result (self.new.world ≡ (attaching self.old.world (owner_in self.old host) (name_in self.old host)).0) }
+        ensures refused { (r : RefusalOf) → (result ≡ Err (Fault.Refused r)) ↔
+            (attaching_refusal (part_of self.old.world (owner_in self.old host)) (name_in self.old host) ≡ Some r) }
         ensures unchanged { (r : RefusalOf) → result ≡ Err (Fault.Refused r) → self.new ≡ self.old }
     {
-        if let Err(refusal) = self.check_attach(host) {
-            return Err(Fault::Refused(refusal));
-        }
+        let owner = match self.component_for(host) {
+            Ok(owner) => owner,
+            Err(refusal) => return Err(Fault::Refused(refusal)),
+        };
         self.forest.nodes_stand_once();
-        let owner = Owner::Component(self.tables.len() as u32);
         let made = attach_root(
             self.alloc,
             &mut self.forest,
@@ -72,21 +71,54 @@ impl Parts {
         }
     }
 
-    /// Tests whether a shadow root may be attached to an element of the page.
-    fn check_attach(&self, host: Key) -> Result<(), Refusal>
+    /// The component to which a shadow root of an element will belong, its owner's next one, if one may be attached.
+    fn component_for(&self, host: Key) -> Result<Owner, Refusal>
         requires host_is_node { host < length self.now.names }
-        requires host_is_page { owner_in self.now host ≡ Page }
-        ensures { err_of result ≡ attaching_refusal (part_of self.now.world Page) (name_in self.now host) }
+        requires may_attach { MayAttach (owner_in self.now host) }
+        ensures component { IfOk result (λ c. c ≡ component_made (owner_in self.now host) (length (part_of self.now.world (owner_in self.now host)).attached)) }
+        ensures refusal { err_of result ≡ attaching_refusal (part_of self.now.world (owner_in self.now host)) (name_in self.now host) }
     {
         self.forest.nodes_stand_once();
         if self.slots.root_of(host).is_some() || !may_be_host(self.forest.element(host)) {
             return Err(Refusal::NotSupported);
         }
-        if self.tables.len() > MAX_COMPONENTS as usize {
+        let maker = self.forest.name(host).owner;
+        let number = count_made(&self.forest, maker);
+        if number == MAX_COMPONENTS {
             return Err(Refusal::Limit);
         }
-        Ok(())
+        Ok(component_made(maker, number))
     }
+}
+
+/// How many components an owner has made. They are numbered from 0 on, and each has nodes, so the first number of which there are no
+/// nodes is found by halving.
+fn count_made(forest: &Forest, maker: Owner) -> u32
+    requires { (j k : ℕ) → j ≤ k → count_of (component_made maker j) forest.now.names ≡ 0 → count_of (component_made maker k) forest.now.names ≡ 0 }
+    ensures made { (k : ℕ) → k < result → count_of (component_made maker k) forest.now.names ≢ 0 }
+    ensures next { result < MAX_COMPONENTS → count_of (component_made maker result) forest.now.names ≡ 0 }
+    ensures few { result ≤ MAX_COMPONENTS }
+{
+    let mut low = 0;
+    let mut high = MAX_COMPONENTS;
+    while low < high {
+        let middle = (low + high) / 2;
+        if forest.node_count(component_made(maker, middle)) > 0 {
+            low = middle + 1;
+        } else {
+            high = middle;
+        }
+    }
+    low
+}
+
+/// The component that an owner makes by its attach of this number, from 0.
+fn component_made(maker: Owner, number: u32) -> Owner
+    requires { number < MAX_COMPONENTS }
+    ensures { result ≡ component_made maker number }
+{
+    let _ = maker;
+    Owner::Component(number + 1)
 }
 
 /// Makes a shadow root, the first node of a new owner, and its host.

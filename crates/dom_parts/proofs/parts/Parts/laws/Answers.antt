@@ -7,13 +7,15 @@ use Rattle.dom_model.specs.World.{part_of, is_there}
 use Rattle.dom_tree.specs.Owners.{trees_of_owner, AreOf}
 use Rattle.dom_tree_laws.proofs.Once.{once_forest, once_own, times_count}
 use Rattle.dom_tree.specs.Forest.{name_at}
+use Rattle.dom_parts.specs.Contents.{world_of}
 use Rattle.dom_parts.specs.Doc.{DocState, owner_in, contents, all_tables}
 use Rattle.dom_parts.specs.Hosting.{IsAlone}
 use Rattle.dom_tree.proofs.Owned.{AreOf-own}
 use Rattle.dom_model.specs.CommandRefusals.{past_limit}
 use Rattle.dom_parts.proofs.Held.{are_hosts}
+use Rattle.dom_parts.proofs.HostedWorlds.{makers_hosted}
 use Rattle.dom_parts.proofs.Limits.{within_limit}
-use Rattle.dom_parts.proofs.OwnSteps.{hosted_alone}
+use Rattle.dom_parts.proofs.OwnSteps.{steps_alone}
 use Rattle.dom_parts.proofs.RangedStates.{part_everywhere}
 use Rattle.dom_parts.proofs.Shown.{known, shown, own_in_part, owner_there}
 use Rattle.dom_parts.proofs.parts.Parts.laws.Goals as goal
@@ -39,7 +41,10 @@ returns-clause-alone c k k< =
     let now = contents f.names f.trees (all_tables c.self.inside) in
     subst (λ (e : DocState). IsAlone e.world (owner_in e k)) c.self.view_is record {
       own = subst (AreOf o) (own_in_part f.names f.trees c.self.invariant o) (AreOf-own o f.trees c.self.invariant.owned.owners);
-      steps = hosted_alone now c.self.inside.slots.hosts (are_hosts f.names f.trees (all_tables c.self.inside) c.self.invariant) o;
+      steps = λ steps h. steps_alone o steps (world_of now) record {
+        parts = part_everywhere f c.self.invariant c.nodes_stand_once.ensures.once c.nodes_stand_once.ensures.only;
+        makers = makers_hosted now c.self.inside.slots.hosts (are_hosts f.names f.trees (all_tables c.self.inside) c.self.invariant);
+      } h;
     }
 
 pub returns-clause-limited : goal.returns-clause-limited
