@@ -15,3 +15,5 @@ mod OutsideCommands
 mod GroupLines
 mod GroupRuns
 mod GroupLaws
+mod WordedRuns
+mod FamilyTexts

@@ -5,9 +5,11 @@
 ghost use Rattle.std.specs.Prelude.{List, ℕ};
 ghost use Rattle.dom_model.specs.Command.{Line};
 ghost use Rattle.dom_model.specs.Isolation.{GroupSeesItsTrace, SameGroup, SameFamily, SameFamilyWhileTurnsStand};
+ghost use Rattle.dom_isolation.specs.Words.{ReadsPlainWords};
 ghost use Rattle.dom_families.specs.Groups.{PageIsGroup, FamilyIsGroup};
 ghost use Rattle.dom_families.specs.Laws.{AssignedAgree, SignalsAgree, StepAgrees, ViewsAgree, OutwardViewsAgree, DispatchAgrees, OtherDispatchAgrees};
 ghost use Rattle.dom_families.specs.Laws.{EndingAgrees, LineAgrees, OtherLineAgrees, FinishAgrees};
+ghost use Rattle.dom_families.specs.Texts.{ReadsOwners, DecodeReadsOwners, OwnLinesHaveTheirPrefix, SameFamilyText, SameFamilyTextWhileTurnsStand};
 
 /// The page alone is a group of whole families, and so is the page with one family.
 pub fn families_are_groups()
@@ -55,4 +57,13 @@ pub fn same_family()
     ensures group { (read : List ℕ → Line) → SameGroup read }
     ensures standing { (read : List ℕ → Line) → SameFamilyWhileTurnsStand read }
     ensures closed { (read : List ℕ → Line) → SameFamily read }
+{}
+
+/// So it is of texts: an owner's lines of output are those that begin with its word and a space, for each reading that gives lines of owners with
+/// a word and words without line feeds, as the protocol's does; and two texts that agree for a family have equal such lines of each member.
+pub fn same_family_text()
+    ensures input { DecodeReadsOwners }
+    ensures lines { (read : List ℕ → Line) → ReadsOwners read → ReadsPlainWords read → OwnLinesHaveTheirPrefix read }
+    ensures standing { (read : List ℕ → Line) → ReadsOwners read → ReadsPlainWords read → SameFamilyTextWhileTurnsStand read }
+    ensures closed { (read : List ℕ → Line) → ReadsOwners read → ReadsPlainWords read → SameFamilyText read }
 {}
