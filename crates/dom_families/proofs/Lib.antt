@@ -13,7 +13,7 @@ mod GroupBegins
 mod GroupCommands
 mod OutsideCommands
 mod GroupLines
-mod GroupRuns
+pub mod GroupRuns
 mod GroupLaws
 mod WordedRuns
-mod FamilyTexts
+pub mod FamilyTexts
