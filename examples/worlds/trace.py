@@ -97,12 +97,13 @@ class Trees:
         return True
 
 
-def trace_of(script, output):
-    """The trace of a script that the program answered with this output: page lines, and tuples for outward events."""
+def trace_of(script, output, kept=("p",), may_stop=False):
+    """The trace of a script that the program answered with this output: the lines of the owners kept, and tuples for the outward events of
+    all others. A component's listener that may stop an event is read on where `may_stop` says so."""
     hosts, trees, trace = {}, {}, []
     for line, reply in answered(script, output):
         owner, _, rest = line.partition(" ")
-        if line.startswith("p "):
+        if any(line.startswith(name + " ") for name in kept):
             trace.append(line)
         if not reply.startswith(owner + " ok") or grammar.answer_class(line.encode("latin-1")) != "read":
             continue
@@ -112,8 +113,9 @@ def trace_of(script, output):
             hosts[value], trees[value] = words[0], Trees()
         elif owner != "p":
             trees[owner].follow(command, words, value)
-            trace.extend(outward(hosts[owner], trees[owner], command, words))
-            if command == "listen" and words[3] != "log":
+            if owner not in kept:
+                trace.extend(outward(hosts[owner], trees[owner], command, words))
+            if command == "listen" and words[3] != "log" and not may_stop:
                 raise Unread(f"a listener may stop an event: {line}")
     return trace
 

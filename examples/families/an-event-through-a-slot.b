@@ -1,0 +1,20 @@
+p new element section
+p append n0 n1
+p attach n1
+p new element div
+p append n1 n2
+p attach n2
+p listen n1 e a log
+p listen n0 e d log
+p .
+c1 new element slot
+c1 append m0 m1
+c1 listen m1 e s log
+c1 listen m0 e r log
+c1 .
+c2 new element u
+c2 new element i
+c2 append m0 m1
+c2 append m1 m2
+c2 dispatch m2 e bubbles composed
+c2 .
