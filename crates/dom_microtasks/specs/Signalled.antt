@@ -12,7 +12,7 @@ abbrev pub counting : (Owner → ℕ) → ℕ → List NodeName → List NodeNam
 counting since i [] = []
 counting since i (x ∷ xs) = if nat_le (since x.owner) i then x ∷ counting since (suc i) xs else counting since (suc i) xs
 
--- the slots that count (DOM Standard, signal slots)
+-- the slots that count (DOM Standard, signal a slot change)
 abbrev pub signals_of : Inside → List NodeName
 signals_of s = counting (since_of s.own) 0 s.log.items
 

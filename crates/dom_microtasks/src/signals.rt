@@ -1,5 +1,4 @@
-//! The signalled slots (DOM Standard, 4.2.2.5 Signaling slot change: an agent's signal slots; that each owner's are taken
-//! apart from those of others is an own rule).
+//! The signalled slots (DOM Standard, signal a slot change). That each owner's are taken apart from those of others is an own rule.
 ghost use Rattle.std.specs.Prelude.{◌≡◌, [], map, not, filter, OnOk, OnErr};
 ghost use Rattle.dom_model.specs.Names.{name_eq, append_once, node_of};
 ghost use Rattle.dom_model.specs.Turns.{is_owned_by};
@@ -70,7 +69,7 @@ impl Signals {
         self.own.numbers(owner)
     }
 
-    /// Takes the slots of an owner away (DOM Standard, notify mutation observers: empty signal slots). It takes no memory, and
+    /// Takes the slots of an owner away (DOM Standard, notify mutation observers). It takes no memory, and
     /// looks at no other slots.
     pub fn forget(&mut self, owner: Owner)
         ensures { self.new ≡ filter (λ s. not (is_owned_by owner s)) self.old }
