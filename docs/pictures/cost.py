@@ -14,7 +14,7 @@ SHAPES = {
     "square": ((-0.85, -0.85), (0.85, -0.85), (0.85, 0.85), (-0.85, 0.85)), "diamond": ((0, -1.2), (1.2, 0), (0, 1.2), (-1.2, 0)),
     "triangle": ((0, -1.15), (1.1, 0.85), (-1.1, 0.85)),
 }
-LEFT, ACROSS, DOWN, HEAD = 400, 400, 26, 112
+LEFT, ACROSS, DOWN, HEAD = 430, 400, 26, 112
 # How far behind the scale the first column of figures ends, and how far each one behind that.
 FIRST, EACH = 80, 86
 
