@@ -12,11 +12,10 @@ mod by_owner;
 mod signals;
 
 use dom_base::Owner;
+pub use signals::Signals;
 use std::alloc::{AllocError, Global};
 use std::collections::{HashSet, VecDeque};
 use std::marker::Model;
-
-pub use signals::Signals;
 
 /// What is to be run when a turn ends (HTML Standard, concept: microtask): a label that an owner asked to be printed, or
 /// an owner's mutation observers to be notified.
