@@ -175,7 +175,8 @@ module _ (f : NamedTrees) (was : AllTables) (held : IsHeld f.names f.trees was) 
       x : NodeName
       x = name_at f.names host
 
-      by : refusal_from hosted may (count_hosts f.names was.slots.hosts o) ≡ attaching_refusal (part_of (world_from f.names f.trees was) o) (name_at f.names host)
+      by : refusal_from hosted may (count_hosts f.names was.slots.hosts o) ≡
+          attaching_refusal (part_of (world_from f.names f.trees was) o) (name_at f.names host)
       by =
           ap (λ b. refusal_from b may (count_hosts f.names was.slots.hosts o))
           (hosted_key f.names distinct was.slots.hosts held.signals.slots.hosts host within_names ∙ own_hosted f.names was.slots.hosts (name_at f.names host))

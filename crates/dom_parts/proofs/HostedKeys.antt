@@ -54,7 +54,8 @@ hosts_run names earlier (h ∷ hosts) pages made =
     (λ j. here j ∷ rest j) ∙ ap (λ n. component_made Page (length earlier) ∷ made_run n (length hosts)) longer
 
 -- the owners of hosts stand at the first places
-pub owners_made : (names : List NodeName) (hosts : List ShadowHost) → AreMadeBehind names [] hosts → owners_up_to (suc (length hosts)) ≡ Page ∷ host_owners hosts
+pub owners_made : (names : List NodeName) (hosts : List ShadowHost) → AreMadeBehind names [] hosts →
+    owners_up_to (suc (length hosts)) ≡ Page ∷ host_owners hosts
 owners_made names hosts made = owners_run (length hosts) ∙ ap (λ os. Page ∷ os) (sym (hosts_run names [] hosts refl made))
 
 -- and the next component has the place behind them

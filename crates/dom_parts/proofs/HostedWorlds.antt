@@ -99,7 +99,8 @@ module _ (names : List NodeName) where
           (position-no (name_eq x) (name_at names h.host) (attached_of names hosts x.owner) miss))
           ∙ sym (ap (λ hs. among x (count_hosts names earlier x.owner) (host_names names hs)) (own-host names h hosts x.owner e))))))
       at (inr e) hit deeper =
-          looked false (name_eq-other x (name_at names h.host) (λ same. owner_eq-false (maker_of names h) x.owner e (ap (λ (y : NodeName). y.owner) (sym same))))
+          looked false (name_eq-other x (name_at names h.host)
+          (λ same. owner_eq-false (maker_of names h) x.owner e (ap (λ (y : NodeName). y.owner) (sym same))))
           ∙ (deeper
           ∙ (ap (λ n. among x n (attached_of names hosts x.owner)) (other-counted names earlier h x.owner e)
           ∙ sym (ap (λ hs. among x (count_hosts names earlier x.owner) (host_names names hs)) (other-host names h hosts x.owner e))))

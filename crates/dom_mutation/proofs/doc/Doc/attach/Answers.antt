@@ -17,4 +17,5 @@ pub returns-clause-ready : goal.returns-clause-ready
 returns-clause-ready c =
     λ h. if-done c.attach.result
     (λ w. subst AreReady (sym (subst (λ (a : DocState). c.attach.new.self.world ≡ (attaching a.world (owner_in a c.args.host) (name_in a c.args.host)).0)
-    c.self.view_is w)) (ready-attaching c.args.self.now.world (owner_in c.args.self.now c.args.host) (name_in c.args.self.now c.args.host) h)) c.attach.ensures.world
+    c.self.view_is w)) (ready-attaching c.args.self.now.world (owner_in c.args.self.now c.args.host) (name_in c.args.self.now c.args.host) h))
+    c.attach.ensures.world

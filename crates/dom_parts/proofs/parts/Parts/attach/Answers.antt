@@ -14,8 +14,8 @@ attach_root-made-requires-clause-new_owner c =
     new_owner c.self.inside.forest (all_tables c.self.inside) c.self.invariant c.args.host
     (may_of_name c.self.inside.forest (all_tables c.self.inside) c.self.invariant c.nodes_stand_once.ensures.distinct c.args.self.now c.self.view_is
     c.args.host c.requires.host_is_node c.requires.may_attach)
-    c.in-Ok.owner (c.in-Ok.ensures.component ∙ next_is_for c.self.inside.forest (all_tables c.self.inside) c.self.invariant c.nodes_stand_once.ensures.distinct c.args.self.now c.self.view_is
-    c.args.host c.requires.host_is_node c.requires.may_attach)
+    c.in-Ok.owner (c.in-Ok.ensures.component ∙ next_is_for c.self.inside.forest (all_tables c.self.inside) c.self.invariant
+    c.nodes_stand_once.ensures.distinct c.args.self.now c.self.view_is c.args.host c.requires.host_is_node c.requires.may_attach)
 
 pub attach_root-made-requires-clause-new_host : goal.attach_root-made-requires-clause-new_host
 attach_root-made-requires-clause-new_host c =
@@ -29,8 +29,8 @@ invariant_of-self c =
     held_then f (all_tables c.self.inside) c.self.invariant c.args.host
     (may_of_name c.self.inside.forest (all_tables c.self.inside) c.self.invariant c.nodes_stand_once.ensures.distinct c.args.self.now c.self.view_is
     c.args.host c.requires.host_is_node c.requires.may_attach)
-    c.in-Ok.owner (c.in-Ok.ensures.component ∙ next_is_for c.self.inside.forest (all_tables c.self.inside) c.self.invariant c.nodes_stand_once.ensures.distinct c.args.self.now c.self.view_is
-    c.args.host c.requires.host_is_node c.requires.may_attach) c.attach_root-made.new.forest
+    c.in-Ok.owner (c.in-Ok.ensures.component ∙ next_is_for c.self.inside.forest (all_tables c.self.inside) c.self.invariant
+    c.nodes_stand_once.ensures.distinct c.args.self.now c.self.view_is c.args.host c.requires.host_is_node c.requires.may_attach) c.attach_root-made.new.forest
     c.attach_root-made.new.tables.items c.attach_root-made.new.slots d c.in-Ok-made.ensures.names c.in-Ok-made.ensures.trees
     c.in-Ok-made.ensures.tables c.in-Ok-made.ensures.hosts c.in-Ok-made.ensures.free c.in-Ok-made.ensures.slots
     (known f c.self.invariant c.self.view_is (λ e. c.args.host < length e.names) c.requires.host_is_node)
@@ -47,8 +47,8 @@ returns-in-Ok-made-clause-names c =
     names_then f (all_tables c.self.inside) c.self.invariant c.args.host
     (may_of_name c.self.inside.forest (all_tables c.self.inside) c.self.invariant c.nodes_stand_once.ensures.distinct c.args.self.now c.self.view_is
     c.args.host c.requires.host_is_node c.requires.may_attach)
-    c.in-Ok.owner (c.in-Ok.ensures.component ∙ next_is_for c.self.inside.forest (all_tables c.self.inside) c.self.invariant c.nodes_stand_once.ensures.distinct c.args.self.now c.self.view_is
-    c.args.host c.requires.host_is_node c.requires.may_attach) c.attach_root-made.new.forest
+    c.in-Ok.owner (c.in-Ok.ensures.component ∙ next_is_for c.self.inside.forest (all_tables c.self.inside) c.self.invariant
+    c.nodes_stand_once.ensures.distinct c.args.self.now c.self.view_is c.args.host c.requires.host_is_node c.requires.may_attach) c.attach_root-made.new.forest
     c.attach_root-made.new.tables.items c.attach_root-made.new.slots d c.in-Ok-made.ensures.names c.in-Ok-made.ensures.trees
     c.in-Ok-made.ensures.tables c.in-Ok-made.ensures.hosts c.in-Ok-made.ensures.free c.in-Ok-made.ensures.slots
     c.args.self.now c.self.view_is c.requires.host_is_node c.in-Ok.ensures.component
@@ -60,8 +60,8 @@ returns-in-Ok-made-clause-world c =
     world_then f (all_tables c.self.inside) c.self.invariant c.args.host
     (may_of_name c.self.inside.forest (all_tables c.self.inside) c.self.invariant c.nodes_stand_once.ensures.distinct c.args.self.now c.self.view_is
     c.args.host c.requires.host_is_node c.requires.may_attach)
-    c.in-Ok.owner (c.in-Ok.ensures.component ∙ next_is_for c.self.inside.forest (all_tables c.self.inside) c.self.invariant c.nodes_stand_once.ensures.distinct c.args.self.now c.self.view_is
-    c.args.host c.requires.host_is_node c.requires.may_attach) c.attach_root-made.new.forest
+    c.in-Ok.owner (c.in-Ok.ensures.component ∙ next_is_for c.self.inside.forest (all_tables c.self.inside) c.self.invariant
+    c.nodes_stand_once.ensures.distinct c.args.self.now c.self.view_is c.args.host c.requires.host_is_node c.requires.may_attach) c.attach_root-made.new.forest
     c.attach_root-made.new.tables.items c.attach_root-made.new.slots d c.in-Ok-made.ensures.names c.in-Ok-made.ensures.trees
     c.in-Ok-made.ensures.tables c.in-Ok-made.ensures.hosts c.in-Ok-made.ensures.free c.in-Ok-made.ensures.slots
     c.args.self.now c.self.view_is c.requires.host_is_node refl
