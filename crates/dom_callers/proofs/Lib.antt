@@ -1,3 +1,4 @@
 mod Moves
 mod Selections
 mod Hosting
+mod InHand

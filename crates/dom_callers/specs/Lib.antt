@@ -1,4 +1,5 @@
 -- What the callers' contracts name beside the words of the crates called. Unmarked: own rules, about what the code holds and its contracts say.
+pub mod Editing
 pub mod Focus
 pub mod Fronts
 pub mod Labels

@@ -3,6 +3,7 @@
 #![tactic(auto)]
 
 mod arena;
+mod editing;
 mod observing;
 mod path;
 mod ranges;
@@ -12,6 +13,7 @@ mod tree;
 mod widgets;
 
 pub use arena::move_to_front;
+pub use editing::rewrite;
 pub use observing::watch_attributes;
 pub use path::count_visits;
 pub use ranges::select_contents;

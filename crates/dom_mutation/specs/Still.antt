@@ -14,8 +14,7 @@ pub record HasNodes (d : DocState) : Type 0 where
   pub parts : (o : Owner) → IsPart (part_of d.world o)
   pub stand : (k : ℕ) → k < length d.names → has_node (trees_in d k) (name_in d k) ≡ true
 
--- Each node is still there under its key, and has its name, which says its owner, and its kind (own rule; DOM Standard, 4.4: a node's kind
--- does not change).
+-- Each node is still there under its key, and has its name, which says its owner, and its kind (own rule).
 pub record HasStillNodes (was now : DocState) : Type 0 where
   pub nodes : (k : ℕ) → k < length was.names → k < length now.names
   pub names : (k : ℕ) → k < length was.names → name_in now k ≡ name_in was k

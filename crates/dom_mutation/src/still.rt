@@ -15,7 +15,7 @@ ghost use Rattle.dom_mutation.specs.Doc.{DocState, Makes, MakesSaying, made, nam
 ghost use Rattle.dom_mutation.specs.Still.{HasNodes, HasStillAll, DropsNone};
 
 /// Whatever call changes a `Doc`, its nodes keep their keys, their names and so their owners, and their kinds; and each owner's live
-/// ranges, iterators, walkers and observers are still there (own rule; DOM Standard, 4.4: a node's kind does not change). So it is after each
+/// ranges, iterators, walkers and observers are still there (own rule). So it is after each
 /// call whose clause says that the world is the one that an owner's plan makes (`plans`): new nodes, insertions, removals and the operations
 /// on live ranges; after each that changes an owner's tables alone (`tables`), but where a live range is dropped; after `notify`
 /// (`notified`), and where no part changes (`parts`); and so it is after one call and the next (`next`).

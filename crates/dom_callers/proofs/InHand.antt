@@ -1,0 +1,39 @@
+-- What the caller of a `Doc` has in hand is still there after a call.
+use Rattle.std.proofs.Common.{◌≡◌, ◌<◌, ℕ, true, List, [], ◌++◌, length, Option, Some, None, is_some, refl}
+use Rattle.std.proofs.Common.{ap, sym, subst, ◌∙◌, true≢false}
+use Rattle.std.proofs.lemmas.List.{append-nil}
+use Rattle.dom_base.specs.declared.Kind.TheVariants.{Text}
+use Rattle.dom_base.specs.declared.NodeName.{NodeName}
+use Rattle.dom_base.specs.declared.Owner.{Owner}
+use Rattle.dom_callers.specs.Editing.{IsNodeOf, IsTextOf, IsRangeOf}
+use Rattle.dom_model.specs.Changes.{Plan}
+use Rattle.dom_model.specs.Tree.{kind_of}
+use Rattle.dom_mutation.specs.Doc.{DocState, made, name_in, owner_in, trees_in}
+use Rattle.dom_mutation.specs.Still.{HasNodes, HasStillAll}
+
+pub node-still : (d e : DocState) (o : Owner) (k : ℕ) → HasStillAll d e → IsNodeOf d o k → IsNodeOf e o k
+node-still d e o k s n = record { node = s.nodes.nodes k n.node; owner = ap (λ (x : NodeName). x.owner) (s.nodes.names k n.node) ∙ n.owner }
+
+pub text-still : (d e : DocState) (o : Owner) (k : ℕ) → HasStillAll d e → IsTextOf d o k → IsTextOf e o k
+text-still d e o k s t = record { node = node-still d e o k s t.node; kind = s.nodes.kinds k t.node.node ∙ t.kind }
+
+pub range-still : (d e : DocState) (o : Owner) (number : ℕ) → HasStillAll d e → IsRangeOf d o number → IsRangeOf e o number
+range-still d e o number s r = (s.tables o).ranges number r
+
+-- a Text that a call made has the next key
+pub text-new : (e : DocState) (o : Owner) (k n : ℕ) → k ≡ n → n < length e.names → owner_in e n ≡ o → kind_of (trees_in e n) (name_in e n) ≡ Text →
+    IsTextOf e o k
+text-new e o k n same there owner kind =
+    subst (IsTextOf e o) (sym same) (record { node = record { node = there; owner = owner }; kind = kind })
+
+-- The law's clause on plans, where no node is made.
+pub still-same : ((was now : DocState) (o : Owner) (plan : Plan) (more : List NodeName) → HasNodes was → HasNodes now → now.names ≡ was.names ++ more →
+    now.world ≡ made o plan was.world → HasStillAll was now) →
+    (was now : DocState) (o : Owner) (plan : Plan) → HasNodes was → HasNodes now → now.names ≡ was.names → now.world ≡ made o plan was.world →
+    HasStillAll was now
+still-same law was now o plan h g e w = law was now o plan [] h g (e ∙ sym (append-nil was.names)) w
+
+-- what is there
+pub there-is : {X : Type 0} (o : Option X) → is_some o ≡ true → (x : X) × (o ≡ Some x)
+there-is None h = absurd (true≢false (sym h))
+there-is (Some x) h = (x, refl)
