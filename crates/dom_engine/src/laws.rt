@@ -1,8 +1,9 @@
 //! Laws of runs, over the definitions that the contract of `run` cites. They make no calls.
 ghost use Rattle.std.specs.Prelude.{ℕ, List};
 ghost use Rattle.dom_model.specs.Command.{Line};
-ghost use Rattle.dom_model.specs.Isolation.{SamePage};
+ghost use Rattle.dom_model.specs.Isolation.{SamePage, SameFamily, SameFamilyWhileTurnsStand};
 ghost use Rattle.dom_engine.specs.Session.{ForeignLinesAreRefused};
+ghost use Rattle.dom_engine.specs.FamilyLaws.{SameFamilyRuns, SameFamilyRunsWhileTurnsStand};
 ghost use Rattle.dom_engine.specs.PageLaws.{PageTextIsThePageMachines, SamePageText, PageSeesLinesNamed, PageSeesPrefix};
 
 /// What a run writes with the page's view is the page machine's output on the trace of the lines read, where no component
@@ -16,6 +17,16 @@ pub fn page_text()
 pub fn same_page()
     ensures lines { (read : List ℕ → Line) → SamePage read }
     ensures text { SamePageText }
+{}
+
+/// Two scripts that agree for a family of components, in the page's lines, in its members' lines and in the outward events of all others, give each
+/// member equal output, where no component listener stops or cancels, and each component's turn is ended by its own `.`, or at least
+/// no line of another owner ends a member's: lists of lines, by whatever reading, and the text that runs of two inputs write with the member's view.
+pub fn same_family()
+    ensures lines { (read : List ℕ → Line) → SameFamily read }
+    ensures standing_lines { (read : List ℕ → Line) → SameFamilyWhileTurnsStand read }
+    ensures text { SameFamilyRuns }
+    ensures standing_text { SameFamilyRunsWhileTurnsStand }
 {}
 
 /// What a fault leaves of a run, where no component listener of its lines stops or cancels: on `Read`, `Memory` and `InputLimit` the
