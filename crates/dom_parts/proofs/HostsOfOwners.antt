@@ -123,7 +123,7 @@ module _ (names : List NodeName) where
         let number : p.number ≡ count_hosts earlier (maker_of names h) = ap (λ (m : Owner × ℕ). m.1) both in
         let one_more = own-counted earlier h (maker_of names h) (owner_eq-same (maker_of names h)) in
         let from : count_hosts (earlier ++ h ∷ []) (maker_of names h) ≤ p.number =
-            subst (λ (m : Owner). count_hosts (earlier ++ h ∷ []) m ≤ p.number) same p.from in
+        subst (λ (m : Owner). count_hosts (earlier ++ h ∷ []) m ≤ p.number) same p.from in
         omega (arith, number, one_more, from),
     single_owners_of (earlier ++ h ∷ []) hosts made.1,
   )
