@@ -1,16 +1,27 @@
 // The small types that every layer of the engine shares: owners, names of nodes, kinds, refusals and limits.
 #![tactic(auto)]
 
-ghost use Rattle.std.specs.Prelude.{◌≡◌};
+ghost use Rattle.std.specs.Prelude.{◌≡◌, ◌<◌, nat_lt, Some, None, if◌then◌else◌};
 ghost use Rattle.dom_base.specs.Refusals.{refusal_number, refusal_word};
+ghost use Rattle.dom_base.specs.Owners.{owner_depth, max_depth, path_of, component_made};
 
 use std::alloc::{AllocError, AllocFailed};
 
-/// Whose trees: the page's, or those of the component with this number (1, 2, ..).
+/// The numbers of a component's word, as of `c1.2`: the first is counted by the page's attaches, each further one by those of
+/// the component before it.
+#[derive(Clone, Copy, PartialEq, Eq, PartialOrd, Ord, Hash, Debug)]
+pub struct OwnerPath {
+    /// How many numbers there are: 1 to 8.
+    pub depth: u8,
+    /// The numbers, none of which is 0, and zeros behind them.
+    pub parts: [u32; 8],
+}
+
+/// Whose trees: the page's, or those of the component with this path.
 #[derive(Clone, Copy, PartialEq, Eq, PartialOrd, Ord, Hash, Debug)]
 pub enum Owner {
     Page,
-    Component(u32),
+    Component(OwnerPath),
 }
 
 /// A node's name: its owner, and its number in the order in which that owner's nodes were made.
@@ -115,11 +126,51 @@ pub const MAX_LINE: usize = 65_536;
 /// How many nodes one owner makes at most; the same of ranges, iterators, walkers and observers.
 pub const MAX_NODES: u32 = 1_000_000;
 
-/// How many components the page makes at most.
+/// How many components one owner makes at most.
 pub const MAX_COMPONENTS: u32 = 1_000;
+
+/// How many numbers the word of a component has at most.
+pub const MAX_DEPTH: u8 = 8;
 
 /// The longest input in bytes.
 pub const MAX_INPUT: u64 = 1 << 30;
+
+impl Owner {
+    /// The numbers of its word, of which the page has none.
+    fn path(self) -> OwnerPath
+        ensures { result ≡ path_of self }
+    {
+        match self {
+            Owner::Page => OwnerPath {
+                depth: 0,
+                parts: [0; 8],
+            },
+            Owner::Component(path) => path,
+        }
+    }
+
+    /// How many closed shadow roots lie between the page and its nodes: as many as its word has numbers.
+    pub fn depth(self) -> u8
+        ensures { result ≡ owner_depth self }
+    {
+        self.path().depth
+    }
+
+    /// The component of its attach of this number, counted from 0. None where its word has the most numbers already.
+    #[tactic(auto, unfolding(crate::specs::Owners::max_depth))]
+    pub fn component(self, attach: u32) -> Option<Owner>
+        requires { attach < MAX_COMPONENTS }
+        ensures { result ≡ (if nat_lt (owner_depth self) max_depth then Some (component_made self attach) else None) }
+    {
+        let mut path = self.path();
+        if path.depth >= MAX_DEPTH {
+            return None;
+        }
+        path.parts[path.depth as usize] = attach + 1;
+        path.depth += 1;
+        Some(Owner::Component(path))
+    }
+}
 
 impl Refusal {
     /// Its number, 1 to 13.
