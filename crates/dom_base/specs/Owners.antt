@@ -7,6 +7,7 @@ use Rattle.std.specs.Cmp.Lexicographic.{pointwise}
 use Rattle.dom_base.specs.declared.Owner.{Owner}
 use Rattle.dom_base.specs.declared.Owner.TheVariants.{Page, Component}
 use Rattle.dom_base.specs.declared.OwnerPath.{OwnerPath}
+use Rattle.dom_base.specs.declared.TheConstants.{MAX_DEPTH}
 
 -- whether two paths are the same
 abbrev pub path_eq : OwnerPath → OwnerPath → Bool
@@ -33,7 +34,7 @@ owner_depth o = (path_of o).depth
 
 -- the most there can be
 unfoldable pub max_depth : ℕ
-max_depth = 8
+max_depth = MAX_DEPTH
 
 -- a path with one number more
 abbrev pub longer_path : OwnerPath → ℕ → OwnerPath

@@ -7,7 +7,7 @@ use Rattle.dom_base.specs.declared.Kind.{Kind}
 use Rattle.dom_base.specs.declared.Kind.TheVariants as kinds
 use Rattle.dom_base.specs.declared.Action.{Action}
 use Rattle.dom_model.specs.Names.{Word}
-use Rattle.dom_model.specs.Command.{Spelled, Filter, ListenerWords, Command, new_element, new_text, new_comment, new_fragment, attach, assigned}
+use Rattle.dom_model.specs.Command.{Spelled, Filter, ListenerWords, Command, new_element, new_text, new_comment, new_fragment, assigned}
 use Rattle.dom_model.specs.Command.{listen, unlisten}
 use Rattle.dom_text.specs.declared.Keyword.{Keyword}
 use Rattle.dom_text.specs.declared.Keyword.TheVariants as keyword
@@ -15,7 +15,7 @@ use Rattle.dom_text.specs.Words.{kind_word, new_kinds, keyword_word}
 use Rattle.dom_text.specs.Tokens.{IsWord, IsShow, IsNameFilter, IsAttributeFilter}
 use Rattle.dom_text.specs.Grammar.{Part, key, label, node, flag, perhaps, filter_parts, listener_parts, parts, MayUse, Spells}
 use Rattle.dom_text.specs.Readers.{◌>>=◌, Reader, at_end, next_as, named, show_of, name_filter_of, attribute_filter_of, flag_at, last_as}
-use Rattle.dom_text.specs.Decode.{one, two, three, four, node_at, label_at, new_of, new_at, attach_at, assigned_at, action_at, cursor_at, listen_end}
+use Rattle.dom_text.specs.Decode.{one, two, three, four, node_at, label_at, new_of, new_at, assigned_at, action_at, cursor_at, listen_end}
 use Rattle.dom_text.specs.Decode.{listen_at, unlisten_end, unlisten_at}
 use Rattle.dom_text.proofs.WordLaws.{bind_then, some_is, at_end_some}
 use Rattle.dom_text.proofs.PartLaws.{ReadsPart, next_word_reads, next_as_reads, Spells-ends, one_sound, two_sound, three_sound, four_sound}
@@ -119,13 +119,9 @@ new_behind o bytes c e =
     let read = kind_reads.sound bytes kind.0 kind.1 h in
     new_of_sound kind.0 o bytes read.0 kind.1 c read.1.0 read.2 k
 
-pub attach_behind : (o : Owner) (bytes : List ℕ) (c : Command) → attach_at o bytes ≡ Some c → IsBehind keyword.Attach o bytes c
-attach_behind Page bytes c e = one_behind (node_reads Page) attach keyword.Attach Page bytes c (λ a s. (tt, s)) e
-attach_behind (Component k) bytes c e = absurd cc
-
 pub assigned_behind : (o : Owner) (bytes : List ℕ) (c : Command) → assigned_at o bytes ≡ Some c → IsBehind keyword.Assigned o bytes c
 assigned_behind Page bytes c e = absurd cc
-assigned_behind (Component k) bytes c e = one_behind (node_reads (Component k)) assigned keyword.Assigned (Component k) bytes c (λ a s. (tt, s)) e
+assigned_behind (Component q) bytes c e = one_behind (node_reads (Component q)) assigned keyword.Assigned (Component q) bytes c (λ a s. (tt, s)) e
 
 pub show_reads : ReadsPart (next_as show_of) IsShow
 show_reads = next_as_reads show_says

@@ -21,14 +21,14 @@ use Rattle.dom_text.proofs.StringLaws.{next_string_reads}
 use Rattle.dom_text.proofs.CommandParts.{node_reads, number_reads, range_reads, iterator_reads, walker_reads, observer_reads, label_reads, move_reads}
 use Rattle.dom_text.proofs.CommandParts.{end_reads, keyword_says}
 use Rattle.dom_text.proofs.CommandForms.{IsBehind, none_behind, one_behind, two_behind, three_behind, four_behind, new_kind, kind_reads, new_behind}
-use Rattle.dom_text.proofs.CommandForms.{attach_behind, assigned_behind, cursor_sound, cursor_complete, listen_sound, listen_complete, unlisten_sound}
+use Rattle.dom_text.proofs.CommandForms.{assigned_behind, cursor_sound, cursor_complete, listen_sound, listen_complete, unlisten_sound}
 use Rattle.dom_text.proofs.CommandForms.{unlisten_complete}
 use Rattle.dom_text.proofs.EventForms.{dispatch_sound, dispatch_complete, observe_sound, observe_complete}
 
 pub command_sound : (k : Keyword) (o : Owner) (bytes : List ℕ) (c : Command) → command_behind k o bytes ≡ Some c → IsBehind k o bytes c
 command_sound keyword.New o bytes c e = new_behind o bytes c e
 command_sound keyword.Document o bytes c e = none_behind new_document keyword.Document o bytes c (λ s. (tt, s)) e
-command_sound keyword.Attach o bytes c e = attach_behind o bytes c e
+command_sound keyword.Attach o bytes c e = one_behind (node_reads o) attach keyword.Attach o bytes c (λ a s. (tt, s)) e
 command_sound keyword.Append o bytes c e = two_behind (node_reads o) (node_reads o) append keyword.Append o bytes c (λ a b s. (tt, s)) e
 command_sound keyword.Insert o bytes c e = three_behind (node_reads o) (node_reads o) (node_reads o) insert keyword.Insert o bytes c (λ a b d s. (tt, s)) e
 command_sound keyword.Replace o bytes c e = three_behind (node_reads o) (node_reads o) (node_reads o) replace keyword.Replace o bytes c (λ a b d s. (tt, s)) e
@@ -184,11 +184,10 @@ command_complete o (new_comment d) said u s =
     one_complete next_string_reads new_comment s.3.1 d s.3.3
 command_complete o new_fragment said u s =
     at keyword.New o (others o new_fragment) said s ∙ at_kind kinds.Fragment [] s.1 s.3 refl ∙ at_end_complete new_fragment s.3.1 s.3.3
-command_complete Page (attach e) said u s = at keyword.Attach Page (others Page (attach e)) said s ∙ one_complete (node_reads Page) attach s.1 e s.3
-command_complete (Component k) (attach e) said u s = absurd u
+command_complete o (attach e) said u s = at keyword.Attach o (others o (attach e)) said s ∙ one_complete (node_reads o) attach s.1 e s.3
 command_complete Page (assigned e) said u s = absurd u
-command_complete (Component k) (assigned e) said u s =
-    at keyword.Assigned (Component k) (others (Component k) (assigned e)) said s ∙ one_complete (node_reads (Component k)) assigned s.1 e s.3
+command_complete (Component q) (assigned e) said u s =
+    at keyword.Assigned (Component q) (others (Component q) (assigned e)) said s ∙ one_complete (node_reads (Component q)) assigned s.1 e s.3
 command_complete o (iterator_new n f) said u s = at keyword.IterNew o (others o (iterator_new n f)) said s ∙ cursor_complete o iterator_new s.1 n f s.3
 command_complete o (walker_new n f) said u s = at keyword.WalkNew o (others o (walker_new n f)) said s ∙ cursor_complete o walker_new s.1 n f s.3
 command_complete o (listen n l) said u s = at keyword.Listen o (others o (listen n l)) said s ∙ listen_complete o n l s.1 s.3

@@ -15,7 +15,8 @@ use Rattle.dom_text.specs.Readers.{named}
 use Rattle.dom_text.specs.Decode.{node_at, range_number_at, iterator_number_at, walker_number_at, observer_number_at, number_at, label_at}
 use Rattle.dom_text.specs.Decode.{to_start_at, action_at, move_at, keyword_of}
 use Rattle.dom_text.proofs.PartLaws.{SaysPart, ReadsPart, next_as_reads}
-use Rattle.dom_text.proofs.NumberLaws.{number_says, numbered_says, node_says}
+use Rattle.dom_text.proofs.NumberLaws.{number_says, numbered_says}
+use Rattle.dom_text.proofs.NodeLaws.{node_says}
 use Rattle.dom_text.proofs.NameLaws.{word_by_test, named_says, label_says}
 
 -- ---- the readers of the parts

@@ -9,13 +9,14 @@ use Rattle.dom_base.specs.declared.Owner.{Owner}
 use Rattle.dom_base.specs.declared.Owner.TheVariants.{Page, Component}
 use Rattle.dom_model.specs.Command.{Command, Line, no_owner, no_command, command}
 use Rattle.dom_text.specs.Lines.{max_line, kept_line}
-use Rattle.dom_text.specs.Tokens.{IsPositive, IsOwner}
+use Rattle.dom_text.specs.Tokens.{IsOwner}
 use Rattle.dom_text.specs.Grammar.{parts, Spells, IsLine, BelongsTo, Says}
 use Rattle.dom_text.specs.Readers.{◌>>=◌, word_at, next_as, owner_of}
 use Rattle.dom_text.specs.Decode.{keyword_of, command_behind, command_at, before_space, owner_at, owned_line, said_by, line_of, decode}
 use Rattle.dom_text.proofs.WordLaws.{bind_then, some_is, only_if_some, word_at_sound, word_at_complete}
 use Rattle.dom_text.proofs.PartLaws.{next_as_reads}
-use Rattle.dom_text.proofs.NumberLaws.{owner_sound, owner_complete, owner_is_word}
+use Rattle.dom_text.proofs.ComponentLaws.{component_short}
+use Rattle.dom_text.proofs.NodeLaws.{owner_sound, owner_complete, owner_is_word}
 use Rattle.dom_text.proofs.CommandParts.{keyword_says}
 use Rattle.dom_text.proofs.CommandLaws.{command_sound, command_complete}
 
@@ -154,13 +155,9 @@ says_decode line l h = says_one line l (decode line) h (decode_says line)
 
 -- ---- what is kept of a long line
 
-positive_short : (n : ℕ) (text : List ℕ) → IsPositive n text → length text ≤ 9
-positive_short n [] h = omega arith
-positive_short n (d ∷ ds) h = omega (arith, h.2)
-
-owner_short : (o : Owner) (name : List ℕ) → IsOwner o name → length name ≤ 10
+owner_short : (o : Owner) (name : List ℕ) → IsOwner o name → length name ≤ 81
 owner_short Page name h = rw h (omega arith)
-owner_short (Component k) name h = rw (h.2) (omega (arith, positive_short k h.0 h.1))
+owner_short (Component q) name h = component_short q name h
 
 -- the front of a list that is longer than its own front
 take_longer : (n : ℕ) (xs ys : List ℕ) → length xs ≤ n → (more : List ℕ) × (take n (xs ++ ys) ≡ xs ++ more)
@@ -168,7 +165,7 @@ take_longer n xs ys h =
     let split : length xs + (n - length xs) ≡ n = omega arith in
     (take (n - length xs) ys, ap (λ (k : ℕ). take k (xs ++ ys)) (sym split) ∙ take-append-add xs ys (n - length xs))
 
-belongs_take : (n : ℕ) (line : List ℕ) (o : Owner) → 11 ≤ n → BelongsTo line o → BelongsTo (take n line) o
+belongs_take : (n : ℕ) (line : List ℕ) (o : Owner) → 82 ≤ n → BelongsTo line o → BelongsTo (take n line) o
 belongs_take n line o long h =
     let front = h.0 ++ 32 ∷ [] in
     let fits : length front ≤ n = omega (arith, owner_short o h.0 h.2, length-append h.0 (32 ∷ [])) in
@@ -181,7 +178,7 @@ take_belongs n line o h =
     (h.0, h.1 ++ drop n line, h.2, sym (take-append-drop n line) ∙ ap (λ (x : List ℕ). x ++ drop n line) h.3 ∙ append_assoc h.0 (32 ∷ h.1) (drop n line))
 
 -- what a line that is too long says, its front says too
-says_take : (n : ℕ) (line : List ℕ) (l : Line) → max_line < n → n ≤ length line → 11 ≤ n → Says line l → Says (take n line) l
+says_take : (n : ℕ) (line : List ℕ) (l : Line) → max_line < n → n ≤ length line → 82 ≤ n → Says line l → Says (take n line) l
 says_take n line no_owner long fits m h = λ o k. h o (take_belongs n line o k)
 says_take n line (no_command o) long fits m h = (belongs_take n line o m h.0, λ c k. let short = k.fits in absurd (omega (arith, length-take n line)))
 says_take n line (command o c) long fits m h = absurd (let short = h.fits in omega arith)
@@ -191,7 +188,7 @@ pub decode-kept : (line : List ℕ) → decode (kept_line line) ≡ decode line
 unfolding kept_line
 decode-kept line = kept (max_line + 1) line (omega arith) (omega arith)
   where
-    kept : (n : ℕ) (bytes : List ℕ) → max_line < n → 11 ≤ n → decode (take n bytes) ≡ decode bytes
+    kept : (n : ℕ) (bytes : List ℕ) → max_line < n → 82 ≤ n → decode (take n bytes) ≡ decode bytes
     kept n bytes long m = elim (cases_lt (length bytes) n) [
       | inl lt ↦ ap decode (take_all n bytes (omega arith))
       | inr le ↦ sym (says_decode (take n bytes) (decode bytes) (says_take n bytes (decode bytes) long le m (decode_says bytes)))

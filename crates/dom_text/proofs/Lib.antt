@@ -6,6 +6,8 @@ pub mod WordLaws
 mod PartLaws
 mod StringLaws
 pub mod NumberLaws
+mod ComponentLaws
+mod NodeLaws
 mod NameLaws
 mod FlagLaws
 mod CommandParts

@@ -21,7 +21,8 @@ use Rattle.dom_text.specs.Tokens.{IsWord, IsItem, itself, quote, backslash, by_d
 use Rattle.dom_text.specs.Grammar.{Part, key, word, label, string, number, node, range, iterator, walker, observed, flag, perhaps, filter_parts}
 use Rattle.dom_text.specs.Grammar.{listener_parts, related_parts, event_parts, observe_parts, parts, Spells, IsLine}
 use Rattle.dom_text.proofs.WordLaws.{in_range_is, each_from, list_all_each}
-use Rattle.dom_text.proofs.NumberLaws.{each-append, number_says, numbered_says, node_says, owner_is_word}
+use Rattle.dom_text.proofs.NumberLaws.{each-append, number_says, numbered_says}
+use Rattle.dom_text.proofs.NodeLaws.{node_says, owner_is_word}
 use Rattle.dom_text.proofs.NameLaws.{label_says, show_says, name_filter_says, attribute_filter_says}
 use Rattle.dom_text.proofs.CommandParts.{end_is_word, move_is_word, action_is_word}
 

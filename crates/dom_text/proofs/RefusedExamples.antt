@@ -3,11 +3,7 @@ use Rattle.std.proofs.Common.{◌≡◌, ℕ, Bool, true, false, List, [], ◌�
 use Rattle.std.specs.Prelude.{codes}
 use Rattle.std.specs.List.{list_all}
 use Rattle.dom_base.specs.declared.Owner.TheVariants.{Page}
-use Rattle.dom_base.specs.declared.Action.TheVariants as actions
-use Rattle.dom_base.specs.declared.Move.TheVariants as moves
-use Rattle.dom_base.specs.declared.Verdict.TheVariants as verdicts
-use Rattle.dom_model.specs.Command.{append, insert, remove, tree}
-use Rattle.dom_model.specs.Command.{walk, listen, unlisten, dispatch, observe, micro, Line}
+use Rattle.dom_model.specs.Command.{micro, Line}
 use Rattle.dom_model.specs.Command.{no_owner, no_command, command}
 use Rattle.dom_text.specs.Decode.{decode, keyword_of}
 
@@ -245,13 +241,16 @@ command_lines =
     codes "c2 append m1 m2" ∷
     codes "c2 dispatch m2 e bubbles composed" ∷
     codes "c2 ." ∷
-    codes "p tree n999999999" ∷ []
+    codes "p tree n999999999" ∷
+    codes "c1 attach m1" ∷
+    codes "c1.1 remove c1:m1" ∷
+    codes "c1 remove c1.1:m1" ∷
+    codes "c1.1.1.1.1.1.1.1 remove c1.1.1.1.1.1.1.1:m1" ∷ []
 
 -- lines of an owner that say no command
 refused_lines : List (List ℕ)
 refused_lines =
     codes "c1 tre m0" ∷
-    codes "c1 attach m1" ∷
     codes "p  tree n0" ∷
     codes "p assigned n1" ∷
     codes "p " ∷
@@ -263,6 +262,10 @@ refused_lines =
     codes "p new element \"a\"" ∷
     codes "p replace-data n0 1234567890 0 \"\"" ∷
     codes "p dispatch n0 e composed bubbles" ∷
+    codes "p remove c1.0:m1" ∷
+    codes "p remove c1.:m1" ∷
+    codes "p remove c1.1" ∷
+    codes "c1 remove c1.1.1.1.1.1.1.1.1:m1" ∷
     codes "p assigned n0" ∷ []
 
 -- lines that begin with no owner's word
@@ -274,7 +277,13 @@ lines_of_nobody =
     codes "p" ∷
     codes "c0 ." ∷
     codes "c01 ." ∷
-    codes "c1234567890 ." ∷ []
+    codes "c1234567890 ." ∷
+    codes "c1.0 ." ∷
+    codes "c1. ." ∷
+    codes "c.1 ." ∷
+    codes "c1..1 ." ∷
+    codes "c1.01 ." ∷
+    codes "c1.1.1.1.1.1.1.1.1 ." ∷ []
 
 all_commands : list_all is_command (map decode command_lines) ≡ true
 unfolding keyword_of is_command command_lines
