@@ -10,3 +10,4 @@ pub mod ProtocolExamples
 pub mod LineExamples
 pub mod SaidExamples
 pub mod PathExamples
+pub mod NestingExamples

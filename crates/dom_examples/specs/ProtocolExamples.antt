@@ -61,7 +61,7 @@ refusals_and_busy_turns = record {
       codes "p ok" ∷
       codes "c2 ! unknown" ∷
       codes "c1 ok (m0 shadow (m1 element b) (m2 element i))" ∷
-      codes "c1 ! syntax" ∷
+      codes "c1 ! not-supported" ∷
       codes "! owner" ∷
       [];
 }

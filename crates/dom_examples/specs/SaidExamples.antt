@@ -9,6 +9,7 @@ use Rattle.dom_base.specs.declared.Verdict.TheVariants as verdicts
 use Rattle.dom_model.specs.Names.{Word}
 use Rattle.dom_model.specs.Command as model
 use Rattle.dom_model.specs.Command.{own, foreign}
+use Rattle.dom_text.specs.Tokens.{path_from}
 use Rattle.dom_text.specs.Decode.{decode}
 
 -- A line, and what it says.
@@ -24,9 +25,9 @@ SaysEach rows = map (λ s. decode s.line) rows ≡ map (λ s. s.says) rows
 abbrev pub page_says : List ℕ → model.Command → Said
 page_says line command = record { line = line; says = model.command Page command }
 
--- a line of a component
-abbrev pub component_says : ℕ → List ℕ → model.Command → Said
-component_says k line command = record { line = line; says = model.command (Component k) command }
+-- a line of the component whose word has these numbers
+abbrev pub component_says : List ℕ → List ℕ → model.Command → Said
+component_says numbers line command = record { line = line; says = model.command (Component (path_from numbers)) command }
 
 -- the kinds that are shown: element, text, comment, document, fragment
 abbrev pub shows : Bool → Bool → Bool → Bool → Bool → model.Show
@@ -75,7 +76,7 @@ commands_said =
     page_says (codes "p attach n1") (model.attach (own 1)) ∷
     page_says (codes "p append n0 n1") (model.append (own 0) (own 1)) ∷
     page_says (codes "p insert n0 n1 n2") (model.insert (own 0) (own 1) (own 2)) ∷
-    component_says 1 (codes "c1 replace m0 m1 m999999999") (model.replace (own 0) (own 1) (own 999999999)) ∷
+    component_says (1 ∷ []) (codes "c1 replace m0 m1 m999999999") (model.replace (own 0) (own 1) (own 999999999)) ∷
     page_says (codes "p remove n1") (model.remove (own 1)) ∷
     page_says (codes "p adopt n0 n1") (model.adopt (own 0) (own 1)) ∷
     page_says (codes "p normalize n1") (model.normalize (own 1)) ∷
@@ -94,7 +95,7 @@ commands_said =
     page_says (codes "p connected n1") (model.connected (own 1)) ∷
     page_says (codes "p shadow-root n1") (model.shadow_root (own 1)) ∷
     page_says (codes "p slot-of n1") (model.slot_of (own 1)) ∷
-    component_says 12 (codes "c12 assigned m3") (model.assigned (own 3)) ∷
+    component_says (12 ∷ []) (codes "c12 assigned m3") (model.assigned (own 3)) ∷
     page_says (codes "p range-new") (model.range_new) ∷
     page_says (codes "p range-start r0 n1 2") (model.range_start 0 (own 1) 2) ∷
     page_says (codes "p range-end r10 n1 0") (model.range_end 10 (own 1) 0) ∷
@@ -126,11 +127,13 @@ commands_said =
     page_says (codes "p micro a-Z_0.:bbbbbbbbbbbbbbbbbbbbbbbbbbbbbbbbbbbbbbbbbbbbbbbbbbbbbbbbb")
     (model.micro (codes "a-Z_0.:bbbbbbbbbbbbbbbbbbbbbbbbbbbbbbbbbbbbbbbbbbbbbbbbbbbbbbbbb")) ∷
     page_says (codes "p .") (model.end_turn) ∷
-    component_says 999999999 (codes "c999999999 .") (model.end_turn) ∷
+    component_says (999999999 ∷ []) (codes "c999999999 .") (model.end_turn) ∷
     page_says (codes "p append m1 c1:m2") (model.append foreign foreign) ∷
     page_says (codes "p contains c999999999:m0 n1") (model.contains foreign (own 1)) ∷
-    component_says 1 (codes "c1 append n1 c1:m1") (model.append foreign foreign) ∷
-    component_says 1 (codes "c1 contains m1 c2:m0") (model.contains (own 1) foreign) ∷
+    component_says (1 ∷ []) (codes "c1 append n1 c1:m1") (model.append foreign foreign) ∷
+    component_says (1 ∷ []) (codes "c1 contains m1 c2:m0") (model.contains (own 1) foreign) ∷
+    component_says (1 ∷ 2 ∷ []) (codes "c1.2 attach m1") (model.attach (own 1)) ∷
+    component_says (10 ∷ 3 ∷ 7 ∷ []) (codes "c10.3.7 append m0 c10.3:m1") (model.append (own 0) foreign) ∷
     []
 
 -- a line for each optional word
@@ -142,7 +145,7 @@ optional_words_said =
     page_says (codes "p iter-new n0 text,comment") (model.iterator_new (own 0) (filters (shows false true true false false) None)) ∷
     page_says (codes "p walk-new n0 element,text,comment,document,fragment reject=_x-1")
     (model.walker_new (own 0) (filters (shows true true true true true) (Some (names (codes "_x-1") verdicts.Reject)))) ∷
-    component_says 1 (codes "c1 walk-new m0 document,fragment") (model.walker_new (own 0) (filters (shows false false false true true) None)) ∷
+    component_says (1 ∷ []) (codes "c1 walk-new m0 document,fragment") (model.walker_new (own 0) (filters (shows false false false true true) None)) ∷
     page_says (codes "p listen n1 go h log") (model.listen (own 1) (listens (codes "go") (codes "h") actions.Log false false false)) ∷
     page_says (codes "p listen n1 go h stop") (model.listen (own 1) (listens (codes "go") (codes "h") actions.Stop false false false)) ∷
     page_says (codes "p listen n1 go h stop-now") (model.listen (own 1) (listens (codes "go") (codes "h") actions.StopNow false false false)) ∷
@@ -168,6 +171,6 @@ optional_words_said =
     page_says (codes "p observe o0 n1 attributeOldValue") (model.observe 0 (own 1) (watches false false false false true false None)) ∷
     page_says (codes "p observe o0 n1 characterDataOldValue") (model.observe 0 (own 1) (watches false false false false false true None)) ∷
     page_says (codes "p observe o0 n1 filter=id") (model.observe 0 (own 1) (watches false false false false false false (Some ((codes "id") ∷ [])))) ∷
-    component_says 1 (codes "c1 observe o2 m1 childList attributes characterData subtree attributeOldValue characterDataOldValue filter=class,id,_-9")
+    component_says (1 ∷ []) (codes "c1 observe o2 m1 childList attributes characterData subtree attributeOldValue characterDataOldValue filter=class,id,_-9")
     (model.observe 2 (own 1) (watches true true true true true true (Some ((codes "class") ∷ (codes "id") ∷ (codes "_-9") ∷ [])))) ∷
     []

@@ -84,7 +84,7 @@ closed_tree = record {
       codes "c1 ! foreign" ∷
       codes "c1 ! foreign" ∷
       codes "c1 ! foreign" ∷
-      codes "c1 ! syntax" ∷
+      codes "c1 ! not-supported" ∷
       codes "c1 ok (m0 shadow (m1 element b))" ∷
       codes "c2 ! unknown" ∷
       codes "p ! foreign" ∷

@@ -3,6 +3,8 @@
 #![tactic(auto)]
 
 ghost use Rattle.std.specs.Prelude.{◌≡◌, IsTrue};
+ghost use Rattle.dom_base.specs.declared.Owner.TheVariants.{Page};
+ghost use Rattle.dom_base.specs.Owners.{component_made};
 ghost use Rattle.dom_examples.specs.Example.{Computes, Singles, page_answers, answers_for};
 ghost use Rattle.dom_examples.specs.TreeExamples.{append_and_remove, first_refusals, closed_tree, validity_order, split_surrogates, documents_and_attaching};
 ghost use Rattle.dom_examples.specs.ObserverExamples.{last_child_again, fragments_into_document, replace_by_next_sibling, transient_registrations};
@@ -15,8 +17,7 @@ ghost use Rattle.dom_examples.specs.ProtocolExamples.{refusals_and_busy_turns, w
 ghost use Rattle.dom_examples.specs.LineExamples.{ownerless, malformed, unknown, longest, too_long, too_long_letters, too_long_words};
 ghost use Rattle.dom_examples.specs.SaidExamples.{SaysEach, commands_said, optional_words_said};
 ghost use Rattle.dom_examples.specs.PathExamples.{paths_are_right};
-
-use dom_base::Owner;
+ghost use Rattle.dom_examples.specs.NestingExamples.{component_in_component, slots_of_two_trees, adopted_with_inner_trees, detached_inner_host};
 
 /// Nodes made, placed, moved and removed, and what is refused.
 pub fn trees()
@@ -69,6 +70,14 @@ pub fn events()
     ensures stops_and_labels { Computes stops_and_labels }
 {}
 
+/// Components inside components.
+pub fn nesting()
+    ensures component_in_component { Computes component_in_component }
+    ensures slots_of_two_trees { Computes slots_of_two_trees }
+    ensures adopted_with_inner_trees { Computes adopted_with_inner_trees }
+    ensures detached_inner_host { Computes detached_inner_host }
+{}
+
 /// Owners, turns, refusals by spelling, and pairs of worlds.
 pub fn protocol()
     ensures refusals_and_busy_turns { Computes refusals_and_busy_turns }
@@ -99,7 +108,7 @@ pub fn said()
 /// in which a component has equal lines, and another one has not: it is answered alike.
 pub fn pairs()
     ensures page { page_answers with_component ≡ page_answers without_component }
-    ensures component { answers_for (Owner.Component 1) first_family ≡ answers_for (Owner.Component 1) second_family }
+    ensures component { answers_for (component_made Page 0) first_family ≡ answers_for (component_made Page 0) second_family }
 {}
 
 /// On the worlds that scripts leave, the path of each node follows event parents.
@@ -110,4 +119,5 @@ pub fn paths()
     ensures host_slotted_into_host { IsTrue (paths_are_right host_slotted_into_host) }
     ensures with_component { IsTrue (paths_are_right with_component) }
     ensures second_family { IsTrue (paths_are_right second_family) }
+    ensures slots_of_two_trees { IsTrue (paths_are_right slots_of_two_trees) }
 {}

@@ -26,3 +26,7 @@ returns-clause-with_component c = refl
 pub returns-clause-second_family : goal.returns-clause-second_family
 unfolding keyword_of max_depth
 returns-clause-second_family c = refl
+
+pub returns-clause-slots_of_two_trees : goal.returns-clause-slots_of_two_trees
+unfolding keyword_of max_depth
+returns-clause-slots_of_two_trees c = refl

@@ -13,7 +13,7 @@ unfolding keyword_of digits max_depth
 returns-clause-with_component c = record { document = refl; page = refl }
 
 pub returns-clause-without_component : goal.returns-clause-without_component
-unfolding keyword_of digits
+unfolding keyword_of digits max_depth
 returns-clause-without_component c = record { document = refl; page = refl }
 
 pub returns-clause-first_family : goal.returns-clause-first_family

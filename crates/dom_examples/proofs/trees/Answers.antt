@@ -13,7 +13,7 @@ unfolding keyword_of digits
 returns-clause-first_refusals c = record { document = refl; page = refl }
 
 pub returns-clause-closed_tree : goal.returns-clause-closed_tree
-unfolding keyword_of digits
+unfolding keyword_of digits max_depth
 returns-clause-closed_tree c = record { document = refl; page = refl }
 
 pub returns-clause-validity_order : goal.returns-clause-validity_order
