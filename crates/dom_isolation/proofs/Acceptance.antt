@@ -1,19 +1,23 @@
 -- What is known of an accepted command: each test of a refusal failed.
-use Rattle.std.proofs.lemmas.Bool.{not-false}
-use Rattle.std.proofs.Common.{◌≡◌, Bool, true, false, not, ◌&&◌, List, [], ◌∷◌, Option, Some, None, refl, sym, true≢false}
+use Rattle.std.proofs.lemmas.Bool.{not-false, or_parts}
+use Rattle.std.proofs.Common.{◌≡◌, ◌+◌, Bool, true, false, not, ◌&&◌, ◌||◌, List, [], ◌∷◌, length, Option, Some, None, refl, sym, ap, ◌∙◌}
+use Rattle.std.specs.Prelude.{nat_lt}
 use Rattle.std.specs.Option.{option_or}
 use Rattle.dom_base.specs.declared.Owner.{Owner}
-use Rattle.dom_base.specs.declared.Owner.TheVariants.{Page, Component}
+use Rattle.dom_base.specs.declared.TheConstants.{MAX_COMPONENTS}
+use Rattle.dom_base.specs.Owners.{may_attach}
 use Rattle.dom_base.specs.declared.Refusal.{Refusal}
-use Rattle.dom_base.specs.declared.Refusal.TheVariants.{Syntax, Busy, Foreign, Unknown, WrongKind}
+use Rattle.dom_base.specs.declared.Refusal.TheVariants.{Syntax, Busy, Foreign, Unknown, WrongKind, NotSupported, Limit}
 use Rattle.dom_model.specs.Command.{Command, Spelled}
-use Rattle.dom_model.specs.CommandNames.{names_foreign, nodes_exist, thing_exists, nodes_fit}
-use Rattle.dom_model.specs.CommandRefusals.{is_command_of, part_refusal, own_refusal}
+use Rattle.dom_model.specs.Names.{name_eq, is_in}
+use Rattle.dom_model.specs.Tree.{node_in}
+use Rattle.dom_model.specs.CommandNames.{named, names_foreign, nodes_exist, thing_exists, nodes_fit}
+use Rattle.dom_model.specs.CommandRefusals.{is_command_of, part_refusal, own_refusal, may_be_host}
 use Rattle.dom_model.specs.DocumentMachine.{refusal, is_busy}
 use Rattle.dom_model.specs.Part.{Part}
 use Rattle.dom_model.specs.Validity.{first_refusal}
 use Rattle.dom_model.specs.World.{World, part_of, is_there, MayAttach}
-use Rattle.dom_model.proofs.OwnerLaws.{page-may_attach}
+use Rattle.dom_model.proofs.PartLaws.{owner-part_of}
 
 -- neither of two refusals
 pub or-none : (a b : Option Refusal) → option_or a b ≡ None → (a ≡ None) × (b ≡ None)
@@ -24,11 +28,6 @@ or-none (Some r) b h = cc
 pub next-test : (b : Bool) (r : Refusal) (ts : List (Bool × Refusal)) → first_refusal ((b, r) ∷ ts) ≡ None → (b ≡ false) × (first_refusal ts ≡ None)
 next-test true r ts h = cc
 next-test false r ts h = (refl, h)
-
--- Whoever attaches may: the grammar lets the page alone attach.
-pub attach-may : (o : Owner) (x : Spelled) → is_command_of o (Command.attach x) ≡ true → MayAttach o
-attach-may Page x h = page-may_attach
-attach-may (Component k) x h = absurd (true≢false (sym h))
 
 -- The refusals that its owner's part alone decides.
 pub record IsPartAccepted (p : Part) (c : Command) : Type 0 where
@@ -43,6 +42,17 @@ part-accepted p c h =
     let exist = next-test (not (nodes_exist p c && thing_exists p c)) Unknown ((not (nodes_fit p c), WrongKind) ∷ []) both.0 in
     let fit = next-test (not (nodes_fit p c)) WrongKind [] exist.1 in
     record { exist = not-false (nodes_exist p c && thing_exists p c) exist.0; fit = not-false (nodes_fit p c) fit.0; own = both.1 }
+
+-- Whoever attaches may: that there is room for one number more is one of the tests.
+pub attach-may : (w : World) (o : Owner) (x : Spelled) → part_refusal (part_of w o) (Command.attach x) ≡ None → MayAttach o
+unfolding MayAttach
+attach-may w o x h =
+    let p = part_of w o in
+    let no_host = is_in name_eq (named p x) p.attached || not (may_be_host (node_in p.trees (named p x)).element) in
+    let many = nat_lt MAX_COMPONENTS (length p.attached + 1) in
+    let first = next-test no_host NotSupported ((many || not (may_attach p.owner), Limit) ∷ []) (part-accepted p (Command.attach x) h).own in
+    let room = (or_parts many (not (may_attach p.owner)) (next-test (many || not (may_attach p.owner)) Limit [] first.1).0).1 in
+    ap may_attach (sym (owner-part_of w o)) ∙ not-false (may_attach p.owner) room
 
 -- All refusals.
 pub record IsAccepted (w : World) (o : Owner) (c : Command) : Type 0 where

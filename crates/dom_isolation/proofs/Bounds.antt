@@ -16,7 +16,7 @@ use Rattle.dom_model.specs.Part.{Part, next_name}
 use Rattle.dom_model.specs.Steps.{make, make_room, place, take_out, set_document, set_attribute, replace_data, split_at, join_at, set_range}
 use Rattle.dom_model.specs.Steps.{queue_record, part_step, leave}
 use Rattle.dom_isolation.specs.Worlds.{times_in, IsPart}
-use Rattle.dom_isolation.proofs.Insides.{inside, times-taken_out_all}
+use Rattle.dom_isolation.proofs.Insides.{times-taken_out_all}
 use Rattle.dom_isolation.proofs.Kids.{kids, kids-absent, one_at, kids-taken_out, kids-placed, kids-with_node, kids-map_nodes, index-below}
 use Rattle.dom_isolation.proofs.NodesRead.{node-taken_out, node-placed, node-with_node, node-map_nodes, length-data, length-kids, length-absent}
 use Rattle.dom_isolation.proofs.Lists.{all-then, all-map}

@@ -16,7 +16,7 @@ use Rattle.dom_model.proofs.OwnerLaws.{owner_eq-true, owner_eq-same, ne-owner_eq
 use Rattle.dom_isolation.specs.Worlds.{IsWorld, IsOf, times_in}
 use Rattle.dom_isolation.proofs.Hiding.{IsInTree, in_tree, ancestors-owned, not_in}
 use Rattle.dom_isolation.proofs.Lists.{all-then}
-use Rattle.dom_isolation.proofs.Makers.{hosted, hosted-owned, hosted-maker, hosted-no_page}
+use Rattle.dom_isolation.proofs.Makers.{hosted, hosted-owned, hosted-no_page}
 use Rattle.dom_isolation.proofs.ReachedFacts.{root-alone}
 use Rattle.dom_isolation.proofs.Tests.{by_cases}
 use Rattle.dom_isolation.proofs.Trees.{name_eq-true, ancestors-root, root-there, by_times, ancestors-present, ancestors-absent, all-in, last_from}
@@ -61,7 +61,7 @@ pub below-host : (w : World) → IsWorld w → (x host : NodeName) → host_abov
 below-host w i x host h =
     let at = above-host w x host h in
     let k = hosted w x.owner host at.0 in
-    let deep = ap owner_depth (sym (made_by-is x.owner k.maker k.number k.named)) ∙ depth-made k.maker k.number (hosted-maker w i.makers x.owner host k) in
+    let deep = ap owner_depth (sym (made_by-is x.owner k.maker k.number k.named)) ∙ depth-made k.maker k.number in
     record {
       tree = record { foreign = hosted-no_page w x.owner host k; owner = refl; host = ap is_some at.0; root = at.1 };
       above = h;

@@ -1,6 +1,6 @@
 -- A dispatch of a component, as the page sees it: nothing, or the outward event at its host.
 use Rattle.dom_isolation.proofs.PagePaths.{views-page}
-use Rattle.dom_model.proofs.OwnerLaws.{owner_eq-true, owner_eq-false, maker-is_page}
+use Rattle.dom_model.proofs.OwnerLaws.{owner_eq-true, owner_eq-false}
 use Rattle.std.proofs.Common.{◌≡◌, ◌≢◌, Bool, true, false, ◌&&◌, List, [], ◌∷◌, ◌++◌, filter, Option, Some, None, option_map, unwrap_or, refl, sym}
 use Rattle.std.proofs.Common.{ap, ◌∙◌, true≢false, subst, append-nil}
 use Rattle.std.specs.Prelude.{is_some, if◌then◌else◌, option_to_list}
@@ -18,20 +18,13 @@ use Rattle.dom_model.specs.Dispatch.{Dispatched, dispatch_in, visits_of}
 use Rattle.dom_model.specs.Trace.{is_page, outermost_host, outward_of, OutwardEvent}
 use Rattle.dom_model.specs.PageMachine.{PageState, page_of, page_dispatch, page_outward}
 use Rattle.dom_isolation.specs.Laws.{page_run, is_page_visit, IsQuiet, PageVisitsAgree, OutwardVisitsAgree}
-use Rattle.dom_isolation.specs.Worlds.{IsWorld, IsForeignTo}
+use Rattle.dom_isolation.specs.Worlds.{IsForeignTo}
 use Rattle.dom_isolation.proofs.Chains.{HasChain, has-chain, below-host, hosts-alone, no_host}
 use Rattle.dom_isolation.proofs.Hiding.{IsInTree}
 use Rattle.dom_isolation.proofs.Lists.{all-append, all-then}
-use Rattle.dom_isolation.proofs.Makers.{hosted, hosted-no_page, hosted-owned, hosted-maker}
 use Rattle.dom_isolation.proofs.Tests.{by_cases}
 use Rattle.dom_isolation.proofs.ComponentPaths.{Foreign, IsUnder, views-kept_in, views-far, views-outward, views-related}
 use Rattle.dom_isolation.proofs.Dispatches.{is_page_view, dispatch-page, dispatch-nothing, page_visits_of}
-
--- A host is a page node.
-pub host-page : (w : World) → IsWorld w → (o : Owner) (host : NodeName) → host_of w o ≡ Some host → (o ≢ Page) × (host.owner ≡ Page)
-host-page w i o host e =
-    let k = hosted w o host e in
-    (hosted-no_page w o host k, hosted-owned w i o host k ∙ maker-is_page k.maker (hosted-maker w i.makers o host k))
 
 -- the host of a root, where that is the owner's shadow root
 abbrev pub above_as : World → NodeName → Owner → Option NodeName

@@ -18,7 +18,7 @@ use Rattle.dom_isolation.proofs.Trees.{name_eq-sym, name_eq-true, root-there, no
 use Rattle.dom_isolation.proofs.TreeChangeLaws.{HasRoot, without-here, without-elsewhere, subtree-here, subtree-elsewhere, put_below-here}
 use Rattle.dom_isolation.proofs.TreeChangeLaws.{put_below-elsewhere, put_below-absent, times-put_before}
 use Rattle.dom_isolation.proofs.Insides.{inside, inside-here, inside-elsewhere, inside-times, inside-absent, times-inside, inside-put_root}
-use Rattle.dom_isolation.proofs.Insides.{inside-put_before, inside-without, without-absent, or_else-none, times-put_below_all}
+use Rattle.dom_isolation.proofs.Insides.{inside-put_before, without-absent, or_else-none, times-put_below_all}
 use Rattle.dom_isolation.proofs.InsideAncestors.{inside-no_ancestor}
 use Rattle.dom_isolation.proofs.Insides.{times-parted}
 

@@ -110,7 +110,7 @@ module _ (w : World) (o : Owner) (x : NodeName) (may : MayAttach o) where
       let p = part_of w o in
       let more : Part = record p { attached = p.attached ++ x ∷ [] } in
       let c = component_made o (length p.attached) in
-      part_of-with_part-other (with_part w more) (part_with_root c Shadow (node_in p.trees x).document) o (component_made-other o (length p.attached) may)
+      part_of-with_part-other (with_part w more) (part_with_root c Shadow (node_in p.trees x).document) o (component_made-other o (length p.attached))
       ∙ part_of-with_part w more o (owner-part_of w o)
 
   -- the component has its shadow root,
@@ -189,7 +189,7 @@ module _ {only_log : Bool} where
               (λ a f g e. i.makers a (subst (λ (q : Part). 0 < length q.attached) (other a f g) e));
           shadow_roots = by_owner (λ a. IsTrue (is_some (host_of v a)) → IsRoot (part_of v a).trees (shadow_root_of a)) o c
               (λ e. subst (λ (q : Part). IsRoot q.trees (shadow_root_of o)) (sym mine)
-              (i.shadow_roots o (older o (component_made-other o (length p.attached) may) e)))
+              (i.shadow_roots o (older o (component_made-other o (length p.attached)) e)))
               (λ e. subst (λ (q : Part). IsRoot q.trees (shadow_root_of c)) (sym new) (root-new c d))
               (λ a f g e. subst (λ (q : Part). IsRoot q.trees (shadow_root_of a)) (sym (other a f g)) (i.shadow_roots a (older a g e)));
           signalled = i.signalled;

@@ -1,5 +1,5 @@
 -- Every line keeps the kinds of nodes: no command makes a shadow root, and `attach` makes hosts of elements alone.
-use Rattle.std.proofs.Common.{◌≡◌, ◌≢◌, Bool, true, false, not, None}
+use Rattle.std.proofs.Common.{◌≡◌, ◌≢◌, Bool, true, false, None}
 use Rattle.std.proofs.Common.{sym, ap, ◌∙◌, true≢false, subst}
 use Rattle.std.specs.Prelude.{⊤}
 use Rattle.dom_base.specs.declared.Owner.{Owner}
@@ -8,10 +8,10 @@ use Rattle.dom_base.specs.declared.NodeName.{NodeName}
 use Rattle.dom_base.specs.declared.Kind.{Kind}
 use Rattle.dom_base.specs.declared.Kind.TheVariants.{Document, Shadow, Element, Text, Comment}
 use Rattle.dom_model.specs.Names.{ComponentName, name_eq}
-use Rattle.dom_model.specs.Tree.{none, node_in, children_of, is_element, is_text, is_document}
-use Rattle.dom_model.specs.Command.{Command, command}
+use Rattle.dom_model.specs.Tree.{node_in, children_of, is_element, is_text, is_document}
+use Rattle.dom_model.specs.Command.{Command}
 use Rattle.dom_model.specs.CommandRefusals.{own_refusal}
-use Rattle.dom_model.specs.DocumentMachine.{effect_in, step}
+use Rattle.dom_model.specs.DocumentMachine.{effect_in}
 use Rattle.dom_model.specs.Effects.{Effect, tables, changes, effect}
 use Rattle.dom_model.specs.Extract.{pieces_of}
 use Rattle.dom_model.specs.Part.{Part}

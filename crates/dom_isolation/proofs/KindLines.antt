@@ -14,6 +14,7 @@ use Rattle.dom_base.specs.declared.Kind.TheVariants.{Document, Fragment, Shadow,
 use Rattle.dom_base.specs.declared.Refusal.{Refusal}
 use Rattle.dom_base.specs.declared.Refusal.TheVariants.{NotSupported, Limit}
 use Rattle.dom_base.specs.declared.TheConstants.{MAX_COMPONENTS}
+use Rattle.dom_base.specs.Owners.{may_attach}
 use Rattle.dom_model.specs.Names.{name_eq, is_in}
 use Rattle.dom_model.specs.Tree.{Trees, none, tree, Node, nodes, names_of, node_in, kind_of, has_node, no_node, is_element}
 use Rattle.dom_model.specs.Command.{Command, Line, no_owner, no_command, command, Spelled}
@@ -138,7 +139,7 @@ pub attach-free : (p : Part) (x : Spelled) → part_refusal p (Command.attach x)
 attach-free p x h =
     let a = part-accepted p (Command.attach x) h in
     let own = next-test (is_in name_eq (named p x) p.attached || not (may_be_host (node_in p.trees (named p x)).element)) NotSupported
-    ((nat_lt MAX_COMPONENTS (length p.attached + 1), Limit) ∷ []) a.own in
+    ((nat_lt MAX_COMPONENTS (length p.attached + 1) || not (may_attach p.owner), Limit) ∷ []) a.own in
     record {
       there = has_node-times p.trees (named p x)
           ((and_parts (has_node p.trees (named p x)) true (and_parts (nodes_exist p (Command.attach x)) true a.exist).0).0);

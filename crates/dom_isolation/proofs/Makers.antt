@@ -90,5 +90,5 @@ component-host w makers x c h =
 pub component-deeper : (w : World) → HasMakers w → (x : NodeName) (c : Owner) → component_at w x ≡ Some c → owner_depth x.owner < owner_depth c
 component-deeper w makers x c h =
     let k = component-made w x c h in
-    let deep = depth-made x.owner k.number (component-maker w makers x c h) in
+    let deep = depth-made x.owner k.number in
     subst (λ a. owner_depth x.owner < owner_depth a) k.made (omega (arith, deep))

@@ -1,5 +1,5 @@
 -- Every line keeps whose parts are there; attaching adds one.
-use Rattle.std.proofs.Common.{◌≡◌, ◌≢◌, ℕ, suc, Bool, true, false, List, [], ◌∷◌, ◌++◌, length, filter, Option, Some, None, option_map, refl, sym, ap}
+use Rattle.std.proofs.Common.{◌≡◌, ◌≢◌, ℕ, suc, Bool, false, List, [], ◌∷◌, ◌++◌, length, filter, Option, Some, None, option_map, refl, sym, ap}
 use Rattle.std.proofs.Common.{◌∙◌, arith, subst, append-nil, length-append}
 use Rattle.std.specs.Prelude.{is_some, is_none, option_to_list}
 use Rattle.std.specs.Option.{option_map_or}
@@ -14,7 +14,7 @@ use Rattle.dom_model.specs.Names.{owner_eq, first_of}
 use Rattle.dom_model.specs.Tree.{node_in}
 use Rattle.dom_model.specs.Command.{Command, Line, no_owner, no_command, command, Spelled}
 use Rattle.dom_model.specs.CommandNames.{named}
-use Rattle.dom_model.specs.CommandRefusals.{is_command_of}
+use Rattle.dom_model.specs.CommandRefusals.{part_refusal}
 use Rattle.dom_model.specs.DocumentMachine.{first_world, part_with_root, refusal, effect_in, attaching, perform, accepted, run_command, step}
 use Rattle.dom_model.specs.Effects.{Effect, tables, changes, effect}
 use Rattle.dom_model.specs.Part.{Part}
@@ -27,7 +27,7 @@ use Rattle.dom_isolation.specs.Laws.{IsSound}
 use Rattle.dom_isolation.specs.Worlds.{owners_in, IsThere, task_owner, components_of, is_made_by, is_unmade, HasOwners}
 use Rattle.dom_isolation.proofs.TableEffects.{KeepsBase, base-effect}
 use Rattle.dom_isolation.proofs.FirstWorld.{quiet-first, quiet-attaching, by_owner, attached-maker, attached-new, attached-other, attached-there}
-use Rattle.dom_isolation.proofs.LineBegins.{IsPageTime, page_time, quiet-opening, quiet-ending_other}
+use Rattle.dom_isolation.proofs.LineBegins.{IsPageTime, page_time, part_of-opening, quiet-opening, quiet-ending_other}
 use Rattle.dom_isolation.proofs.Lists.{all-append, all-then}
 use Rattle.dom_isolation.proofs.Tests.{either_way}
 use Rattle.dom_isolation.proofs.OwnerSteps.{IsPeopled, same-people, peopled-with_part, peopled-world_after}
@@ -90,7 +90,7 @@ peopled-attaching w o x may h t q i =
             filtered (is_made_by o) ∙ ap (λ os. os ++ filter (is_made_by o) (c ∷ [])) (i.owners.made o)
             ∙ ap (λ os. components_of o n ++ os) (cond-true (is_made_by o c) (c ∷ []) [] (made_by-told c o n named))
             ∙ sym (ap (components_of o) count))
-            (none-more v w o c n named owners i.owners c (component_made-other o n may)
+            (none-more v w o c n named owners i.owners c (component_made-other o n)
             (ap (λ (q : Part). q.attached) (attached-new w o x may) ∙ sym (ap (λ (q : Part). q.attached) (absent-part w c absent))))
             (λ a f g. none-more v w o c n named owners i.owners a f (ap (λ (q : Part). q.attached) (attached-other w o x may a f g)));
         turn = all-then (IsThere w) (IsThere v) stays (option_to_list w.turn) i.owners.turn;
@@ -105,9 +105,9 @@ peopled-attaching w o x may h t q i =
     first-more (a ∷ os) more e = e
 
 -- who attaches is known from acceptance
-peopled-attach_of : (w : World) (o : Owner) (x : Spelled) → is_command_of o (Command.attach x) ≡ true → IsThere w o → IsSound false w → IsPeopled w →
-    IsPeopled (perform w o (Command.attach x)).0
-peopled-attach_of w o x g h q i = peopled-attaching w o (named (part_of w o) x) (attach-may o x g) (owner-named (part_of w o) x ∙ owner-part_of w o) h q i
+peopled-attach_of : (w : World) (o : Owner) (x : Spelled) → part_refusal (part_of w o) (Command.attach x) ≡ None → IsThere w o → IsSound false w →
+    IsPeopled w → IsPeopled (perform w o (Command.attach x)).0
+peopled-attach_of w o x r h q i = peopled-attaching w o (named (part_of w o) x) (attach-may w o x r) (owner-named (part_of w o) x ∙ owner-part_of w o) h q i
 
 -- Other commands.
 peopled-effect : (w : World) (o : Owner) (e : Effect) → IsThere w o → KeepsBase (part_of w o) e → IsPeopled w → IsPeopled (effect_in w o e).0
@@ -115,7 +115,8 @@ peopled-effect w o (tables p lines v) h base i = peopled-with_part w p o (base.0
 peopled-effect w o (changes steps v) h base i = peopled-world_after o steps w h i
 
 -- every accepted command
-peopled-perform : (w : World) (o : Owner) (c : Command) → IsThere w o → is_command_of o c ≡ true → IsSound false w → IsPeopled w → IsPeopled (perform w o c).0
+peopled-perform : (w : World) (o : Owner) (c : Command) → IsThere w o → part_refusal (part_of w o) c ≡ None → IsSound false w → IsPeopled w →
+    IsPeopled (perform w o c).0
 peopled-perform w o (Command.attach x) h g q i = peopled-attach_of w o x g h q i
 peopled-perform w o (Command.connected x) h g q i = i
 peopled-perform w o (Command.assigned x) h g q i = i
@@ -137,10 +138,12 @@ pub there-opening : (w : World) (o : Owner) → IsThere w o → IsThere (opening
 there-opening w o h = either_way (λ v. IsThere v o) (is_some w.turn) w (record w { turn = Some o }) h h
 
 -- with that turn
-peopled-accepted : (w : World) (o : Owner) (c : Command) → (o ≡ Page → IsPageTime w) → IsThere w o → is_command_of o c ≡ true → IsSound false w →
-    IsPeopled w → IsPeopled (accepted w o c).0
+peopled-accepted : (w : World) (o : Owner) (c : Command) → (o ≡ Page → IsPageTime w) → IsThere w o → part_refusal (part_of w o) c ≡ None →
+    IsSound false w → IsPeopled w → IsPeopled (accepted w o c).0
 peopled-accepted w o Command.end_turn t h g q i = peopled-ending_turn w q i
-peopled-accepted w o c t h g q i = peopled-perform (opening_turn w o) o c (there-opening w o h) g (quiet-opening w q o t) (peopled-opening w o h i)
+peopled-accepted w o c t h r q i =
+    peopled-perform (opening_turn w o) o c (there-opening w o h) (ap (λ p. part_refusal p c) (part_of-opening w o o) ∙ r) (quiet-opening w q o t)
+    (peopled-opening w o h i)
 
 -- Lines.
 peopled-command : (w : World) (o : Owner) (c : Command) → (o ≡ Page → IsPageTime w) → IsSound false w → IsPeopled w → IsPeopled (run_command o c w).0
@@ -149,7 +152,7 @@ peopled-command w o c t q i = from (refusal w o c) refl
     from : (r : Option Refusal) → refusal w o c ≡ r → IsPeopled (unless_refused o (refusal w o c) w (accepted w o c)).0
     from (Some r) e = subst (λ a. IsPeopled (unless_refused o a w (accepted w o c)).0) (sym e) i
     from None e = let a = accepted-facts w o c e in subst (λ a. IsPeopled (unless_refused o a w (accepted w o c)).0) (sym e)
-        (peopled-accepted w o c t a.there a.grammar q i)
+        (peopled-accepted w o c t a.there a.part q i)
 
 -- a line keeps who is there
 pub peopled-step : (w : World) (l : Line) → IsSound false w → IsPeopled w → IsPeopled (step w l).0

@@ -1,6 +1,6 @@
 -- A command of the page in the world does to the page's part what it does in the page machine.
 use Rattle.std.proofs.Common.{◌≡◌, Bool, true, false, not, ◌&&◌, List, [], ◌∷◌, ◌++◌, length, map, Option, Some, None, option_map, unwrap_or, refl}
-use Rattle.std.proofs.Common.{sym, ap, ◌∙◌, true≢false, subst, suc}
+use Rattle.std.proofs.Common.{sym, ap, ◌∙◌, true≢false, subst}
 use Rattle.std.specs.Prelude.{option_to_list}
 use Rattle.std.specs.List.{AllByRecursion, last_or}
 use Rattle.std.specs.Option.{option_or}
@@ -27,7 +27,7 @@ use Rattle.dom_model.specs.DocumentMachine.{refusal, is_busy, effect_in, attachi
 use Rattle.dom_model.specs.Trace.{outputs_for}
 use Rattle.dom_model.specs.PageMachine.{PageState, page_of, is_page_task, page_refusal, page_effect, page_attaching, page_perform, page_accepted, page_command}
 use Rattle.dom_model.proofs.PartLaws.{part_of-with_part, part_of-with_part-other, owner-part_of}
-use Rattle.dom_model.proofs.StepLaws.{Component-IsNoPage}
+use Rattle.dom_model.proofs.OwnerLaws.{component_made-no_page}
 use Rattle.dom_isolation.specs.Laws.{page_run, IsQuiet}
 use Rattle.dom_isolation.specs.Worlds.{IsWorld, IsOf}
 use Rattle.dom_isolation.proofs.Squares.{run_then-square, outputs_for_page-says}
@@ -73,7 +73,7 @@ attaching-page w x =
     let marked = with_part w (record p { attached = p.attached ++ x ∷ [] }) in
     let root = part_with_root c Shadow (node_in p.trees x).document in
     ap (λ q. answering Page (a_component c) (record (page_of w) { part = q }))
-    (part_of-with_part-other marked root Page (Component-IsNoPage (suc (length p.attached))) ∙
+    (part_of-with_part-other marked root Page (component_made-no_page Page (length p.attached)) ∙
     part_of-with_part w (record p { attached = p.attached ++ x ∷ [] }) Page (owner-part_of w Page))
 
 -- the last of the page's nodes is the page's

@@ -4,7 +4,7 @@ use Rattle.std.specs.Prelude.{option_to_list}
 use Rattle.std.proofs.lemmas.Bool.{cond-true, cond-false, false_from_ne_true}
 use Rattle.dom_base.specs.declared.Owner.{Owner}
 use Rattle.dom_base.specs.declared.Owner.TheVariants.{Page, Component}
-use Rattle.dom_model.specs.Command.{Command, Line, no_owner, no_command, command, attach}
+use Rattle.dom_model.specs.Command.{Command, Line, no_owner, no_command, command}
 use Rattle.dom_model.specs.CommandRefusals.{is_command_of}
 use Rattle.dom_model.specs.DocumentMachine.{step, first_world, run_lines, outputs_of}
 use Rattle.dom_model.specs.Output.{Output, bad_owner, says}
@@ -116,8 +116,7 @@ module _ (read : List ℕ → Line) where
 -- Foreign names.
 component-may_use : (o : Owner) (c : Command) → o ≢ Page → MayUse c o → is_command_of o c ≡ true
 component-may_use Page c off h = absurd (off refl)
-component-may_use (Component k) (attach x) off h = absurd h
-component-may_use (Component k) c off h = refl
+component-may_use (Component q) c off h = refl
 
 -- a line of bytes with such a command
 pub foreign_line-is_refused : ForeignLineIsRefused

@@ -1,7 +1,7 @@
 -- The text of what is said without line feeds has none, and the protocol's reading gives words without line feeds alone.
 use Rattle.std.proofs.Common.{◌≡◌, ℕ, zero, suc, ◌+◌, ◌/◌, ◌%◌, ◌≤◌, Bool, true, false, not, cond, ◌||◌, eqb, List, [], ◌∷◌, ◌++◌, map, Option, Some}
 use Rattle.std.proofs.Common.{None, refl, sym, ap, ◌∙◌, arith, true≢false, subst}
-use Rattle.std.specs.Prelude.{codes, nat_lt, if◌then◌else◌}
+use Rattle.std.specs.Prelude.{codes, nat_lt, take, if◌then◌else◌}
 use Rattle.std.specs.List.{AllByRecursion, list_all, flat_map}
 use Rattle.std.specs.Int.{is_in_range}
 use Rattle.std.specs.Char.{digit_char}
@@ -16,7 +16,7 @@ use Rattle.dom_base.specs.declared.Owner.TheVariants.{Page, Component}
 use Rattle.dom_base.specs.declared.Refusal.{Refusal}
 use Rattle.dom_base.specs.declared.Refusal.TheVariants.{Syntax}
 use Rattle.dom_model.specs.Command.{Command, Line, no_owner, no_command, command}
-use Rattle.dom_model.specs.Names.{DomString, owner_eq}
+use Rattle.dom_model.specs.Names.{ComponentName, DomString, owner_eq}
 use Rattle.dom_model.specs.Output.{Change, child_list, attributes, character_data, EventLine, Boundary, Value, nothing, null, a_node, a_list}
 use Rattle.dom_model.specs.Output.{a_component, a_range, an_iterator, a_walker, an_observer, a_string, a_truth, a_count, a_tree, boundaries}
 use Rattle.dom_model.specs.Output.{reference, Said, replied, refused, event_seen, recorded, micro_ran, Output, bad_owner, says}
@@ -28,7 +28,7 @@ use Rattle.dom_text.specs.Text.{hex_digits, unit_text, string_text, string_or_nu
 use Rattle.dom_text.specs.Text.{list_text, numbered_text, attribute_text, own_parts, opening_text, trees_text, boundary_text, truth_text, side_text}
 use Rattle.dom_text.specs.Text.{value_text, event_text, change_text, said_text, output_line, output_text}
 use Rattle.dom_text.specs.Tokens.{IsWord, IsWordByte, IsLabel, is_label_byte}
-use Rattle.dom_text.specs.Words.{component_word, owner_word, kind_word}
+use Rattle.dom_text.specs.Words.{next_number_text, numbers_text, component_word, owner_word, kind_word}
 use Rattle.dom_text.proofs.DecodeLaws.{decode_says}
 use Rattle.dom_text.proofs.LineLaws.{lines_of-text_of_lines}
 use Rattle.dom_isolation.specs.Words.{HasNoFeed, HasPlainWords, IsPlainLine, ReadsPlainWords}
@@ -117,8 +117,14 @@ plain-numbered : (letter : List ℕ) (n : ℕ) → list_all (λ b. not (eqb b li
 plain-numbered letter n h = behind_key letter (decimal n) h (plain-decimal n)
 
 -- a component's word
-plain-component : (k : ℕ) → HasNoFeed (component_word k)
-plain-component k = plain-numbered (codes "c") k refl
+plain-component : (q : ComponentName) → HasNoFeed (component_word q)
+plain-component q = behind_key (codes "c") (numbers_text (take q.depth q.parts)) refl (plain-numbers (take q.depth q.parts))
+  where
+    plain-numbers : (ns : List ℕ) → HasNoFeed (numbers_text ns)
+    plain-numbers [] = tt
+    plain-numbers (n ∷ ns) =
+        and_then (decimal n) (flat_map next_number_text ns) (plain-decimal n)
+        (all-flat_map IsNoFeed next_number_text ns (all-from (λ m. HasNoFeed (next_number_text m)) (λ m. plain-numbered (codes ".") m refl) ns))
 
 -- an owner's word
 plain-owner : (o : Owner) → HasNoFeed (owner_word o)

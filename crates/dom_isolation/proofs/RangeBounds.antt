@@ -13,7 +13,6 @@ use Rattle.dom_model.specs.Extract.{Pieces, nothing, whole, cut, clone, clone_pa
 use Rattle.dom_isolation.specs.Worlds.{IsPart}
 use Rattle.dom_isolation.proofs.Bounds.{nowhere, HasRoom, room-make}
 use Rattle.dom_isolation.proofs.Childs.{childs-parent}
-use Rattle.dom_isolation.proofs.Insides.{inside}
 use Rattle.dom_isolation.proofs.InsideAncestors.{parent-there}
 use Rattle.dom_isolation.proofs.NodesRead.{node-new}
 use Rattle.dom_isolation.proofs.Lists.{all-then}

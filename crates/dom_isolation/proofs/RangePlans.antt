@@ -1,12 +1,12 @@
 -- Deletions and extractions of a range whose ends are in one tree keep all ends of ranges within their nodes.
-use Rattle.std.proofs.Common.{◌≡◌, ◌≤◌, ℕ, ◌-◌, Bool, true, false, not, ◌&&◌, List, [], ◌∷◌, ◌++◌, length, Some, None, refl, sym, ap, ◌∙◌, arith}
+use Rattle.std.proofs.Common.{◌≡◌, ◌≤◌, ℕ, ◌-◌, Bool, true, false, ◌&&◌, List, [], ◌∷◌, ◌++◌, length, Some, None, refl, sym, ap, ◌∙◌, arith}
 use Rattle.std.proofs.Common.{true≢false, subst}
 use Rattle.std.specs.Prelude.{if◌then◌else◌, min}
 use Rattle.std.specs.List.{AllByRecursion}
 use Rattle.std.proofs.lemmas.Bool.{cond-true, cond-false, and_parts}
 use Rattle.dom_base.specs.declared.NodeName.{NodeName}
 use Rattle.dom_model.specs.Names.{name_eq}
-use Rattle.dom_model.specs.Tree.{Trees, none, tree, Node, node_in, kind_of, has_data, length_of, is_inclusive_ancestor, names_of, nodes}
+use Rattle.dom_model.specs.Tree.{Trees, Node, node_in, kind_of, has_data, length_of, is_inclusive_ancestor, names_of, nodes}
 use Rattle.dom_model.specs.Output.{character_data}
 use Rattle.dom_model.specs.Part.{Part}
 use Rattle.dom_model.specs.Place.{Boundary, is_before, same_root}
@@ -14,7 +14,7 @@ use Rattle.dom_model.specs.Ranges.{Range, at, is_collapsed, is_contained}
 use Rattle.dom_model.specs.Steps.{Step, set_range, queue_record, part_step, after}
 use Rattle.dom_model.specs.Changes.{Plan, ◌and_then◌, in_turn, doing, steps_of, observed, removing}
 use Rattle.dom_model.specs.TextChanges.{replacing_data}
-use Rattle.dom_model.specs.Extract.{cut, cut_start, cut_end, is_in_one_data}
+use Rattle.dom_model.specs.Extract.{cut_start, cut_end, is_in_one_data}
 use Rattle.dom_model.specs.Extract.{new_place, both_at}
 use Rattle.dom_model.specs.RangeOps.{cutting_data, outermost_contained, deleting_contents, deleting}
 use Rattle.dom_model.proofs.OwnerLaws.{name_eq-same}

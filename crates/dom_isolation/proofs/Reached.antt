@@ -1,23 +1,21 @@
 -- What holds of every world that the machine reaches, all in one; and what follows for slots.
-use Rattle.std.proofs.Common.{◌≡◌, ◌≤◌, Bool, true, false, [], Option, Some, None, refl, sym, arith, true≢false, subst, not, map, List, ◌∷◌}
+use Rattle.std.proofs.Common.{◌≡◌, ◌≤◌, Bool, true, false, [], sym, arith, true≢false, subst, not, map, List, ◌∷◌}
 use Rattle.std.specs.List.{AllByRecursion}
 use Rattle.std.specs.Option.{option_and_then, option_map_or}
-use Rattle.dom_base.specs.declared.Owner.TheVariants.{Page}
 use Rattle.dom_base.specs.declared.NodeName.{NodeName}
 use Rattle.dom_model.specs.Command.{Line}
 use Rattle.dom_model.specs.DocumentMachine.{first_world, step, run_lines}
 use Rattle.dom_model.specs.Names.{name_eq}
 use Rattle.dom_model.specs.Runs.{Run, quiet}
-use Rattle.dom_model.specs.Slots.{assigned, assigned_below, is_assigned_to}
+use Rattle.dom_model.specs.Slots.{assigned_below, is_assigned_to}
 use Rattle.dom_model.specs.Tree.{Trees, none, tree, names_of, roots, trees_below, subtree, children_of}
 use Rattle.dom_model.specs.Trace.{line_may_stop, no_component_stops_from}
 use Rattle.dom_model.specs.Turns.{ending_turn, has_other_turn}
-use Rattle.dom_model.specs.World.{World, trees_with, host_of, some_if, root_at, shadow_root_of}
+use Rattle.dom_model.specs.World.{World, trees_with, some_if, root_at, shadow_root_of}
 use Rattle.dom_model.proofs.OwnerLaws.{name_eq-same}
 use Rattle.dom_isolation.specs.Laws.{IsSound, IsReached, FirstIsReached, StepKeepsReached, EndingKeepsReached, FinishKeepsReached, ScriptsReach}
-use Rattle.dom_isolation.specs.Laws.{QuietScriptsReach, AssignedArePage}
+use Rattle.dom_isolation.specs.Laws.{QuietScriptsReach, AssignedAreSiblings}
 use Rattle.dom_isolation.specs.Worlds.{IsWorld, IsOf, times_in}
-use Rattle.dom_isolation.proofs.ComponentEvents.{host-page}
 use Rattle.dom_isolation.proofs.FirstWorld.{quiet-first}
 use Rattle.dom_isolation.proofs.Hiding.{owned-in}
 use Rattle.dom_isolation.proofs.KindCommands.{all-kinds, kinds-same}
@@ -119,22 +117,13 @@ children-owned w i x =
     (λ y h. owned-in w i x.owner y (let a = times-below (subtree ts x) y in let b = times-subtree ts x y in omega arith))
     (names_of (roots below)) (roots-there below)
 
--- so the assigned nodes are the page's
-pub assigned-are_page : AssignedArePage
-assigned-are_page b w r s = from (host_of w s.owner) refl
+-- so the assigned nodes are of the host's owner
+pub assigned-are_siblings : AssignedAreSiblings
+assigned-are_siblings b w r s host e =
+    subst (λ o. AllByRecursion (IsOf host.owner)
+    (option_map_or (assigned_below w s) (option_and_then (some_if (name_eq (root_at w s) (shadow_root_of s.owner))) o) [])) (sym e)
+    (if_so (name_eq (root_at w s) (shadow_root_of s.owner)))
   where
-    at_host : (x : NodeName) → x.owner ≡ Page → AllByRecursion (IsOf Page) (assigned_below w s x)
-    at_host x e = all-filter (IsOf Page) (is_assigned_to w s) (children_of (trees_with w x) x)
-        (subst (λ o. AllByRecursion (IsOf o) (children_of (trees_with w x) x)) e (children-owned w r.world x))
-
-    if_so : (t : Bool) (x : NodeName) → x.owner ≡ Page → AllByRecursion (IsOf Page) (option_map_or (assigned_below w s) (some_if t x) [])
-    if_so true x e = at_host x e
-    if_so false x e = tt
-
-    from : (o : Option NodeName) → host_of w s.owner ≡ o → AllByRecursion (IsOf Page) (assigned w s)
-    from None e = subst (λ o. AllByRecursion (IsOf Page)
-        (option_map_or (assigned_below w s) (option_and_then (some_if (name_eq (root_at w s) (shadow_root_of s.owner))) o) [])) (sym e) tt
-    from (Some x) e =
-        subst (λ o. AllByRecursion (IsOf Page)
-        (option_map_or (assigned_below w s) (option_and_then (some_if (name_eq (root_at w s) (shadow_root_of s.owner))) o) [])) (sym e)
-        (if_so (name_eq (root_at w s) (shadow_root_of s.owner)) x (host-page w r.world s.owner x e).1)
+    if_so : (t : Bool) → AllByRecursion (IsOf host.owner) (option_map_or (assigned_below w s) (some_if t host) [])
+    if_so true = all-filter (IsOf host.owner) (is_assigned_to w s) (children_of (trees_with w host) host) (children-owned w r.world host)
+    if_so false = tt

@@ -88,15 +88,15 @@ module _ {only_log : Bool} where
 
 module _ {only_log : Bool} where
   -- attaching, by whoever may
-  quiet-attach_of : (w : World) (o : Owner) (x : Spelled) → is_command_of o (Command.attach x) ≡ true → IsSound only_log w →
+  quiet-attach_of : (w : World) (o : Owner) (x : Spelled) → part_refusal (part_of w o) (Command.attach x) ≡ None → IsSound only_log w →
       IsSound only_log (perform w o (Command.attach x)).0
-  quiet-attach_of w o x h q = quiet-attaching w o (named (part_of w o) x) (attach-may o x h) (owner-named (part_of w o) x ∙ owner-part_of w o) q
+  quiet-attach_of w o x r q = quiet-attaching w o (named (part_of w o) x) (attach-may w o x r) (owner-named (part_of w o) x ∙ owner-part_of w o) q
 
 module _ {only_log : Bool} where
   -- every accepted command
   quiet-perform : (w : World) (o : Owner) (c : Command) → IsSound only_log w → InTurn w o → is_command_of o c ≡ true →
       part_refusal (part_of w o) c ≡ None → (only_log ≡ true → o ≢ Page → AddsLogs c) → IsSound only_log (perform w o c).0
-  quiet-perform w o (Command.attach a) q t h r l = quiet-attach_of w o a h q
+  quiet-perform w o (Command.attach a) q t h r l = quiet-attach_of w o a r q
   quiet-perform w o (Command.connected a) q t h r l = q
   quiet-perform w o (Command.assigned a) q t h r l = q
   quiet-perform w o (Command.dispatch a b c) q t h r l = quiet-dispatch w (named (part_of w o) a) (option_map (named (part_of w o)) c) b q

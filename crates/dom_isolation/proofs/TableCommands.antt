@@ -7,11 +7,11 @@ use Rattle.dom_base.specs.declared.NodeName.{NodeName}
 use Rattle.dom_base.specs.declared.Refusal.TheVariants.{Hierarchy}
 use Rattle.dom_model.specs.Command.{Spelled}
 use Rattle.dom_model.specs.CommandNames.{named}
-use Rattle.dom_model.specs.Effects.{Effect, tables, changes, effect, with_range, collapsed_to}
+use Rattle.dom_model.specs.Effects.{Effect, tables, changes, with_range, collapsed_to}
 use Rattle.dom_model.specs.Names.{name_eq}
 use Rattle.dom_model.specs.Part.{Part}
 use Rattle.dom_model.specs.Place.{Boundary, same_root, is_before}
-use Rattle.dom_model.specs.Ranges.{Range, at, from_to, with_start, with_end}
+use Rattle.dom_model.specs.Ranges.{Range, from_to, with_start, with_end}
 use Rattle.dom_model.specs.Tree.{Trees, Node, has_node, kind_of, is_inclusive_ancestor}
 use Rattle.dom_model.specs.Tree.{child_nodes}
 use Rattle.dom_model.specs.Validity.{first_refusal, has_parent, may_be_parent, placing_tests, insertion_refusal, replacement_refusal}

@@ -7,7 +7,7 @@ use Rattle.dom_base.specs.declared.Move.TheVariants.{Parent, First, Last, Next, 
 use Rattle.dom_base.specs.declared.NodeName.{NodeName}
 use Rattle.dom_model.specs.Effects.{moves_iterator, sets_walker}
 use Rattle.dom_model.specs.Names.{name_eq, first_of, last_of, items_before, items_after}
-use Rattle.dom_model.specs.Output.{Value, reference}
+use Rattle.dom_model.specs.Output.{Value}
 use Rattle.dom_model.specs.Part.{Part}
 use Rattle.dom_model.specs.Traversal.{Iterator, Walker, iterator_next_node, iterator_previous_node, nodes_ahead, nodes_passed, accepts, walker_move}
 use Rattle.dom_model.specs.Traversal.{walker_step, walker_children, walker_nodes, walker_siblings}

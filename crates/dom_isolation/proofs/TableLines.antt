@@ -201,15 +201,15 @@ frame-attaching w o x may g i t f =
     let k = frame-with_part w more o mine hosted (f.records o) (λ y k. k) f in
     let d = (node_in p.trees x).document in
     let root = part_with_root c Shadow d in
-    let other : part_of marked c ≡ part_of w c = part_of-with_part-other w more c (λ e. component_made-other o n may (sym e ∙ mine)) in
+    let other : part_of marked c ≡ part_of w c = part_of-with_part-other w more c (λ e. component_made-other o n (sym e ∙ mine)) in
     frame-with_part marked root c refl (tables-root c d) tt (subst (λ (q : Part). Grows q.trees root.trees) (sym other)
     (absent-grows w c root (next-absent w g.makers i o may))) k
 
 -- who attaches is known from acceptance
-frame-attach_of : (w : World) (o : Owner) (x : Spelled) → is_command_of o (Command.attach x) ≡ true → part_refusal (part_of w o) (Command.attach x) ≡ None →
+frame-attach_of : (w : World) (o : Owner) (x : Spelled) → part_refusal (part_of w o) (Command.attach x) ≡ None →
     Ground w → HasOwners w → Frame w → Frame (perform w o (Command.attach x)).0
-frame-attach_of w o x g r k i f =
-    frame-attaching w o (named (part_of w o) x) (attach-may o x g) k i
+frame-attach_of w o x r k i f =
+    frame-attaching w o (named (part_of w o) x) (attach-may w o x r) k i
     (times-has_node (part_of w o).trees (named (part_of w o) x) (attach-free (part_of w o) x r).there) f
 
 -- An accepted command.
@@ -228,7 +228,7 @@ record Facts (w : World) (o : Owner) : Type 0 where
 -- any command
 frame-perform : (w : World) (o : Owner) (c : Command) → Facts w o → is_command_of o c ≡ true → part_refusal (part_of w o) c ≡ None → Frame w →
     Frame (perform w o c).0
-frame-perform w o (Command.attach x) k g r f = frame-attach_of w o x g r k.ground k.owners f
+frame-perform w o (Command.attach x) k g r f = frame-attach_of w o x r k.ground k.owners f
 frame-perform w o (Command.connected x) k g r f = f
 frame-perform w o (Command.assigned x) k g r f = f
 frame-perform w o (Command.dispatch x e related) k g r f = frame-dispatch w (named (part_of w o) x) (option_map (named (part_of w o)) related) e f

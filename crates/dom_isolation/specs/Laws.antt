@@ -198,6 +198,7 @@ AttachedAreThere = (only_log : Bool) (w : World) → IsReached only_log w → (o
 abbrev pub HostsAreTheirs : Type 0
 HostsAreTheirs = (only_log : Bool) (w : World) → IsReached only_log w → (o : Owner) (x : NodeName) → host_of w o ≡ Some x → component_at w x ≡ Some o
 
--- The nodes that are assigned to a slot are the page's.
-abbrev pub AssignedArePage : Type 0
-AssignedArePage = (only_log : Bool) (w : World) → IsReached only_log w → (s : NodeName) → AllByRecursion (IsOf Page) (assigned w s)
+-- The nodes that are assigned to a slot are of the owner whose host the slot's root has.
+abbrev pub AssignedAreSiblings : Type 0
+AssignedAreSiblings =
+    (only_log : Bool) (w : World) → IsReached only_log w → (s host : NodeName) → host_of w s.owner ≡ Some host → AllByRecursion (IsOf host.owner) (assigned w s)

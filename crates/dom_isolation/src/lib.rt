@@ -11,7 +11,7 @@ ghost use Rattle.dom_isolation.specs.Laws.{ComponentDispatchAgrees, Notification
 ghost use Rattle.dom_isolation.specs.Laws.{OtherLineAgrees, FinishAgrees, PageRunAgrees, TraceGoesOn, PageOutputGoesOn, FirstLinesStopNothing};
 ghost use Rattle.dom_isolation.specs.Laws.{IsReached, IsQuiet, FirstIsReached, StepKeepsReached, EndingKeepsReached, FinishKeepsReached};
 ghost use Rattle.dom_isolation.specs.Laws.{ScriptsReach, QuietScriptsReach, ShadowRootsAreRoots, NoOtherShadowRoots, AttachedAreThere};
-ghost use Rattle.dom_isolation.specs.Laws.{HostsAreTheirs, AssignedArePage};
+ghost use Rattle.dom_isolation.specs.Laws.{HostsAreTheirs, AssignedAreSiblings};
 ghost use Rattle.dom_isolation.specs.Wholes.{FirstIsWhole, StepKeepsWhole, EndingKeepsWhole, FinishKeepsWhole, ScriptsStayWhole, FirstHasOneRoots};
 ghost use Rattle.dom_isolation.specs.Wholes.{StepKeepsOneRoots, EndingKeepsOneRoots, FinishKeepsOneRoots, ScriptsKeepOneRoots};
 ghost use Rattle.dom_isolation.specs.Follows.{PathFollowsParents};
@@ -64,7 +64,7 @@ pub fn reached_worlds()
     ensures no_others { NoOtherShadowRoots }
     ensures there { AttachedAreThere }
     ensures hosts { HostsAreTheirs }
-    ensures assigned { AssignedArePage }
+    ensures assigned { AssignedAreSiblings }
 {}
 
 /// Of every world that the machine reaches the tables name what is there: hosts, the ends of ranges, iterators, walkers,
@@ -102,8 +102,8 @@ pub fn path_follows_parents()
     ensures { PathFollowsParents }
 {}
 
-/// In every world that the machine reaches a node is hidden from the nodes outside of its own closed shadow tree, and in its
-/// place they see the host (DOM Standard, concepts: closed-shadow-hidden, retarget).
+/// In every world that the machine reaches a node is hidden from the nodes outside of its own closed shadow tree and of those
+/// below it, and in its place they see what they see in place of the host (DOM Standard, concepts: closed-shadow-hidden, retarget).
 pub fn sights_go_by_roots()
     ensures hidden { HiddenByRoots }
     ensures retargeted { RetargetedByRoots }

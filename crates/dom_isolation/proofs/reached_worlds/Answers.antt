@@ -1,5 +1,5 @@
 use Rattle.dom_isolation.proofs.Reached.{first-is_reached, step-keeps_reached, ending-keeps_reached, finish-keeps_reached, scripts-reach}
-use Rattle.dom_isolation.proofs.Reached.{quiet_scripts-reach, sound, assigned-are_page}
+use Rattle.dom_isolation.proofs.Reached.{quiet_scripts-reach, sound, assigned-are_siblings}
 use Rattle.dom_isolation.proofs.ReachedFacts.{shadow_roots-are_roots, no_other_shadow_roots, attached-are_there, hosts-are_theirs}
 use Rattle.dom_isolation.proofs.reached_worlds.Goals as goal
 
@@ -37,4 +37,4 @@ pub returns-clause-hosts : goal.returns-clause-hosts
 returns-clause-hosts c = hosts-are_theirs
 
 pub returns-clause-assigned : goal.returns-clause-assigned
-returns-clause-assigned c = assigned-are_page
+returns-clause-assigned c = assigned-are_siblings
