@@ -1,10 +1,10 @@
--- The parts of a text between commas, one after the other.
+-- The parts of a text between bytes of one kind, one after the other.
 use Rattle.std.proofs.Common.{◌≡◌, ℕ, zero, suc, ◌+◌, Bool, false, eqb, List, [], ◌∷◌, ◌++◌, length, Option, Some, None, ap, ◌∙◌, arith, refl}
-use Rattle.std.specs.List.{All, AllByRecursion}
+use Rattle.std.specs.List.{All, AllByRecursion, slice_split}
 use Rattle.std.specs.Borrow.{Bor}
 use Rattle.std.proofs.lemmas.List.Splits.{slice_split_at, slice_split_none}
 use Rattle.std.specs.Prelude.{codes}
-use Rattle.std.proofs.lemmas.Bool.{ne_eqb}
+use Rattle.std.proofs.lemmas.Bool.{ne_eqb, eq-eqb}
 use Rattle.std.proofs.lemmas.List.Splits.{length-slice_split}
 use Rattle.dom_text.specs.Readers.{between_commas, take_name, show_of_names}
 use Rattle.dom_reader.proofs.Firsts.{Lacks}
@@ -17,15 +17,17 @@ each_at P (x ∷ xs) h = elim [
   | suc k ↦ λ d l. each_at P xs h.1 k d (omega arith)
 ]
 
--- the part in front of the first comma, and the parts behind it
-pub part_at_comma : (text front rest : List ℕ) → Lacks 44 front × (text ≡ front ++ 44 ∷ rest) → between_commas text ≡ front ∷ between_commas rest
-part_at_comma text front rest h = ap between_commas h.1 ∙ slice_split_at (λ b. eqb b 44) front 44 rest (each_at (λ b. eqb b 44 ≡ false) front h.0) refl
+-- the part in front of the first byte of a kind, and the parts behind it
+pub part_at : (c : ℕ) (text front rest : List ℕ) → Lacks c front × (text ≡ front ++ c ∷ rest) →
+    slice_split (λ b. eqb b c) text ≡ front ∷ slice_split (λ b. eqb b c) rest
+part_at c text front rest h =
+    ap (slice_split (λ b. eqb b c)) h.1 ∙ slice_split_at (λ b. eqb b c) front c rest (each_at (λ b. eqb b c ≡ false) front h.0) (eq-eqb c c refl)
 
--- a text without a comma is one part
-pub part_without_comma : (text : List ℕ) → Lacks 44 text → between_commas text ≡ text ∷ []
-part_without_comma text lacks = slice_split_none (λ b. eqb b 44) text (each_at (λ b. eqb b 44 ≡ false) text lacks)
+-- a text without such a byte is one part
+pub part_without : (c : ℕ) (text : List ℕ) → Lacks c text → slice_split (λ b. eqb b c) text ≡ text ∷ []
+part_without c text lacks = slice_split_none (λ b. eqb b c) text (each_at (λ b. eqb b c ≡ false) text lacks)
 
--- how much text is left, with the comma before it
+-- how much text is left, with the byte before it
 abbrev pub parts_len : Option (Bor (List ℕ)) → ℕ
 parts_len None = 0
 parts_len (Some text) = length text.now + 1

@@ -1,16 +1,17 @@
 -- The words that filter by name, as they are read part by part.
-use Rattle.std.specs.Prelude.{ℕ, List, [], Option, Some, None}
+use Rattle.std.specs.Prelude.{ℕ, ◌==◌, List, [], Option, Some, None}
+use Rattle.std.specs.List.{slice_split}
 use Rattle.std.specs.Borrow.{Bor}
 use Rattle.dom_model.specs.Names.{Word, is_name}
 use Rattle.dom_base.specs.declared.Owner.{Owner}
 use Rattle.dom_model.specs.Command.{Spelled, Filter}
-use Rattle.dom_text.specs.Readers.{◌>>=◌, only_if, behind, between_commas, next_as, last_as, show_of, name_filter_of}
+use Rattle.dom_text.specs.Readers.{◌>>=◌, only_if, behind, next_as, last_as, show_of, name_filter_of}
 use Rattle.dom_text.specs.Decode.{node_at}
 
--- the parts between commas of the text that is left, if any is
-abbrev pub parts_view : Option (Bor (List ℕ)) → List (List ℕ)
-parts_view None = []
-parts_view (Some text) = between_commas text.now
+-- the parts between these bytes of the text that is left, if any is
+abbrev pub parts_view : ℕ → Option (Bor (List ℕ)) → List (List ℕ)
+parts_view byte None = []
+parts_view byte (Some text) = slice_split (λ b. b == byte) text.now
 
 -- the name behind a front
 abbrev pub name_behind : List ℕ → Word → Option Word

@@ -1,6 +1,6 @@
 //! What is shown, and the words behind it that filter by name.
 
-ghost use Rattle.std.specs.Prelude.{◌≡◌, ◌∷◌, ◌<◌, length, option_map, IfSome, IsTrue, map, string_bytes};
+ghost use Rattle.std.specs.Prelude.{◌≡◌, option_map, IfSome, IsTrue, map, string_bytes};
 ghost use Rattle.std.specs.List.{list_all};
 ghost use Rattle.std.specs.Char.{is_ascii_graphic};
 ghost use Rattle.dom_model.specs.Names.{is_name as spec_is_name};
@@ -12,30 +12,19 @@ ghost use Rattle.dom_reader.specs.Filters.{parts_view, name_behind as spec_name_
 
 use crate::line::{NameFilter, Show};
 use crate::nodes::behind;
+use crate::separated::first_part;
 use dom_base::Verdict;
 use dom_words::{NotRead, Words, is_name, text_of};
-use memchr::memchr;
 use std::alloc::Global;
-
-/// The first part of a text between commas, and the text behind its comma, if there is one.
-fn first_part(text: &[u8]) -> (&[u8], Option<&[u8]>)
-    ensures parts { between_commas text.now ≡ result.0.now ∷ parts_view result.1 }
-    ensures shorter { IfSome result.1 (λ others. length others.now < length text.now) }
-{
-    match memchr(b',', text) {
-        Some(comma) => (&text[..comma], Some(&text[comma + 1..])),
-        None => (text, None),
-    }
-}
 
 /// Whether the name comes first among the parts, and the parts behind it where it does.
 fn take_name<'a>(name: &[u8], parts: Option<&'a [u8]>) -> (bool, Option<&'a [u8]>)
-    ensures { (result.0, parts_view result.1) ≡ spec_take_name name.now (parts_view parts.entry) }
+    ensures { (result.0, parts_view 44 result.1) ≡ spec_take_name name.now (parts_view 44 parts.entry) }
 {
     match parts {
         None => (false, None),
         Some(text) => {
-            let (first, others) = first_part(text);
+            let (first, others) = first_part(b',', text);
             if first == name {
                 (true, others)
             } else {
@@ -130,7 +119,7 @@ fn names_of(alloc: Global, text: &[u8]) -> Result<Vec<String>, NotRead>
     let mut names = Vec::new(alloc);
     let mut parts = Some(text);
     while let Some(text) = parts {
-        let (first, others) = first_part(text);
+        let (first, others) = first_part(b',', text);
         names.push(name_of(alloc, first)?)?;
         parts = others;
     }

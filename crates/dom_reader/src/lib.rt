@@ -9,6 +9,7 @@ mod laws;
 mod line;
 mod lookup;
 mod nodes;
+mod separated;
 mod splitter;
 
 ghost use Rattle.std.specs.Prelude.{◌≡◌, IfOk, IfErr};

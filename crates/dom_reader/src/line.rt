@@ -83,7 +83,7 @@ pub enum Command {
     NewFragment,
     /// `document`
     NewDocument,
-    /// `attach E`, of the page alone
+    /// `attach E`
     Attach(Spelled),
     /// `append P N`
     Append(Spelled, Spelled),

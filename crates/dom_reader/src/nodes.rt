@@ -1,7 +1,9 @@
 //! Owners, and nodes as lines name them.
 
-ghost use Rattle.std.specs.Prelude.{◌≡◌, option_map, length, ◌≤◌};
+ghost use Rattle.std.specs.Prelude.{◌≡◌, nat_lt, option_map, length, ◌≤◌};
 ghost use Rattle.std.specs.List.{prefix_len};
+ghost use Rattle.dom_base.specs.Owners.{no_path, longer_path};
+ghost use Rattle.dom_text.specs.Readers.{only_if, between_dots, path_onto};
 ghost use Rattle.dom_text.specs.Readers.{component_of as spec_component_of, owner_of as spec_owner_of, behind as spec_behind, is_no_colon};
 ghost use Rattle.dom_text.specs.Readers.{page_node as spec_page_node, inner_node as spec_inner_node, full_name_of as spec_full_name_of};
 ghost use Rattle.dom_text.specs.Readers.{spelled_of as spec_spelled_of};
@@ -10,15 +12,46 @@ ghost use Rattle.dom_words.specs.Gives.{Takes};
 ghost use Rattle.dom_reader.specs.Views.{spelled_view};
 
 use crate::line::Spelled;
-use dom_base::Owner;
+use crate::separated::first_part;
+use dom_base::{MAX_DEPTH, Owner, OwnerPath};
 use dom_words::{NotRead, Words, number_of, positive_of, word_at};
 
-/// The component whose word this is (own rule): `c` and a number from 1 without leading zeros.
-fn component_of(word: &[u8]) -> Option<u32>
+/// A path with one number more behind its own, where there is room for it.
+fn longer(path: OwnerPath, number: u32) -> Option<OwnerPath>
+    ensures { result ≡ only_if (nat_lt path.depth MAX_DEPTH) (longer_path path number) }
+{
+    if path.depth >= MAX_DEPTH {
+        return None;
+    }
+    let mut longer = path;
+    longer.parts[path.depth as usize] = number;
+    longer.depth += 1;
+    Some(longer)
+}
+
+/// The path of these numbers with dots between them: one to eight, none of them 0 and each without leading zeros.
+fn path_of(text: &[u8]) -> Option<OwnerPath>
+    ensures { result ≡ path_onto no_path (between_dots text.now) }
+{
+    let mut path = OwnerPath {
+        depth: 0,
+        parts: [0; 8],
+    };
+    let mut parts = Some(text);
+    while let Some(text) = parts {
+        let (number, others) = first_part(b'.', text);
+        path = longer(path, positive_of(number)?)?;
+        parts = others;
+    }
+    Some(path)
+}
+
+/// The component whose word this is (own rule): `c`, and one to eight numbers from 1 on with dots between them.
+fn component_of(word: &[u8]) -> Option<OwnerPath>
     ensures { result ≡ spec_component_of word.now }
 {
     match word {
-        [b'c', number @ ..] => positive_of(number),
+        [b'c', numbers @ ..] => path_of(numbers),
         _ => None,
     }
 }

@@ -1,7 +1,7 @@
 //! Commands that make, place, change and ask about nodes.
 
 ghost use Rattle.std.specs.Prelude.{◌≡◌};
-ghost use Rattle.dom_text.specs.Decode.{new_at, attach_at, assigned_at, command_behind};
+ghost use Rattle.dom_text.specs.Decode.{new_at, assigned_at, command_behind};
 ghost use Rattle.dom_words.specs.Gives.{Gives};
 ghost use Rattle.dom_reader.specs.Keywords.{making_keyword, tree_keyword, content_keyword, question_keyword};
 ghost use Rattle.dom_reader.specs.Views.{command_view};
@@ -28,16 +28,6 @@ fn new_command(alloc: Global, words: &mut Words) -> Result<Command, NotRead>
     ended(command, words)
 }
 
-/// The words of `attach`, which is the page's.
-fn attach(owner: Owner, words: &mut Words) -> Result<Command, NotRead>
-    ensures { Gives command_view result (attach_at owner words.old) }
-{
-    match owner {
-        Owner::Page => ended(Command::Attach(next_node(owner, words)?), words),
-        Owner::Component(_) => Err(NotRead::Syntax),
-    }
-}
-
 /// The words of `assigned`, which is a component's.
 fn assigned(owner: Owner, words: &mut Words) -> Result<Command, NotRead>
     ensures { Gives command_view result (assigned_at owner words.old) }
@@ -60,7 +50,7 @@ pub fn making_command(
     match word {
         MakingWord::New => new_command(alloc, words),
         MakingWord::Document => ended(Command::NewDocument, words),
-        MakingWord::Attach => attach(owner, words),
+        MakingWord::Attach => ended(Command::Attach(next_node(owner, words)?), words),
     }
 }
 

@@ -10,7 +10,7 @@ use Rattle.dom_reader.proofs.filters.names_of.Given as goal
 
 abbrev pub invariant-loop-parts : goal.invariant-loop-parts
 invariant-loop-parts l =
-    (map string_bytes l.names.items ++ parts_view l.parts ≡ between_commas l.fn.text) × (list_all is_name (map string_bytes l.names.items) ≡ true)
+    (map string_bytes l.names.items ++ parts_view 44 l.parts ≡ between_commas l.fn.text) × (list_all is_name (map string_bytes l.names.items) ≡ true)
 
 abbrev pub decreases-loop-parts : goal.decreases-loop-parts
 decreases-loop-parts l = parts_len l.parts
