@@ -1,12 +1,12 @@
 //! Numbers, owners and nodes.
-ghost use Rattle.std.specs.Prelude.{◌≡◌, ◌++◌, OnOk, OnErr};
+ghost use Rattle.std.specs.Prelude.{◌≡◌, ◌++◌, take, OnOk, OnErr};
 ghost use Rattle.std.specs.Fmt.{decimal};
 ghost use Rattle.std.specs.List.{flat_map};
 ghost use Rattle.dom_text.specs.Text.{node_text, node_or_null, next_node_text, list_text};
-ghost use Rattle.dom_text.specs.Words.{component_word, owner_word};
+ghost use Rattle.dom_text.specs.Words.{next_number_text, component_word, owner_word};
 ghost use Rattle.dom_printer.specs.Keeping.{Keeps};
 
-use dom_base::{NodeName, Owner};
+use dom_base::{NodeName, Owner, OwnerPath};
 use itoa::Buffer;
 use std::alloc::AllocError;
 
@@ -19,13 +19,40 @@ pub(crate) fn put_number(out: &mut Vec<u8>, number: usize) -> Result<(), AllocEr
     out.extend_from_slice(buffer.format(number).as_bytes())
 }
 
-/// Puts the word of a component.
-fn put_component(out: &mut Vec<u8>, component: u32) -> Result<(), AllocError>
+/// Puts numbers, each behind a dot.
+#[tactic(auto, using(crate::proofs::KeepLaws::keeps_at))]
+fn put_inner_numbers(out: &mut Vec<u8>, numbers: &[u32]) -> Result<(), AllocError>
+    ensures ok { OnOk result (out.new.items ≡ out.old.items ++ flat_map next_number_text numbers.now) }
+    ensures err { OnErr result (Keeps out.old.items out.new.items) }
+{
+    for number in numbers {
+        out.extend_from_slice(b".")?;
+        put_number(out, *number as usize)?;
+    }
+    Ok(())
+}
+
+/// The numbers of a component's word, the outermost first.
+fn numbers_of(component: &OwnerPath) -> &[u32]
+    ensures { result.now ≡ take component.now.depth component.now.parts }
+{
+    &component.parts[..(component.depth as usize).min(component.parts.len())]
+}
+
+/// Puts the word of a component: `c`, and the numbers of its path with dots between them.
+#[tactic(auto, using(crate::proofs::KeepLaws::keeps_at))]
+fn put_component(out: &mut Vec<u8>, component: OwnerPath) -> Result<(), AllocError>
     ensures ok { OnOk result (out.new.items ≡ out.old.items ++ component_word component) }
     ensures err { OnErr result (Keeps out.old.items out.new.items) }
 {
     out.extend_from_slice(b"c")?;
-    put_number(out, component as usize)
+    match numbers_of(&component) {
+        [] => Ok(()),
+        [first, inner @ ..] => {
+            put_number(out, *first as usize)?;
+            put_inner_numbers(out, inner)
+        }
+    }
 }
 
 /// Puts the word of an owner.

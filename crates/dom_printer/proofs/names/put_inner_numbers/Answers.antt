@@ -1,0 +1,23 @@
+-- The numbers so far, and one more.
+use Rattle.std.proofs.Common.{◌≡◌, ◌++◌, take}
+use Rattle.std.specs.Prelude.{codes}
+use Rattle.std.specs.List.{flat_map}
+use Rattle.dom_text.specs.Words.{next_number_text}
+use Rattle.dom_printer.proofs.PutLaws.{failed_put, both, same}
+use Rattle.dom_printer.proofs.names.put_inner_numbers.Goals as goal
+
+pub returns-in_err-extend_from_slice : goal.returns-in_err-extend_from_slice
+returns-in_err-extend_from_slice c =
+    let r = c.from_residual in
+    let before = c.loop-number.out.items in
+    let after = c.extend_from_slice.new.self.items in
+    failed_put r.result _ _ before _ after r.ensures.0 c.loop-number.invariant (same before after c.in_err-extend_from_slice.ensures.items)
+
+pub returns-in_err-put_number : goal.returns-in_err-put_number
+returns-in_err-put_number c =
+    let r = c.from_residual-in_err-put_number in
+    let before = c.loop-number.out.items in
+    let dot : c.extend_from_slice.new.self.items ≡ before ++ codes "." = c.in_ok-extend_from_slice.ensures.items in
+    let numbers = flat_map next_number_text (take c.loop-number.number-index c.args.numbers.now) in
+    failed_put r.result _ (numbers ++ codes ".") c.extend_from_slice.new.self.items _ c.put_number.new.out.items r.ensures.0
+    (both _ numbers before (codes ".") _ c.loop-number.invariant dot) c.in_err-put_number.ensures.err

@@ -1,0 +1,8 @@
+-- The buffer has the numbers so far.
+use Rattle.std.proofs.Common.{◌≡◌, ◌++◌, take}
+use Rattle.std.specs.List.{flat_map}
+use Rattle.dom_text.specs.Words.{next_number_text}
+use Rattle.dom_printer.proofs.names.put_inner_numbers.Given as goal
+
+abbrev pub invariant-loop-number : goal.invariant-loop-number
+invariant-loop-number l = l.out.items ≡ l.fn.out.items ++ flat_map next_number_text (take l.number-index l.numbers)
