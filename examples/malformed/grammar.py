@@ -9,6 +9,7 @@ MAX_LINE = 65_536
 
 NAME = "[A-Za-z_][A-Za-z0-9_-]*"
 NUM = "(?:0|[1-9][0-9]{0,8})"
+COMPONENT_WORD = "c[1-9][0-9]{0,8}(?:[.][1-9][0-9]{0,8}){0,7}"
 KINDS_IN_ORDER = ("element", "text", "comment", "document", "fragment")
 
 # What stands for the words of the table that are written in capitals.
@@ -16,7 +17,7 @@ PIECES = {
     "WORD": "[!#-~][!-~]*",
     "STR": r'"(?:[ !#-\[\]-~]|\\["\\]|\\u[0-9A-Fa-f]{4})*"',
     "NUM": NUM,
-    "NODE": f"(?:n{NUM}|m{NUM}|c[1-9][0-9]{{0,8}}:m{NUM})",
+    "NODE": f"(?:n{NUM}|m{NUM}|{COMPONENT_WORD}:m{NUM})",
     "RANGE": f"r{NUM}",
     "ITERATOR": f"i{NUM}",
     "WALKER": f"w{NUM}",
@@ -38,6 +39,7 @@ new text STR
 new comment STR
 new fragment
 document
+attach NODE
 append NODE NODE
 insert NODE NODE NODE
 replace NODE NODE NODE
@@ -90,10 +92,10 @@ micro LABEL
 .
 """
 ROWS = TABLE.strip().split("\n")
-PAGE_ROWS = ROWS + ["attach NODE"]
+PAGE_ROWS = ROWS
 COMPONENT_ROWS = ROWS + ["assigned NODE"]
 
-OWNER = re.compile(rb"(p|c[1-9][0-9]{0,8}) ")
+OWNER = re.compile(f"(p|{COMPONENT_WORD}) ".encode())
 
 
 def parts_of(row):

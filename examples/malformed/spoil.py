@@ -27,7 +27,7 @@ UNFIT = {
     "WORD": ('"div"', "1a", "a=b", "\x7f", "é"),
     "STR": STRINGS,
     "NUM": NUMBERS,
-    "NODE": [letter + number for letter in ("n", "m", "c1:m", "c0:m", "c01:m", "c1234567890:m", "N", "r", "c1:n") for number in ("0", *NUMBERS)],
+    "NODE": [letter + number for letter in ("n", "m", "c1:m", "c0:m", "c01:m", "c1234567890:m", "c1.2:m", "c1.0:m", "c1.:m", "c1.1.1.1.1.1.1.1.1:m", "N", "r", "c1:n") for number in ("0", *NUMBERS)],
     "RANGE": ["r" + number for number in NUMBERS] + ["n0", "i0", "w0", "o0", "R0"],
     "ITERATOR": ["i" + number for number in NUMBERS] + ["n0", "r0", "w0", "o0", "I0"],
     "WALKER": ["w" + number for number in NUMBERS] + ["n0", "r0", "i0", "o0", "W0"],

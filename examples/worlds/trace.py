@@ -1,7 +1,8 @@
 """Reads the trace of a script, written apart from the engine: its page lines, and the events that its components send out.
 
 An outward event is an accepted `dispatch` of a component with `composed` and without a related node, whose target is below the
-component's shadow root; the trace has the host, the type, and whether it bubbles and is cancelable (docs/ISOLATION.md). Which lines
+component's shadow root, whose host, where it is a component's, is below that one's, and so on up to a host of the page; the trace has
+this outermost host, the type, and whether it bubbles and is cancelable (docs/ISOLATION.md). Which lines
 were accepted is read from the replies; where a component's nodes stand is followed here, by the commands that move them. After a
 command that changes what is in a range this reader knows only what has no parent and what is placed anew, and it stops where it would
 have to know more.
@@ -13,7 +14,7 @@ import sys
 sys.path.insert(0, os.path.join(os.path.dirname(os.path.abspath(__file__)), "..", "malformed"))
 import grammar  # noqa: E402
 
-REPLY = re.compile(r"! owner|(?:p|c[1-9][0-9]*) (?:ok|!)(?: .*)?")
+REPLY = re.compile(rf"! owner|(?:p|{grammar.COMPONENT_WORD}) (?:ok|!)(?: .*)?")
 
 
 class Unread(Exception):
@@ -109,18 +110,22 @@ def trace_of(script, output, kept=("p",), may_stop=False):
             continue
         command, *words = rest.split(" ")
         value = reply[len(owner) + 4 :]
-        if owner == "p" and command == "attach":
-            hosts[value], trees[value] = words[0], Trees()
+        if command == "attach":
+            hosts[value], trees[value] = (owner, words[0]), Trees()
         elif owner != "p":
             trees[owner].follow(command, words, value)
-            if owner not in kept:
-                trace.extend(outward(hosts[owner], trees[owner], command, words))
+            if owner not in kept and command == "dispatch" and "composed" in words[2:] and words[-2] != "related":
+                host = outermost_host(hosts, trees, owner, words[0])
+                trace.extend([(host, words[1], "bubbles" in words[2:], "cancelable" in words[2:])] if host else [])
             if command == "listen" and words[3] != "log" and not may_stop:
                 raise Unread(f"a listener may stop an event: {line}")
     return trace
 
 
-def outward(host, trees, command, words):
-    """The event, if any, that an accepted command of a component sends out to this host."""
-    if command == "dispatch" and "composed" in words[2:] and words[-2] != "related" and trees.is_inside(words[0]):
-        yield (host, words[1], "bubbles" in words[2:], "cancelable" in words[2:])
+def outermost_host(hosts, trees, owner, node):
+    """The page's node above a component's node, from host to host, or nothing where one of these stands in no tree."""
+    while owner != "p":
+        if not trees[owner].is_inside(node):
+            return None
+        owner, node = hosts[owner]
+    return node
