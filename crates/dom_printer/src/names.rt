@@ -6,6 +6,7 @@ ghost use Rattle.dom_text.specs.Text.{node_text, node_or_null, next_node_text, l
 ghost use Rattle.dom_text.specs.Words.{next_number_text, component_word, owner_word};
 ghost use Rattle.dom_printer.specs.Keeping.{Keeps};
 
+use crate::buffers::cut_if_refused;
 use dom_base::{NodeName, Owner, OwnerPath};
 use itoa::Buffer;
 use std::alloc::AllocError;
@@ -55,7 +56,19 @@ fn put_component(out: &mut Vec<u8>, component: OwnerPath) -> Result<(), AllocErr
     }
 }
 
-/// Puts the word of an owner.
+/// Puts the word of an owner: `p`, or that of a component. Where memory is refused, the buffer is as before.
+///
+/// Own rule.
+pub fn put_owner_word(out: &mut Vec<u8>, owner: Owner) -> Result<(), AllocError>
+    ensures ok { OnOk result (out.new.items ≡ out.old.items ++ owner_word owner) }
+    ensures err { OnErr result (out.new.items ≡ out.old.items) }
+{
+    let length = out.len();
+    let put = put_owner(out, owner);
+    cut_if_refused(out, length, put)
+}
+
+/// Puts the word of an owner, as far as there is memory.
 pub(crate) fn put_owner(out: &mut Vec<u8>, owner: Owner) -> Result<(), AllocError>
     ensures ok { OnOk result (out.new.items ≡ out.old.items ++ owner_word owner) }
     ensures err { OnErr result (Keeps out.old.items out.new.items) }

@@ -10,6 +10,7 @@ use crate::piece::line_end;
 use crate::streams::Sink;
 use crate::writing::write_all_to;
 use dom_base::Owner;
+use dom_printer::put_owner_word;
 use std::alloc::{AllocError, Global};
 use std::marker::Model;
 
@@ -60,11 +61,10 @@ impl View {
 fn prefix_of(alloc: Global, owner: Owner) -> Result<Vec<u8>, AllocError>
     ensures { IfOk result (λ prefix. prefix.items ≡ owner_prefix owner) }
 {
-    let word = match owner {
-        Owner::Page => format!(in alloc; "p ")?,
-        Owner::Component(number) => format!(in alloc; "c{number} ")?,
-    };
-    Ok(word.into_bytes())
+    let mut prefix = Vec::new(alloc);
+    put_owner_word(&mut prefix, owner)?;
+    prefix.extend_from_slice(b" ")?;
+    Ok(prefix)
 }
 
 /// The lines of a text that begin with the owner's word and a space, each with its 0x0A (own rule). An error is want of memory.

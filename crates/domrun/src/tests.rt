@@ -1,6 +1,7 @@
 //! What the program's words ask for, and how a run ends the program.
 use super::*;
 use crate::words::view_of;
+use dom_base::OwnerPath;
 use std::test::Fail;
 
 /// What these words, behind the program's name, ask for.
@@ -45,12 +46,26 @@ fn refused(rt: &HostRuntime, words: &[&str]) -> Result<bool, Fail> {
     Ok(matches!(asked(rt, words)?, Err(Stop::Usage)))
 }
 
+/// The component whose word has these numbers, zeros behind them.
+fn component(depth: u8, parts: [u32; 8]) -> Option<Owner> {
+    Some(Owner::Component(OwnerPath { depth, parts }))
+}
+
 #[test]
 fn owners_words(rt: HostRuntime) -> Result<(), Fail> {
     assert_eq!(rt; view_of("p"), Some(Owner::Page));
-    assert_eq!(rt; view_of("c1"), Some(Owner::Component(1)));
-    assert_eq!(rt; view_of("c12"), Some(Owner::Component(12)));
-    assert_eq!(rt; view_of("c999999999"), Some(Owner::Component(999_999_999)));
+    assert_eq!(rt; view_of("c1"), component(1, [1, 0, 0, 0, 0, 0, 0, 0]));
+    assert_eq!(rt; view_of("c12"), component(1, [12, 0, 0, 0, 0, 0, 0, 0]));
+    assert_eq!(rt;
+        view_of("c999999999"),
+        component(1, [999_999_999, 0, 0, 0, 0, 0, 0, 0])
+    );
+    assert_eq!(rt; view_of("c1.1"), component(2, [1, 1, 0, 0, 0, 0, 0, 0]));
+    assert_eq!(rt; view_of("c3.20.1"), component(3, [3, 20, 1, 0, 0, 0, 0, 0]));
+    assert_eq!(rt;
+        view_of("c1.2.3.4.5.6.7.8"),
+        component(8, [1, 2, 3, 4, 5, 6, 7, 8])
+    );
     for word in [
         "",
         "c0",
@@ -66,6 +81,15 @@ fn owners_words(rt: HostRuntime) -> Result<(), Fail> {
         "c-1",
         "c+1",
         "q",
+        "c1.",
+        "c.1",
+        "c1..1",
+        "c1.0",
+        "c0.1",
+        "c1.01",
+        "c1.1 ",
+        "c1.1000000000",
+        "c1.2.3.4.5.6.7.8.9",
     ] {
         assert_eq!(rt; view_of(word), None);
     }
@@ -93,7 +117,7 @@ fn words_that_are_taken(rt: HostRuntime) -> Result<(), Fail> {
         asks(
             &rt,
             &["--view", "c12", "--", "a.txt"],
-            Some(Owner::Component(12)),
+            component(1, [12, 0, 0, 0, 0, 0, 0, 0]),
             Some("a.txt")
         )?
     );

@@ -18,7 +18,8 @@ pub struct Request<'a> {
     pub file: Option<&'a str>,
 }
 
-/// The owner whose word this is, none of another text: `p`, or `c` and a number from 1 without leading zeros (own rule).
+/// The owner whose word this is, none of another text: `p`, or `c` and one to eight numbers from 1 on with dots between them,
+/// without leading zeros (own rule).
 pub fn view_of(word: &str) -> Option<Owner>
     ensures { result ≡ spec_owner_of word.now }
 {
