@@ -1,12 +1,15 @@
 //! As many observers of one owner as there may be, and one more.
 
-use dom_base::{Fault, Owner, Refusal};
+use dom_base::{Fault, Owner, OwnerPath, Refusal};
 use dom_observers::Observers;
 use std::test::Fail;
 
 const PAGE: Owner = Owner::Page;
 
-const OTHER: Owner = Owner::Component(1);
+const OTHER: Owner = Owner::Component(OwnerPath {
+    depth: 1,
+    parts: [1, 0, 0, 0, 0, 0, 0, 0],
+});
 
 #[test]
 fn an_owner_makes_a_million_observers(rt: HostRuntime) -> Result<(), Fail> {

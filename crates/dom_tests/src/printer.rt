@@ -1,4 +1,4 @@
-use dom_base::{Kind, NodeName, Owner, Refusal};
+use dom_base::{Kind, NodeName, Owner, OwnerPath, Refusal};
 use dom_printer::{
     Attribute, Boundary, Change, Event, Opening, TreeStep, Value, Words, put_event, put_micro,
     put_record, put_refusal, put_reply, put_string, put_tree,
@@ -6,9 +6,21 @@ use dom_printer::{
 use std::alloc::{AllocError, Global};
 use std::test::Fail;
 
-const FIRST: Owner = Owner::Component(1);
+const FIRST: Owner = Owner::Component(OwnerPath {
+    depth: 1,
+    parts: [1, 0, 0, 0, 0, 0, 0, 0],
+});
 
-const SECOND: Owner = Owner::Component(2);
+const SECOND: Owner = Owner::Component(OwnerPath {
+    depth: 1,
+    parts: [2, 0, 0, 0, 0, 0, 0, 0],
+});
+
+// The twentieth component that the first one made.
+const INNER: Owner = Owner::Component(OwnerPath {
+    depth: 2,
+    parts: [1, 20, 0, 0, 0, 0, 0, 0],
+});
 
 // A node of the page.
 fn n(number: u32) -> NodeName {
@@ -49,12 +61,14 @@ fn replies(rt: HostRuntime) -> Result<(), Fail> {
     put_reply(&mut out, Owner::Page, &Value::List(&[]))?;
     put_reply(&mut out, Owner::Page, &Value::List(&[n(2), n(3)]))?;
     put_reply(&mut out, Owner::Page, &Value::Component(FIRST))?;
+    put_reply(&mut out, FIRST, &Value::Component(INNER))?;
+    put_reply(&mut out, INNER, &Value::Node(m(1)))?;
     put_reply(&mut out, Owner::Page, &Value::Str(&[0x6B]))?;
     put_reply(&mut out, Owner::Page, &Value::Truth(true))?;
     put_reply(&mut out, Owner::Page, &Value::Truth(false))?;
     put_reply(&mut out, Owner::Page, &Value::Count(2))?;
     let text = "p ok\np ok null\np ok n10\nc1 ok n1\nc1 ok m1\nc2 ok c1:m1\np ok c1:m1\np ok []\n\
-        p ok [n2,n3]\np ok c1\np ok \"k\"\np ok true\np ok false\np ok 2\n";
+        p ok [n2,n3]\np ok c1\nc1 ok c1.20\nc1.20 ok c1:m1\np ok \"k\"\np ok true\np ok false\np ok 2\n";
     assert_eq!(rt; out.as_slice(), text.as_bytes());
     Ok(())
 }

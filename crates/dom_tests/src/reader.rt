@@ -4,6 +4,7 @@ mod refused;
 mod said;
 
 use dom_base::Owner;
+use dom_printer::put_owner_word;
 use dom_reader::{Command, Line, Splitter, parse_line};
 use refused::{NO_OWNER, REFUSED};
 use said::{COMMANDS, OPTIONAL_WORDS};
@@ -11,11 +12,22 @@ use std::alloc::{AllocError, Global};
 use std::process::Abort;
 use std::test::Fail;
 
-// How a line is read, in the words of `Debug`: whose command it says, or its owner, if there is one, and the refusal.
+// The word of an owner.
+fn word_of(alloc: Global, owner: Owner) -> Result<String, AllocError> {
+    let mut word = Vec::new(alloc);
+    put_owner_word(&mut word, owner)?;
+    String::from_utf8_lossy(alloc, &word)
+}
+
+// How a line is read: by the word of the owner whose command it says, or by that of its owner, if there is one, and the refusal.
 fn read_as(alloc: Global, line: &[u8]) -> Result<String, AllocError> {
     match parse_line(alloc, line)? {
-        Ok(line) => format!(in alloc; "{:?}", line.owner),
-        Err((owner, refusal)) => format!(in alloc; "{owner:?} {refusal:?}"),
+        Ok(line) => word_of(alloc, line.owner),
+        Err((None, refusal)) => format!(in alloc; "None {refusal:?}"),
+        Err((Some(owner), refusal)) => {
+            let word = word_of(alloc, owner)?;
+            format!(in alloc; "{word} {refusal:?}")
+        }
     }
 }
 
@@ -44,22 +56,13 @@ fn other_lines_say_no_command(rt: HostRuntime) -> Result<(), Fail> {
 #[test]
 fn bytes_that_are_no_text_say_no_command(rt: HostRuntime) -> Result<(), Fail> {
     assert_eq!(rt; read_as(rt.alloc(), b"\x80 .")?.as_str(), "None Syntax");
-    assert_eq!(rt;
-        read_as(rt.alloc(), b"p tree n0\x80")?.as_str(),
-        "Some(Page) Syntax"
-    );
-    assert_eq!(rt;
-        read_as(rt.alloc(), b"p .\r")?.as_str(),
-        "Some(Page) Syntax"
-    );
+    assert_eq!(rt; read_as(rt.alloc(), b"p tree n0\x80")?.as_str(), "p Syntax");
+    assert_eq!(rt; read_as(rt.alloc(), b"p .\r")?.as_str(), "p Syntax");
     assert_eq!(rt;
         read_as(rt.alloc(), b"p new text \"\xC3\xA9\"")?.as_str(),
-        "Some(Page) Syntax"
+        "p Syntax"
     );
-    assert_eq!(rt;
-        read_as(rt.alloc(), b"p micro \x7F")?.as_str(),
-        "Some(Page) Syntax"
-    );
+    assert_eq!(rt; read_as(rt.alloc(), b"p micro \x7F")?.as_str(), "p Syntax");
     Ok(())
 }
 
@@ -91,14 +94,11 @@ fn a_line_has_at_most_65536_bytes(rt: HostRuntime) -> Result<(), Fail> {
         _ => assert!(rt; false, "no comment is made"),
     }
     let long = long_line(alloc, b"p new comment \"", 65_521, b"\"")?;
-    assert_eq!(rt; read_as(alloc, &long)?.as_str(), "Some(Page) Syntax");
+    assert_eq!(rt; read_as(alloc, &long)?.as_str(), "p Syntax");
     let nobody = long_line(alloc, b"", 65_537, b"")?;
     assert_eq!(rt; read_as(alloc, &nobody)?.as_str(), "None Syntax");
     let component = long_line(alloc, b"c1 ", 65_534, b"")?;
-    assert_eq!(rt;
-        read_as(alloc, &component)?.as_str(),
-        "Some(Component(1)) Syntax"
-    );
+    assert_eq!(rt; read_as(alloc, &component)?.as_str(), "c1 Syntax");
     Ok(())
 }
 

@@ -149,11 +149,11 @@ fn a_view_has_one_owners_lines(rt: HostRuntime) {
         &rt,
         alloc,
         script,
-        Some(Owner::Component(1)),
+        Owner::Page.component(0),
         Ok(()),
         component,
     );
-    check(&rt, alloc, script, Some(Owner::Component(11)), Ok(()), b"");
+    check(&rt, alloc, script, Owner::Page.component(10), Ok(()), b"");
 }
 
 #[test]
