@@ -1,13 +1,19 @@
 //! The order of tasks, and that each owner's notification waits once.
-use dom_base::Owner;
+use dom_base::{Owner, OwnerPath};
 use dom_microtasks::{Queue, Task};
 use std::alloc::{AllocError, Global};
 use std::process::Abort;
 use std::test::Fail;
 
-const FIRST: Owner = Owner::Component(1);
+const FIRST: Owner = Owner::Component(OwnerPath {
+    depth: 1,
+    parts: [1, 0, 0, 0, 0, 0, 0, 0],
+});
 
-const SECOND: Owner = Owner::Component(2);
+const SECOND: Owner = Owner::Component(OwnerPath {
+    depth: 1,
+    parts: [2, 0, 0, 0, 0, 0, 0, 0],
+});
 
 // Queues a label of an owner.
 fn micro(queue: &mut Queue, alloc: Global, owner: Owner, label: &[u8]) -> Result<(), AllocError> {

@@ -5,7 +5,7 @@ ghost use Rattle.dom_model.specs.Tree.{subtree};
 ghost use Rattle.dom_tree.specs.Forest.{name_at};
 ghost use Rattle.dom_slots.specs.Kept.{AreSlotsOf};
 
-use dom_base::{Kind, NodeName, Owner};
+use dom_base::{Kind, NodeName, Owner, OwnerPath};
 use dom_path::{Item, Path};
 use dom_slots::{Slots, Step, steps_end};
 use dom_tree::{Forest, NodeData};
@@ -14,6 +14,16 @@ use node_arena::Key;
 use std::alloc::{AllocError, Global};
 use std::process::Abort;
 use std::test::Fail;
+
+const FIRST: Owner = Owner::Component(OwnerPath {
+    depth: 1,
+    parts: [1, 0, 0, 0, 0, 0, 0, 0],
+});
+
+const SECOND: Owner = Owner::Component(OwnerPath {
+    depth: 1,
+    parts: [2, 0, 0, 0, 0, 0, 0, 0],
+});
 
 // What is done to make trees. Nodes are written as `n1` of the page, `m1` of the first component and `k1` of the second one.
 #[derive(Clone, Copy)]
@@ -41,8 +51,8 @@ fn name(text: &str) -> NodeName {
     let bytes = text.as_bytes();
     let owner = match bytes.first() {
         Some(b'n') => Owner::Page,
-        Some(b'm') => Owner::Component(1),
-        _ => Owner::Component(2),
+        Some(b'm') => FIRST,
+        _ => SECOND,
     };
     let number = match bytes.get(1) {
         Some(digit) => u32::from(digit.wrapping_sub(b'0')),
@@ -84,10 +94,10 @@ pub(super) fn nodes(
 ) -> Result<Forest, Fail> {
     let mut forest = Forest::new(alloc);
     add(alloc, &mut forest, Owner::Page, page)?;
-    add(alloc, &mut forest, Owner::Component(1), &["shadow"])?;
-    add(alloc, &mut forest, Owner::Component(1), first)?;
-    add(alloc, &mut forest, Owner::Component(2), &["shadow"])?;
-    add(alloc, &mut forest, Owner::Component(2), second)?;
+    add(alloc, &mut forest, FIRST, &["shadow"])?;
+    add(alloc, &mut forest, FIRST, first)?;
+    add(alloc, &mut forest, SECOND, &["shadow"])?;
+    add(alloc, &mut forest, SECOND, second)?;
     Ok(forest)
 }
 
