@@ -1,18 +1,21 @@
 -- What follows of worlds that the machine reaches: of shadow roots, of hosts, and of who is there.
-use Rattle.std.proofs.Common.{◌≡◌, ℕ, zero, suc, ◌+◌, ◌≤◌, ◌<◌, true, false, not, List, [], ◌∷◌, ◌++◌, length, position, Some, None, option_map, sym}
-use Rattle.std.proofs.Common.{ap, ◌∙◌, arith, true≢false, subst}
+use Rattle.std.proofs.Common.{◌≡◌, ℕ, zero, suc, ◌+◌, ◌≤◌, ◌<◌, true, false, not, List, [], ◌∷◌, ◌++◌, length, position, Option, Some, None, option_map, sym}
+use Rattle.std.proofs.Common.{refl, ap, ◌∙◌, arith, true≢false, subst}
 use Rattle.std.specs.Prelude.{is_some, slice_get, nat_lt, cond, drop}
 use Rattle.std.specs.List.{position_or_len}
 use Rattle.std.proofs.lemmas.Bool.{cond-true, cond-false, false_from_ne_true, lt-ltb}
+use Rattle.dom_base.specs.declared.Owner.{Owner}
+use Rattle.dom_base.specs.declared.Owner.TheVariants.{Page}
 use Rattle.dom_base.specs.declared.NodeName.{NodeName}
-use Rattle.dom_model.specs.Names.{name_eq, is_in, first_of}
+use Rattle.dom_base.specs.Owners.{has_word}
+use Rattle.dom_model.specs.Names.{owner_eq, name_eq, is_in, first_of}
 use Rattle.dom_model.specs.Tree.{Trees, none, tree, nodes, names_of, roots, has_node, inclusive_ancestors, on_top}
-use Rattle.dom_model.specs.World.{part_of, is_there, host_of, component_made, shadow_root_of}
-use Rattle.dom_model.proofs.OwnerLaws.{name_eq-same, made_by-is}
+use Rattle.dom_model.specs.World.{World, part_of, is_there, host_of, component_made, shadow_root_of}
+use Rattle.dom_model.proofs.OwnerLaws.{owner_eq-true, owner_eq-false, name_eq-same, made_by-is, word-made}
 use Rattle.dom_model.proofs.PartLaws.{owner-part_of}
-use Rattle.dom_isolation.specs.Laws.{ShadowRootsAreRoots, NoOtherShadowRoots, AttachedAreThere, HostsAreTheirs}
-use Rattle.dom_isolation.specs.Worlds.{IsShadowOf, MayBeShadow, times_among}
-use Rattle.dom_isolation.proofs.Makers.{hosted, hosted-owned}
+use Rattle.dom_isolation.specs.Laws.{ShadowRootsAreRoots, NoOtherShadowRoots, AttachedAreThere, OwnersHaveWords, HostsAreTheirs}
+use Rattle.dom_isolation.specs.Worlds.{IsWorld, IsShadowOf, MayBeShadow, times_among}
+use Rattle.dom_isolation.proofs.Makers.{hosted, hosted-owned, hosted-maker}
 use Rattle.dom_isolation.proofs.InsideAncestors.{in-later}
 use Rattle.dom_isolation.proofs.NodeKinds.{node-read, name-node_in, fragment-no_shadow}
 use Rattle.dom_isolation.proofs.Owners.{hosted-there, there-hosted}
@@ -107,3 +110,19 @@ hosts-are_theirs b w r o x e =
     ap (λ m. option_map (component_made m) (position (name_eq x) (part_of w m).attached)) (hosted-owned w r.world o x k)
     ∙ ap (option_map (component_made k.maker)) (position-of (part_of w k.maker).attached k.number x k.found ((r.kinds k.maker).once x))
     ∙ ap Some (made_by-is o k.maker k.number k.named)
+
+-- a component's word is its maker's with one number more
+hosted-word : (w : World) → IsWorld w → (o : Owner) → is_some (host_of w o) ≡ true → has_word o ≡ true
+hosted-word w i o h = from (host_of w o) refl h
+  where
+    from : (m : Option NodeName) → host_of w o ≡ m → is_some m ≡ true → has_word o ≡ true
+    from None e g = absurd (true≢false (sym g))
+    from (Some x) e g =
+        let k = hosted w o x e in
+        subst (λ c. has_word c ≡ true) (made_by-is o k.maker k.number k.named) (word-made k.maker k.number (hosted-maker w i.makers o x k))
+
+-- who is there has a word
+pub owners-have_words : OwnersHaveWords
+owners-have_words b w r o h =
+    by_cases (owner_eq o Page) (λ e. ap has_word (owner_eq-true o Page e))
+    (λ e. hosted-word w r.world o (there-hosted w r.world.makers r.owners o (owner_eq-false o Page e) h))

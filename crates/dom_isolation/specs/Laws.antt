@@ -2,6 +2,7 @@
 -- machine does.
 use Rattle.std.specs.Prelude.{◌≡◌, ◌≢◌, Bool, false, List, ◌++◌, filter, fold, map, Option, None, Some, is_some, option_to_list, IsTrue, true}
 use Rattle.std.specs.List.{AllByRecursion}
+use Rattle.dom_base.specs.Owners.{has_word}
 use Rattle.dom_base.specs.declared.Owner.{Owner}
 use Rattle.dom_base.specs.declared.Owner.TheVariants.{Page}
 use Rattle.dom_base.specs.declared.NodeName.{NodeName}
@@ -193,6 +194,10 @@ NoOtherShadowRoots = (only_log : Bool) (w : World) → IsReached only_log w → 
 -- But for the page, just those owners are there that have a host.
 abbrev pub AttachedAreThere : Type 0
 AttachedAreThere = (only_log : Bool) (w : World) → IsReached only_log w → (o : Owner) → o ≢ Page → is_there w o ≡ is_some (host_of w o)
+
+-- Each owner that is there has a word.
+abbrev pub OwnersHaveWords : Type 0
+OwnersHaveWords = (only_log : Bool) (w : World) → IsReached only_log w → (o : Owner) → IsTrue (is_there w o) → IsTrue (has_word o)
 
 -- The component at a node is that whose host the node is.
 abbrev pub HostsAreTheirs : Type 0

@@ -11,7 +11,7 @@ ghost use Rattle.dom_isolation.specs.Laws.{ComponentDispatchAgrees, Notification
 ghost use Rattle.dom_isolation.specs.Laws.{OtherLineAgrees, FinishAgrees, PageRunAgrees, TraceGoesOn, PageOutputGoesOn, FirstLinesStopNothing};
 ghost use Rattle.dom_isolation.specs.Laws.{IsReached, IsQuiet, FirstIsReached, StepKeepsReached, EndingKeepsReached, FinishKeepsReached};
 ghost use Rattle.dom_isolation.specs.Laws.{ScriptsReach, QuietScriptsReach, ShadowRootsAreRoots, NoOtherShadowRoots, AttachedAreThere};
-ghost use Rattle.dom_isolation.specs.Laws.{HostsAreTheirs, AssignedAreSiblings};
+ghost use Rattle.dom_isolation.specs.Laws.{OwnersHaveWords, HostsAreTheirs, AssignedAreSiblings};
 ghost use Rattle.dom_isolation.specs.Wholes.{FirstIsWhole, StepKeepsWhole, EndingKeepsWhole, FinishKeepsWhole, ScriptsStayWhole, FirstHasOneRoots};
 ghost use Rattle.dom_isolation.specs.Wholes.{StepKeepsOneRoots, EndingKeepsOneRoots, FinishKeepsOneRoots, ScriptsKeepOneRoots};
 ghost use Rattle.dom_isolation.specs.Follows.{PathFollowsParents};
@@ -63,6 +63,7 @@ pub fn reached_worlds()
     ensures roots { ShadowRootsAreRoots }
     ensures no_others { NoOtherShadowRoots }
     ensures there { AttachedAreThere }
+    ensures words { OwnersHaveWords }
     ensures hosts { HostsAreTheirs }
     ensures assigned { AssignedAreSiblings }
 {}

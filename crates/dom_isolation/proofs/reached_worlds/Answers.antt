@@ -1,6 +1,6 @@
 use Rattle.dom_isolation.proofs.Reached.{first-is_reached, step-keeps_reached, ending-keeps_reached, finish-keeps_reached, scripts-reach}
 use Rattle.dom_isolation.proofs.Reached.{quiet_scripts-reach, sound, assigned-are_siblings}
-use Rattle.dom_isolation.proofs.ReachedFacts.{shadow_roots-are_roots, no_other_shadow_roots, attached-are_there, hosts-are_theirs}
+use Rattle.dom_isolation.proofs.ReachedFacts.{shadow_roots-are_roots, no_other_shadow_roots, attached-are_there, owners-have_words, hosts-are_theirs}
 use Rattle.dom_isolation.proofs.reached_worlds.Goals as goal
 
 pub returns-clause-first : goal.returns-clause-first
@@ -32,6 +32,9 @@ returns-clause-no_others c = no_other_shadow_roots
 
 pub returns-clause-there : goal.returns-clause-there
 returns-clause-there c = attached-are_there
+
+pub returns-clause-words : goal.returns-clause-words
+returns-clause-words c = owners-have_words
 
 pub returns-clause-hosts : goal.returns-clause-hosts
 returns-clause-hosts c = hosts-are_theirs
