@@ -15,6 +15,7 @@
   class Owner {
     constructor(word) {
       this.word = word;
+      this.attached = 0;
       for (const table of ["nodes", "ranges", "iterators", "walkers", "observers"]) this[table] = [];
       this.listeners = new Map();
       this.records = [];
@@ -240,7 +241,7 @@
     }
 
     // The event of a signalled slot is told and acted on where it comes at the end of a turn: not where a run looks for signals, lest a
-    // listener keep the event from `signalled`.
+    // listener keep the event from `signalled`. It is told with the notification of the slot's owner, whoever hears it.
     visit(owner, label, listener, event) {
       if (!this.signals && !this.atCommand) return;
       const show = (node) => this.show(owner, node);
@@ -248,7 +249,7 @@
       const line = `${owner.word} event ${label} ${event.type} phase=${event.eventPhase} target=${show(event.target)}`
         + ` current=${show(event.currentTarget)} related=${show(event.relatedTarget)} path=${this.showList(owner, event.composedPath())}`;
       if (this.atCommand) this.put(line);
-      else owner.slotEvents.push(line);
+      else this.names.get(event.target).owner.slotEvents.push(line);
       if (listener.acts === "stop") event.stopPropagation();
       if (listener.acts === "stop-now") event.stopImmediatePropagation();
       if (listener.acts === "cancel") event.preventDefault();

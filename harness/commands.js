@@ -6,6 +6,7 @@
     "next-sibling": "nextSibling", "previous-sibling": "previousSibling",
   };
   const MAX_COMPONENTS = 1000;
+  const MAX_DEPTH = 8;
   const MAX_OF_OWNER = 1000000;
   const isShadowRoot = (node) => node.nodeType === 11 && "host" in node;
 
@@ -18,9 +19,11 @@
   // Own rule: how much an owner may have in a table.
   const refuseFull = (owner, table) => refuseWhere(owner[table].length >= MAX_OF_OWNER, "limit");
 
-  // Own rule: how many components there may be. What the DOM refuses before, a copy of the element tells.
-  function refuseLast(run, element) {
-    if (run.owners.size <= MAX_COMPONENTS) return;
+  // Own rule: how many components an owner may attach, and how many numbers a component's word has. What the DOM refuses before, a
+  // copy of the element tells.
+  function refuseLast(run, maker, element) {
+    const depth = maker === run.page ? 0 : maker.word.split(".").length;
+    if (maker.attached < MAX_COMPONENTS && depth < MAX_DEPTH) return;
     refuseWhere([...run.owners.values()].some(({ nodes: [root] }) => root.host === element), "not-supported");
     element.cloneNode().attachShadow({ mode: "closed" });
     throw new Refused("limit");
@@ -42,12 +45,13 @@
     return isShadowRoot(node) ? run.makeDocument() : node;
   }
 
-  function attach(run, page, [element]) {
+  function attach(run, maker, [element]) {
     const isOwn = element.localName.includes("-") && !/^[a-z][a-z0-9-]*$/.test(element.localName);
     refuseWhere(isOwn, "not-supported");
-    refuseLast(run, element);
+    refuseLast(run, maker, element);
     const root = element.attachShadow({ mode: "closed" });
-    const owner = run.addOwner("c" + run.owners.size);
+    maker.attached += 1;
+    const owner = run.addOwner((maker === run.page ? "c" : maker.word + ".") + maker.attached);
     run.name(owner, root);
     return owner.word;
   }

@@ -6,7 +6,9 @@
   const NAME = /^[A-Za-z_][A-Za-z0-9_-]*$/;
   const NUMBER = /^(0|[1-9][0-9]{0,8})$/;
   const LABEL = /^[A-Za-z0-9_.:-]{1,64}$/;
-  const OWNER = /^(p|c[1-9][0-9]{0,8}) /;
+  const COMPONENT = "c[1-9][0-9]{0,8}(?:\\.[1-9][0-9]{0,8}){0,7}";
+  const OWNER = new RegExp(`^(p|${COMPONENT}) `);
+  const NODE = new RegExp(`^(?:(n|m)|${COMPONENT}:m)(0|[1-9][0-9]{0,8})$`);
   const KINDS_SHOWN = { element: 1, text: 4, comment: 128, document: 256, fragment: 1024 };
   const MOVES = ["parent", "first", "last", "next", "previous", "next-sibling", "previous-sibling"];
 
@@ -56,8 +58,8 @@
 
   function nodeOf(word, owner) {
     const own = owner === "p" ? "n" : "m";
-    const found = /^(?:(n|m)|c([1-9][0-9]{0,8}):m)(0|[1-9][0-9]{0,8})$/.exec(word || "");
-    return found ? { table: "nodes", foreign: found[1] !== own, number: Number(found[3]) } : null;
+    const found = NODE.exec(word || "");
+    return found ? { table: "nodes", foreign: found[1] !== own, number: Number(found[2]) } : null;
   }
 
   function numberedOf(word, table) {
@@ -117,7 +119,7 @@
   function commandOf(tokens, owner) {
     const first = tokens.shift();
     const name = first && first.word === "new" && tokens.length ? "new " + tokens.shift().word : first && first.word;
-    if (!Object.hasOwn(COMMANDS, name) || name === (owner === "p" ? "assigned" : "attach")) return null;
+    if (!Object.hasOwn(COMMANDS, name) || (owner === "p" && name === "assigned")) return null;
     const [values, options] = [[], {}];
     for (const part of COMMANDS[name].split(" ").filter(Boolean)) {
       if (part[0] === "[") {
