@@ -4,6 +4,7 @@ pub mod Reach
 mod Roots
 pub mod Changes
 mod Reading
+mod KeyLists
 mod Kept
 mod Adding
 mod Setting

@@ -1,8 +1,9 @@
 -- The tests on names, and the order of names.
-use Rattle.std.proofs.Common.{◌≡◌, ◌⊎◌, inl, inr, ℕ, ◌<◌, true, false, cond, eqb, ltb, refl, sym, ap, ◌∙◌, subst, arith, true≢false}
+use Rattle.std.proofs.Common.{◌≡◌, ◌⊎◌, inl, inr, ℕ, ◌<◌, List, [], ◌∷◌, true, false, cond, eqb, ltb, refl, sym, ap, ◌∙◌, subst, arith, true≢false}
 use Rattle.std.proofs.lemmas.Bool.{eqb-true, and_parts, and_from, or_cases, or_left, or_right, lt-ltb, ltb-true, cases_order, cases_Bool, false_from_ne_true}
 use Rattle.dom_base.specs.declared.Owner.{Owner}
 use Rattle.dom_base.specs.declared.Owner.TheVariants.{Page, Component}
+use Rattle.dom_base.specs.declared.OwnerPath.{OwnerPath}
 use Rattle.dom_base.specs.declared.NodeName.{NodeName}
 use Rattle.dom_model.specs.Names.{owner_eq, owner_place, list_before, name_eq, name_before}
 use Rattle.dom_model.proofs.OwnerLaws.{owner_eq-same, owner_eq-true, owner_eq-false, name_eq-same}
@@ -13,7 +14,12 @@ owner_place-same : (o p : Owner) → owner_place o ≡ owner_place p → o ≡ p
 owner_place-same Page Page e = refl
 owner_place-same Page (Component k) e = cc
 owner_place-same (Component j) Page e = cc
-owner_place-same (Component j) (Component k) e = ap Component cc
+owner_place-same (Component j) (Component k) e = ap Component (ap (path_at j) e)
+  where
+    -- the path of a place
+    path_at : OwnerPath → List ℕ → OwnerPath
+    path_at q [] = q
+    path_at q (d ∷ parts) = record { depth = d; parts = parts }
 
 -- names with the same owner and number are one
 pub same_parts : (x y : NodeName) → x.owner ≡ y.owner → x.number ≡ y.number → x ≡ y

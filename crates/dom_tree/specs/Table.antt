@@ -2,7 +2,7 @@
 use Rattle.std.specs.Prelude.{ℕ, ◌<◌, List, [], MatchOption}
 use Rattle.std.specs.HashMap.{get}
 use Rattle.std.specs.Vec.{vec_len, vec_capacity}
-use Rattle.std.specs.Option.{option_map_or}
+use Rattle.std.specs.Option.{option_map_or, IsSome}
 use Rattle.dom_base.specs.declared.Owner.{Owner}
 use Rattle.dom_base.specs.declared.Owner.TheVariants.{Page, Component}
 use Rattle.dom_base.specs.contracts.OwnerPartialEq.TheImpl as OwnerImpl
@@ -17,3 +17,7 @@ keys_of t (Component k) = option_map_or (λ v. v.items) (get OwnerImpl.ghosts.eq
 abbrev pub HasRoom : KeyTable → Owner → Type 0
 HasRoom t Page = vec_len t.page < vec_capacity t.page
 HasRoom t (Component k) = MatchOption (get OwnerImpl.ghosts.eq t.components (Component k)) ⊥ (λ v. vec_len v < vec_capacity v)
+
+-- an owner has a list of keys
+abbrev pub HasList : KeyTable → Owner → Type 0
+HasList t o = IsSome (get OwnerImpl.ghosts.eq t.components o)

@@ -1,8 +1,9 @@
 //! The keys of each owner's nodes, by the nodes' numbers.
-ghost use Rattle.std.specs.Prelude.{◌≡◌, ◌++◌, ◌∷◌, [], if◌then◌else◌, slice_get, OnOk};
+ghost use Rattle.std.specs.Prelude.{◌≡◌, ◌≢◌, ◌++◌, ◌∷◌, [], if◌then◌else◌, slice_get, OnOk};
 ghost use Rattle.dom_base.specs.declared.Owner.{Owner as Owners};
+ghost use Rattle.dom_base.specs.declared.Owner.TheVariants.{Page};
 ghost use Rattle.dom_model.specs.Names.{owner_eq};
-ghost use Rattle.dom_tree.specs.Table.{keys_of, HasRoom};
+ghost use Rattle.dom_tree.specs.Table.{keys_of, HasRoom, HasList};
 
 use dom_base::{NodeName, Owner};
 use node_arena::Key;
@@ -57,11 +58,21 @@ impl KeyTable {
         if matches!(owner, Owner::Page) {
             return self.page.reserve(1);
         }
-        if !self.components.contains_key(&owner) {
-            let _ = self.components.insert(owner, Vec::new(self.alloc))?;
-        }
+        self.begin(owner)?;
         if let Some(keys) = self.components.get_mut(&owner) {
             keys.reserve(1)?;
+        }
+        Ok(())
+    }
+
+    /// Gives a component a list of keys, without a key where it had none.
+    fn begin(&mut self, owner: Owner) -> Result<(), AllocError>
+        requires component { owner ≢ Page }
+        ensures keys { (o : Owners) → keys_of self.new o ≡ keys_of self.old o }
+        ensures list { OnOk result (HasList self.new owner) }
+    {
+        if !self.components.contains_key(&owner) {
+            let _ = self.components.insert(owner, Vec::new(self.alloc))?;
         }
         Ok(())
     }
