@@ -6,7 +6,7 @@ use Rattle.slab.specs.Slab.{Slab}
 use Rattle.dom_base.specs.declared.Owner.{Owner}
 use Rattle.dom_base.specs.declared.Owner.TheVariants.{Page, Component}
 use Rattle.dom_base.specs.contracts.OwnerPartialEq.TheImpl as OwnerImpl
-use Rattle.dom_model.specs.Names.{owner_eq}
+use Rattle.dom_model.specs.Names.{ComponentName, owner_eq}
 use Rattle.dom_ranges.specs.declared.numbers.Numbers.{Numbers}
 use Rattle.dom_ranges.specs.declared.table.Points.{Points}
 use Rattle.dom_ranges.specs.Tables.{list_of, ranges_of}
@@ -23,12 +23,12 @@ list_of-map f (e ∷ es) o = by (owner_eq o e.0) (list_of-map f es o)
     by false more = more
 
 -- the tests of owners are one
-same_test : (k : ℕ) (o : Owner) → owner_eq (Component k) o ≡ OwnerImpl.ghosts.eq (Component k) o
+same_test : (k : ComponentName) (o : Owner) → owner_eq (Component k) o ≡ OwnerImpl.ghosts.eq (Component k) o
 same_test k Page = refl
 same_test k (Component j) = refl
 
 -- the list of a component is found by its key
-list_of-entries : {X Y : Type 0} (f : X → List Y) (k : ℕ) (es : List (Owner × X)) →
+list_of-entries : {X Y : Type 0} (f : X → List Y) (k : ComponentName) (es : List (Owner × X)) →
     list_of (map (λ e. (e.0, f e.1)) es) (Component k) ≡ option_map_or f (lookup (OwnerImpl.ghosts.eq (Component k)) es) []
 list_of-entries f k [] = refl
 list_of-entries f k (e ∷ es) =

@@ -1,5 +1,6 @@
 pub mod Lists
 mod Holding
+mod SlotLists
 mod Writing
 pub mod Places
 pub mod Before

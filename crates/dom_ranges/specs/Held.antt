@@ -22,6 +22,10 @@ abbrev pub HasRoom : Numbers → Owner → Type 0
 HasRoom n Page = vec_len n.page < vec_capacity n.page
 HasRoom n (Component k) = MatchOption (value_at OwnerImpl.ghosts.eq n.components (Component k)) ⊥ (λ v. vec_len v < vec_capacity v)
 
+-- an owner has a list of slots
+abbrev pub HasList : Numbers → Owner → Type 0
+HasList n o = IsSome (value_at OwnerImpl.ghosts.eq n.components o)
+
 -- the lists of all owners
 abbrev pub lists_of : Numbers → List (Owner × List (Option ℕ))
 lists_of n = (Page, n.page.items) ∷ map (λ e. (e.0, e.1.items)) n.components.entries

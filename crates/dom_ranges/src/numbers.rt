@@ -1,9 +1,10 @@
 //! Where each owner's ranges are kept, by the ranges' numbers.
-ghost use Rattle.std.specs.Prelude.{◌≡◌, ◌<◌, ◌++◌, ◌∷◌, [], if◌then◌else◌, length, slice_get, slice_set, Some, None, OnOk};
+ghost use Rattle.std.specs.Prelude.{◌≡◌, ◌≢◌, ◌<◌, ◌++◌, ◌∷◌, [], if◌then◌else◌, length, slice_get, slice_set, Some, None, OnOk};
 ghost use Rattle.std.specs.Option.{option_flatten};
 ghost use Rattle.dom_base.specs.declared.Owner.{Owner as Owners};
+ghost use Rattle.dom_base.specs.declared.Owner.TheVariants.{Page};
 ghost use Rattle.dom_model.specs.Names.{owner_eq};
-ghost use Rattle.dom_ranges.specs.Held.{slots_of, HasRoom};
+ghost use Rattle.dom_ranges.specs.Held.{slots_of, HasRoom, HasList};
 
 use dom_base::Owner;
 use std::alloc::{AllocError, Global};
@@ -58,11 +59,21 @@ impl Numbers {
         if matches!(owner, Owner::Page) {
             return self.page.reserve(1);
         }
-        if !self.components.contains_key(&owner) {
-            let _ = self.components.insert(owner, Vec::new(self.alloc))?;
-        }
+        self.begin(owner)?;
         if let Some(slots) = self.components.get_mut(&owner) {
             slots.reserve(1)?;
+        }
+        Ok(())
+    }
+
+    /// Gives a component a list of slots, without a slot where it had none.
+    fn begin(&mut self, owner: Owner) -> Result<(), AllocError>
+        requires component { owner ≢ Page }
+        ensures slots { (o : Owners) → slots_of self.new o ≡ slots_of self.old o }
+        ensures list { OnOk result (HasList self.new owner) }
+    {
+        if !self.components.contains_key(&owner) {
+            let _ = self.components.insert(owner, Vec::new(self.alloc))?;
         }
         Ok(())
     }

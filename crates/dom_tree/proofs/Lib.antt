@@ -5,6 +5,7 @@ mod Roots
 pub mod Changes
 mod Reading
 mod KeyLists
+pub mod OwnerLists
 mod Kept
 mod Adding
 mod Setting

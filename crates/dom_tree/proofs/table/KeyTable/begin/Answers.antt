@@ -3,7 +3,8 @@ use Rattle.std.specs.HashMap.{get}
 use Rattle.std.specs.Option.{option_map_or}
 use Rattle.dom_base.specs.contracts.OwnerPartialEq.TheImpl as OwnerImpl
 use Rattle.dom_tree.specs.declared.table.KeyTable.{KeyTable}
-use Rattle.dom_tree.proofs.KeyLists.{written-same, keys-same, none_from}
+use Rattle.dom_tree.proofs.KeyLists.{keys-same}
+use Rattle.dom_tree.proofs.OwnerLists.{written-same, none_from}
 use Rattle.dom_tree.proofs.table.KeyTable.begin.Goals as goal
 
 pub returns-in_ok-insert-clause-keys : goal.returns-in_ok-insert-clause-keys

@@ -4,7 +4,8 @@ use Rattle.std.specs.Option.{IsSome}
 use Rattle.dom_base.specs.declared.Owner.TheVariants.{Page}
 use Rattle.dom_base.specs.contracts.OwnerPartialEq.TheImpl as OwnerImpl
 use Rattle.dom_tree.specs.declared.table.KeyTable.{KeyTable}
-use Rattle.dom_tree.proofs.KeyLists.{written-more, keys-written, room_of, of_ok}
+use Rattle.dom_tree.proofs.KeyLists.{keys-written, room_of}
+use Rattle.dom_tree.proofs.OwnerLists.{written-by, of_ok}
 use Rattle.dom_tree.proofs.table.KeyTable.push.Goals as goal
 use Rattle.dom_tree.proofs.table.KeyTable.push.Goals.{in-Page, in_default}
 
@@ -21,5 +22,5 @@ returns-in-Some c =
     let items = of_ok c.push-in-Some.result (c.in-Some.keys.now.items ++ c.args.key ∷ []) c.in-Some.keys.now.items c.push-in-Some.new.self.items
         (c.push-in-Some.ensures.succeeds (room_of t c.args.owner c.in-Some.keys.now other found c.requires)) c.push-in-Some.ensures.items in
     keys-written t r c.args.owner (c.args.key ∷ []) other refl
-    (written-more (λ v. v.items) (get OwnerImpl.ghosts.eq t.components) (get OwnerImpl.ghosts.eq r.components) c.args.owner c.push-in-Some.new.self
-    (λ p. ((c.get_mut.follows.holds c.push-in-Some.new.self).3 some).0 p) c.in-Some.keys.now (c.args.key ∷ []) found items)
+    (written-by (λ v. v.items) (get OwnerImpl.ghosts.eq t.components) (get OwnerImpl.ghosts.eq r.components) c.args.owner c.push-in-Some.new.self
+    (λ p. ((c.get_mut.follows.holds c.push-in-Some.new.self).3 some).0 p) c.in-Some.keys.now (λ keys. keys ++ c.args.key ∷ []) found items)

@@ -1,0 +1,45 @@
+-- The slots of all owners, after a component's list of slots was written.
+use Rattle.std.proofs.Common.{◌≡◌, ◌≢◌, ℕ, ◌<◌, cond, List, [], Option, Some, Vec, Global, refl, sym, ap, ◌∙◌, subst}
+use Rattle.std.specs.Prelude.{MatchOption}
+use Rattle.std.specs.HashMap.{get}
+use Rattle.std.specs.Option.{option_map_or}
+use Rattle.std.specs.Vec.{vec_len, vec_capacity}
+use Rattle.std.proofs.lemmas.Bool.{cond-false}
+use Rattle.dom_base.specs.declared.Owner.{Owner}
+use Rattle.dom_base.specs.declared.Owner.TheVariants.{Page, Component}
+use Rattle.dom_base.specs.contracts.OwnerPartialEq.TheImpl as OwnerImpl
+use Rattle.dom_model.specs.Names.{owner_eq}
+use Rattle.dom_model.proofs.OwnerLaws.{ne-owner_eq}
+use Rattle.dom_tree.proofs.OwnerLists.{had, written-same}
+use Rattle.dom_ranges.specs.declared.numbers.Numbers.{Numbers}
+use Rattle.dom_ranges.specs.Held.{slots_of, HasRoom}
+
+-- a component's list is rewritten
+pub slots-written : (n r : Numbers) (owner : Owner) (f : List (Option ℕ) → List (Option ℕ)) → owner ≢ Page → r.page ≡ n.page →
+    ((o : Owner) → had (λ v. v.items) (get OwnerImpl.ghosts.eq r.components) o
+    ≡ cond (owner_eq owner o) (f (had (λ v. v.items) (get OwnerImpl.ghosts.eq n.components) o)) (had (λ v. v.items) (get OwnerImpl.ghosts.eq n.components) o))
+    → (o : Owner) → slots_of r o ≡ cond (owner_eq owner o) (f (slots_of n o)) (slots_of n o)
+slots-written n r owner f other page h Page =
+    ap (λ v. v.items) page ∙ sym (cond-false (owner_eq owner Page) (f (slots_of n Page)) (slots_of n Page) (ne-owner_eq owner Page other))
+slots-written n r owner f other page h (Component k) = h (Component k)
+
+-- no list of a component has other slots
+pub slots-same : (n r : Numbers) → r.page ≡ n.page →
+    ((o : Owner) → had (λ v. v.items) (get OwnerImpl.ghosts.eq r.components) o ≡ had (λ v. v.items) (get OwnerImpl.ghosts.eq n.components) o)
+    → (o : Owner) → slots_of r o ≡ slots_of n o
+slots-same n r page h Page = ap (λ v. v.items) page
+slots-same n r page h (Component k) = h (Component k)
+
+-- a component's list with room has room for one slot more
+pub room_of : (n : Numbers) (owner : Owner) (v : Vec (Option ℕ) Global) → owner ≢ Page → get OwnerImpl.ghosts.eq n.components owner ≡ Some v →
+    HasRoom n owner → vec_len v < vec_capacity v
+room_of n Page v other e room = absurd (other refl)
+room_of n (Component k) v other e room = subst (λ found. MatchOption found ⊥ (λ w. vec_len w < vec_capacity w)) e room
+
+-- a component's list got room
+pub slots-reserved : (n r : Numbers) (owner : Owner) (old new : Vec (Option ℕ) Global) → r.page ≡ n.page →
+    ((p : Owner) → get OwnerImpl.ghosts.eq r.components p ≡ cond (OwnerImpl.ghosts.eq owner p) (Some new) (get OwnerImpl.ghosts.eq n.components p)) →
+    get OwnerImpl.ghosts.eq n.components owner ≡ Some old → new.items ≡ old.items → (o : Owner) → slots_of r o ≡ slots_of n o
+slots-reserved n r owner old new page at found items =
+    slots-same n r page (written-same (λ v. v.items) (get OwnerImpl.ghosts.eq n.components) (get OwnerImpl.ghosts.eq r.components) owner new at
+    (ap (λ v. option_map_or (λ w. w.items) v []) found ∙ sym items))
