@@ -27,9 +27,8 @@ naming-new_fragment = record { offered = by_owner _ refl (λ k. refl); foreign =
 pub naming-new_document : IsNaming Command.new_document []
 naming-new_document = record { offered = by_owner _ refl (λ k. refl); foreign = refl; exist = λ p. refl; fit = λ p. refl }
 
--- of the page alone
-pub naming-attach : (x : Spelled) → IsNamingOf Page (Command.attach (spelled_view x)) (Element x ∷ [])
-naming-attach x = record { mine = refl; foreign = refl; exist = λ p. and_true _; fit = λ p. refl }
+pub naming-attach : (x : Spelled) → IsNaming (Command.attach (spelled_view x)) (Element x ∷ [])
+naming-attach x = record { offered = by_owner _ refl (λ k. refl); foreign = refl; exist = λ p. and_true _; fit = λ p. refl }
 
 pub naming-append : (a x : Spelled) → IsNaming (Command.append (spelled_view a) (spelled_view x)) (Any a ∷ Any x ∷ [])
 naming-append a x = record { offered = by_owner _ refl (λ k. refl); foreign = refl; exist = λ p. and_true _; fit = λ p. refl }

@@ -6,6 +6,7 @@ use Rattle.dom_base.specs.declared.Owner.TheVariants.{Page, Component}
 use Rattle.dom_base.specs.declared.Refusal.{Refusal}
 use Rattle.dom_base.specs.declared.Refusal.TheVariants.{Syntax, Busy, Foreign, Unknown, WrongKind}
 use Rattle.dom_model.specs.Command.{Command}
+use Rattle.dom_model.specs.Names.{ComponentName}
 use Rattle.dom_model.specs.CommandNames.{names_foreign, nodes_exist, nodes_fit, thing_exists}
 use Rattle.dom_model.specs.CommandRefusals.{is_command_of, own_refusal}
 use Rattle.dom_model.specs.Part.{Part}
@@ -34,7 +35,7 @@ pub naming_of : (o : Owner) (c : Command) (names : List Operand) → IsNaming c 
 naming_of o c names is = record { mine = is.offered o; foreign = is.foreign; exist = is.exist; fit = is.fit }
 
 -- what holds of the page and of each component holds of all owners
-pub by_owner : (P : Owner → Type 0) → P Page → ((k : ℕ) → P (Component k)) → (o : Owner) → P o
+pub by_owner : (P : Owner → Type 0) → P Page → ((k : ComponentName) → P (Component k)) → (o : Owner) → P o
 by_owner P page component Page = page
 by_owner P page component (Component k) = component k
 

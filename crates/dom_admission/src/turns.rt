@@ -4,7 +4,7 @@ ghost use Rattle.dom_model.specs.Names.{owner_eq};
 ghost use Rattle.dom_model.specs.Turns.{has_other_turn};
 
 use crate::state::State;
-use dom_base::Owner;
+use dom_base::{Owner, OwnerPath};
 use dom_microtasks::Queue;
 
 impl State {
@@ -23,7 +23,7 @@ impl State {
         ensures { result ≡ has_other_turn self.now.world owner }
     {
         match self.turn {
-            Some(Owner::Component(number)) => !is_component(owner, number),
+            Some(Owner::Component(path)) => !is_component(owner, path),
             _ => false,
         }
     }
@@ -36,12 +36,12 @@ impl State {
     }
 }
 
-/// Whether an owner is the component of this number.
-fn is_component(owner: Owner, number: u32) -> bool
-    ensures { result ≡ owner_eq (Owner.Component number) owner }
+/// Whether an owner is the component of this path.
+fn is_component(owner: Owner, path: OwnerPath) -> bool
+    ensures { result ≡ owner_eq (Owner.Component path) owner }
 {
     match owner {
         Owner::Page => false,
-        Owner::Component(other) => number == other,
+        Owner::Component(other) => path == other,
     }
 }

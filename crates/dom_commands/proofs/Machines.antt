@@ -8,19 +8,21 @@ use Rattle.dom_base.specs.declared.Fault.{Fault}
 use Rattle.dom_base.specs.declared.Fault.TheVariants.{Refused, Memory}
 use Rattle.dom_base.specs.declared.NodeName.{NodeName}
 use Rattle.dom_base.specs.declared.Owner.{Owner}
-use Rattle.dom_base.specs.declared.Owner.TheVariants.{Page, Component}
+use Rattle.dom_base.specs.declared.Owner.TheVariants.{Page}
 use Rattle.dom_model.specs.Command.{Command, Line}
 use Rattle.dom_model.specs.Listeners.{Listener}
 use Rattle.dom_model.specs.DocumentMachine.{first_world, refusal, step}
 use Rattle.dom_model.specs.Names.{node_of}
 use Rattle.dom_model.specs.Turns.{opening_turn}
 use Rattle.dom_model.specs.Part.{Part}
-use Rattle.dom_model.specs.World.{World, part_of, is_there, component_made}
-use Rattle.dom_model.proofs.StepLaws.{Component-IsNoPage}
+use Rattle.dom_model.specs.World.{World, part_of, is_there, component_made, MayAttach}
+use Rattle.dom_model.proofs.OwnerLaws.{component_made-no_page}
 use Rattle.dom_isolation.specs.Bounds.{IsBounded}
 use Rattle.dom_isolation.specs.Laws.{IsReached}
 use Rattle.dom_isolation.specs.Tables.{IsWhole}
+use Rattle.dom_isolation.proofs.Acceptance.{accepted-facts, attach-may}
 use Rattle.dom_isolation.proofs.BoundWorlds.{first-is_bounded, step-keeps_bounds}
+use Rattle.dom_isolation.proofs.Makers.{host_of-made}
 use Rattle.dom_isolation.proofs.Reached.{first-is_reached, step-keeps_reached}
 use Rattle.dom_isolation.proofs.ReachedFacts.{attached-are_there}
 use Rattle.dom_isolation.proofs.TableLines.{first-is_whole, step-keeps_whole}
@@ -43,23 +45,24 @@ use Rattle.dom_commands.proofs.RangeLaws.{range_ends-unheard, shadow_roots-unhea
 pub begins_same : (names : List NodeName) → BeginsWith names names
 begins_same names = take-length names
 
--- The component that the page's next attach makes was not there.
-next_absent : (of : Owner → List (Listener NodeName)) (w : World) → FitsIn of w → IsReached false (heard of w) →
-    is_there w (component_made Page (length (part_of w Page).attached)) ≡ false
-next_absent of w fits reached =
-    let hosts = (part_of w Page).attached in
-    let c = component_made Page (length hosts) in
-    sym (there-heard of w c) ∙ attached-are_there false (heard of w) reached c (Component-IsNoPage (suc (length hosts)))
-    ∙ ap (λ (p : Part). is_some (slice_get p.attached (length hosts))) (part-heard of w fits Page) ∙
+-- The component that an owner's next attach makes was not there.
+next_absent : (of : Owner → List (Listener NodeName)) (w : World) → FitsIn of w → IsReached false (heard of w) → (o : Owner) → MayAttach o →
+    is_there w (component_made o (length (part_of w o).attached)) ≡ false
+next_absent of w fits reached o may =
+    let hosts = (part_of w o).attached in
+    let c = component_made o (length hosts) in
+    sym (there-heard of w c) ∙ attached-are_there false (heard of w) reached c (component_made-no_page o (length hosts))
+    ∙ ap is_some (host_of-made (heard of w) o (length hosts) may)
+    ∙ ap (λ (p : Part). is_some (slice_get p.attached (length hosts))) (part-heard of w fits o) ∙
     ap is_some (slice_get_past hosts (length hosts) (omega arith))
 
 -- so the component that a command makes has no listeners
 made_new : (of : Owner → List (Listener NodeName)) (w : World) → FitsIn of w → IsReached false (heard of w) → (o : Owner) (c : Command) →
     refusal w o c ≡ None → IsNew of (opening_turn w o) o c
-made_new of w fits reached Page (Command.attach x) passes =
-    ap (λ (p : Part). of (component_made Page (length p.attached))) (sym (opened-part w Page)) ∙
-    fits (component_made Page (length (part_of w Page).attached)) (next_absent of w fits reached)
-made_new of w fits reached (Component k) (Command.attach x) passes = absurd cc
+made_new of w fits reached o (Command.attach x) passes =
+    let may = attach-may w o x (accepted-facts w o (Command.attach x) passes).part in
+    ap (λ (p : Part). of (component_made o (length p.attached))) (sym (opened-part w o)) ∙
+    fits (component_made o (length (part_of w o).attached)) (next_absent of w fits reached o may)
 made_new of w fits reached o c passes = tt
 
 module _ (s t : DocState) (ls : List (Listener ℕ)) (there : OwnersAreThere s.names s.world) (at : AllByRecursion (IsListenerAt s.names) ls) where

@@ -5,7 +5,6 @@ use Rattle.dom_base.specs.declared.Fault.{Fault}
 use Rattle.dom_base.specs.declared.Fault.TheVariants.{Refused}
 use Rattle.dom_base.specs.declared.NodeName.{NodeName}
 use Rattle.dom_base.specs.declared.Owner.{Owner}
-use Rattle.dom_base.specs.declared.Owner.TheVariants.{Page}
 use Rattle.dom_base.specs.declared.Refusal.{Refusal}
 use Rattle.dom_model.specs.Command.{Command, Spelled}
 use Rattle.dom_model.specs.CommandNames.{named}
@@ -25,61 +24,61 @@ use Rattle.dom_admission.specs.declared.admission.Operand.TheVariants.{Element}
 use Rattle.dom_admission.specs.Handled.{IsDone, IsHandled, let_pass}
 use Rattle.dom_admission.specs.Refusals.{early_refusal}
 use Rattle.dom_admission.specs.Turned.{with_turn, turned}
-use Rattle.dom_admission.proofs.Handling.{handled_own, faulted, finished, opened, opened-part}
+use Rattle.dom_admission.proofs.Handling.{handled, faulted, finished, opened, opened-part}
 use Rattle.dom_admission.proofs.Namings.{naming-attach}
 
--- In a state, a line of the page that passes: it names this host.
-module _ (t : Option Owner) (d s : DocState) (seen : turned t d ≡ s) (x : line.Spelled) (key : ℕ)
-    (host_is : name_at d.names key ≡ named (part_of d.world Page) (spelled_view x))
-    (pass : let_pass (early_refusal s.world Page (Element x ∷ [])) ≡ Ok tt) where
+-- In a state, a line of an owner that passes: it names this host.
+module _ (o : Owner) (t : Option Owner) (d s : DocState) (seen : turned t d ≡ s) (x : line.Spelled) (key : ℕ)
+    (host_is : name_at d.names key ≡ named (part_of d.world o) (spelled_view x))
+    (pass : let_pass (early_refusal s.world o (Element x ∷ [])) ≡ Ok tt) where
   abbrev y : NodeName
   y = name_at d.names key
 
   abbrev c : Command
   c = Command.attach (spelled_view x)
 
-  own_is : attaching_refusal (part_of d.world Page) y ≡ own_refusal (part_of d.world Page) c
-  own_is = ap (attaching_refusal (part_of d.world Page)) host_is
+  own_is : attaching_refusal (part_of d.world o) y ≡ own_refusal (part_of d.world o) c
+  own_is = ap (attaching_refusal (part_of d.world o)) host_is
 
   -- what is done in the world of its documents is done in its world
   in_world : (new : World) (before after : List ℕ) (r : Result (Unit {0}) Fault) →
-      IsDone (own_refusal (part_of d.world Page) c) (accepted (with_turn t d.world) Page c) (with_turn t d.world) new before after r →
-      IsHandled Page c s.world new before after r
+      IsDone (own_refusal (part_of d.world o) c) (accepted (with_turn t d.world) o c) (with_turn t d.world) new before after r →
+      IsHandled o c s.world new before after r
   in_world new before after r h =
-      let Done : DocState → Type 0 = λ u. IsDone (own_refusal (part_of u.world Page) c) (accepted u.world Page c) u.world new before after r in
-      handled_own s.world new Page c (Element x ∷ []) before after r (naming-attach x) pass (subst Done seen h)
+      let Done : DocState → Type 0 = λ u. IsDone (own_refusal (part_of u.world o) c) (accepted u.world o c) u.world new before after r in
+      handled s.world new o c (Element x ∷ []) before after r (naming-attach x) pass (subst Done seen h)
 
   -- the attaching is refused, which changed nothing, or memory was refused
   pub attach-faults : (mid : World) (text : List ℕ) (f : Fault) →
-      ((r : Refusal) → f ≡ Refused r → (attaching_refusal (part_of d.world Page) y ≡ Some r) × (mid ≡ d.world)) →
-      IsHandled Page c s.world (with_turn t mid) text text (Err f)
+      ((r : Refusal) → f ≡ Refused r → (attaching_refusal (part_of d.world o) y ≡ Some r) × (mid ≡ d.world)) →
+      IsHandled o c s.world (with_turn t mid) text text (Err f)
   attach-faults mid text f h =
       in_world (with_turn t mid) text text (Err f)
-      (faulted (own_refusal (part_of d.world Page) c) (accepted (with_turn t d.world) Page c) (with_turn t d.world) (with_turn t mid) text f
+      (faulted (own_refusal (part_of d.world o) c) (accepted (with_turn t d.world) o c) (with_turn t d.world) (with_turn t mid) text f
       (λ r e. (sym own_is ∙ (h r e).0, ap (with_turn t) (h r e).1)))
 
   -- the run, with the turn open after it
-  attached : (mid : World) (o : Owner) → mid ≡ (attaching d.world Page y).0 → o ≡ component_made Page (length (part_of d.world Page).attached) →
-      (opening_turn (with_turn t mid) Page, says Page (replied (a_component o)) ∷ []) ≡ accepted (with_turn t d.world) Page c
-  attached mid o e is =
-      let run : World → Owner → Run World = λ u v. (opening_turn (with_turn t u) Page, says Page (replied (a_component v)) ∷ []) in
-      let last : World → Run World = λ u. (u, says Page (replied (a_component (component_made Page (length (part_of d.world Page).attached)))) ∷ []) in
-      ap (λ (u : World). run u o) (e ∙ ap (λ (z : NodeName). (attaching d.world Page z).0) host_is) ∙
-      ap (run (attaching d.world Page (named (part_of d.world Page) (spelled_view x))).0) is
-      ∙ ap last (opened t (attaching d.world Page (named (part_of d.world Page) (spelled_view x))).0 Page)
-      ∙ sym (ap (λ (u : World). attaching u Page (named (part_of u Page) (spelled_view x))) (opened t d.world Page))
+  attached : (mid : World) (q : Owner) → mid ≡ (attaching d.world o y).0 → q ≡ component_made o (length (part_of d.world o).attached) →
+      (opening_turn (with_turn t mid) o, says o (replied (a_component q)) ∷ []) ≡ accepted (with_turn t d.world) o c
+  attached mid q e is =
+      let run : World → Owner → Run World = λ u v. (opening_turn (with_turn t u) o, says o (replied (a_component v)) ∷ []) in
+      let last : World → Run World = λ u. (u, says o (replied (a_component (component_made o (length (part_of d.world o).attached)))) ∷ []) in
+      ap (λ (u : World). run u q) (e ∙ ap (λ (z : NodeName). (attaching d.world o z).0) host_is) ∙
+      ap (run (attaching d.world o (named (part_of d.world o) (spelled_view x))).0) is
+      ∙ ap last (opened t (attaching d.world o (named (part_of d.world o) (spelled_view x))).0 o)
+      ∙ sym (ap (λ (u : World). attaching u o (named (part_of u o) (spelled_view x))) (opened t d.world o))
 
   -- a component is made, and answered
-  pub attach-done : (mid new : World) (o : Owner) (before after : List ℕ) (r : Result (Unit {0}) Fault) →
-      attaching_refusal (part_of d.world Page) y ≡ None → mid ≡ (attaching d.world Page y).0 →
-      o ≡ component_made Page (length (part_of d.world Page).attached) →
-      IsDone None (opening_turn (with_turn t mid) Page, says Page (replied (a_component o)) ∷ []) (with_turn t mid) new before after r →
-      IsHandled Page c s.world new before after r
-  attach-done mid new o before after r none e is ending =
+  pub attach-done : (mid new : World) (q : Owner) (before after : List ℕ) (r : Result (Unit {0}) Fault) →
+      attaching_refusal (part_of d.world o) y ≡ None → mid ≡ (attaching d.world o y).0 →
+      q ≡ component_made o (length (part_of d.world o).attached) →
+      IsDone None (opening_turn (with_turn t mid) o, says o (replied (a_component q)) ∷ []) (with_turn t mid) new before after r →
+      IsHandled o c s.world new before after r
+  attach-done mid new q before after r none e is ending =
       in_world new before after r
-      (finished (own_refusal (part_of d.world Page) c) (opening_turn (with_turn t mid) Page, says Page (replied (a_component o)) ∷ [])
-      (accepted (with_turn t d.world) Page c) (with_turn t d.world) (with_turn t mid) new before after r
-      (sym own_is ∙ none) (attached mid o e is) ending)
+      (finished (own_refusal (part_of d.world o) c) (opening_turn (with_turn t mid) o, says o (replied (a_component q)) ∷ [])
+      (accepted (with_turn t d.world) o c) (with_turn t d.world) (with_turn t mid) new before after r
+      (sym own_is ∙ none) (attached mid q e is) ending)
 
 -- what is assigned to a slot that a line names, when its turn is open
 pub assigned-opened : (w : World) (o : Owner) (s : Spelled) →

@@ -16,8 +16,8 @@ use dom_reader::Spelled;
 use dom_slots::slots_are_of_worlds;
 use std::alloc::AllocError;
 
-/// `attach E`: a new component, to whose closed shadow root an element of the page is the host; the page's alone (DOM
-/// Standard, attach a shadow root; own rule for the component).
+/// `attach E`: a new component, to whose closed shadow root an element of the owner's is the host (DOM Standard, attach a shadow
+/// root; own rule for the component).
 pub fn attach(
     state: &mut State,
     owner: Owner,
@@ -27,22 +27,11 @@ pub fn attach(
     ensures handled { IsHandled owner (attach (spelled_view host)) state.old.world state.new.world out.old.items out.new.items result }
     ensures names { KeepsNames state.old.names state.new.names result }
 {
-    match owner {
-        Owner::Page => attach_to(state, host, out),
-        Owner::Component(_) => Err(Fault::Refused(Refusal::Syntax)),
-    }
-}
-
-/// `attach E` of the page.
-fn attach_to(state: &mut State, host: Spelled, out: &mut Vec<u8>) -> Result<(), Fault>
-    ensures handled { IsHandled Owner.Page (attach (spelled_view host)) state.old.world state.new.world out.old.items out.new.items result }
-    ensures names { KeepsNames state.old.names state.new.names result }
-{
-    state.admit(Owner::Page, &[Operand::Element(host)])?;
-    let host = state.key(Owner::Page, host);
+    state.admit(owner, &[Operand::Element(host)])?;
+    let host = state.key(owner, host);
     let root = state.doc.attach(host)?;
     let component = state.doc.forest().name(root).owner;
-    state.accept(Owner::Page, &Value::Component(component), out)
+    state.accept(owner, &Value::Component(component), out)
 }
 
 /// `shadow-root E`: always `null`, since all shadow roots are closed (DOM Standard, the shadowRoot getter).

@@ -5,7 +5,6 @@ use Rattle.std.specs.Option.{option_map_or, IsSome}
 use Rattle.std.specs.Map.{lookup}
 use Rattle.std.specs.HashMap.{get}
 use Rattle.dom_base.specs.declared.Owner.{Owner}
-use Rattle.dom_base.specs.declared.Owner.TheVariants.{Page, Component}
 use Rattle.dom_base.specs.contracts.OwnerPartialEq.TheImpl as OwnerImpl
 use Rattle.dom_model.specs.Names.{owner_eq}
 use Rattle.dom_observers.specs.declared.observers.Observers.TheInside.{Inside}
@@ -15,15 +14,9 @@ use Rattle.dom_observers.specs.TableView.{table_of}
 use Rattle.dom_observers.specs.AllTables.{AllTables}
 use Rattle.dom_observers.specs.Owners.{tables_of, all_tables, ChangesTables, KeepsTables}
 use Rattle.dom_model.proofs.OwnerLaws.{owner_eq-true}
+use Rattle.dom_model.proofs.OwnerTests.{same_owner}
 use Rattle.dom_observers.proofs.Tables.{none_from, is_some-map}
 use Rattle.std.proofs.lemmas.Bool.{cond-true, cond-false, false_from_ne_true, ltb-true}
-
--- the test of owners that the map makes
-pub same_owner : (o p : Owner) → OwnerImpl.ghosts.eq o p ≡ owner_eq o p
-same_owner Page Page = refl
-same_owner Page (Component k) = refl
-same_owner (Component j) Page = refl
-same_owner (Component j) (Component k) = refl
 
 -- a look-up among images, by a test that agrees
 lookup-map : {K X Y : Type 0} (f : X → Y) (p q : K → Bool) → ((k : K) → p k ≡ q k) → (es : List (K × X)) →

@@ -7,6 +7,7 @@ use Rattle.dom_base.specs.declared.Owner.{Owner}
 use Rattle.dom_base.specs.declared.Owner.TheVariants.{Page, Component}
 use Rattle.dom_base.specs.contracts.OwnerPartialEq.TheImpl as OwnerImpl
 use Rattle.dom_model.specs.Names.{ComponentName, owner_eq}
+use Rattle.dom_model.proofs.OwnerTests.{same_owner}
 use Rattle.dom_ranges.specs.declared.numbers.Numbers.{Numbers}
 use Rattle.dom_ranges.specs.declared.table.Points.{Points}
 use Rattle.dom_ranges.specs.Tables.{list_of, ranges_of}
@@ -22,17 +23,12 @@ list_of-map f (e ∷ es) o = by (owner_eq o e.0) (list_of-map f es o)
     by true more = refl
     by false more = more
 
--- the tests of owners are one
-same_test : (k : ComponentName) (o : Owner) → owner_eq (Component k) o ≡ OwnerImpl.ghosts.eq (Component k) o
-same_test k Page = refl
-same_test k (Component j) = refl
-
 -- the list of a component is found by its key
 list_of-entries : {X Y : Type 0} (f : X → List Y) (k : ComponentName) (es : List (Owner × X)) →
     list_of (map (λ e. (e.0, f e.1)) es) (Component k) ≡ option_map_or f (lookup (OwnerImpl.ghosts.eq (Component k)) es) []
 list_of-entries f k [] = refl
 list_of-entries f k (e ∷ es) =
-    by (owner_eq (Component k) e.0) (OwnerImpl.ghosts.eq (Component k) e.0) (same_test k e.0) (list_of-entries f k es)
+    by (owner_eq (Component k) e.0) (OwnerImpl.ghosts.eq (Component k) e.0) (sym (same_owner (Component k) e.0)) (list_of-entries f k es)
   where
     by : (b c : Bool) → b ≡ c → list_of (map (λ e. (e.0, f e.1)) es) (Component k) ≡ option_map_or f (lookup (OwnerImpl.ghosts.eq (Component k)) es) []
         → cond b (f e.1) (list_of (map (λ e. (e.0, f e.1)) es) (Component k)) ≡ option_map_or f

@@ -4,17 +4,10 @@ use Rattle.std.specs.Prelude.{is_some, Result, Ok, Err}
 use Rattle.std.specs.Option.{option_map_or}
 use Rattle.std.specs.Result.{IsOk, is_ok}
 use Rattle.dom_base.specs.declared.Owner.{Owner}
-use Rattle.dom_base.specs.declared.Owner.TheVariants.{Page, Component}
 use Rattle.dom_base.specs.contracts.OwnerPartialEq.TheImpl as OwnerImpl
 use Rattle.dom_model.specs.Names.{owner_eq}
 use Rattle.dom_model.proofs.OwnerLaws.{owner_eq-true}
-
--- the test of owners that a map makes
-pub same_owner : (o p : Owner) → OwnerImpl.ghosts.eq o p ≡ owner_eq o p
-same_owner Page Page = refl
-same_owner Page (Component k) = refl
-same_owner (Component j) Page = refl
-same_owner (Component j) (Component k) = refl
+use Rattle.dom_model.proofs.OwnerTests.{same_owner}
 
 -- what an owner has, by what a look-up finds
 abbrev pub had : {V X : Type 0} → (V → List X) → (Owner → Option V) → Owner → List X

@@ -1,12 +1,15 @@
-use Rattle.std.proofs.Common.{◌≡◌, ◌+◌, ◌++◌, ◌∷◌, [], ℕ, Bool, true, false, cond, List, inl, inr, refl, sym, ap, ◌∙◌, subst, arith}
+use Rattle.std.proofs.Common.{◌≡◌, ◌+◌, ◌++◌, ◌∷◌, [], ℕ, Bool, true, false, cond, List, inl, inr, refl, sym, ap, ◌∙◌, subst, arith, true≢false}
 use Rattle.std.specs.Prelude.{count_by, map}
 use Rattle.std.proofs.lemmas.Grind.{common_steps}
 use Rattle.std.specs.List.{list_any}
 use Rattle.std.specs.HashSet.{contains}
 use Rattle.std.proofs.lemmas.Bool.{cases_Bool, cond-true, cond-false, or_from, or_parts}
-use Rattle.std.proofs.lemmas.List.Sums.{sum_by-cons}
+use Rattle.std.proofs.lemmas.List.Sums.{sum_by-cons, sum_by-append}
 use Rattle.dom_base.specs.declared.Owner.{Owner}
 use Rattle.dom_base.specs.contracts.OwnerPartialEq.TheImpl as OwnerImpl
+use Rattle.dom_model.specs.Names.{owner_eq}
+use Rattle.dom_model.proofs.OwnerLaws.{owner_eq-true}
+use Rattle.dom_model.proofs.OwnerTests.{same_owner}
 use Rattle.dom_model.specs.World.{Task, notify_task, is_notify_of, queued_notify}
 use Rattle.dom_microtasks.specs.declared.Queue.TheInside.{Inside}
 use Rattle.dom_microtasks.specs.Tasks.{task_of, tasks_of, WaitsOnce}
@@ -68,3 +71,32 @@ returns-clause-ok c =
     (queued c.self.inside c.self.invariant o false (c.if-contains.ensures)) in
     let last : map task_of c.push_back.new.self.items ≡ c.args.self.now ++ notify_task o ∷ [] = grind (arith, common_steps) in
     last ∙ sym (queued-new o c.args.self.now off)
+
+-- a notification more is counted for its owner alone
+counted-more : (o p : Owner) (ts : List Task) → count_by (is_notify_of p) (ts ++ notify_task o ∷ []) ≡ count_by (is_notify_of p) ts + one (owner_eq o p)
+unfolding one
+counted-more o p ts =
+    sum_by-append (λ t. one (is_notify_of p t)) ts (notify_task o ∷ [])
+    ∙ ap (λ n. count_by (is_notify_of p) ts + n) (sum_by-cons (λ t. one (is_notify_of p t)) (notify_task o) [] ∙ none_more (one (owner_eq o p)))
+  where
+    none_more : (n : ℕ) → n + 0 ≡ n
+    none_more n = omega arith
+
+pub invariant_of-self-2 : goal.invariant_of-self-2
+unfolding one
+invariant_of-self-2 c p =
+    let o = c.args.owner in
+    let was = tasks_of c.self.inside in
+    let last : map task_of c.push_back.new.self.items ≡ was ++ notify_task o ∷ [] = grind (arith, common_steps) in
+    let now = ap (count_by (is_notify_of p)) last ∙ counted-more o p was in
+    let there : contains OwnerImpl.ghosts.eq c.insert.new.self p ≡ cond (owner_eq o p) true (contains OwnerImpl.ghosts.eq c.self.inside.waiting p) =
+    c.in_ok-insert.ensures.updates.0 p ∙ ap (λ b. cond b true (contains OwnerImpl.ghosts.eq c.self.inside.waiting p)) (same_owner o p) in
+    now ∙ by (owner_eq o p) refl (contains OwnerImpl.ghosts.eq c.self.inside.waiting p) refl (count_by (is_notify_of p) was) (c.self.invariant p) ∙ sym (ap one there)
+  where
+    by : (b : Bool) → owner_eq c.args.owner p ≡ b → (w : Bool) → contains OwnerImpl.ghosts.eq c.self.inside.waiting p ≡ w → (n : ℕ) → n ≡ one w →
+        n + one b ≡ one (cond b true w)
+    by false e w f n h = omega (arith, h)
+    by true e false f n h = omega (arith, h)
+    by true e true f n h =
+        let same = ap (contains OwnerImpl.ghosts.eq c.self.inside.waiting) (owner_eq-true c.args.owner p e) in
+        absurd (true≢false (sym f ∙ sym same ∙ sym c.if-contains.ensures))

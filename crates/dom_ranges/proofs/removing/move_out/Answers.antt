@@ -1,10 +1,11 @@
 use Rattle.std.proofs.Common.{◌≡◌, ℕ, false, sym, subst, ◌∙◌}
 use Rattle.std.specs.Prelude.{nat_eq}
+use Rattle.dom_model.specs.Place.{Boundary}
 use Rattle.dom_model.specs.Ranges.{after_removal}
 use Rattle.dom_model.specs.Tree.{index_of}
 use Rattle.dom_tree.specs.Forest.{name_at}
-use Rattle.dom_ranges.specs.Rules.{is_inside, after_closing}
-use Rattle.dom_ranges.proofs.Leaving.{Moves, OfEach, moves-alike, moves-none, each-listed, removal-outside, closing-none}
+use Rattle.dom_ranges.specs.Rules.{is_inside, after_leaving, after_closing}
+use Rattle.dom_ranges.proofs.Leaving.{Moves, OfEach, moves-alike, moves-none, moves-twice, each-listed, removal-outside, removal-twice, closing-none}
 use Rattle.dom_ranges.proofs.removing.move_out.Goals as goal
 
 pub returns-in-Some-clause-moved : goal.returns-in-Some-clause-moved
@@ -36,3 +37,15 @@ returns-in_default-clause-moved c =
     let a = outside slot p e in
     let b = c.index_before_ends.ensures.none c.in_default.is slot p e in
     (a.0 ∙ closing-none c.args.parent index _ b.0, a.1 ∙ closing-none c.args.parent index _ b.1))
+
+pub returns-clause-moved : goal.returns-clause-moved
+returns-clause-moved c =
+    let f = c.args.forest.now in
+    let inside = is_inside f c.args.node in
+    let index = c.index-index.result in
+    let Twice : ℕ → Boundary ℕ → Type 0 = λ i b.
+    after_removal nat_eq inside c.args.parent i b ≡ after_closing c.args.parent index (after_leaving inside c.args.parent index b) in
+    moves-twice (after_leaving inside c.args.parent index) (after_closing c.args.parent index)
+    (after_removal nat_eq inside c.args.parent (index_of f.trees (name_at f.names c.args.node))) c.args.live.now c.move_ends.new.live c.close-2.new.live
+    c.move_ends.ensures.moved c.close-2.ensures.moved
+    (λ b. subst (λ (i : ℕ). Twice i b) c.index-index.ensures (removal-twice inside c.args.parent index b))
