@@ -1,7 +1,8 @@
 -- Texts: an owner's lines of output are those that begin with its word and a space, so two texts that agree for a family have equal lines of
 -- each member.
-use Rattle.std.proofs.Common.{◌≡◌, ◌<◌, ℕ, List, [], ◌∷◌, map, Some, refl, sym, ap, ◌∙◌, inl, inr, arith, subst}
+use Rattle.std.proofs.Common.{◌≡◌, ◌<◌, ◌^◌, ℕ, List, [], ◌∷◌, map, Some, refl, sym, ap, ◌∙◌, inl, inr, arith, subst}
 use Rattle.std.proofs.lemmas.Bool.{cases_eq}
+use Rattle.std.specs.List.{AllByRecursion}
 use Rattle.std.specs.Fmt.{decimal}
 use Rattle.std.specs.Prelude.{get_or}
 use Rattle.std.proofs.lemmas.Fmt.{decimal_digit}
@@ -17,7 +18,7 @@ use Rattle.dom_text.specs.Decode.{decode}
 use Rattle.dom_text.specs.Grammar.{Says, BelongsTo}
 use Rattle.dom_text.specs.Lines.{lines_of, lines_from}
 use Rattle.dom_text.specs.Text.{output_line, is_line_of}
-use Rattle.dom_text.specs.Tokens.{IsOwner, IsPositive}
+use Rattle.dom_text.specs.Tokens.{IsOwner, IsPositive, ArePositive}
 use Rattle.dom_text.specs.Words.{owner_word}
 use Rattle.dom_text.proofs.DecodeLaws.{decode_says}
 use Rattle.dom_text.proofs.TextLaws.{HasWord, IsOwner-owner_word, IsNumber-decimal, lines_from-outputs}
@@ -40,10 +41,17 @@ positive-above k (d ∷ digits) h = elim (cases_eq k 0) [
   | inr ne ↦ omega (arith, ne)
 ]
 
+-- numbers of such texts have at most nine digits
+shorts-of : (ns : List ℕ) (texts : List (List ℕ)) → ArePositive ns texts → AllByRecursion (λ n. (0 < n) × (n < 10 ^ 9)) ns
+shorts-of [] [] h = tt
+shorts-of [] (text ∷ texts) h = absurd h
+shorts-of (n ∷ ns) [] h = absurd h
+shorts-of (n ∷ ns) (text ∷ texts) h = ((positive-above n text h.0, (IsNumber-decimal n text (inr h.0)).1), shorts-of ns texts h.1)
+
 -- what is known of an owner whose word is read
 word-of : (o : Owner) (name : List ℕ) → IsOwner o name → HasWord o
 word-of Page name h = tt
-word-of (Component k) name h = (positive-above k h.0 h.1, (IsNumber-decimal k h.0 (inr h.1)).1)
+word-of (Component q) name h = (h.0, shorts-of h.0 h.1 h.2, h.3, h.4, h.5)
 
 -- the protocol's reading gives such owners
 pub decode-reads_owners : DecodeReadsOwners

@@ -158,7 +158,7 @@ module _ (g : Owner → Bool) (closed : KeepsFamilies g) where
   perform-out w k q h calm t (Command.attach a) m r f =
       let o = Component k in
       attaching-out w o h (named (part_of w o) a)
-      (closed.made o (length (part_of w o).attached) (attach-may o a m) (λ e. Component-IsNoPage k e) ∙ h)
+      (closed.made o (length (part_of w o).attached) (attach-may w o a r) (λ e. Component-IsNoPage k e) ∙ h)
   perform-out w k q h calm t (Command.connected a) m r f = answered-out (Component k) h _ w w refl
   perform-out w k q h calm t (Command.assigned a) m r f = answered-out (Component k) h _ w w refl
   perform-out w k q h calm t (Command.dispatch a b c) m r f = dispatched-out w k q h a b c r

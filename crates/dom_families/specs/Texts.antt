@@ -12,7 +12,7 @@ use Rattle.dom_text.specs.Text.{output_line, output_text}
 use Rattle.dom_text.specs.Tokens.{IsOwner}
 use Rattle.dom_text.specs.Words.{owner_word}
 
--- an owner whose word is read as that owner (own rule: a component's number is not 0, and has at most nine digits)
+-- an owner whose word is read as that owner (own rule: a component's numbers are not 0, and have at most nine digits each)
 abbrev pub IsWordOf : Owner → Type 0
 IsWordOf o = IsOwner o (owner_word o)
 

@@ -1,8 +1,9 @@
 -- Groups of owners: the page with whole families of components. What a group has of a world and of a run, and the run of a trace
 -- in which all others are silent. All own rules.
-use Rattle.std.specs.Prelude.{◌≡◌, ◌≢◌, ℕ, Bool, true, not, ◌&&◌, ◌||◌, List, filter, Option, Some, None}
+use Rattle.std.specs.Prelude.{◌≡◌, ◌≢◌, ℕ, Bool, true, not, ◌&&◌, ◌||◌, List, filter, get_or, Option, Some, None}
 use Rattle.dom_base.specs.declared.Owner.{Owner}
-use Rattle.dom_base.specs.declared.Owner.TheVariants.{Page}
+use Rattle.dom_base.specs.declared.Owner.TheVariants.{Page, Component}
+use Rattle.dom_base.specs.Owners.{longer_path, no_path}
 use Rattle.dom_model.specs.Names.{owner_eq}
 use Rattle.dom_model.specs.Command.{Line, EventWords}
 use Rattle.dom_model.specs.Output.{Output}
@@ -13,11 +14,13 @@ use Rattle.dom_model.specs.Turns.{has_other_turn}
 use Rattle.dom_model.specs.DocumentMachine.{step}
 use Rattle.dom_model.specs.Trace.{OutwardEvent, TraceItem, line, outward, is_page, is_of, owner_of_line, owner_of_output}
 
--- the component that the page attached, in whose trees an owner is: with components of one level it is the owner itself (own rule)
+-- the component that the page attached, in whose trees an owner is, at any depth: its word has the first number of the owner's. Of the page it
+-- is the page (own rule)
 abbrev pub top_owner : Owner → Owner
-top_owner o = o
+top_owner Page = Page
+top_owner (Component q) = Component (longer_path no_path (get_or q.parts 0 0))
 
--- The family of a component that the page attached: it, and all that are attached inside its trees.
+-- The family of a component that the page attached: it, and all that are attached inside its trees, at any depth.
 abbrev pub is_in_family : Owner → Owner → Bool
 is_in_family root o = owner_eq root (top_owner o)
 
