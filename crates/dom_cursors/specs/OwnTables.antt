@@ -1,7 +1,5 @@
--- An owner's iterators and walkers, with keys in place of names, and where each owner's are.
-use Rattle.std.specs.Prelude.{◌≡◌, ℕ, zero, suc, List, [], ◌∷◌, ◌++◌, Option, Some, None, slice_get}
-use Rattle.dom_base.specs.declared.Owner.{Owner}
-use Rattle.dom_base.specs.declared.Owner.TheVariants.{Page, Component}
+-- An owner's iterators and walkers, with keys in place of names.
+use Rattle.std.specs.Prelude.{◌≡◌, ℕ, List, [], Option, Some, None, slice_get}
 use Rattle.dom_model.specs.Traversal.{adjusted_iterator}
 use Rattle.dom_tree.specs.Forest.{NamedTrees, name_at}
 use Rattle.dom_traversal.specs.Iterators.{KeyedIterator, iterator_view, IsIteratorOf, HasLeft}
@@ -19,28 +17,6 @@ no_keyed_tables = record { iterators = []; walkers = [] }
 -- each item of a list
 abbrev pub EachItem : {X : Type 0} → (X → Type 0) → List X → Type 0
 EachItem P xs = (k : ℕ) → (x : _) → slice_get xs k ≡ Some x → P x
-
--- ---- an owner's place among all owners: the page is first, and then come the components by their numbers (own rule)
-
-abbrev pub place_of : Owner → ℕ
-place_of Page = 0
-place_of (Component k) = k
-
--- who is at a place
-abbrev pub owner_at : ℕ → Owner
-owner_at zero = Page
-owner_at (suc k) = Component (suc k)
-
--- who is at the first places
-abbrev pub owners_up_to : ℕ → List Owner
-owners_up_to zero = []
-owners_up_to (suc n) = owners_up_to n ++ owner_at n ∷ []
-
--- an owner's tables, if it is there; no component has the number 0
-abbrev pub table_of : {X : Type 0} → List X → Owner → Option X
-table_of ts Page = slice_get ts 0
-table_of ts (Component zero) = None
-table_of ts (Component (suc k)) = slice_get ts (suc k)
 
 -- ---- before a removal
 

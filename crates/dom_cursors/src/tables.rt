@@ -1,4 +1,4 @@
-//! What one owner has of cursors, and where each owner's are.
+//! What one owner has of cursors.
 ghost use Rattle.std.specs.Prelude.{◌≡◌, ℕ, ◌<◌, ◌≤◌, ◌↔◌, ◌⊎◌, ◌++◌, ◌∷◌, [], length, true, false, is_some, slice_get, slice_set, IfOk, IfErr, OnOk, OnErr};
 ghost use Rattle.std.specs.Option.{option_map, ForSome};
 ghost use Rattle.dom_base.specs.declared.Refusal.TheVariants.{Limit};
@@ -7,9 +7,9 @@ ghost use Rattle.dom_tree.specs.Forest.{name_at};
 ghost use Rattle.dom_traversal.specs.Filters.{filter_of};
 ghost use Rattle.dom_traversal.specs.Iterators.{KeyedIterator, iterator_view, iterator_at, IsIteratorOf};
 ghost use Rattle.dom_traversal.specs.Walkers.{walker_view, walker_at, IsWalkerOf};
-ghost use Rattle.dom_cursors.specs.OwnTables.{EachItem, AreLeft, no_keyed_tables, table_of, place_of};
+ghost use Rattle.dom_cursors.specs.OwnTables.{EachItem, AreLeft, no_keyed_tables};
 
-use dom_base::{Fault, MAX_NODES, Move, Owner, Refusal};
+use dom_base::{Fault, MAX_NODES, Move, Refusal};
 use dom_traversal::{Filter, Iter, Walker};
 use dom_tree::Forest;
 use node_arena::Key;
@@ -18,7 +18,7 @@ use std::marker::Model;
 
 /// One owner's iterators and walkers, each by its number.
 #[derive(Drop)]
-pub struct OwnTables {
+pub(crate) struct OwnTables {
     iterators: Vec<Iter>,
     walkers: Vec<Walker>,
 }
@@ -33,7 +33,7 @@ impl Model for OwnTables {
 
 impl OwnTables {
     /// Empty tables.
-    pub fn new(alloc: Global) -> Self
+    pub(crate) fn new(alloc: Global) -> Self
         ensures { result ≡ no_keyed_tables }
     {
         OwnTables {
@@ -43,21 +43,21 @@ impl OwnTables {
     }
 
     /// Whether there is an iterator of a number.
-    pub fn has_iter(&self, number: u32) -> bool
+    pub(crate) fn has_iter(&self, number: u32) -> bool
         ensures { result ≡ is_some (slice_get self.now.iterators number) }
     {
         self.iterators.get(number as usize).is_some()
     }
 
     /// Whether there is a walker of a number.
-    pub fn has_walker(&self, number: u32) -> bool
+    pub(crate) fn has_walker(&self, number: u32) -> bool
         ensures { result ≡ is_some (slice_get self.now.walkers number) }
     {
         self.walkers.get(number as usize).is_some()
     }
 
     /// Adds an iterator just before its root, and gives its number. Refused with `Limit` where there are a million.
-    pub fn add_iter(&mut self, root: Key, filter: Filter) -> Result<u32, Fault>
+    pub(crate) fn add_iter(&mut self, root: Key, filter: Filter) -> Result<u32, Fault>
         requires { length self.old.iterators ≤ 1000000 }
         ensures number { IfOk result (λ n. n ≡ length self.old.iterators) }
         ensures added { OnOk result (self.new ≡ record self.old
@@ -75,7 +75,7 @@ impl OwnTables {
     }
 
     /// Adds a walker at its root, and gives its number. Refused with `Limit` where there are a million.
-    pub fn add_walker(&mut self, root: Key, filter: Filter) -> Result<u32, Fault>
+    pub(crate) fn add_walker(&mut self, root: Key, filter: Filter) -> Result<u32, Fault>
         requires { length self.old.walkers ≤ 1000000 }
         ensures number { IfOk result (λ n. n ≡ length self.old.walkers) }
         ensures added { OnOk result (self.new ≡ record self.old
@@ -94,7 +94,7 @@ impl OwnTables {
 
     /// Lets each iterator leave the tree of a node that is about to be removed (DOM Standard, NodeIterator pre-remove
     /// steps).
-    pub fn leave(&mut self, forest: &Forest, node: Key)
+    pub(crate) fn leave(&mut self, forest: &Forest, node: Key)
         requires node_is_node { node < length forest.now.names }
         requires iterators { EachItem (IsIteratorOf forest.now) self.old.iterators }
         ensures iterators { AreLeft forest.now node self.old.iterators self.new.iterators }
@@ -106,7 +106,7 @@ impl OwnTables {
     }
 
     /// Moves an iterator on.
-    pub fn iter_next(&mut self, forest: &Forest, number: u32) -> Option<Key>
+    pub(crate) fn iter_next(&mut self, forest: &Forest, number: u32) -> Option<Key>
         requires there { is_some (slice_get self.old.iterators number) ≡ true }
         requires iterators { EachItem (IsIteratorOf forest.now) self.old.iterators }
         ensures value { ForSome (slice_get self.old.iterators number)
@@ -120,7 +120,7 @@ impl OwnTables {
     }
 
     /// Moves an iterator back.
-    pub fn iter_previous(&mut self, forest: &Forest, number: u32) -> Option<Key>
+    pub(crate) fn iter_previous(&mut self, forest: &Forest, number: u32) -> Option<Key>
         requires there { is_some (slice_get self.old.iterators number) ≡ true }
         requires iterators { EachItem (IsIteratorOf forest.now) self.old.iterators }
         ensures value { ForSome (slice_get self.old.iterators number)
@@ -134,7 +134,7 @@ impl OwnTables {
     }
 
     /// Where an iterator stands.
-    pub fn iter_at(&self, number: u32) -> (Key, bool)
+    pub(crate) fn iter_at(&self, number: u32) -> (Key, bool)
         requires { is_some (slice_get self.now.iterators number) ≡ true }
         ensures { ForSome (slice_get self.now.iterators number) (λ i. result ≡ (i.reference, i.before)) }
     {
@@ -142,7 +142,7 @@ impl OwnTables {
     }
 
     /// Moves a walker.
-    pub fn walk(&mut self, forest: &Forest, number: u32, step: Move) -> Option<Key>
+    pub(crate) fn walk(&mut self, forest: &Forest, number: u32, step: Move) -> Option<Key>
         requires there { is_some (slice_get self.old.walkers number) ≡ true }
         requires walkers { EachItem (IsWalkerOf forest.now) self.old.walkers }
         ensures value { ForSome (slice_get self.old.walkers number)
@@ -156,7 +156,7 @@ impl OwnTables {
     }
 
     /// The current node of a walker.
-    pub fn walker_at(&self, number: u32) -> Key
+    pub(crate) fn walker_at(&self, number: u32) -> Key
         requires { is_some (slice_get self.now.walkers number) ≡ true }
         ensures { ForSome (slice_get self.now.walkers number) (λ w. result ≡ w.current) }
     {
@@ -164,7 +164,7 @@ impl OwnTables {
     }
 
     /// Makes a node the current one of a walker.
-    pub fn set_walker(&mut self, number: u32, current: Key)
+    pub(crate) fn set_walker(&mut self, number: u32, current: Key)
         requires { is_some (slice_get self.old.walkers number) ≡ true }
         ensures { ForSome (slice_get self.old.walkers number)
             (λ w. self.new ≡ record self.old { walkers = slice_set self.old.walkers number (record w { current = current }) }) }
@@ -189,26 +189,5 @@ fn walk(walker: &mut Walker, forest: &Forest, step: Move) -> Option<Key>
         Move::Previous => walker.previous(forest),
         Move::NextSibling => walker.next_sibling(forest),
         Move::PreviousSibling => walker.previous_sibling(forest),
-    }
-}
-
-/// An owner's tables, if it is there. No component has the number 0.
-pub fn table_of(tables: &[OwnTables], owner: Owner) -> Option<&OwnTables>
-    ensures { option_map (λ t. t.now) result ≡ table_of tables.now owner }
-{
-    match owner {
-        Owner::Page => tables.get(0),
-        Owner::Component(0) => None,
-        Owner::Component(number) => tables.get(number as usize),
-    }
-}
-
-/// An owner's place among the owners.
-pub fn place_of(owner: Owner) -> usize
-    ensures { result ≡ place_of owner }
-{
-    match owner {
-        Owner::Page => 0,
-        Owner::Component(number) => number as usize,
     }
 }

@@ -1,5 +1,5 @@
--- An owner's tables as a `Doc` holds them, with keys in place of names, and where each owner's are.
-use Rattle.std.specs.Prelude.{◌≡◌, ℕ, ◌≤◌, List, [], ◌∷◌, length, map, None, slice_set}
+-- An owner's tables as a `Doc` holds them, with keys in place of names.
+use Rattle.std.specs.Prelude.{◌≡◌, ℕ, ◌≤◌, List, [], length, map, None}
 use Rattle.dom_base.specs.declared.Owner.{Owner}
 use Rattle.dom_base.specs.declared.NodeName.{NodeName}
 use Rattle.dom_model.specs.Traversal.{Iterator, Walker}
@@ -11,7 +11,8 @@ use Rattle.dom_traversal.specs.Walkers.{KeyedWalker, walker_view, IsWalkerOf}
 use Rattle.dom_observers.specs.Tables.{TablesOf, no_tables as no_observers}
 use Rattle.dom_observers.specs.Naming.{named_tables}
 use Rattle.dom_ranges.specs.Tables.{RangeLists, ranges_of}
-use Rattle.dom_cursors.specs.OwnTables.{KeyedTables, EachItem, no_keyed_tables, place_of}
+use Rattle.dom_cursors.specs.OwnTables.{KeyedTables, EachItem, no_keyed_tables}
+use Rattle.dom_cursors.specs.Cursors.{with_cursors}
 use Rattle.dom_parts.specs.Contents.{Tables, no_tables}
 use Rattle.dom_node_trees.specs.Signalled.{SignalTables, signal_tables}
 
@@ -25,10 +26,10 @@ tables_view names t r = tables_with (map (iterator_view names) t.iterators) (map
 
 -- ---- all tables
 
--- what a `Doc` holds beside its trees: each owner's tables, at its place, what each owner has of observers, the tasks, the
+-- what a `Doc` holds beside its trees: each owner's iterators and walkers, what each owner has of observers, the tasks, the
 -- hosts with what is assigned to slots, the signalled slots of all owners, and each owner's live ranges (own rule)
 pub record AllTables : Type 0 where
-  pub each : List KeyedTables
+  pub each : Owner → KeyedTables
   pub observers : Owner → TablesOf ℕ
   pub tasks : List Task
   pub slots : SlotsNow
@@ -36,17 +37,13 @@ pub record AllTables : Type 0 where
   pub ranges : RangeLists
 
 -- all of them
-abbrev pub tables_of : List KeyedTables → (Owner → TablesOf ℕ) → List Task → SlotsNow → List NodeName → RangeLists → AllTables
+abbrev pub tables_of : (Owner → KeyedTables) → (Owner → TablesOf ℕ) → List Task → SlotsNow → List NodeName → RangeLists → AllTables
 tables_of each observers tasks slots signalled ranges =
     record { each = each; observers = observers; tasks = tasks; slots = slots; signalled = signalled; ranges = ranges }
 
--- those with the tables at a place written
-abbrev pub with_table_at : AllTables → ℕ → KeyedTables → AllTables
-with_table_at tables place u = record tables { each = slice_set tables.each place u }
-
--- those with one owner's written
+-- those with one owner's iterators and walkers written
 abbrev pub with_table : AllTables → Owner → KeyedTables → AllTables
-with_table tables o u = with_table_at tables (place_of o) u
+with_table tables o u = record tables { each = with_cursors tables.each o u }
 
 -- those with other observers
 abbrev pub with_observers : AllTables → (Owner → TablesOf ℕ) → AllTables
@@ -73,7 +70,7 @@ no_slots = record { hosts = []; table = []; begun = None }
 
 -- where the page alone is there, and has none
 abbrev pub first_tables : AllTables
-first_tables = record { each = no_keyed_tables ∷ []; observers = λ o. no_observers; tasks = []; slots = no_slots; signalled = []; ranges = [] }
+first_tables = record { each = λ o. no_keyed_tables; observers = λ o. no_observers; tasks = []; slots = no_slots; signalled = []; ranges = [] }
 
 -- the page alone is there, and has none, in whatever lists its live ranges would stand
 pub record AreFirst (t : AllTables) : Type 0 where

@@ -11,6 +11,7 @@ use Rattle.dom_base.specs.declared.Kind.TheVariants.{Document, Shadow}
 use Rattle.dom_base.specs.declared.Refusal.{Refusal}
 use Rattle.dom_base.specs.declared.Refusal.TheVariants.{Hierarchy, NotSupported, IndexSize, Limit}
 use Rattle.dom_base.specs.declared.TheConstants.{MAX_COMPONENTS}
+use Rattle.dom_base.specs.Owners.{may_attach}
 use Rattle.dom_model.specs.Names.{DomString, name_eq, is_empty, is_in}
 use Rattle.dom_model.specs.Tree.{Trees, none, node_in, kind_of, is_document, has_data, children_of, parent_of, length_of, inclusive_ancestors}
 use Rattle.dom_model.specs.Tree.{is_inclusive_ancestor}
@@ -31,10 +32,11 @@ use Rattle.dom_isolation.specs.Bounds.{HasBounds}
 use Rattle.dom_parts.specs.Contents.{Contents, Tables, world_of}
 use Rattle.dom_slots.specs.Hosts.{ShadowHost}
 use Rattle.dom_node_trees.specs.Signalled.{AreSignals}
-use Rattle.dom_parts.specs.Hosting.{attached_of, AreMadeBehind}
+use Rattle.dom_parts.specs.Hosting.{attached_of, host_owners, AreMadeBehind}
 use Rattle.dom_parts.specs.Ranging.{AreRangesOf}
 use Rattle.dom_parts.specs.Numbering.{AreNumbered}
-use Rattle.dom_cursors.specs.OwnTables.{KeyedTables, no_keyed_tables, owners_up_to, table_of}
+use Rattle.dom_cursors.specs.OwnTables.{KeyedTables, no_keyed_tables}
+use Rattle.dom_cursors.specs.Cursors.{cursors_of}
 use Rattle.dom_parts.specs.AllTables.{AllTables, tables_view, AreTablesOf, tables_of, signals_of}
 use Rattle.dom_observers.specs.Tables.{TablesOf, no_tables as no_observers}
 use Rattle.dom_observers.specs.Owners.{tables_of as observers_of}
@@ -57,11 +59,7 @@ named_trees names ts = record { names = names; trees = ts }
 
 -- the tables that the code holds
 abbrev pub all_tables : Inside → AllTables
-all_tables d = tables_of d.tables.items (observers_of d.observers) d.queue d.slots d.signalled d.ranges
-
--- an owner's tables; one that is not there has none
-abbrev pub own_tables : AllTables → Owner → KeyedTables
-own_tables tables o = unwrap_or (table_of tables.each o) no_keyed_tables
+all_tables d = tables_of (cursors_of d.cursors) (observers_of d.observers) d.queue d.slots d.signalled d.ranges
 
 -- an owner's tables in names, with its hosts and its live ranges
 abbrev pub shown_tables : List NodeName → List ShadowHost → Owner → KeyedTables → TablesOf ℕ → RangeList → Tables
@@ -70,10 +68,10 @@ shown_tables names hosts o t r rs = record (tables_view names t r) { attached = 
 -- what is held
 abbrev pub contents : List NodeName → Trees → AllTables → Contents
 contents names ts tables = record {
-  owners = owners_up_to (length tables.each);
+  owners = Page ∷ host_owners tables.slots.hosts;
   names = names;
   trees = ts;
-  tables = λ o. shown_tables names tables.slots.hosts o (own_tables tables o) (tables.observers o) (ranges_of tables.ranges o);
+  tables = λ o. shown_tables names tables.slots.hosts o (tables.each o) (tables.observers o) (ranges_of tables.ranges o);
   signalled = tables.signalled;
   tasks = tables.tasks;
 }
@@ -93,15 +91,15 @@ IsDue w (notify_task o) = is_there w o ≡ true
 -- what holds of a `Doc`: each tree has one owner, each node's owner is there and no other one has trees, no owner has more
 -- nodes than it may make, each owner's tables are of its own nodes; the owners are the page and one component for each host,
 -- which its maker made next; the slots are those of the trees, no step is begun, and signalled slots are
--- nodes; registrations and records name nodes alone, who is not there has no observers, and the notifications that are
+-- nodes; registrations and records name nodes alone, who is not there has no iterators, walkers and observers, and the notifications that are
 -- queued are of owners that are there; live ranges are at their owner's nodes, and nodes are numbered below their count
 pub record IsHeld (names : List NodeName) (ts : Trees) (tables : AllTables) : Type 0 where
   pub owned : AreOwned ts
   pub present : (k : ℕ) → k < length names → is_there (world_from names ts tables) (name_at names k).owner ≡ true
   pub absent : (o : Owner) → is_there (world_from names ts tables) o ≡ false → trees_of_owner o ts ≡ none
   pub limited : (o : Owner) → count_of o names ≤ 1000000
-  pub own : (o : Owner) → ForSome (table_of tables.each o) (AreTablesOf (named_trees names ts) o)
-  pub counted : length tables.each ≡ suc (length tables.slots.hosts)
+  pub own : (o : Owner) → AreTablesOf (named_trees names ts) o (tables.each o)
+  pub idle : (o : Owner) → is_there (world_from names ts tables) o ≡ false → tables.each o ≡ no_keyed_tables
   pub made : AreMadeBehind names [] tables.slots.hosts
   pub signals : AreSignals names ts (signals_of tables)
   pub speaks : (o : Owner) → SpeaksOf (IsKey names) (tables.observers o)
@@ -215,12 +213,12 @@ adoption_refusal Document = Some NotSupported
 adoption_refusal Shadow = Some Hierarchy
 adoption_refusal _ = None
 
--- the refusal of an attaching: to a host, to an element whose name may be no host's, and past the limit (DOM Standard, attach
--- a shadow root; own rule for the limit)
+-- the refusal of an attaching: to a host, to an element whose name may be no host's, and past the limit of components or of
+-- numbers in a word (DOM Standard, attach a shadow root; own rule for the limit)
 abbrev pub attaching_refusal : Part → NodeName → Option Refusal
 attaching_refusal p x =
     first_refusal ((is_in name_eq x p.attached || not (may_be_host (node_in p.trees x).element), NotSupported) ∷
-    (nat_lt MAX_COMPONENTS (length p.attached + 1), Limit) ∷ [])
+    (nat_lt MAX_COMPONENTS (length p.attached + 1) || not (may_attach p.owner), Limit) ∷ [])
 
 -- the refusal of a split (DOM Standard, split a Text node; own rule for the limit)
 abbrev pub splitting_refusal : Part → NodeName → ℕ → Option Refusal

@@ -31,7 +31,7 @@ mod tasks;
 mod validity;
 
 use dom_base::{Fault, Kind, Owner};
-use dom_cursors::{OwnTables, table_of};
+use dom_cursors::Cursors;
 use dom_microtasks::{Queue, Signals};
 use dom_observers::Observers;
 use dom_ranges::RangeTable;
@@ -42,13 +42,12 @@ use node_arena::Key;
 use std::alloc::{AllocError, Global};
 use std::marker::Model;
 
-/// The nodes of all owners, how they stand, each owner's tables, the page's first, and then those of the components by
-/// their numbers, the observers, the live ranges, the hosts with the slots of their shadow trees, the signalled slots of all
-/// owners in order, and the microtasks.
+/// The nodes of all owners, how they stand, the iterators and walkers, the observers, the live ranges, the hosts with the slots
+/// of their shadow trees, the signalled slots of all owners in order, and the microtasks.
 #[derive(Drop)]
 pub struct Parts {
     forest: Forest,
-    tables: Vec<OwnTables>,
+    cursors: Cursors,
     observers: Observers,
     ranges: RangeTable,
     slots: Slots,
@@ -84,11 +83,7 @@ impl Parts {
             text: Vec::new(alloc),
             document: None,
         };
-        let mut tables = Vec::new(alloc);
-        match tables.push(OwnTables::new(alloc)) {
-            Ok(()) => (),
-            Err(_) => return Err(AllocError),
-        }
+        let cursors = Cursors::new(alloc);
         let observers = Observers::new(alloc);
         let ranges = RangeTable::new(alloc);
         let slots = Slots::new(alloc);
@@ -97,7 +92,7 @@ impl Parts {
         match forest.add(Owner::Page, document) {
             Ok(_) => Ok(Parts {
                 forest,
-                tables,
+                cursors,
                 observers,
                 ranges,
                 slots,
@@ -130,11 +125,11 @@ impl Parts {
         (&self.forest, &self.slots)
     }
 
-    /// Whether an owner has a part.
+    /// Whether an owner has a part: the page has one, and a component has nodes from the attach on that made it.
     pub fn is_there(&self, owner: Owner) -> bool
         ensures { result ≡ is_there self.now.world owner }
     {
-        table_of(&self.tables, owner).is_some()
+        matches!(owner, Owner::Page) || self.forest.node_count(owner) > 0
     }
 
     /// How many nodes an owner has (own rule).

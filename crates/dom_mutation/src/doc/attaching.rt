@@ -3,7 +3,7 @@ ghost use Rattle.std.specs.Prelude.{◌≡◌, ◌<◌, ◌↔◌, ◌++◌, ◌
 ghost use Rattle.dom_base.specs.declared.Kind.TheVariants.{Shadow};
 ghost use Rattle.dom_base.specs.declared.Refusal.{Refusal as RefusalOf};
 ghost use Rattle.dom_model.specs.DocumentMachine.{attaching};
-ghost use Rattle.dom_model.specs.World.{MayAttach, part_of, component_made, shadow_root_of};
+ghost use Rattle.dom_model.specs.World.{part_of, component_made, shadow_root_of};
 ghost use Rattle.dom_mutation.specs.Doc.{name_in, owner_in, attaching_refusal};
 ghost use Rattle.dom_mutation.specs.Ready.{IsReady};
 
@@ -14,11 +14,10 @@ use node_arena::Key;
 impl Doc {
     /// Attaches a shadow root to an element: node 0 of a new component of its owner, with the element's node document; the
     /// answer is its key. Refused with `NotSupported` to a host and to an element whose name may be no host's, and then with
-    /// `Limit` where the owner has made as many components as it may, with nothing changed (DOM Standard, attach a shadow root; the
-    /// limit is an own rule). Where memory is refused, the document is only to be dropped.
+    /// `Limit` where the owner has made as many components as it may or its word has as many numbers as it may, with nothing
+    /// changed (DOM Standard, attach a shadow root; the limit is an own rule). Where memory is refused, the document is only to be dropped.
     pub fn attach(&mut self, host: Key) -> Result<Key, Fault>
-        requires host_is_node { host < length self.old.names }
-        requires may_attach { MayAttach (owner_in self.old host) }
+        requires { host < length self.old.names }
         ensures key { IfOk result (λ key. key ≡ length self.old.names) }
         ensures names { OnOk result (self.new.names ≡ self.old.names ++
             shadow_root_of (component_made (owner_in self.old host) (length (part_of self.old.world (owner_in self.old host)).attached)) ∷ []) }

@@ -2,20 +2,19 @@
 ghost use Rattle.std.specs.Prelude.{◌≡◌, ◌≢◌, ℕ, ◌<◌, ◌≤◌, ◌↔◌, ◌++◌, ◌∷◌, [], length, None, Some, IfOk, OnOk};
 ghost use Rattle.dom_base.specs.declared.Kind.TheVariants.{Shadow};
 ghost use Rattle.dom_base.specs.declared.Refusal.{Refusal as RefusalOf};
+ghost use Rattle.dom_model.specs.Names.{owner_depth, max_depth};
 ghost use Rattle.dom_model.specs.Tree.{node_in};
 ghost use Rattle.dom_model.specs.TreeChanges.{with_node};
 ghost use Rattle.dom_model.specs.DocumentMachine.{attaching, new_root};
-ghost use Rattle.dom_model.specs.World.{MayAttach, part_of, component_made, shadow_root_of};
+ghost use Rattle.dom_model.specs.World.{part_of, component_made, shadow_root_of};
 ghost use Rattle.dom_slots.specs.Hosts.{root_of_host};
 ghost use Rattle.dom_slots.specs.Kept.{AreSlotsOf};
 ghost use Rattle.dom_tree.specs.Forest.{name_at, next_name, count_of, err_of};
-ghost use Rattle.dom_cursors.specs.OwnTables.{no_keyed_tables};
 ghost use Rattle.dom_parts.specs.Doc.{name_in, owner_in, attaching_refusal};
 
 use super::settling::settle;
 use crate::Parts;
-use dom_base::{Fault, Kind, MAX_COMPONENTS, Owner, Refusal};
-use dom_cursors::OwnTables;
+use dom_base::{Fault, Kind, MAX_COMPONENTS, MAX_DEPTH, Owner, Refusal};
 use dom_node_trees::may_be_host;
 use dom_slots::{Slots, new_nodes_are_free};
 use dom_tree::{Forest, NodeData};
@@ -26,11 +25,10 @@ use std::alloc::{AllocError, Global};
 impl Parts {
     /// Attaches a shadow root to an element: node 0 of a new component of its owner, with the element's node document; the
     /// answer is its key. Refused with `NotSupported` to a host and to an element whose name may be no host's, and then with
-    /// `Limit` where the owner has made as many components as it may, with nothing changed (DOM Standard, attach a shadow root; the
-    /// limit is an own rule). Where memory is refused, the document is only to be dropped.
+    /// `Limit` where the owner has made as many components as it may or its word has as many numbers as it may, with nothing
+    /// changed (DOM Standard, attach a shadow root; the limit is an own rule). Where memory is refused, the document is only to be dropped.
     pub fn attach(&mut self, host: Key) -> Result<Key, Fault>
-        requires host_is_node { host < length self.old.names }
-        requires may_attach { MayAttach (owner_in self.old host) }
+        requires { host < length self.old.names }
         ensures key { IfOk result (λ key. key ≡ length self.old.names) }
         ensures names { OnOk result (self.new.names ≡ self.old.names ++
             shadow_root_of (component_made (owner_in self.old host) (length (part_of self.old.world (owner_in self.old host)).attached)) ∷ []) }
@@ -47,7 +45,6 @@ impl Parts {
         let made = attach_root(
             self.alloc,
             &mut self.forest,
-            &mut self.tables,
             &mut self.slots,
             host,
             owner,
@@ -58,7 +55,7 @@ impl Parts {
                 let _ = settle(
                     Err(error),
                     &mut self.forest,
-                    &mut self.tables,
+                    &mut self.cursors,
                     &mut self.observers,
                     &mut self.ranges,
                     &mut self.slots,
@@ -73,8 +70,7 @@ impl Parts {
 
     /// The component to which a shadow root of an element will belong, its owner's next one, if one may be attached.
     fn component_for(&self, host: Key) -> Result<Owner, Refusal>
-        requires host_is_node { host < length self.now.names }
-        requires may_attach { MayAttach (owner_in self.now host) }
+        requires { host < length self.now.names }
         ensures component { IfOk result (λ c. c ≡ component_made (owner_in self.now host) (length (part_of self.now.world (owner_in self.now host)).attached)) }
         ensures refusal { err_of result ≡ attaching_refusal (part_of self.now.world (owner_in self.now host)) (name_in self.now host) }
     {
@@ -83,6 +79,9 @@ impl Parts {
             return Err(Refusal::NotSupported);
         }
         let maker = self.forest.name(host).owner;
+        if maker.depth() >= MAX_DEPTH {
+            return Err(Refusal::Limit);
+        }
         let number = count_made(&self.forest, maker);
         if number == MAX_COMPONENTS {
             return Err(Refusal::Limit);
@@ -94,7 +93,8 @@ impl Parts {
 /// How many components an owner has made. They are numbered from 0 on, and each has nodes, so the first number of which there are no
 /// nodes is found by halving.
 fn count_made(forest: &Forest, maker: Owner) -> u32
-    requires { (j k : ℕ) → j ≤ k → count_of (component_made maker j) forest.now.names ≡ 0 → count_of (component_made maker k) forest.now.names ≡ 0 }
+    requires deep { owner_depth maker < max_depth }
+    requires run { (j k : ℕ) → j ≤ k → count_of (component_made maker j) forest.now.names ≡ 0 → count_of (component_made maker k) forest.now.names ≡ 0 }
     ensures made { (k : ℕ) → k < result → count_of (component_made maker k) forest.now.names ≢ 0 }
     ensures next { result < MAX_COMPONENTS → count_of (component_made maker result) forest.now.names ≡ 0 }
     ensures few { result ≤ MAX_COMPONENTS }
@@ -114,18 +114,20 @@ fn count_made(forest: &Forest, maker: Owner) -> u32
 
 /// The component that an owner makes by its attach of this number, from 0.
 fn component_made(maker: Owner, number: u32) -> Owner
-    requires { number < MAX_COMPONENTS }
+    requires deep { owner_depth maker < max_depth }
+    requires few { number < MAX_COMPONENTS }
     ensures { result ≡ component_made maker number }
 {
-    let _ = maker;
-    Owner::Component(number + 1)
+    let Some(component) = maker.component(number) else {
+        unreachable!()
+    };
+    component
 }
 
 /// Makes a shadow root, the first node of a new owner, and its host.
 fn attach_root(
     alloc: Global,
     forest: &mut Forest,
-    tables: &mut Vec<OwnTables>,
     slots: &mut Slots,
     host: Key,
     owner: Owner,
@@ -139,11 +141,9 @@ fn attach_root(
     ensures names { OnOk result (forest.new.names ≡ forest.old.names ++ next_name owner forest.old.names ∷ []) }
     ensures trees { OnOk result (forest.new.trees ≡ with_node
         (new_root (next_name owner forest.old.names) Shadow (node_in forest.old.trees (name_at forest.old.names host)).document) forest.old.trees) }
-    ensures tables { OnOk result (tables.new.items ≡ tables.old.items ++ no_keyed_tables ∷ []) }
     ensures hosts { OnOk result (slots.new.hosts ≡ slots.old.hosts ++ record { host = host; root = length forest.old.names; owner = owner } ∷ []) }
     ensures free { OnOk result (slots.new.begun ≡ None) }
     ensures slots { OnOk result (AreSlotsOf forest.new slots.new) }
-    ensures kept { length tables.old.items ≤ length tables.new.items }
 {
     let node = NodeData {
         kind: Kind::Shadow,
@@ -158,7 +158,6 @@ fn attach_root(
         Err(_) => return Err(AllocError),
     };
     forest.nodes_stand_once();
-    tables.push(OwnTables::new(alloc))?;
     slots.attach(host, root, owner)?;
     Ok(root)
 }

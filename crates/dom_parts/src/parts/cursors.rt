@@ -12,7 +12,6 @@ ghost use Rattle.dom_parts.specs.Doc.{name_in, owner_in, Makes};
 
 use crate::Parts;
 use dom_base::{Fault, Move, Owner};
-use dom_cursors::{place_of, table_of};
 use dom_traversal::Filter;
 use node_arena::Key;
 
@@ -21,20 +20,14 @@ impl Parts {
     pub fn has_iter(&self, owner: Owner, number: u32) -> bool
         ensures { result ≡ is_some (slice_get (part_of self.now.world owner).iterators number) }
     {
-        match table_of(&self.tables, owner) {
-            Some(tables) => tables.has_iter(number),
-            None => false,
-        }
+        self.cursors.has_iter(owner, number)
     }
 
     /// Whether an owner has a walker of a number.
     pub fn has_walker(&self, owner: Owner, number: u32) -> bool
         ensures { result ≡ is_some (slice_get (part_of self.now.world owner).walkers number) }
     {
-        match table_of(&self.tables, owner) {
-            Some(tables) => tables.has_walker(number),
-            None => false,
-        }
+        self.cursors.has_walker(owner, number)
     }
 
     /// Adds an iterator of an owner just before its root, and gives its number (DOM Standard, createNodeIterator). It is
@@ -50,8 +43,7 @@ impl Parts {
         ensures err { OnErr result (self.new ≡ self.old) }
     {
         self.forest.nodes_stand_once();
-        let tables = &mut self.tables[place_of(owner)];
-        tables.add_iter(root, filter)
+        self.cursors.add_iter(owner, root, filter)
     }
 
     /// Adds a walker of an owner at its root, and gives its number (DOM Standard, createTreeWalker). It is refused with
@@ -66,8 +58,7 @@ impl Parts {
         ensures other { IfErr result (λ fault. (fault ≡ Fault.Refused Limit) ⊎ (fault ≡ Fault.Memory)) }
         ensures err { OnErr result (self.new ≡ self.old) }
     {
-        let tables = &mut self.tables[place_of(owner)];
-        tables.add_walker(root, filter)
+        self.cursors.add_walker(owner, root, filter)
     }
 
     /// Moves an iterator behind the next node that its filter accepts, and answers that node; where there is none, it
@@ -78,8 +69,7 @@ impl Parts {
         ensures node { ForSome result (λ k. k < length self.old.names) }
         ensures world { Makes owner (Command.iterator_next number) (node_or_null (option_map (name_in self.old) result)) self.old.world self.new.world }
     {
-        let tables = &mut self.tables[place_of(owner)];
-        tables.iter_next(&self.forest, number)
+        self.cursors.iter_next(owner, &self.forest, number)
     }
 
     /// Moves an iterator before the node before it that its filter accepts, and answers that node; where there is none, it
@@ -90,8 +80,7 @@ impl Parts {
         ensures node { ForSome result (λ k. k < length self.old.names) }
         ensures world { Makes owner (Command.iterator_previous number) (node_or_null (option_map (name_in self.old) result)) self.old.world self.new.world }
     {
-        let tables = &mut self.tables[place_of(owner)];
-        tables.iter_previous(&self.forest, number)
+        self.cursors.iter_previous(owner, &self.forest, number)
     }
 
     /// The reference of an iterator, and whether it stands before that one (DOM Standard, referenceNode and
@@ -101,8 +90,7 @@ impl Parts {
         ensures node { result.0 < length self.now.names }
         ensures value { Makes owner (Command.iterator_at number) (reference (name_in self.now result.0) result.1) self.now.world self.now.world }
     {
-        let tables = &self.tables[place_of(owner)];
-        tables.iter_at(number)
+        self.cursors.iter_at(owner, number)
     }
 
     /// Moves a walker, and answers its new current node; where there is no node to move to, it stays (DOM Standard,
@@ -113,8 +101,7 @@ impl Parts {
         ensures node { ForSome result (λ k. k < length self.old.names) }
         ensures world { Makes owner (Command.walk number step) (node_or_null (option_map (name_in self.old) result)) self.old.world self.new.world }
     {
-        let tables = &mut self.tables[place_of(owner)];
-        tables.walk(&self.forest, number, step)
+        self.cursors.walk(owner, &self.forest, number, step)
     }
 
     /// The current node of a walker (DOM Standard, currentNode).
@@ -123,8 +110,7 @@ impl Parts {
         ensures node { result < length self.now.names }
         ensures value { Makes owner (Command.walker_at number) (a_node (name_in self.now result)) self.now.world self.now.world }
     {
-        let tables = &self.tables[place_of(owner)];
-        tables.walker_at(number)
+        self.cursors.walker_at(owner, number)
     }
 
     /// Makes a node of its owner the current one of a walker (DOM Standard, currentNode).
@@ -135,7 +121,6 @@ impl Parts {
         ensures names { self.new.names ≡ self.old.names }
         ensures world { Makes owner (Command.walker_set number (own (name_in self.old current).number)) nothing self.old.world self.new.world }
     {
-        let tables = &mut self.tables[place_of(owner)];
-        tables.set_walker(number, current);
+        self.cursors.set_walker(owner, number, current);
     }
 }

@@ -1,7 +1,7 @@
 //! What is read of a node, in its owner's trees.
 ghost use Rattle.std.specs.Prelude.{◌≡◌, ℕ, ◌<◌, ◌≤◌, true, false, length, count_by, is_some, Some};
 ghost use Rattle.std.specs.Option.{option_map, ForSome};
-ghost use Rattle.dom_model.specs.Names.{first_of, last_of, name_eq, items_after, owner_depth};
+ghost use Rattle.dom_model.specs.Names.{first_of, last_of, name_eq, items_after};
 ghost use Rattle.dom_model.specs.Tree.{nodes, node_in, attribute_value, kind_of, parent_of, children_of, next_sibling, previous_sibling, length_of};
 ghost use Rattle.dom_model.specs.Tree.{index_of, has_node, is_inclusive_ancestor, is_document, inclusive_descendants, root_of};
 ghost use Rattle.dom_base.specs.declared.NodeName.{NodeName as Name};
@@ -84,7 +84,7 @@ impl Parts {
         ensures { result ≡ is_connected self.now.world (name_in self.now node) }
     {
         self.forest.nodes_stand_once();
-        let depth = depth_of(self.forest.name(node).owner);
+        let depth = self.forest.name(node).owner.depth();
         let root = outermost_root(&self.forest, &self.slots, node, depth);
         is_document(self.forest.kind(root))
     }
@@ -182,16 +182,6 @@ fn outermost_root(forest: &Forest, slots: &Slots, node: Key, depth: u8) -> Key
         left -= 1;
     }
     root
-}
-
-/// How many closed trees lie around an owner's nodes.
-fn depth_of(owner: Owner) -> u8
-    ensures { result ≡ owner_depth owner }
-{
-    match owner {
-        Owner::Page => 0,
-        Owner::Component(_) => 1,
-    }
 }
 
 /// Whether a kind is that of documents.

@@ -14,7 +14,6 @@ ghost use Rattle.dom_model.specs.TreeChanges.{replaced};
 use super::settling::settle;
 use crate::Parts;
 use dom_base::DomStr;
-use dom_cursors::place_of;
 use dom_node_trees::{link, remove_attr, set_attr, unlink};
 use dom_observers::Observers;
 use dom_traversal::iterators_stay;
@@ -39,8 +38,7 @@ impl Parts {
             return Err(error);
         }
         let owner = self.forest.name(node).owner;
-        let tables = &mut self.tables[place_of(owner)];
-        tables.leave(&self.forest, node);
+        self.cursors.leave(owner, &self.forest, node);
         self.ranges.on_remove(&self.forest, node);
         let done = unlink(
             &mut self.forest,
@@ -52,7 +50,7 @@ impl Parts {
         settle(
             done,
             &mut self.forest,
-            &mut self.tables,
+            &mut self.cursors,
             &mut self.observers,
             &mut self.ranges,
             &mut self.slots,
@@ -87,7 +85,7 @@ impl Parts {
         settle(
             done,
             &mut self.forest,
-            &mut self.tables,
+            &mut self.cursors,
             &mut self.observers,
             &mut self.ranges,
             &mut self.slots,
@@ -114,7 +112,7 @@ impl Parts {
         settle(
             done,
             &mut self.forest,
-            &mut self.tables,
+            &mut self.cursors,
             &mut self.observers,
             &mut self.ranges,
             &mut self.slots,
@@ -140,7 +138,7 @@ impl Parts {
         settle(
             done,
             &mut self.forest,
-            &mut self.tables,
+            &mut self.cursors,
             &mut self.observers,
             &mut self.ranges,
             &mut self.slots,
