@@ -1,5 +1,5 @@
 //! The node iterators and tree walkers of all owners.
-ghost use Rattle.std.specs.Prelude.{◌≡◌, ◌<◌, ◌≤◌, ◌↔◌, ◌⊎◌, ◌++◌, ◌∷◌, [], length, true, is_some, slice_get, slice_set, IfOk, IfErr, OnOk, OnErr};
+ghost use Rattle.std.specs.Prelude.{◌≡◌, ◌<◌, ◌≤◌, ◌↔◌, ◌⊎◌, ◌++◌, ◌∷◌, [], length, true, false, is_some, slice_get, slice_set, IfOk, IfErr, OnOk, OnErr};
 ghost use Rattle.std.specs.Map.{lookup};
 ghost use Rattle.std.specs.Option.{option_map, ForSome};
 ghost use Rattle.dom_base.specs.declared.Owner.{Owner as Owners};
@@ -52,6 +52,7 @@ impl Cursors {
     fn prepare(&mut self, owner: Owner) -> Result<(), AllocError>
         ensures keeps { cursors_of self.new ≡ cursors_of self.old }
         ensures there { OnOk result (is_some (lookup (owner_eq owner) self.new) ≡ true) }
+        ensures none { OnErr result (cursors_of self.old owner ≡ no_keyed_tables) }
     {
         if self.tables.contains_key(&owner) {
             return Ok(());
@@ -128,9 +129,10 @@ impl Cursors {
         if self.tables.is_empty() {
             return;
         }
-        if let Some(tables) = self.tables.get_mut(&owner) {
-            tables.leave(forest, node);
-        }
+        let Some(tables) = self.tables.get_mut(&owner) else {
+            return;
+        };
+        tables.leave(forest, node);
     }
 
     /// Moves an owner's iterator on, and answers the node that it comes to, if there is one (DOM Standard, nextNode).
@@ -215,8 +217,9 @@ impl Cursors {
             (λ w. cursors_of self.new ≡ with_cursors (cursors_of self.old) owner (record (cursors_of self.old owner)
             { walkers = slice_set (cursors_of self.old owner).walkers number (record w { current = current }) })) }
     {
-        if let Some(tables) = self.tables.get_mut(&owner) {
-            tables.set_walker(number, current);
-        }
+        let Some(tables) = self.tables.get_mut(&owner) else {
+            unreachable!()
+        };
+        tables.set_walker(number, current);
     }
 }
