@@ -7,6 +7,7 @@ use Rattle.std.proofs.lemmas.List.{length-map}
 use Rattle.dom_base.specs.declared.Kind.TheVariants.{Shadow}
 use Rattle.dom_base.specs.declared.NodeName.{NodeName}
 use Rattle.dom_base.specs.declared.Owner.{Owner}
+use Rattle.dom_base.specs.declared.Owner.TheVariants.{Page}
 use Rattle.dom_base.specs.declared.Refusal.{Refusal}
 use Rattle.dom_base.specs.declared.Refusal.TheVariants.{NotSupported, Limit}
 use Rattle.dom_model.specs.Names.{owner_eq, name_eq, is_in, node_of}
@@ -15,8 +16,9 @@ use Rattle.dom_model.specs.TreeChanges.{with_node}
 use Rattle.dom_model.specs.DocumentMachine.{new_root, attaching}
 use Rattle.dom_model.specs.CommandRefusals.{may_be_host}
 use Rattle.dom_model.specs.Part.{Part}
+use Rattle.dom_base.specs.Owners.{has_word, may_attach, owner_depth, max_depth}
 use Rattle.dom_model.specs.World.{MayAttach, is_there, part_of, component_made, shadow_root_of}
-use Rattle.dom_model.proofs.OwnerLaws.{owner_eq-false}
+use Rattle.dom_model.proofs.OwnerLaws.{owner_eq-false, word-made, may_attach-word, may_attach-from}
 use Rattle.dom_slots.specs.Hosts.{ShadowHost, HostsAreNodes, root_of_host}
 use Rattle.dom_slots.specs.Kept.{SlotsNow, AreSlotsOf}
 use Rattle.dom_slots.proofs.Hosted.{AreDistinct, key-test}
@@ -26,14 +28,13 @@ use Rattle.dom_tree.specs.Owners.{trees_of_owner}
 use Rattle.dom_tree.proofs.Owned.{read_own}
 use Rattle.dom_parts.specs.Contents.{part_in}
 use Rattle.dom_parts.specs.Hosting.{maker_of, hosts_of, host_names, attached_of, host_owners, AreMadeBehind}
-use Rattle.dom_cursors.specs.OwnTables.{KeyedTables, no_keyed_tables}
 use Rattle.dom_parts.specs.AllTables.{AllTables}
 use Rattle.dom_parts.specs.Doc.{DocState, contents, world_from, state_from, IsHeld, name_in, owner_in, attaching_refusal}
 use Rattle.dom_parts.proofs.Attached.{HasOneHostMore, component_for, attached_held, attached_state}
 use Rattle.dom_parts.proofs.AttachedWorlds.{count_none, component_absent}
 use Rattle.dom_parts.proofs.Held.{are_hosts}
 use Rattle.dom_parts.proofs.HostsOfOwners.{count_hosts, own-host, other-host, owner_in as component_in_owners, few_hosts}
-use Rattle.dom_parts.proofs.Worlds.{In, part_at}
+use Rattle.dom_parts.proofs.Worlds.{In, part_at, there_in}
 
 -- a node is a host by its key where it is one by its name
 hosted_key : (names : List NodeName) → AreDistinct names → (hosts : List ShadowHost) → HostsAreNodes names hosts → (k : ℕ) → k < length names →
@@ -64,7 +65,7 @@ own_hosted names (h ∷ hosts) x = elim (cases_Bool (owner_eq (maker_of names h)
 ]
 
 -- the components of hosts have nodes
-owner_node : (names : List NodeName) (earlier hosts : List ShadowHost) (o : Owner) → AreMadeBehind names earlier hosts → HostsAreNodes names hosts →
+pub owner_node : (names : List NodeName) (earlier hosts : List ShadowHost) (o : Owner) → AreMadeBehind names earlier hosts → HostsAreNodes names hosts →
     In o (host_owners hosts) → (k : ℕ) × (k < length names) × ((name_at names k).owner ≡ o)
 owner_node names earlier [] o made nodes i = absurd i
 owner_node names earlier (h ∷ hosts) o made nodes (inl e) = (h.root, nodes.1, ap (λ (x : NodeName). x.owner) made.0.root ∙ e)
@@ -75,16 +76,38 @@ none_there None e = refl
 none_there (Some x) e = cc
 
 -- the refusal from what is looked up
-abbrev pub refusal_from : Bool → Bool → ℕ → Option Refusal
-refusal_from hosted may n = if hosted || not may then Some NotSupported else if nat_lt 1000 (n + 1) then Some Limit else None
+abbrev pub refusal_from : Bool → Bool → ℕ → Bool → Option Refusal
+refusal_from hosted may n room = if hosted || not may then Some NotSupported else if nat_lt 1000 (n + 1) || not room then Some Limit else None
 
-accepted_parts : (hosted may : Bool) (n : ℕ) → refusal_from hosted may n ≡ None → (hosted ≡ false) × (n < 1000)
-accepted_parts true may n e = cc
-accepted_parts false false n e = cc
-accepted_parts false true n e = elim (cases_Bool (nat_lt 1000 (n + 1))) [
-  | inl h ↦ (refl, absurd (let more = rw h at e in cc))
-  | inr h ↦ (refl, (let few = ltb-false 1000 (n + 1) h in omega (arith, few)))
-]
+accepted_parts : (hosted may : Bool) (n : ℕ) (room : Bool) → refusal_from hosted may n room ≡ None → (hosted ≡ false) × ((n < 1000) × (room ≡ true))
+accepted_parts true may n room e = cc
+accepted_parts false false n room e = cc
+accepted_parts false true n room e = by (nat_lt 1000 (n + 1)) room refl refl e
+  where
+    by : (past r : Bool) → nat_lt 1000 (n + 1) ≡ past → room ≡ r → (if past || not r then Some Limit else None) ≡ None →
+        (false ≡ false) × ((n < 1000) × (room ≡ true))
+    by true r i j g = cc
+    by false false i j g = cc
+    by false true i j g = (refl, ((let few = ltb-false 1000 (n + 1) i in omega (arith, few)), j))
+
+-- ---- words
+
+-- the components of hosts have words
+owner_word : (names : List NodeName) (earlier hosts : List ShadowHost) (o : Owner) → AreMadeBehind names earlier hosts → In o (host_owners hosts) →
+    has_word o ≡ true
+owner_word names earlier [] o made i = absurd i
+owner_word names earlier (h ∷ hosts) o made (inl e) =
+    subst (λ (q : Owner). has_word q ≡ true) (sym made.0.owner ∙ e) (word-made (maker_of names h) (count_hosts names earlier (maker_of names h)) made.0.maker)
+owner_word names earlier (h ∷ hosts) o made (inr i) = owner_word names (earlier ++ h ∷ []) hosts o made.1 i
+
+-- so has each owner that is there
+there_word : (f : NamedTrees) (was : AllTables) → IsHeld f.names f.trees was → (o : Owner) → is_there (world_from f.names f.trees was) o ≡ true →
+    has_word o ≡ true
+there_word f was held o there = by (there_in (contents f.names f.trees was) o there)
+  where
+    by : In o (Page ∷ host_owners was.slots.hosts) → has_word o ≡ true
+    by (inl e) = subst (λ (q : Owner). has_word q ≡ true) e refl
+    by (inr i) = owner_word f.names [] was.slots.hosts o held.made i
 
 -- ---- how many components an owner has made
 
@@ -130,7 +153,7 @@ module _ (f : NamedTrees) (was : AllTables) (held : IsHeld f.names f.trees was) 
 
 module _ (f : NamedTrees) (was : AllTables) (held : IsHeld f.names f.trees was) (distinct : AreDistinct f.names) (d : DocState)
     (is_d : state_from f.names f.trees was ≡ d) (host : ℕ)
-    (within : host < length d.names) (may_attach : MayAttach (owner_in d host)) where
+    (within : host < length d.names) where
   abbrev hosted : Bool
   hosted = is_some (root_of_host was.slots.hosts host)
 
@@ -143,17 +166,34 @@ module _ (f : NamedTrees) (was : AllTables) (held : IsHeld f.names f.trees was) 
   within_names : host < length f.names
   within_names = subst (λ (e : DocState). host < length e.names) (sym is_d) within
 
-  -- in the names of the forest
-  pub may_of_name : MayAttach (name_at f.names host).owner
-  may_of_name = subst (λ (e : DocState). MayAttach (owner_in e host)) (sym is_d) may_attach
+  -- whether the owner's word has room for one number more
+  abbrev room : Bool
+  room = may_attach o
+
+  room_is : room ≡ nat_lt (owner_depth o) max_depth
+  room_is = may_attach-word o (there_word f was held o (held.present host within_names))
+
+  -- it has, where it is no longer than this
+  pub may_of_depth : (y : NodeName) → name_at f.names host ≡ y → (depth : ℕ) → depth ≡ owner_depth y.owner → depth < max_depth →
+      MayAttach (name_at f.names host).owner
+  may_of_depth y e depth is few =
+      let same : owner_depth o ≡ depth = ap (λ (x : NodeName). owner_depth x.owner) e ∙ sym is in
+      may_attach-from o (there_word f was held o (held.present host within_names)) (omega (arith, same, few))
+
+  pub components_of : (y : NodeName) → name_at f.names host ≡ y → MayAttach (name_at f.names host).owner →
+      (j k : ℕ) → j ≤ k → count_of (component_made y.owner j) f.names ≡ 0 → count_of (component_made y.owner k) f.names ≡ 0
+  components_of y e may =
+      subst (λ (z : NodeName). (j k : ℕ) → j ≤ k → count_of (component_made z.owner j) f.names ≡ 0 → count_of (component_made z.owner k) f.names ≡ 0) e
+      (components_run f was held o may)
 
   -- the count that is made of the owner's components
-  pub count_at : (y : NodeName) → name_at f.names host ≡ y → (r : ℕ) → ((k : ℕ) → k < r → count_of (component_made y.owner k) f.names ≢ 0) →
+  pub count_at : (y : NodeName) → name_at f.names host ≡ y → MayAttach (name_at f.names host).owner → (r : ℕ) →
+      ((k : ℕ) → k < r → count_of (component_made y.owner k) f.names ≢ 0) →
       (r < 1000 → count_of (component_made y.owner r) f.names ≡ 0) → r ≤ 1000 → r ≡ count_hosts f.names was.slots.hosts (name_at f.names host).owner
-  count_at y e r =
+  count_at y e may r =
       subst (λ (z : NodeName). ((k : ℕ) → k < r → count_of (component_made z.owner k) f.names ≢ 0) →
       (r < 1000 → count_of (component_made z.owner r) f.names ≡ 0) → r ≤ 1000 → r ≡ count_hosts f.names was.slots.hosts o) e
-      (count_is f was held o may_of_name r)
+      (count_is f was held o may r)
 
   own_part : part_of (world_from f.names f.trees was) o ≡ part_in (contents f.names f.trees was) o
   own_part = part_at (contents f.names f.trees was) o (held.present host within_names)
@@ -168,51 +208,74 @@ module _ (f : NamedTrees) (was : AllTables) (held : IsHeld f.names f.trees was) 
       (ap (component_made o) (ap (λ (p : Part). length p.attached) own_part ∙ sym has_attached))
 
   -- the refusal is the one that is looked up
-  refusal_is : refusal_from hosted may (count_hosts f.names was.slots.hosts o) ≡ attaching_refusal (part_of d.world (owner_in d host)) (name_in d host)
-  refusal_is = subst (λ (e : DocState). refusal_from hosted may (count_hosts f.names was.slots.hosts o) ≡
+  refusal_is : refusal_from hosted may (count_hosts f.names was.slots.hosts o) room ≡ attaching_refusal (part_of d.world (owner_in d host)) (name_in d host)
+  refusal_is = subst (λ (e : DocState). refusal_from hosted may (count_hosts f.names was.slots.hosts o) room ≡
       attaching_refusal (part_of e.world (owner_in e host)) (name_in e host)) is_d by
     where
       x : NodeName
       x = name_at f.names host
 
-      by : refusal_from hosted may (count_hosts f.names was.slots.hosts o) ≡
+      by : refusal_from hosted may (count_hosts f.names was.slots.hosts o) room ≡
           attaching_refusal (part_of (world_from f.names f.trees was) o) (name_at f.names host)
       by =
-          ap (λ b. refusal_from b may (count_hosts f.names was.slots.hosts o))
+          ap (λ b. refusal_from b may (count_hosts f.names was.slots.hosts o) room)
           (hosted_key f.names distinct was.slots.hosts held.signals.slots.hosts host within_names ∙ own_hosted f.names was.slots.hosts (name_at f.names host))
           ∙ (ap (λ (n : Node). refusal_from (is_in name_eq (name_at f.names host) (attached_of f.names was.slots.hosts o)) (may_be_host n.element)
-          (count_hosts f.names was.slots.hosts o)) (read_own f.trees held.owned o (name_at f.names host) refl).node
+          (count_hosts f.names was.slots.hosts o) room) (read_own f.trees held.owned o (name_at f.names host) refl).node
           ∙ (ap (λ n. refusal_from (is_in name_eq (name_at f.names host) (attached_of f.names was.slots.hosts o))
-          (may_be_host (node_in (trees_of_owner o f.trees) (name_at f.names host)).element) n) has_attached
+          (may_be_host (node_in (trees_of_owner o f.trees) (name_at f.names host)).element) n room) has_attached
           ∙ ap (λ (p : Part). attaching_refusal p (name_at f.names host)) (sym own_part)))
 
   pub accepted : None ≡ attaching_refusal (part_of d.world (owner_in d host)) (name_in d host) →
-      (root_of_host was.slots.hosts host ≡ None) × (count_hosts f.names was.slots.hosts (name_at f.names host).owner < 1000)
+      (root_of_host was.slots.hosts host ≡ None) × ((count_hosts f.names was.slots.hosts (name_at f.names host).owner < 1000)
+      × MayAttach (name_at f.names host).owner)
+  unfolding MayAttach
   accepted e =
-      let parts = accepted_parts hosted may (count_hosts f.names was.slots.hosts o) (refusal_is ∙ sym e) in
+      let parts = accepted_parts hosted may (count_hosts f.names was.slots.hosts o) room (refusal_is ∙ sym e) in
       (none_there (root_of_host was.slots.hosts host) parts.0, parts.1)
 
   pub refused_host : hosted ≡ true → Some NotSupported ≡ attaching_refusal (part_of d.world (owner_in d host)) (name_in d host)
-  refused_host e = ap (λ b. refusal_from b may (count_hosts f.names was.slots.hosts o)) (sym e) ∙ refusal_is
+  refused_host e = ap (λ b. refusal_from b may (count_hosts f.names was.slots.hosts o) room) (sym e) ∙ refusal_is
 
   pub refused_name : hosted ≡ false → may ≡ false → Some NotSupported ≡ attaching_refusal (part_of d.world (owner_in d host)) (name_in d host)
   refused_name e m =
-      ap (λ b. refusal_from false b (count_hosts f.names was.slots.hosts o)) (sym m) ∙
-      (ap (λ b. refusal_from b may (count_hosts f.names was.slots.hosts o)) (sym e) ∙ refusal_is)
+      ap (λ b. refusal_from false b (count_hosts f.names was.slots.hosts o) room) (sym m) ∙
+      (ap (λ b. refusal_from b may (count_hosts f.names was.slots.hosts o) room) (sym e) ∙ refusal_is)
+
+  -- what is left to ask of an element that may be a host
+  limited : hosted ≡ false → may ≡ true → (if nat_lt 1000 (count_hosts f.names was.slots.hosts o + 1) || not room then Some Limit else None) ≡
+      attaching_refusal (part_of d.world (owner_in d host)) (name_in d host)
+  limited e m =
+      ap (λ b. refusal_from false b (count_hosts f.names was.slots.hosts o) room) (sym m) ∙
+      (ap (λ b. refusal_from b may (count_hosts f.names was.slots.hosts o) room) (sym e) ∙ refusal_is)
+
+  -- its owner's word has all the numbers that it may
+  pub refused_depth : hosted ≡ false → may ≡ true → (y : NodeName) → name_at f.names host ≡ y → (depth : ℕ) → depth ≡ owner_depth y.owner →
+      max_depth ≤ depth → Some Limit ≡ attaching_refusal (part_of d.world (owner_in d host)) (name_in d host)
+  refused_depth e m y at depth is full =
+      let same : owner_depth o ≡ depth = ap (λ (x : NodeName). owner_depth x.owner) at ∙ sym is in
+      let off : room ≡ false = room_is ∙ le-ltb (owner_depth o) max_depth (omega (arith, same, full)) in
+      sym (past (nat_lt 1000 (count_hosts f.names was.slots.hosts o + 1)) room off) ∙ limited e m
+    where
+      past : (b r : Bool) → r ≡ false → (if b || not r then Some Limit else None) ≡ Some Limit
+      past true r i = refl
+      past false true i = cc
+      past false false i = refl
 
   pub refused_limit : hosted ≡ false → may ≡ true → (n : ℕ) → n ≡ count_hosts f.names was.slots.hosts (name_at f.names host).owner → n ≡ 1000 →
       Some Limit ≡ attaching_refusal (part_of d.world (owner_in d host)) (name_in d host)
   refused_limit e m n is most =
-      ap (λ (b : Bool). if b then Some Limit else None) (sym (lt-ltb 1000 (count_hosts f.names was.slots.hosts o + 1) (omega (arith, is, most)))) ∙
-      (ap (λ b. refusal_from false b (count_hosts f.names was.slots.hosts o)) (sym m) ∙
-      (ap (λ b. refusal_from b may (count_hosts f.names was.slots.hosts o)) (sym e) ∙ refusal_is))
+      ap (λ (b : Bool). if b || not room then Some Limit else None) (sym (lt-ltb 1000 (count_hosts f.names was.slots.hosts o + 1) (omega (arith, is, most)))) ∙
+      limited e m
 
-  pub taken : hosted ≡ false → may ≡ true → (n : ℕ) → n ≡ count_hosts f.names was.slots.hosts (name_at f.names host).owner → n < 1000 →
+  pub taken : hosted ≡ false → may ≡ true → MayAttach (name_at f.names host).owner → (n : ℕ) →
+      n ≡ count_hosts f.names was.slots.hosts (name_at f.names host).owner → n < 1000 →
       None ≡ attaching_refusal (part_of d.world (owner_in d host)) (name_in d host)
-  taken e m n is few =
-      ap (λ (b : Bool). if b then Some Limit else None) (sym (le-ltb 1000 (count_hosts f.names was.slots.hosts o + 1) (omega (arith, is, few)))) ∙
-      (ap (λ b. refusal_from false b (count_hosts f.names was.slots.hosts o)) (sym m) ∙
-      (ap (λ b. refusal_from b may (count_hosts f.names was.slots.hosts o)) (sym e) ∙ refusal_is))
+  unfolding MayAttach
+  taken e m allowed n is few =
+      ap (λ (r : Bool). if not r then Some Limit else None) (sym allowed) ∙
+      (ap (λ (b : Bool). if b || not room then Some Limit else None) (sym (le-ltb 1000 (count_hosts f.names was.slots.hosts o + 1) (omega (arith, is, few)))) ∙
+      limited e m)
 
 -- ---- the new owner
 
@@ -229,20 +292,19 @@ module _ (f : NamedTrees) (was : AllTables) (held : IsHeld f.names f.trees was) 
   next_is = ap (λ o. next_name o f.names) new_is ∙ ap (node_of (component_for f was host)) uncounted
 
   -- the parts of a `Doc` then
-  module _ (g : NamedTrees) (each : List KeyedTables) (slots : SlotsNow) (document : Option NodeName)
+  module _ (g : NamedTrees) (slots : SlotsNow) (document : Option NodeName)
       (names : g.names ≡ f.names ++ next_name new f.names ∷ [])
       (trees : g.trees ≡ with_node (new_root (next_name new f.names) Shadow document) f.trees)
-      (tables : each ≡ was.each ++ no_keyed_tables ∷ [])
       (hosts : slots.hosts ≡ was.slots.hosts ++ record { host = host; root = length f.names; owner = new } ∷ [])
       (free : slots.begun ≡ None) (of : AreSlotsOf g slots) where
     abbrev now : AllTables
-    now = record was { each = each; slots = slots }
+    now = record was { slots = slots }
 
     host_more : HasOneHostMore f g was now host document
     host_more = record {
       names = names ∙ ap (λ x. f.names ++ x ∷ []) next_is;
       trees = trees ∙ ap (λ x. with_node (new_root x Shadow document) f.trees) next_is;
-      each = tables;
+      each = refl;
       observers = refl;
       tasks = refl;
       signalled = refl;
@@ -253,7 +315,7 @@ module _ (f : NamedTrees) (was : AllTables) (held : IsHeld f.names f.trees was) 
     }
 
     pub held_then : host < length f.names → count_hosts f.names was.slots.hosts (name_at f.names host).owner < 1000 →
-        IsHeld g.names g.trees (record was { each = each; slots = slots })
+        IsHeld g.names g.trees (record was { slots = slots })
     held_then within few = attached_held f g was now host document held within may host_more few
 
     module _ (d : DocState) (is_d : state_from f.names f.trees was ≡ d) (within : host < length d.names) where
@@ -265,7 +327,7 @@ module _ (f : NamedTrees) (was : AllTables) (held : IsHeld f.names f.trees was) 
           ap (λ (e : DocState). e.names ++ shadow_root_of (component_made (owner_in d host) (length (part_of d.world (owner_in d host)).attached)) ∷ []) is_d)
 
       pub world_then : document ≡ (node_in f.trees (name_at f.names host)).document →
-          world_from g.names g.trees (record was { each = each; slots = slots }) ≡ (attaching d.world (owner_in d host) (name_in d host)).0
+          world_from g.names g.trees (record was { slots = slots }) ≡ (attaching d.world (owner_in d host) (name_in d host)).0
       world_then same =
           subst (λ (e : DocState). world_from g.names g.trees now ≡ (attaching e.world (owner_in e host) (name_in e host)).0) is_d
           (attached_state f g was now host document held (subst (λ (e : DocState). host < length e.names) (sym is_d) within) may host_more same)

@@ -1,21 +1,19 @@
 -- A shadow root is attached: what is held has one host more, so it is still a legal `Doc`, and its world is that of the
 -- definitions.
 use Rattle.std.proofs.Common.{◌≡◌, ◌≢◌, ℕ, zero, suc, ◌<◌, ◌≤◌, ◌⊎◌, inl, inr, true, false, List, [], ◌∷◌, ◌++◌, Option, Some, None, length}
-use Rattle.std.proofs.Common.{unwrap_or, refl, sym, ap, subst, ◌∙◌, arith}
-use Rattle.std.specs.Prelude.{slice_get}
+use Rattle.std.proofs.Common.{refl, sym, ap, subst, ◌∙◌, arith}
 use Rattle.std.specs.List.{AllByRecursion}
 use Rattle.std.proofs.lemmas.Bool.{cases_Bool, false_from_ne_true}
 use Rattle.std.proofs.lemmas.List.{length_push, map-append}
 use Rattle.dom_node_trees.specs.Signalled.{AreNames}
 use Rattle.dom_node_trees.proofs.Named.{names_grown}
-use Rattle.std.proofs.lemmas.Option.{same_Some, none-some}
 use Rattle.std.proofs.Math.ListN.{get_or-append}
 use Rattle.std.proofs.Math.Nat.{eq-or-lt_of_le}
 use Rattle.std.proofs.Math.Seq.{get_or-append_seam}
 use Rattle.dom_base.specs.declared.Kind.TheVariants.{Shadow}
 use Rattle.dom_base.specs.declared.NodeName.{NodeName}
 use Rattle.dom_base.specs.declared.Owner.{Owner}
-use Rattle.dom_base.specs.declared.Owner.TheVariants.{Page, Component}
+use Rattle.dom_base.specs.declared.Owner.TheVariants.{Page}
 use Rattle.dom_model.specs.Names.{owner_eq, node_of}
 use Rattle.dom_model.specs.Tree.{node_in}
 use Rattle.dom_model.specs.TreeChanges.{with_node}
@@ -33,41 +31,19 @@ use Rattle.dom_model.specs.Ranges.{Range}
 use Rattle.dom_parts.specs.Contents.{Tables}
 use Rattle.dom_parts.specs.Numbering.{AreNumbered}
 use Rattle.dom_parts.specs.Ranging.{AreRangesOf}
-use Rattle.dom_cursors.specs.OwnTables.{KeyedTables, no_keyed_tables, owners_up_to, owner_at, table_of}
+use Rattle.dom_cursors.specs.OwnTables.{KeyedTables, no_keyed_tables}
 use Rattle.dom_parts.specs.AllTables.{AllTables, tables_view, AreTablesOf}
-use Rattle.dom_parts.specs.Hosting.{maker_of, hosts_of, AreMadeBehind, host_names, attached_of, AreHostsOf, IsAttached}
-use Rattle.dom_parts.specs.Doc.{named_trees, own_tables, shown_tables, contents, world_from, IsHeld, IsDue}
+use Rattle.dom_parts.specs.Hosting.{maker_of, hosts_of, AreMadeBehind, host_names, host_owners, attached_of, AreHostsOf, IsAttached}
+use Rattle.dom_parts.specs.Doc.{named_trees, shown_tables, contents, world_from, IsHeld, IsDue}
 use Rattle.dom_parts.proofs.AttachedWorlds.{count_none, counted_other, counted_new, component_new, attached_world, attached_hosts}
-use Rattle.dom_parts.proofs.Held.{are_hosts, no_cursors, due_kept}
-use Rattle.dom_parts.proofs.HostedKeys.{next_place}
+use Rattle.dom_parts.proofs.Held.{are_hosts, due_kept}
 use Rattle.dom_parts.proofs.HostsOfOwners.{count_hosts, own-pushed, other-pushed}
 use Rattle.dom_parts.proofs.HostedSteps.{KeepsNames, names_pushed, attached_renamed}
 use Rattle.dom_parts.proofs.Keeping.{tables_more, view_same, speaks_grown}
 use Rattle.dom_parts.proofs.Numbers.{numbered_more}
 use Rattle.dom_parts.proofs.RangedKeeping.{named_grown}
 use Rattle.dom_parts.proofs.RangedOwners.{ranges_attached}
-use Rattle.dom_parts.proofs.Places.{In-push, In-end}
-use Rattle.dom_parts.proofs.Worlds.{In, in_there, there_in}
-
--- ---- tables of one owner more
-
-get_push : {X : Type 0} (xs : List X) (x : X) → slice_get (xs ++ x ∷ []) (length xs) ≡ Some x
-get_push [] x = refl
-get_push (y ∷ xs) x = get_push xs x
-
-get_other : {X : Type 0} (xs : List X) (x : X) (k : ℕ) → k ≢ length xs → slice_get (xs ++ x ∷ []) k ≡ slice_get xs k
-get_other [] x zero other = absurd (other refl)
-get_other [] x (suc k) other = refl
-get_other (y ∷ xs) x zero other = refl
-get_other (y ∷ xs) x (suc k) other = get_other xs x k (λ e. other (ap suc e))
-
-table_push : {X : Type 0} (xs : List X) (x : X) (n : ℕ) → length xs ≡ suc n → table_of (xs ++ x ∷ []) (Component (suc n)) ≡ Some x
-table_push xs x n long = ap (slice_get (xs ++ x ∷ [])) (sym long) ∙ get_push xs x
-
-table_other : {X : Type 0} (xs : List X) (x : X) (n : ℕ) → length xs ≡ suc n → (q : Owner) → q ≢ Component (suc n) → table_of (xs ++ x ∷ []) q ≡ table_of xs q
-table_other xs x n long Page other = get_other xs x 0 (λ e. omega (arith, e, long))
-table_other xs x n long (Component zero) other = refl
-table_other xs x n long (Component (suc k)) other = get_other xs x (suc k) (λ e. other (ap Component (e ∙ long)))
+use Rattle.dom_parts.proofs.Worlds.{In, In-push, In-end, in_there, there_in}
 
 -- ---- one host more
 
@@ -79,7 +55,7 @@ component_for f was host = component_made (name_at f.names host).owner (count_ho
 pub record HasOneHostMore (f g : NamedTrees) (was now : AllTables) (host : ℕ) (d : Option NodeName) : Type 0 where
   pub names : g.names ≡ f.names ++ shadow_root_of (component_for f was host) ∷ []
   pub trees : g.trees ≡ with_node (new_root (shadow_root_of (component_for f was host)) Shadow d) f.trees
-  pub each : now.each ≡ was.each ++ no_keyed_tables ∷ []
+  pub each : now.each ≡ was.each
   pub observers : now.observers ≡ was.observers
   pub tasks : now.tasks ≡ was.tasks
   pub signalled : now.signalled ≡ was.signalled
@@ -117,29 +93,16 @@ module _ (f g : NamedTrees) (was now : AllTables) (host : ℕ) (d : Option NodeN
       let off = is_new in
       cc
 
-  -- its tables stand behind the others
-  at_end : c ≡ Component (suc (length hosts_were))
-  at_end = next_place f.names hosts_were m may held.made
+  -- an owner's tables are as they were
+  own_rest : (q : Owner) → now.each q ≡ was.each q
+  own_rest q = ap (λ (each : Owner → KeyedTables). each q) more.each
 
-  table_new : table_of now.each c ≡ Some no_keyed_tables
-  table_new =
-      ap (λ ts. table_of ts c) more.each
-      ∙ (ap (table_of (was.each ++ no_keyed_tables ∷ [])) at_end ∙ table_push was.each no_keyed_tables (length hosts_were) held.counted)
+  -- the new one has none
+  own_new : now.each c ≡ no_keyed_tables
+  own_new = own_rest c ∙ held.idle c is_new
 
-  table_rest : (q : Owner) → q ≢ c → table_of now.each q ≡ table_of was.each q
-  table_rest q other = ap (λ ts. table_of ts q) more.each ∙ table_other was.each no_keyed_tables (length hosts_were) held.counted q
-      (λ e. other (e ∙ sym at_end))
-
-  own_rest : (q : Owner) → q ≢ c → own_tables now q ≡ own_tables was q
-  own_rest q other = ap (λ t. unwrap_or t no_keyed_tables) (table_rest q other)
-
-  view_rest : (q : Owner) → tables_view grown (own_tables was q) (was.observers q) ≡ tables_view f.names (own_tables was q) (was.observers q)
-  view_rest q = by (table_of was.each q) refl
-    where
-      by : (m : Option KeyedTables) → table_of was.each q ≡ m →
-          tables_view grown (unwrap_or m no_keyed_tables) (was.observers q) ≡ tables_view f.names (unwrap_or m no_keyed_tables) (was.observers q)
-      by None e = view_same f.names (shadow_root_of c) f.trees q no_keyed_tables (was.observers q) (no_cursors (named_trees f.names f.trees) q) (held.speaks q)
-      by (Some t) e = view_same f.names (shadow_root_of c) f.trees q t (was.observers q) (held.own q t e) (held.speaks q)
+  view_rest : (q : Owner) → tables_view grown (was.each q) (was.observers q) ≡ tables_view f.names (was.each q) (was.observers q)
+  view_rest q = view_same f.names (shadow_root_of c) f.trees q (was.each q) (was.observers q) (held.own q) (held.speaks q)
 
   -- an owner's tables in names, with these hosts and live ranges
   abbrev with_those : Tables → List NodeName → List (Option (Range NodeName)) → Tables
@@ -155,11 +118,11 @@ module _ (f g : NamedTrees) (was now : AllTables) (host : ℕ) (d : Option NodeN
   live_new = live_now c ∙ ap (named_ranges f.names)
       (held.ranges.absent c is_new)
 
-  view_now : (q : Owner) → q ≢ c → tables_view g.names (own_tables now q) (now.observers q) ≡ tables_view f.names (own_tables was q) (was.observers q)
-  view_now q other =
-      ap (λ (os : Owner → TablesOf ℕ). tables_view g.names (own_tables now q) (os q)) more.observers
-      ∙ (ap (λ ns. tables_view ns (own_tables now q) (was.observers q)) more.names
-      ∙ (ap (λ t. tables_view grown t (was.observers q)) (own_rest q other) ∙ view_rest q))
+  view_now : (q : Owner) → tables_view g.names (now.each q) (now.observers q) ≡ tables_view f.names (was.each q) (was.observers q)
+  view_now q =
+      ap (λ (os : Owner → TablesOf ℕ). tables_view g.names (now.each q) (os q)) more.observers
+      ∙ (ap (λ ns. tables_view ns (now.each q) (was.observers q)) more.names
+      ∙ (ap (λ t. tables_view grown t (was.observers q)) (own_rest q) ∙ view_rest q))
 
   unobserved_new : now.observers c ≡ no_observers
   unobserved_new = ap (λ (os : Owner → TablesOf ℕ). os c) more.observers ∙
@@ -196,32 +159,29 @@ module _ (f g : NamedTrees) (was now : AllTables) (host : ℕ) (d : Option NodeN
 
   -- the component is another one than its maker
   next : c ≢ m
-  next = component_made-other m (count_hosts f.names hosts_were m) may
+  next = component_made-other m (count_hosts f.names hosts_were m)
 
   no_hosts : attached_of g.names now.slots.hosts c ≡ []
   no_hosts = hosts_other c next ∙ (are_hosts f.names f.trees was held).unhosted c is_new
 
   one : IsAttached (contents f.names f.trees was) (contents g.names g.trees now) c (name_at f.names host) d
+  unfolding new_host
   one = record {
-    owners = ap (λ ts. owners_up_to (length ts)) more.each
-        ∙ (ap owners_up_to long ∙ (ap (λ n. owners_up_to (length was.each) ++ owner_at n ∷ []) held.counted ∙
-        ap (λ o. owners_up_to (length was.each) ++ o ∷ []) (sym at_end)));
+    owners = ap (λ hs. Page ∷ host_owners hs) more.hosts
+        ∙ ap (λ os. Page ∷ os) (map-append (λ (h : ShadowHost). h.owner) hosts_were (new_host ∷ []));
     names = more.names;
     trees = more.trees;
-    maker = (λ i. with_those (view_now m (λ e. next (sym e)) i) (hosts_now i) (live_now m i));
-    new = ap (λ t. with_those (tables_view g.names (unwrap_or t no_keyed_tables) (now.observers c)) (attached_of g.names now.slots.hosts c)
-        (named_ranges g.names (ranges_of now.ranges c))) table_new
+    maker = (λ i. with_those (view_now m i) (hosts_now i) (live_now m i));
+    new = ap (λ t. with_those (tables_view g.names t (now.observers c)) (attached_of g.names now.slots.hosts c)
+        (named_ranges g.names (ranges_of now.ranges c))) own_new
         ∙ (ap (λ (r : TablesOf ℕ). with_those (tables_view g.names no_keyed_tables r) (attached_of g.names now.slots.hosts c)
         (named_ranges g.names (ranges_of now.ranges c))) unobserved_new
         ∙ (ap (λ xs. with_those (tables_view g.names no_keyed_tables no_observers) xs (named_ranges g.names (ranges_of now.ranges c))) no_hosts
         ∙ ap (with_those (tables_view g.names no_keyed_tables no_observers) []) live_new));
-    rest = λ q apart other. (λ i. with_those (view_now q other i) (hosts_other q apart i) (live_now q i));
+    rest = λ q apart other. (λ i. with_those (view_now q i) (hosts_other q apart i) (live_now q i));
     signalled = more.signalled;
     tasks = more.tasks;
   }
-    where
-      long : length (was.each ++ no_keyed_tables ∷ []) ≡ suc (length was.each)
-      long = let pushed = length_push was.each no_keyed_tables in omega (arith, pushed)
 
   abbrev new_hosts : List ShadowHost
   new_hosts = hosts_were ++ record { host = host; root = length f.names; owner = c } ∷ []
@@ -234,7 +194,7 @@ module _ (f g : NamedTrees) (was now : AllTables) (host : ℕ) (d : Option NodeN
   -- who was there still is
   there_after : (q : Owner) → is_there (world_from f.names f.trees was) q ≡ true → is_there (world_from g.names g.trees now) q ≡ true
   there_after q on = in_there (contents g.names g.trees now) q
-      (subst (In q) (sym one.owners) (In-push q (owners_up_to (length was.each)) c (there_in (contents f.names f.trees was) q on)))
+      (subst (In q) (sym one.owners) (In-push q (Page ∷ host_owners hosts_were) c (there_in (contents f.names f.trees was) q on)))
 
   absent_before : (q : Owner) → is_there (world_from g.names g.trees now) q ≡ false → is_there (world_from f.names f.trees was) q ≡ false
   absent_before q off = false_from_ne_true (is_there (world_from f.names f.trees was) q) (λ on. let now_on = sym (there_after q on) ∙ off in cc)
@@ -249,7 +209,7 @@ module _ (f g : NamedTrees) (was now : AllTables) (host : ℕ) (d : Option NodeN
       at (inl same) =
           ap (λ (y : NodeName). is_there (world_from g.names g.trees now) y.owner)
           (ap (name_at grown) same ∙ get_or-append_seam f.names (shadow_root_of c) [] (node_of Page 0))
-          ∙ in_there (contents g.names g.trees now) c (subst (In c) (sym one.owners) (In-end (owners_up_to (length was.each)) c))
+          ∙ in_there (contents g.names g.trees now) c (subst (In c) (sym one.owners) (In-end (Page ∷ host_owners hosts_were) c))
       at (inr h) =
           ap (λ (y : NodeName). is_there (world_from g.names g.trees now) y.owner) (get_or-append f.names (shadow_root_of c ∷ []) (node_of Page 0) k h)
           ∙ there_after (name_at f.names k).owner (held.present k h)
@@ -266,22 +226,11 @@ module _ (f g : NamedTrees) (was now : AllTables) (host : ℕ) (d : Option NodeN
         let few = held.limited p in omega (arith, count, few)
   ]
 
-  own_after : (q : Owner) (t : KeyedTables) → table_of now.each q ≡ Some t → AreTablesOf (named_trees g.names g.trees) q t
-  own_after q t e = elim (cases_Bool (owner_eq q c)) [
-    | inl same ↦
-        subst (AreTablesOf (named_trees g.names g.trees) q)
-        (same_Some no_keyed_tables t (sym table_new ∙ (ap (table_of now.each) (sym (owner_eq-true q c same)) ∙ e)))
-        record {
-          iterators = λ k i is. absurd (none-some i is);
-          walkers = λ k w is. absurd (none-some w is);
-          few_iterators = omega arith;
-          few_walkers = omega arith;
-        }
-    | inr other ↦
-        subst (λ (h : NamedTrees). AreTablesOf h q t) (λ i. named_trees (sym more.names i) (sym more.trees i))
-        (tables_more f.names (shadow_root_of c) f.trees (new_root (shadow_root_of c) Shadow d) refl new_name q t
-        (held.own q t (sym (table_rest q (owner_eq-false q c other)) ∙ e)))
-  ]
+  own_after : (q : Owner) → AreTablesOf (named_trees g.names g.trees) q (now.each q)
+  own_after q =
+      subst (AreTablesOf (named_trees g.names g.trees) q) (sym (own_rest q))
+      (subst (λ (h : NamedTrees). AreTablesOf h q (was.each q)) (λ i. named_trees (sym more.names i) (sym more.trees i))
+      (tables_more f.names (shadow_root_of c) f.trees (new_root (shadow_root_of c) Shadow d) refl new_name q (was.each q) (held.own q)))
 
   -- none of its nodes was there before
   uncounted : (k : ℕ) → k < length f.names → (name_at f.names k).owner ≢ c
@@ -298,9 +247,7 @@ module _ (f g : NamedTrees) (was now : AllTables) (host : ℕ) (d : Option NodeN
     absent = (hosts_after room).absent;
     limited = limited_after;
     own = own_after;
-    counted = ap length more.each ∙ (let pushed = length_push was.each no_keyed_tables in let counted = held.counted in let hosts = ap length
-        more.hosts in let longer = length_push hosts_were (record { host = host; root = length f.names; owner = c }) in omega
-        (arith, pushed, counted, hosts, longer));
+    idle = λ q off. own_rest q ∙ held.idle q (absent_before q off);
     made = subst (AreMadeBehind g.names []) (sym more.hosts) (hosts_after room).made;
     signals = record { free = more.free; slots = more.slots; nodes = nodes_after };
     speaks = λ p. subst (λ ns. SpeaksOf (IsKey ns) (now.observers p)) (sym more.names)

@@ -32,8 +32,7 @@ use Rattle.dom_parts.proofs.Numbers.{count_more}
 use Rattle.dom_parts.proofs.HostedSteps.{KeepsNames, names_pushed, nodes_pushed, nodes_renamed, hosts_renamed, made_renamed, attached_renamed}
 use Rattle.dom_parts.proofs.HostedWorlds.{single_hosted}
 use Rattle.dom_parts.proofs.HostsOfOwners.{count_hosts, own-pushed, other-pushed, placed}
-use Rattle.dom_parts.proofs.Places.{In-push, In-end}
-use Rattle.dom_parts.proofs.Worlds.{In, there_in, in_there, there_same, part_at, changed, joined}
+use Rattle.dom_parts.proofs.Worlds.{In, In-push, In-end, there_in, in_there, there_same, part_at, changed, joined}
 
 -- ---- the list of hosts
 
@@ -90,7 +89,7 @@ module _ (a : Contents) (hosts : List ShadowHost) (held : AreHostsOf a hosts) (m
 
   -- nor its maker
   pub next_other : next_component ≢ m
-  next_other = component_made-other m (count_hosts a.names hosts m) may
+  next_other = component_made-other m (count_hosts a.names hosts m)
 
   module _ (present : (k : ℕ) → k < length a.names → is_there (world_of a) (name_at a.names k).owner ≡ true) (b : Contents) (x : NodeName)
       (own : x.owner ≡ m) (there : is_there (world_of a) m ≡ true)

@@ -3,7 +3,7 @@ use Rattle.std.proofs.Common.{◌≡◌, ℕ, zero, suc, inl, inr, Bool, true, f
 use Rattle.std.proofs.Common.{map, refl, sym, ap, subst, ◌∙◌}
 use Rattle.std.specs.Prelude.{is_some, slice_get, slice_set}
 use Rattle.std.specs.Option.{option_map_or}
-use Rattle.std.proofs.lemmas.Bool.{cases_Bool, true≢false}
+use Rattle.std.proofs.lemmas.Bool.{cases_Bool, true≢false, cond-true, cond-false}
 use Rattle.std.proofs.lemmas.List.{length-set, map-set, map-append, length-map}
 use Rattle.std.proofs.lemmas.Option.{slice_get-map, same_Some}
 use Rattle.dom_base.specs.declared.NodeName.{NodeName}
@@ -17,21 +17,21 @@ use Rattle.dom_model.specs.Traversal.{Iterator, Walker, iterator_next_node, iter
 use Rattle.dom_model.specs.Part.{Part}
 use Rattle.dom_model.specs.World.{part_of, with_part, is_there}
 use Rattle.dom_model.specs.Effects.{Effect, effect, keeps, answers, node_or_null, moves_iterator, sets_walker, new_iterator, new_walker}
-use Rattle.dom_model.proofs.OwnerLaws.{owner_eq-true, owner_eq-false}
+use Rattle.dom_model.proofs.OwnerLaws.{owner_eq-true}
 use Rattle.dom_tree.specs.Forest.{name_at, count_of}
 use Rattle.dom_tree.specs.Owners.{trees_of_owner}
 use Rattle.dom_tree.proofs.Owned.{stays_own}
 use Rattle.dom_traversal.specs.Iterators.{KeyedIterator, iterator_view, iterator_at}
 use Rattle.dom_traversal.specs.Walkers.{KeyedWalker, walker_view, walker_at}
 use Rattle.dom_parts.specs.Contents.{part_with, part_in}
-use Rattle.dom_cursors.specs.OwnTables.{KeyedTables, place_of, owners_up_to, table_of, no_keyed_tables}
+use Rattle.dom_cursors.specs.OwnTables.{KeyedTables, no_keyed_tables}
+use Rattle.dom_cursors.proofs.Owners.{with-own, with-other}
 use Rattle.dom_parts.specs.AllTables.{AreTablesOf, AllTables, with_table}
-use Rattle.dom_parts.specs.Doc.{named_trees, own_tables, shown_tables, contents, world_from, IsHeld, Makes}
-use Rattle.dom_parts.proofs.Worlds.{part_at, part_off, changed}
-use Rattle.dom_parts.proofs.Places.{single_owners, table_set, table_set_other}
+use Rattle.dom_parts.specs.Doc.{named_trees, shown_tables, contents, world_from, IsHeld, Makes}
+use Rattle.dom_parts.proofs.Worlds.{part_at, part_off, there_same, changed}
 use Rattle.dom_parts.proofs.OwnNodes.{next_own, previous_own, move_own}
 use Rattle.dom_ranges.specs.Tables.{ranges_of}
-use Rattle.dom_parts.proofs.Held.{held_with, there_table}
+use Rattle.dom_parts.proofs.Held.{held_with, single_owners}
 use Rattle.dom_parts.proofs.RangedKeeping.{ranges_stay}
 
 -- an item that is written where it stands
@@ -49,52 +49,41 @@ is_some_map : {X Y : Type 0} (f : X → Y) (o : Option X) → is_some (option_ma
 is_some_map f None = refl
 is_some_map f (Some x) = refl
 
--- an owner without tables has no cursors
-no_items : (tables : AllTables) (o : Owner) → (table_of tables.each o ≡ None) → own_tables tables o ≡ no_keyed_tables
-no_items tables o e = ap (λ m. unwrap_or m no_keyed_tables) e
-
 -- the part of an owner has its tables in names
-module _ (names : List NodeName) (ts : Trees) (tables : AllTables) (o : Owner) where
-  off_tables : is_there (world_from names ts tables) o ≡ false → table_of tables.each o ≡ None
-  off_tables off = by (table_of tables.each o) refl
-    where
-      by : (m : Option KeyedTables) → table_of tables.each o ≡ m → m ≡ None
-      by None e = refl
-      by (Some t) e = absurd (true≢false (sym (there_table names ts tables o t e) ∙ off))
-
-  pub iterators_in : (part_of (world_from names ts tables) o).iterators ≡ map (iterator_view names) (own_tables tables o).iterators
+module _ (names : List NodeName) (ts : Trees) (tables : AllTables) (held : IsHeld names ts tables) (o : Owner) where
+  pub iterators_in : (part_of (world_from names ts tables) o).iterators ≡ map (iterator_view names) (tables.each o).iterators
   iterators_in = elim (cases_Bool (is_there (world_from names ts tables) o)) [
     | inl there ↦ ap (λ (p : Part). p.iterators) (part_at (contents names ts tables) o there)
     | inr off ↦ ap (λ (p : Part). p.iterators) (part_off (contents names ts tables) o off) ∙
-        ap (λ (t : KeyedTables). map (iterator_view names) t.iterators) (sym (no_items tables o (off_tables off)))
+        ap (λ (t : KeyedTables). map (iterator_view names) t.iterators) (sym (held.idle o off))
   ]
 
-  pub walkers_in : (part_of (world_from names ts tables) o).walkers ≡ map (walker_view names) (own_tables tables o).walkers
+  pub walkers_in : (part_of (world_from names ts tables) o).walkers ≡ map (walker_view names) (tables.each o).walkers
   walkers_in = elim (cases_Bool (is_there (world_from names ts tables) o)) [
     | inl there ↦ ap (λ (p : Part). p.walkers) (part_at (contents names ts tables) o there)
     | inr off ↦ ap (λ (p : Part). p.walkers) (part_off (contents names ts tables) o off) ∙
-        ap (λ (t : KeyedTables). map (walker_view names) t.walkers) (sym (no_items tables o (off_tables off)))
+        ap (λ (t : KeyedTables). map (walker_view names) t.walkers) (sym (held.idle o off))
   ]
 
   -- a number that an iterator has in one has one in the other
-  pub has_iterator : (k : ℕ) → is_some (slice_get (part_of (world_from names ts tables) o).iterators k) ≡ is_some (slice_get (own_tables tables o).iterators k)
+  pub has_iterator : (k : ℕ) → is_some (slice_get (part_of (world_from names ts tables) o).iterators k) ≡ is_some (slice_get (tables.each o).iterators k)
   has_iterator k =
       ap (λ is. is_some (slice_get is k)) iterators_in
-      ∙ (ap is_some (slice_get-map (iterator_view names) (own_tables tables o).iterators k) ∙
-      is_some_map (iterator_view names) (slice_get (own_tables tables o).iterators k))
+      ∙ (ap is_some (slice_get-map (iterator_view names) (tables.each o).iterators k) ∙
+      is_some_map (iterator_view names) (slice_get (tables.each o).iterators k))
 
-  pub has_walker : (k : ℕ) → is_some (slice_get (part_of (world_from names ts tables) o).walkers k) ≡ is_some (slice_get (own_tables tables o).walkers k)
+  pub has_walker : (k : ℕ) → is_some (slice_get (part_of (world_from names ts tables) o).walkers k) ≡ is_some (slice_get (tables.each o).walkers k)
   has_walker k =
       ap (λ ws. is_some (slice_get ws k)) walkers_in
-      ∙ (ap is_some (slice_get-map (walker_view names) (own_tables tables o).walkers k) ∙
-      is_some_map (walker_view names) (slice_get (own_tables tables o).walkers k))
+      ∙ (ap is_some (slice_get-map (walker_view names) (tables.each o).walkers k) ∙
+      is_some_map (walker_view names) (slice_get (tables.each o).walkers k))
 
   -- and then the owner is there
   there_by : {X : Type 0} (read : KeyedTables → List X) → read no_keyed_tables ≡ [] → (k : ℕ) →
-      is_some (slice_get (read (own_tables tables o)) k) ≡ true → is_there (world_from names ts tables) o ≡ true
+      is_some (slice_get (read (tables.each o)) k) ≡ true → is_there (world_from names ts tables) o ≡ true
   there_by read none k h = elim (cases_Bool (is_there (world_from names ts tables) o)) [
     | inl there ↦ there
-    | inr off ↦ absurd (true≢false (sym h ∙ ap (λ xs. is_some (slice_get xs k)) (ap read (no_items tables o (off_tables off)) ∙ none)))
+    | inr off ↦ absurd (true≢false (sym h ∙ ap (λ xs. is_some (slice_get xs k)) (ap read (held.idle o off) ∙ none)))
   ]
 
   pub there_iterator : (k : ℕ) → is_some (slice_get (part_of (world_from names ts tables) o).iterators k) ≡ true →
@@ -104,24 +93,24 @@ module _ (names : List NodeName) (ts : Trees) (tables : AllTables) (o : Owner) w
   pub there_walker : (k : ℕ) → is_some (slice_get (part_of (world_from names ts tables) o).walkers k) ≡ true → is_there (world_from names ts tables) o ≡ true
   there_walker k h = there_by (λ t. t.walkers) refl k (sym (has_walker k) ∙ h)
 
-module _ (names : List NodeName) (ts : Trees) (tables : AllTables) (held : IsHeld names ts tables) (o : Owner) (t : KeyedTables)
-    (at : table_of tables.each o ≡ Some t) where
-  pub there : is_there (world_from names ts tables) o ≡ true
-  there = there_table names ts tables o t at
+module _ (names : List NodeName) (ts : Trees) (tables : AllTables) (held : IsHeld names ts tables) (o : Owner)
+    (there : is_there (world_from names ts tables) o ≡ true) where
+  abbrev t : KeyedTables
+  t = tables.each o
 
   -- the owner's part with other tables
   abbrev pub with_own : KeyedTables → Part
   with_own v = part_with o (trees_of_owner o ts) (count_of o names) (shown_tables names tables.slots.hosts o v (tables.observers o) (ranges_of tables.ranges o))
 
   pub part_was : part_of (world_from names ts tables) o ≡ with_own t
-  part_was = part_at (contents names ts tables) o there ∙ ap (λ m. with_own (unwrap_or m no_keyed_tables)) at
+  part_was = part_at (contents names ts tables) o there
 
   -- what a command reads and does not change
   pub makes_read : (c : Command) (v : Value) → effect (with_own t) c ≡ Effect.tables (with_own t) [] v →
       Makes o c v (world_from names ts tables) (world_from names ts tables)
   makes_read c v is = (
     ap (λ p. effect p c) part_was ∙ is ∙ ap (λ p. Effect.tables p [] v) (sym part_was),
-    changed (contents names ts tables) (contents names ts tables) o (part_in (contents names ts tables) o) (single_owners (length tables.each))
+    changed (contents names ts tables) (contents names ts tables) o (part_in (contents names ts tables) o) (single_owners names ts tables held)
         there (record { owners = refl; signalled = refl; tasks = refl; own = refl; others = λ q other. refl })
         ∙ ap (with_part (world_from names ts tables)) (sym (part_at (contents names ts tables) o there)),
   )
@@ -130,31 +119,25 @@ module _ (names : List NodeName) (ts : Trees) (tables : AllTables) (held : IsHel
     abbrev pub set_tables : AllTables
     set_tables = with_table tables o u
 
-    at_set : table_of (slice_set tables.each (place_of o) u) o ≡ Some u
-    at_set = table_set tables.each o t u at
-
     -- what holds of the others
     pub held_set : AreTablesOf (named_trees names ts) o u → IsHeld names ts (with_table tables o u)
     held_set h =
-        held_with names ts tables held o there names ts (with_table tables o u) (length-set tables.each (place_of o) u) refl held.owned
+        held_with names ts tables held o there names ts (with_table tables o u) refl held.owned
         (λ p other. refl) held.present held.limited
-        (λ p v e. elim (cases_Bool (owner_eq p o)) [
-          | inl same ↦ own_case p v (owner_eq-true p o same) e
-          | inr other ↦ held.own p v (sym (table_set_other tables.each o t u at p (owner_eq-false p o other)) ∙ e)
-        ]) held.made record { free = held.signals.free; slots = held.signals.slots; nodes = held.signals.nodes } held.speaks held.unobserved held.due
-        (ranges_stay (contents names ts tables) (contents names ts (with_table tables o u)) tables.ranges held.ranges refl
-        (ap owners_up_to (length-set tables.each (place_of o) u)) (λ p. refl)) held.numbered
-      where
-        own_case : (p : Owner) (v : KeyedTables) → p ≡ o → table_of (slice_set tables.each (place_of o) u) p ≡ Some v → AreTablesOf (named_trees names ts) p v
-        own_case p v same e =
-            let is : u ≡ v = same_Some u v (sym at_set ∙ ap (table_of (slice_set tables.each (place_of o) u)) (sym same) ∙ e) in
-            subst (λ q. AreTablesOf (named_trees names ts) q v) (sym same) (subst (AreTablesOf (named_trees names ts) o) is h)
+        (λ p. elim (cases_Bool (owner_eq o p)) [
+          | inl same ↦ subst (AreTablesOf (named_trees names ts) p) (sym (cond-true (owner_eq o p) u (tables.each p) same))
+              (subst (λ q. AreTablesOf (named_trees names ts) q u) (owner_eq-true o p same) h)
+          | inr other ↦ subst (AreTablesOf (named_trees names ts) p) (sym (cond-false (owner_eq o p) u (tables.each p) other)) (held.own p)
+        ])
+        (λ p off. with-other tables.each o u p (λ same. true≢false (sym there ∙ ap (is_there (world_from names ts tables)) (sym same) ∙ off)) ∙ held.idle p off)
+        held.made record { free = held.signals.free; slots = held.signals.slots; nodes = held.signals.nodes } held.speaks held.unobserved held.due
+        (ranges_stay (contents names ts tables) (contents names ts (with_table tables o u)) tables.ranges held.ranges refl refl (λ p. refl)) held.numbered
 
     there_set : is_there (world_from names ts (with_table tables o u)) o ≡ true
-    there_set = there_table names ts (with_table tables o u) o u at_set
+    there_set = there_same (contents names ts (with_table tables o u)) (contents names ts tables) refl o ∙ there
 
     part_now : part_of (world_from names ts (with_table tables o u)) o ≡ with_own u
-    part_now = part_at (contents names ts (with_table tables o u)) o there_set ∙ ap (λ m. with_own (unwrap_or m no_keyed_tables)) at_set
+    part_now = part_at (contents names ts (with_table tables o u)) o there_set ∙ ap with_own (with-own tables.each o u)
 
     -- what a command does that writes the tables
     pub makes_set : (c : Command) (v : Value) → effect (with_own t) c ≡ Effect.tables (with_own u) [] v →
@@ -162,14 +145,14 @@ module _ (names : List NodeName) (ts : Trees) (tables : AllTables) (held : IsHel
     makes_set c v is = (
       ap (λ p. effect p c) part_was ∙ is ∙ ap (λ p. Effect.tables p [] v) (sym part_now),
       changed (contents names ts tables) (contents names ts (with_table tables o u)) o (part_of (world_from names ts (with_table tables o u)) o)
-          (single_owners (length tables.each)) there record {
-            owners = ap owners_up_to (length-set tables.each (place_of o) u);
+          (single_owners names ts tables held) there record {
+            owners = refl;
             signalled = refl;
             tasks = refl;
             own = sym (part_at (contents names ts (with_table tables o u)) o there_set);
             others = λ q other. ap (λ m. part_with q (trees_of_owner q ts) (count_of q names)
-                (shown_tables names tables.slots.hosts q (unwrap_or m no_keyed_tables) (tables.observers q) (ranges_of tables.ranges q)))
-                (table_set_other tables.each o t u at q other);
+                (shown_tables names tables.slots.hosts q m (tables.observers q) (ranges_of tables.ranges q)))
+                (with-other tables.each o u q other);
           },
     )
 
@@ -206,7 +189,7 @@ module _ (names : List NodeName) (ts : Trees) (tables : AllTables) (held : IsHel
   -- an iterator's nodes are the owner's
   reference_own : (k : ℕ) (i : KeyedIterator) → slice_get t.iterators k ≡ Some i → ((name_at names i.root).owner ≡ o) × ((name_at names i.reference).owner ≡ o)
   reference_own k i e =
-      let h = (held.own o t at).iterators k i e in (
+      let h = (held.own o).iterators k i e in (
         h.own,
         sym ((stays_own ts held.owned (name_at names i.reference).owner (name_at names i.reference) refl).path (name_at names i.root)
             h.stands.reference.within) ∙ h.own,
@@ -284,7 +267,7 @@ module _ (names : List NodeName) (ts : Trees) (tables : AllTables) (held : IsHel
       option_map (name_at names) r ≡ walker_move ts (walker_view names w) m
       → effect (with_own t) (Command.walk k m) ≡ Effect.tables (with_own (with_walker k (walker_at w r))) [] (node_or_null (option_map (name_at names) r))
   walk_effect k w m r e value =
-      let h = (held.own o t at).walkers k w e in
+      let h = (held.own o).walkers k w e in
       ap (λ n. option_map_or (λ j. sets_walker (with_own t) k j (walker_move (trees_of_owner o ts) j m)
       (node_or_null (walker_move (trees_of_owner o ts) j m))) n (answers (with_own t) nothing)) (walker_got k w e)
       ∙ ap (λ x. sets_walker (with_own t) k (walker_view names w) x (node_or_null x))

@@ -6,26 +6,26 @@ use Rattle.std.specs.Option.{ForSome}
 use Rattle.std.proofs.lemmas.Option.{slice_get_within, none-some}
 use Rattle.dom_base.specs.declared.NodeName.{NodeName}
 use Rattle.dom_base.specs.declared.Owner.{Owner}
+use Rattle.dom_base.specs.declared.Owner.TheVariants.{Page}
 use Rattle.dom_model.specs.Tree.{Trees}
 use Rattle.dom_model.specs.World.{World, is_there, Task, micro_task, notify_task}
 use Rattle.dom_tree.specs.Forest.{NamedTrees, name_at, count_of}
 use Rattle.dom_tree.specs.Owners.{AreOwned, trees_of_owner, IsOwnChange}
 use Rattle.dom_observers.specs.Tables.{TablesOf, no_tables as no_observers}
 use Rattle.dom_observers.specs.Naming.{IsKey, SpeaksOf}
-use Rattle.dom_cursors.specs.OwnTables.{KeyedTables, place_of, owner_at, owners_up_to, table_of, no_keyed_tables}
+use Rattle.dom_cursors.specs.OwnTables.{no_keyed_tables}
 use Rattle.dom_parts.specs.AllTables.{AreTablesOf, AllTables, signals_of, with_queue, with_observers}
 use Rattle.dom_node_trees.specs.Signalled.{AreSignals}
-use Rattle.dom_parts.specs.Hosting.{maker_of, hosts_of, host_names, AreMadeBehind, AreHostsOf}
+use Rattle.dom_parts.specs.Hosting.{maker_of, hosts_of, host_names, host_owners, AreMadeBehind, AreHostsOf}
 use Rattle.dom_parts.specs.Numbering.{AreNumbered}
 use Rattle.dom_parts.specs.Ranging.{AreRangesOf}
 use Rattle.dom_slots.specs.Hosts.{ShadowHost, HostsAreNodes}
 use Rattle.dom_slots.specs.Kept.{AreSlotsOf}
 use Rattle.dom_model.proofs.OwnerLaws.{ne-owner_eq}
-use Rattle.dom_parts.proofs.HostedKeys.{owners_made}
+use Rattle.dom_parts.proofs.HostedWorlds.{single_hosted}
 use Rattle.dom_parts.proofs.HostsOfOwners.{other-host}
 use Rattle.dom_parts.specs.Doc.{named_trees, contents, world_from, IsHeld, IsDue}
-use Rattle.dom_parts.proofs.Worlds.{there_in, in_there, there_same}
-use Rattle.dom_parts.proofs.Places.{place_within, owners_in, table_place, table_owner}
+use Rattle.dom_parts.proofs.Worlds.{Single, there_same}
 use Rattle.dom_tree_laws.proofs.Standing.{KeepsAbove}
 use Rattle.dom_parts.proofs.Keeping.{tables_kept}
 use Rattle.dom_parts.proofs.RangedKeeping.{ranges_stay}
@@ -50,7 +50,7 @@ none_of w names present o off (h ∷ hosts) nodes =
 -- it has just its hosts
 pub are_hosts : (names : List NodeName) (ts : Trees) (tables : AllTables) → IsHeld names ts tables → AreHostsOf (contents names ts tables) tables.slots.hosts
 are_hosts names ts tables held = record {
-  owners = ap owners_up_to held.counted ∙ owners_made names tables.slots.hosts held.made;
+  owners = refl;
   made = held.made;
   nodes = held.signals.slots.hosts;
   attached = λ o. refl;
@@ -59,18 +59,9 @@ are_hosts names ts tables held = record {
   absent = held.absent;
 }
 
--- an owner that is there has tables
-pub table_there : (names : List NodeName) (ts : Trees) (tables : AllTables) (o : Owner) → is_there (world_from names ts tables) o ≡ true →
-    (place_of o < length tables.each) × (owner_at (place_of o) ≡ o)
-table_there names ts tables o h = place_within (length tables.each) o (there_in (contents names ts tables) o h)
-
--- and one that has tables is there
-pub there_table : (names : List NodeName) (ts : Trees) (tables : AllTables) (o : Owner) (t : KeyedTables) → table_of tables.each o ≡ Some t →
-    is_there (world_from names ts tables) o ≡ true
-there_table names ts tables o t e =
-    in_there (contents names ts tables) o
-    (owners_in (length tables.each) o (slice_get_within tables.each (place_of o) t (table_place tables.each o t e))
-    (table_owner tables.each o t e))
+-- each owner stands there once
+pub single_owners : (names : List NodeName) (ts : Trees) (tables : AllTables) → IsHeld names ts tables → Single (Page ∷ host_owners tables.slots.hosts)
+single_owners names ts tables held = single_hosted (contents names ts tables) tables.slots.hosts (are_hosts names ts tables held)
 
 -- tasks are due as long as their owners are there
 pub due_kept : (w v : World) → ((o : Owner) → is_there w o ≡ true → is_there v o ≡ true) → (tasks : List Task) → AllByRecursion (IsDue w) tasks →
@@ -85,20 +76,21 @@ due_kept w v there (t ∷ tasks) all = (by t all.0, due_kept w v there tasks all
 -- other trees and tables, where only one owner's trees change
 module _ (names : List NodeName) (ts : Trees) (tables : AllTables) (held : IsHeld names ts tables) (o : Owner)
     (there : is_there (world_from names ts tables) o ≡ true)
-    (more : List NodeName) (us : Trees) (others : AllTables) (same : length others.each ≡ length tables.each)
+    (more : List NodeName) (us : Trees) (others : AllTables)
     (hosts : others.slots.hosts ≡ tables.slots.hosts) where
   who : (p : Owner) → is_there (world_from more us others) p ≡ is_there (world_from names ts tables) p
-  who p = there_same (contents more us others) (contents names ts tables) (ap owners_up_to same) p
+  who p = there_same (contents more us others) (contents names ts tables) (ap (λ (hs : List ShadowHost). Page ∷ host_owners hs) hosts) p
 
   pub held_with : AreOwned us → ((p : Owner) → p ≢ o → trees_of_owner p us ≡ trees_of_owner p ts)
       → ((k : ℕ) → k < length more → is_there (world_from names ts tables) (name_at more k).owner ≡ true) → ((p : Owner) → count_of p more ≤ 1000000)
-      → ((p : Owner) → ForSome (table_of others.each p) (AreTablesOf (named_trees more us) p)) → AreMadeBehind more [] tables.slots.hosts →
+      → ((p : Owner) → AreTablesOf (named_trees more us) p (others.each p)) →
+      ((p : Owner) → is_there (world_from names ts tables) p ≡ false → others.each p ≡ no_keyed_tables) → AreMadeBehind more [] tables.slots.hosts →
       AreSignals more us (signals_of others)
       → ((p : Owner) → SpeaksOf (IsKey more) (others.observers p)) →
       ((p : Owner) → is_there (world_from names ts tables) p ≡ false → others.observers p ≡ no_observers)
       → AllByRecursion (IsDue (world_from names ts tables)) others.tasks → AreRangesOf (contents more us others) others.ranges →
       AreNumbered more → IsHeld more us others
-  held_with owned apart present limited own made signals speaks unobserved due ranges numbered = record {
+  held_with owned apart present limited own idle made signals speaks unobserved due ranges numbered = record {
     owned = owned;
     present = λ k k<. who (name_at more k).owner ∙ present k k<;
     absent = λ p off. apart p (λ same_owner. let on : is_there (world_from names ts tables) p ≡ true = subst
@@ -106,7 +98,7 @@ module _ (names : List NodeName) (ts : Trees) (tables : AllTables) (held : IsHel
         ∙ held.absent p (sym (who p) ∙ off);
     limited = limited;
     own = own;
-    counted = same ∙ (held.counted ∙ ap (λ (hs : List ShadowHost). suc (length hs)) (sym hosts));
+    idle = λ p off. idle p (sym (who p) ∙ off);
     made = subst (AreMadeBehind more []) (sym hosts) made;
     signals = signals;
     speaks = speaks;
@@ -120,8 +112,8 @@ pub held_changed : (names : List NodeName) (ts : Trees) (tables : AllTables) →
     is_there (world_from names ts tables) o ≡ true
     → (f : Trees → Trees) → IsOwnChange o f ts → KeepsAbove ts (f ts) → AreSlotsOf (named_trees names (f ts)) tables.slots → IsHeld names (f ts) tables
 held_changed names ts tables held o there f change keeps slots =
-    held_with names ts tables held o there names (f ts) tables refl refl change.owned change.others held.present held.limited
-    (λ p t e. tables_kept names ts (f ts) keeps p t (held.own p t e)) held.made
+    held_with names ts tables held o there names (f ts) tables refl change.owned change.others held.present held.limited
+    (λ p. tables_kept names ts (f ts) keeps p (tables.each p) (held.own p)) held.idle held.made
     record { free = held.signals.free; slots = slots; nodes = held.signals.nodes } held.speaks held.unobserved held.due
     (ranges_stay (contents names ts tables) (contents names (f ts) tables) tables.ranges held.ranges refl refl (λ p. refl)) held.numbered
 
@@ -135,7 +127,7 @@ held_observers names ts tables held observers speaks unobserved = record {
   absent = λ o off. held.absent o (sym (who o) ∙ off);
   limited = held.limited;
   own = held.own;
-  counted = held.counted;
+  idle = λ o off. held.idle o (sym (who o) ∙ off);
   made = held.made;
   signals = record { free = held.signals.free; slots = held.signals.slots; nodes = held.signals.nodes };
   speaks = speaks;
@@ -157,7 +149,7 @@ held_tasks names ts tables held tasks due = record {
   absent = held.absent;
   limited = held.limited;
   own = held.own;
-  counted = held.counted;
+  idle = held.idle;
   made = held.made;
   signals = record { free = held.signals.free; slots = held.signals.slots; nodes = held.signals.nodes };
   speaks = held.speaks;

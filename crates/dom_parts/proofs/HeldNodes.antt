@@ -31,14 +31,14 @@ use Rattle.dom_ranges.specs.Tables.{RangeLists, ranges_of}
 use Rattle.dom_observers.specs.Naming.{IsKey}
 use Rattle.dom_observers.proofs.Speaking.{speaks_none}
 use Rattle.dom_parts.specs.Contents.{Tables, part_with}
-use Rattle.dom_cursors.specs.OwnTables.{KeyedTables, table_of, no_keyed_tables}
+use Rattle.dom_cursors.specs.OwnTables.{no_keyed_tables}
 use Rattle.dom_parts.specs.AllTables.{tables_view, AreTablesOf, AllTables, no_slots, first_tables, AreFirst, with_live}
 use Rattle.dom_slots.specs.Kept.{AreSlotsOf, StandsOnce, HasOneMore}
 use Rattle.dom_slots.proofs.Added.{slots-more}
 use Rattle.dom_parts.proofs.HostedSteps.{names_pushed, made_renamed, attached_renamed, plain_step}
 use Rattle.std.proofs.lemmas.List.Elements.{All-nil}
 use Rattle.dom_node_trees.proofs.Named.{names_grown}
-use Rattle.dom_parts.specs.Doc.{DocState, named_trees, own_tables, shown_tables, contents, world_from, state_from, IsHeld}
+use Rattle.dom_parts.specs.Doc.{DocState, named_trees, shown_tables, contents, world_from, state_from, IsHeld}
 use Rattle.dom_parts.specs.Hosting.{attached_of}
 use Rattle.dom_parts.proofs.Worlds.{part_at}
 use Rattle.dom_parts.proofs.Keeping.{tables_more, view_same, speaks_grown}
@@ -80,10 +80,10 @@ module _ (names : List NodeName) (ts : Trees) (tables : AllTables) (held : IsHel
   pub held_more : count_of o names ≢ 1000000 → AreSlotsOf (named_trees (names ++ next_name o names ∷ []) (with_node n ts)) tables.slots →
       IsHeld (names ++ next_name o names ∷ []) (with_node n ts) tables
   held_more room slots =
-      held_with names ts tables held o there grown (with_node n ts) tables refl refl own_change.owned own_change.others
+      held_with names ts tables held o there grown (with_node n ts) tables refl own_change.owned own_change.others
       (present_more names ts tables (next_name o names) there held.present)
       (λ p. limited_more names o p (count_of o names) (held.limited o) (held.limited p) room)
-      (λ p t e. tables_more names (next_name o names) ts n is new p t (held.own p t e))
+      (λ p. tables_more names (next_name o names) ts n is new p (tables.each p) (held.own p)) held.idle
       (made_renamed names grown (names_pushed names (next_name o names)) [] tables.slots.hosts tt held.signals.slots.hosts held.made)
       record { free = held.signals.free; slots = slots; nodes = names_grown names (next_name o names) tables.signalled held.signals.nodes }
       (λ p. speaks_grown names (next_name o names) (tables.observers p) (held.speaks p)) held.unobserved held.due
@@ -92,12 +92,13 @@ module _ (names : List NodeName) (ts : Trees) (tables : AllTables) (held : IsHel
 
   -- each owner's tables are the same in names
   view_grown : (q : Owner)
-      → shown_tables grown tables.slots.hosts q (own_tables tables q) (tables.observers q) (ranges_of tables.ranges q) ≡ shown_tables names
-      tables.slots.hosts q (own_tables tables q) (tables.observers q) (ranges_of tables.ranges q)
+      → shown_tables grown tables.slots.hosts q (tables.each q) (tables.observers q) (ranges_of tables.ranges q) ≡ shown_tables names
+      tables.slots.hosts q (tables.each q) (tables.observers q) (ranges_of tables.ranges q)
   view_grown q =
       let rs = ranges_of tables.ranges q in
-      let view = tables_view names (own_tables tables q) (tables.observers q) in
-      ap (λ (t : Tables). with_those t (attached_of grown tables.slots.hosts q) (named_ranges grown rs)) (by (table_of tables.each q) refl)
+      let view = tables_view names (tables.each q) (tables.observers q) in
+      ap (λ (t : Tables). with_those t (attached_of grown tables.slots.hosts q) (named_ranges grown rs))
+      (view_same names (next_name o names) ts q (tables.each q) (tables.observers q) (held.own q) (held.speaks q))
       ∙ (ap (λ xs. with_those view xs (named_ranges grown rs)) (hosts_grown q) ∙ ap (with_those view (attached_of names tables.slots.hosts q))
       (named_grown names (next_name o names) tables.ranges held.ranges.own q))
     where
@@ -106,11 +107,6 @@ module _ (names : List NodeName) (ts : Trees) (tables : AllTables) (held : IsHel
 
       hosts_grown : (p : Owner) → attached_of grown tables.slots.hosts p ≡ attached_of names tables.slots.hosts p
       hosts_grown p = sym (attached_renamed names grown (names_pushed names (next_name o names)) tables.slots.hosts p held.signals.slots.hosts)
-
-      by : (m : Option KeyedTables) → table_of tables.each q ≡ m →
-          tables_view grown (unwrap_or m no_keyed_tables) (tables.observers q) ≡ tables_view names (unwrap_or m no_keyed_tables) (tables.observers q)
-      by None e = view_same names (next_name o names) ts q no_keyed_tables (tables.observers q) (no_cursors (named_trees names ts) q) (held.speaks q)
-      by (Some t) e = view_same names (next_name o names) ts q t (tables.observers q) (held.own q t e) (held.speaks q)
 
   -- the world with one node more
   world_more : world_from (names ++ next_name o names ∷ []) (with_node n ts) tables ≡ world_step o (world_from names ts tables) (make n)
@@ -121,18 +117,18 @@ module _ (names : List NodeName) (ts : Trees) (tables : AllTables) (held : IsHel
         signalled = refl;
         tasks = refl;
         own = ap (λ us. part_with o us (count_of o grown)
-            (shown_tables grown tables.slots.hosts o (own_tables tables o) (tables.observers o) (ranges_of tables.ranges o))) own_change.own
+            (shown_tables grown tables.slots.hosts o (tables.each o) (tables.observers o) (ranges_of tables.ranges o))) own_change.own
             ∙ ap (λ k. part_with o (with_node n (trees_of_owner o ts)) k
-            (shown_tables grown tables.slots.hosts o (own_tables tables o) (tables.observers o) (ranges_of tables.ranges o))) more_own
+            (shown_tables grown tables.slots.hosts o (tables.each o) (tables.observers o) (ranges_of tables.ranges o))) more_own
             ∙ ap (λ t. part_with o (with_node n (trees_of_owner o ts)) (suc (count_of o names)) t) (view_grown o)
             ∙ ap (λ (x : NodeName). part_with o (with_node (with_name x n) (trees_of_owner o ts)) (suc (count_of o names))
-            (shown_tables names tables.slots.hosts o (own_tables tables o) (tables.observers o) (ranges_of tables.ranges o))) is;
+            (shown_tables names tables.slots.hosts o (tables.each o) (tables.observers o) (ranges_of tables.ranges o))) is;
         others = λ q other.
             ap (λ us. part_with q us (count_of q grown)
-            (shown_tables grown tables.slots.hosts q (own_tables tables q) (tables.observers q) (ranges_of tables.ranges q)))
+            (shown_tables grown tables.slots.hosts q (tables.each q) (tables.observers q) (ranges_of tables.ranges q)))
             (own_change.others q other)
             ∙ ap (λ k. part_with q (trees_of_owner q ts) k
-            (shown_tables grown tables.slots.hosts q (own_tables tables q) (tables.observers q) (ranges_of tables.ranges q))) (more_other q other)
+            (shown_tables grown tables.slots.hosts q (tables.each q) (tables.observers q) (ranges_of tables.ranges q))) (more_other q other)
             ∙ ap (λ t. part_with q (trees_of_owner q ts) (count_of q names) t) (view_grown q);
       }
     where
@@ -237,21 +233,16 @@ empty_held rs empty = record {
   present = λ k k<. absurd (omega arith);
   absent = λ o off. refl;
   limited = λ o. omega arith;
-  counted = refl;
   made = tt;
   signals = record { free = refl; slots = no_slots_of (named_trees [] none); nodes = All-nil (λ x. is_in name_eq x [] ≡ true) };
-  own = λ o t e. subst (AreTablesOf (named_trees [] none) o) (same_own o t e) (no_cursors (named_trees [] none) o);
+  own = no_cursors (named_trees [] none);
+  idle = λ o off. refl;
   speaks = λ o. speaks_none (IsKey []);
   unobserved = λ o off. refl;
   due = tt;
   ranges = ranges_none (contents [] none (with_live first_tables rs)) rs empty (λ o. ap (named_ranges []) (empty o));
   numbered = λ k k<. absurd (omega arith);
 }
-  where
-    same_own : (o : Owner) (t : KeyedTables) → table_of (no_keyed_tables ∷ []) o ≡ Some t → no_keyed_tables ≡ t
-    same_own Page t e = same_Some no_keyed_tables t e
-    same_own (Component zero) t e = absurd (none-some t e)
-    same_own (Component (suc k)) t e = absurd (none-some t e)
 
 -- so is what was given up
 pub given_up : (g : NamedTrees) (tables : AllTables) → g ≡ record { names = []; trees = none } → AreFirst tables → IsHeld g.names g.trees tables

@@ -9,7 +9,6 @@ mod EveryNode
 mod Held
 mod HeldNodes
 mod HostedDocuments
-mod HostedKeys
 mod HostedSteps
 mod HostedWorlds
 mod HostsOfOwners
@@ -26,7 +25,6 @@ pub mod OwnParts
 pub mod OwnPlans
 mod OwnSteps
 mod Passing
-mod Places
 mod Quiet
 mod RangeRules
 mod RangeSteps

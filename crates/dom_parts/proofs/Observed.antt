@@ -23,17 +23,16 @@ use Rattle.dom_ranges.specs.Settings.{named_ranges}
 use Rattle.dom_ranges.specs.Tables.{ranges_of}
 use Rattle.dom_parts.specs.Contents.{part_with}
 use Rattle.dom_parts.specs.AllTables.{tables_with, AllTables, with_observers}
-use Rattle.dom_parts.specs.Doc.{own_tables, shown_tables, contents, world_from, IsHeld, MakesSaying}
+use Rattle.dom_parts.specs.Doc.{shown_tables, contents, world_from, IsHeld, MakesSaying}
 use Rattle.dom_parts.specs.Hosting.{attached_of}
 use Rattle.dom_parts.proofs.Worlds.{IsChangeOf, there_same, part_at, part_off, changed}
-use Rattle.dom_parts.proofs.Places.{single_owners}
-use Rattle.dom_parts.proofs.Held.{held_observers}
+use Rattle.dom_parts.proofs.Held.{held_observers, single_owners}
 
 module _ (names : List NodeName) (ts : Trees) (tables : AllTables) (held : IsHeld names ts tables) (o : Owner) where
   -- the owner's part with these
   abbrev pub with_seen : TablesOf NodeName → Part
   with_seen r = part_with o (trees_of_owner o ts) (count_of o names)
-      (record (tables_with (map (iterator_view names) (own_tables tables o).iterators) (map (walker_view names) (own_tables tables o).walkers) r)
+      (record (tables_with (map (iterator_view names) (tables.each o).iterators) (map (walker_view names) (tables.each o).walkers) r)
       { attached = attached_of names tables.slots.hosts o; ranges = named_ranges names (ranges_of tables.ranges o) })
 
   -- its observers in names, whether it is there or not
@@ -98,14 +97,14 @@ module _ (names : List NodeName) (ts : Trees) (tables : AllTables) (held : IsHel
         tasks = refl;
         own = ap (λ t. with_seen (named_tables (name_at names) t)) seen_own ∙ same;
         others = λ q other. ap (λ t. part_with q (trees_of_owner q ts) (count_of q names)
-            (shown_tables names tables.slots.hosts q (own_tables tables q) t (ranges_of tables.ranges q))) (seen_other q other);
+            (shown_tables names tables.slots.hosts q (tables.each q) t (ranges_of tables.ranges q))) (seen_other q other);
       }
 
       -- the world then
       pub seen_world : (p : Part) → with_seen (named_tables (name_at names) r) ≡ p →
           world_from names ts (with_observers tables seen) ≡ with_part (world_from names ts tables) p
       seen_world p same = changed (contents names ts tables) (contents names ts (with_observers tables seen)) o p
-          (single_owners (length tables.each)) there (change_seen p same)
+          (single_owners names ts tables held) there (change_seen p same)
 
       part_then : part_of (world_from names ts (with_observers tables seen)) o ≡ with_seen (named_tables (name_at names) r)
       part_then = part_at (contents names ts (with_observers tables seen)) o

@@ -1,7 +1,7 @@
 -- Calls that pass a command on to an owner's tables: what they ask, what holds after them, and that they do what the model
 -- says of the command.
 use Rattle.std.proofs.Common.{◌≡◌, ◌≢◌, ℕ, ◌<◌, ◌≤◌, Bool, true, List, [], ◌∷◌, ◌++◌, length, Option, Some, None, Result, Ok, Err, option_map}
-use Rattle.std.proofs.Common.{unwrap_or, get_or, refl, sym, ap, subst, ◌∙◌, arith}
+use Rattle.std.proofs.Common.{refl, sym, ap, subst, ◌∙◌, arith}
 use Rattle.std.specs.Prelude.{is_some, slice_get, slice_set, IfOk, OnOk, OnErr, ◌↔◌}
 use Rattle.std.proofs.lemmas.List.{length-set, length-map, length_push}
 use Rattle.dom_base.specs.declared.Fault.{Fault}
@@ -20,15 +20,14 @@ use Rattle.dom_tree.specs.Forest.{NamedTrees, name_at}
 use Rattle.dom_traversal.specs.Iterators.{KeyedIterator, IsIteratorOf, iterator_view, iterator_at}
 use Rattle.dom_traversal.specs.Walkers.{KeyedWalker, IsWalkerOf, walker_view, walker_at}
 use Rattle.dom_traversal.proofs.Counts.{StandOnce, above-itself}
-use Rattle.dom_cursors.specs.OwnTables.{KeyedTables, EachItem, place_of, table_of, no_keyed_tables}
-use Rattle.dom_parts.specs.AllTables.{IsOwnIterator, IsOwnWalker, AreTablesOf, AllTables, with_table_at}
-use Rattle.dom_parts.specs.Doc.{DocState, own_tables, world_from, state_from, IsHeld, Makes}
+use Rattle.dom_cursors.specs.OwnTables.{KeyedTables, EachItem}
+use Rattle.dom_cursors.specs.Cursors.{with_cursors}
+use Rattle.dom_parts.specs.AllTables.{IsOwnIterator, IsOwnWalker, AreTablesOf, AllTables}
+use Rattle.dom_parts.specs.Doc.{DocState, world_from, state_from, IsHeld, Makes}
 use Rattle.dom_cursors.proofs.Items.{set_items, push_items}
 use Rattle.dom_tree.specs.Owners.{AreOwned}
 use Rattle.dom_parts.proofs.OwnNodes.{moved_own}
-use Rattle.dom_parts.proofs.Held.{table_there}
 use Rattle.dom_parts.proofs.Limits.{limit_count}
-use Rattle.dom_parts.proofs.Shown.{table_at}
 use Rattle.dom_parts.proofs.Cursors.{iterators_in, walkers_in, iterator_effect_new, walker_effect_new, has_iterator, has_walker, there_iterator}
 use Rattle.dom_parts.proofs.Cursors.{there_walker, with_own, makes_read, makes_set, held_set}
 
@@ -36,111 +35,108 @@ module _ (f : NamedTrees) {tables : AllTables} (held : IsHeld f.names f.trees ta
     (is_d : state_from f.names f.trees tables ≡ d) (o : Owner) where
   -- whoever has a cursor is there
   pub there_iter : (k : ℕ) → is_some (slice_get (part_of d.world o).iterators k) ≡ true → is_there (world_from f.names f.trees tables) o ≡ true
-  there_iter k h = there_iterator f.names f.trees tables o k (subst (λ (e : DocState). is_some (slice_get (part_of e.world o).iterators k) ≡ true) (sym is_d) h)
+  there_iter k h = there_iterator f.names f.trees tables held o k (subst (λ (e : DocState). is_some (slice_get (part_of e.world o).iterators k) ≡ true) (sym is_d) h)
 
   pub there_walk : (k : ℕ) → is_some (slice_get (part_of d.world o).walkers k) ≡ true → is_there (world_from f.names f.trees tables) o ≡ true
-  there_walk k h = there_walker f.names f.trees tables o k (subst (λ (e : DocState). is_some (slice_get (part_of e.world o).walkers k) ≡ true) (sym is_d) h)
+  there_walk k h = there_walker f.names f.trees tables held o k (subst (λ (e : DocState). is_some (slice_get (part_of e.world o).walkers k) ≡ true) (sym is_d) h)
 
-  module _ (there : is_there (world_from f.names f.trees tables) o ≡ true) (place : ℕ) (is_place : place ≡ place_of o) (t : KeyedTables)
-      (read : t ≡ get_or tables.each place t) where
-    pub at : table_of tables.each o ≡ Some t
-    at = table_at f held is_d o there place t is_place read
+  -- whether an owner has an iterator, or a walker, of a number
+  pub iter_is : (k : ℕ) → is_some (slice_get (tables.each o).iterators k) ≡ is_some (slice_get (part_of d.world o).iterators k)
+  iter_is k =
+      subst (λ (e : DocState). is_some (slice_get (tables.each o).iterators k) ≡ is_some (slice_get (part_of e.world o).iterators k)) is_d
+      (sym (has_iterator f.names f.trees tables held o k))
 
-    pub own_is : own_tables tables o ≡ t
-    own_is = ap (λ m. unwrap_or m no_keyed_tables) at
+  pub walk_is : (k : ℕ) → is_some (slice_get (tables.each o).walkers k) ≡ is_some (slice_get (part_of d.world o).walkers k)
+  walk_is k =
+      subst (λ (e : DocState). is_some (slice_get (tables.each o).walkers k) ≡ is_some (slice_get (part_of e.world o).walkers k)) is_d
+      (sym (has_walker f.names f.trees tables held o k))
 
-    -- the iterator of a number
-    pub iter_there : (k : ℕ) → is_some (slice_get (part_of d.world o).iterators k) ≡ true → is_some (slice_get t.iterators k) ≡ true
-    iter_there k h =
-        ap (λ (v : KeyedTables). is_some (slice_get v.iterators k)) (sym own_is) ∙ sym (has_iterator f.names f.trees tables o k)
-        ∙ subst (λ (e : DocState). is_some (slice_get (part_of e.world o).iterators k) ≡ true) (sym is_d) h
+  pub iter_there : (k : ℕ) → is_some (slice_get (part_of d.world o).iterators k) ≡ true → is_some (slice_get (tables.each o).iterators k) ≡ true
+  iter_there k h = iter_is k ∙ h
 
-    pub walk_there : (k : ℕ) → is_some (slice_get (part_of d.world o).walkers k) ≡ true → is_some (slice_get t.walkers k) ≡ true
-    walk_there k h =
-        ap (λ (v : KeyedTables). is_some (slice_get v.walkers k)) (sym own_is) ∙ sym (has_walker f.names f.trees tables o k)
-        ∙ subst (λ (e : DocState). is_some (slice_get (part_of e.world o).walkers k) ≡ true) (sym is_d) h
+  pub walk_there : (k : ℕ) → is_some (slice_get (part_of d.world o).walkers k) ≡ true → is_some (slice_get (tables.each o).walkers k) ≡ true
+  walk_there k h = walk_is k ∙ h
 
-    pub iters_of : EachItem (IsIteratorOf f) t.iterators
-    iters_of k i e = ((held.own o t at).iterators k i e).stands
+  pub iters_of : EachItem (IsIteratorOf f) (tables.each o).iterators
+  iters_of k i e = ((held.own o).iterators k i e).stands
 
-    pub walks_of : EachItem (IsWalkerOf f) t.walkers
-    walks_of k w e = ((held.own o t at).walkers k w e).stands
+  pub walks_of : EachItem (IsWalkerOf f) (tables.each o).walkers
+  walks_of k w e = ((held.own o).walkers k w e).stands
 
+  module _ (there : is_there (world_from f.names f.trees tables) o ≡ true) where
     -- a command that reads
     pub reads : (c : List NodeName → Command) (v : List NodeName → Value) →
-        effect (with_own f.names f.trees tables held o t at t) (c f.names) ≡ Effect.tables (with_own f.names f.trees tables held o t at t) []
+        effect (with_own f.names f.trees tables held o there (tables.each o)) (c f.names) ≡ Effect.tables (with_own f.names f.trees tables held o there (tables.each o)) []
         (v f.names) → Makes o (c d.names) (v d.names) d.world d.world
     reads c v is = subst (λ (e : DocState). Makes o (c e.names) (v e.names) e.world e.world) is_d
-        (makes_read f.names f.trees tables held o t at (c f.names) (v f.names) is)
+        (makes_read f.names f.trees tables held o there (c f.names) (v f.names) is)
 
     -- a command that writes
-    module _ (u w : KeyedTables) (is_u : u ≡ w) where
+    module _ (each : Owner → KeyedTables) (w : KeyedTables) (is_each : each ≡ with_cursors tables.each o w) where
       pub writes : (c : List NodeName → Command) (v : List NodeName → Value) →
-          effect (with_own f.names f.trees tables held o t at t) (c f.names) ≡ Effect.tables (with_own f.names f.trees tables held o t at w) []
+          effect (with_own f.names f.trees tables held o there (tables.each o)) (c f.names) ≡ Effect.tables (with_own f.names f.trees tables held o there w) []
           (v f.names)
-          → Makes o (c d.names) (v d.names) d.world (world_from f.names f.trees (with_table_at tables place u))
+          → Makes o (c d.names) (v d.names) d.world (world_from f.names f.trees (record tables { each = each }))
       writes c v is =
-          subst (λ (e : DocState). Makes o (c e.names) (v e.names) e.world (world_from f.names f.trees (with_table_at tables place u))) is_d
-          (subst (λ x. Makes o (c f.names) (v f.names) (world_from f.names f.trees tables)
-          (world_from f.names f.trees (with_table_at tables place x))) (sym is_u)
-          (subst (λ n. Makes o (c f.names) (v f.names) (world_from f.names f.trees tables)
-          (world_from f.names f.trees (with_table_at tables n w))) (sym is_place)
-          (makes_set f.names f.trees tables held o t at w (c f.names) (v f.names) is)))
+          subst (λ (e : DocState). Makes o (c e.names) (v e.names) e.world (world_from f.names f.trees (record tables { each = each }))) is_d
+          (subst (λ (x : Owner → KeyedTables). Makes o (c f.names) (v f.names) (world_from f.names f.trees tables)
+          (world_from f.names f.trees (record tables { each = x }))) (sym is_each)
+          (makes_set f.names f.trees tables held o there w (c f.names) (v f.names) is))
 
-      pub held_written : AreTablesOf f o w → IsHeld f.names f.trees (with_table_at tables place u)
+      pub held_written : AreTablesOf f o w → IsHeld f.names f.trees (record tables { each = each })
       held_written h =
-          subst (λ x. IsHeld f.names f.trees (with_table_at tables place x)) (sym is_u)
-          (subst (λ n. IsHeld f.names f.trees (with_table_at tables n w)) (sym is_place) (held_set f.names f.trees tables held o t at w h))
+          subst (λ (x : Owner → KeyedTables). IsHeld f.names f.trees (record tables { each = x })) (sym is_each) (held_set f.names f.trees tables held o there w h)
 
-    -- ---- what holds of the tables written
+  -- ---- what holds of the tables written
 
-    pub iter_moved : (k : ℕ) (i : KeyedIterator) (before : Bool) (r : Option ℕ) → slice_get t.iterators k ≡ Some i →
-        IsIteratorOf f (iterator_at i before r) → AreTablesOf f o (record t { iterators = slice_set t.iterators k (iterator_at i before r) })
-    iter_moved k i before r e kept =
-        let h = held.own o t at in
-        record {
-          iterators = set_items (IsOwnIterator f o) t.iterators k (iterator_at i before r) h.iterators
-              (record { stands = kept; own = ap (λ n. (name_at f.names n).owner) (same_root r) ∙ (h.iterators k i e).own });
-          walkers = h.walkers;
-          few_iterators = let same = length-set t.iterators k (iterator_at i before r) in let few = h.few_iterators in omega arith;
-          few_walkers = h.few_walkers;
-        }
-      where
-        same_root : (r : Option ℕ) → (iterator_at i before r).root ≡ i.root
-        same_root None = refl
-        same_root (Some j) = refl
+  pub iter_moved : (k : ℕ) (i : KeyedIterator) (before : Bool) (r : Option ℕ) → slice_get (tables.each o).iterators k ≡ Some i →
+      IsIteratorOf f (iterator_at i before r) → AreTablesOf f o (record (tables.each o) { iterators = slice_set (tables.each o).iterators k (iterator_at i before r) })
+  iter_moved k i before r e kept =
+      let h = held.own o in
+      record {
+        iterators = set_items (IsOwnIterator f o) (tables.each o).iterators k (iterator_at i before r) h.iterators
+            (record { stands = kept; own = ap (λ n. (name_at f.names n).owner) (same_root r) ∙ (h.iterators k i e).own });
+        walkers = h.walkers;
+        few_iterators = let same = length-set (tables.each o).iterators k (iterator_at i before r) in let few = h.few_iterators in omega arith;
+        few_walkers = h.few_walkers;
+      }
+    where
+      same_root : (r : Option ℕ) → (iterator_at i before r).root ≡ i.root
+      same_root None = refl
+      same_root (Some j) = refl
 
-    pub walk_moved : (k : ℕ) (w v : KeyedWalker) → slice_get t.walkers k ≡ Some w → IsOwnWalker f o v →
-        AreTablesOf f o (record t { walkers = slice_set t.walkers k v })
-    walk_moved k w v e kept =
-        let h = held.own o t at in
-        record {
-          iterators = h.iterators;
-          walkers = set_items (IsOwnWalker f o) t.walkers k v h.walkers kept;
-          few_iterators = h.few_iterators;
-          few_walkers = let same = length-set t.walkers k v in let few = h.few_walkers in omega arith;
-        }
+  pub walk_moved : (k : ℕ) (w v : KeyedWalker) → slice_get (tables.each o).walkers k ≡ Some w → IsOwnWalker f o v →
+      AreTablesOf f o (record (tables.each o) { walkers = slice_set (tables.each o).walkers k v })
+  walk_moved k w v e kept =
+      let h = held.own o in
+      record {
+        iterators = h.iterators;
+        walkers = set_items (IsOwnWalker f o) (tables.each o).walkers k v h.walkers kept;
+        few_iterators = h.few_iterators;
+        few_walkers = let same = length-set (tables.each o).walkers k v in let few = h.few_walkers in omega arith;
+      }
 
-    pub iter_pushed : (i : KeyedIterator) → IsOwnIterator f o i → length t.iterators ≢ 1000000 →
-        AreTablesOf f o (record t { iterators = t.iterators ++ i ∷ [] })
-    iter_pushed i kept room =
-        let h = held.own o t at in
-        record {
-          iterators = push_items (IsOwnIterator f o) t.iterators i h.iterators kept;
-          walkers = h.walkers;
-          few_iterators = let more = length_push t.iterators i in let few = h.few_iterators in omega arith;
-          few_walkers = h.few_walkers;
-        }
+  pub iter_pushed : (i : KeyedIterator) → IsOwnIterator f o i → length (tables.each o).iterators ≢ 1000000 →
+      AreTablesOf f o (record (tables.each o) { iterators = (tables.each o).iterators ++ i ∷ [] })
+  iter_pushed i kept room =
+      let h = held.own o in
+      record {
+        iterators = push_items (IsOwnIterator f o) (tables.each o).iterators i h.iterators kept;
+        walkers = h.walkers;
+        few_iterators = let more = length_push (tables.each o).iterators i in let few = h.few_iterators in omega arith;
+        few_walkers = h.few_walkers;
+      }
 
-    pub walk_pushed : (w : KeyedWalker) → IsOwnWalker f o w → length t.walkers ≢ 1000000 → AreTablesOf f o (record t { walkers = t.walkers ++ w ∷ [] })
-    walk_pushed w kept room =
-        let h = held.own o t at in
-        record {
-          iterators = h.iterators;
-          walkers = push_items (IsOwnWalker f o) t.walkers w h.walkers kept;
-          few_iterators = h.few_iterators;
-          few_walkers = let more = length_push t.walkers w in let few = h.few_walkers in omega arith;
-        }
+  pub walk_pushed : (w : KeyedWalker) → IsOwnWalker f o w → length (tables.each o).walkers ≢ 1000000 →
+      AreTablesOf f o (record (tables.each o) { walkers = (tables.each o).walkers ++ w ∷ [] })
+  walk_pushed w kept room =
+      let h = held.own o in
+      record {
+        iterators = h.iterators;
+        walkers = push_items (IsOwnWalker f o) (tables.each o).walkers w h.walkers kept;
+        few_iterators = h.few_iterators;
+        few_walkers = let more = length_push (tables.each o).walkers w in let few = h.few_walkers in omega arith;
+      }
 
   -- a node of the forest is one of the state
   pub name_known : (k : ℕ) → k < length f.names → k < length d.names
@@ -160,88 +156,85 @@ walk_stays f owned o w h m (Some j) value kept =
 
 -- ---- cursors that are made
 
+-- an owner's cursors with an iterator more, and with a walker more
+abbrev pub one_iterator : KeyedTables → ℕ → Filter → KeyedTables
+one_iterator t root filter = record t { iterators = t.iterators ++ record { root = root; reference = root; before = true; filter = filter } ∷ [] }
+
+abbrev pub one_walker : KeyedTables → ℕ → Filter → KeyedTables
+one_walker t root filter = record t { walkers = t.walkers ++ record { root = root; current = root; filter = filter } ∷ [] }
+
 module _ (f : NamedTrees) {tables : AllTables} (held : IsHeld f.names f.trees tables) {d : DocState}
-    (is_d : state_from f.names f.trees tables ≡ d) (o : Owner) (there : is_there (world_from f.names f.trees tables) o ≡ true)
-    (place : ℕ) (is_place : place ≡ place_of o) where
-  -- an owner that is there has its place
-  pub place_there : place < length tables.each
-  place_there = let w = (table_there f.names f.trees tables o there).0 in omega arith
+    (is_d : state_from f.names f.trees tables ≡ d) (o : Owner) (there : is_there (world_from f.names f.trees tables) o ≡ true) where
+  full : (n m : ℕ) → m ≡ n → n ≤ 1000000 → {P : Type 0} → (P ↔ (n ≡ 1000000)) → P ↔ (past_limit m 1 ≡ true)
+  full n m same few limit = let both = limit_count n m same few in (λ p. both.0 (limit.0 p), λ e. limit.1 (both.1 e))
 
-  module _ (t : KeyedTables) (read : t ≡ get_or tables.each place t) where
-    full : (n m : ℕ) → m ≡ n → n ≤ 1000000 → {P : Type 0} → (P ↔ (n ≡ 1000000)) → P ↔ (past_limit m 1 ≡ true)
-    full n m same few limit = let both = limit_count n m same few in (λ p. both.0 (limit.0 p), λ e. limit.1 (both.1 e))
+  pub iter_limit : {P : Type 0} → (P ↔ (length (tables.each o).iterators ≡ 1000000)) → P ↔ (past_limit (length (part_of d.world o).iterators) 1 ≡ true)
+  iter_limit {P} limit =
+      subst (λ (e : DocState). P ↔ (past_limit (length (part_of e.world o).iterators) 1 ≡ true)) is_d
+      (full (length (tables.each o).iterators) (length (part_of (world_from f.names f.trees tables) o).iterators)
+      (ap (length {A = Iterator}) (iterators_in f.names f.trees tables held o) ∙ length-map (tables.each o).iterators (iterator_view f.names))
+      (held.own o).few_iterators limit)
 
-    pub iter_limit : {P : Type 0} → (P ↔ (length t.iterators ≡ 1000000)) → P ↔ (past_limit (length (part_of d.world o).iterators) 1 ≡ true)
-    iter_limit {P} limit =
-        subst (λ (e : DocState). P ↔ (past_limit (length (part_of e.world o).iterators) 1 ≡ true)) is_d
-        (full (length t.iterators) (length (part_of (world_from f.names f.trees tables) o).iterators)
-        (ap (length {A = Iterator}) (iterators_in f.names f.trees tables o) ∙ length-map (own_tables tables o).iterators (iterator_view f.names) ∙
-        ap (λ (v : KeyedTables). length v.iterators) (own_is f held is_d o there place is_place t read))
-        (held.own o t (at f held is_d o there place is_place t read)).few_iterators limit)
+  pub walk_limit : {P : Type 0} → (P ↔ (length (tables.each o).walkers ≡ 1000000)) → P ↔ (past_limit (length (part_of d.world o).walkers) 1 ≡ true)
+  walk_limit {P} limit =
+      subst (λ (e : DocState). P ↔ (past_limit (length (part_of e.world o).walkers) 1 ≡ true)) is_d
+      (full (length (tables.each o).walkers) (length (part_of (world_from f.names f.trees tables) o).walkers)
+      (ap (length {A = Walker}) (walkers_in f.names f.trees tables held o) ∙ length-map (tables.each o).walkers (walker_view f.names))
+      (held.own o).few_walkers limit)
 
-    pub walk_limit : {P : Type 0} → (P ↔ (length t.walkers ≡ 1000000)) → P ↔ (past_limit (length (part_of d.world o).walkers) 1 ≡ true)
-    walk_limit {P} limit =
-        subst (λ (e : DocState). P ↔ (past_limit (length (part_of e.world o).walkers) 1 ≡ true)) is_d
-        (full (length t.walkers) (length (part_of (world_from f.names f.trees tables) o).walkers)
-        (ap (length {A = Walker}) (walkers_in f.names f.trees tables o) ∙ length-map (own_tables tables o).walkers (walker_view f.names) ∙
-        ap (λ (v : KeyedTables). length v.walkers) (own_is f held is_d o there place is_place t read))
-        (held.own o t (at f held is_d o there place is_place t read)).few_walkers limit)
+  module _ (root : ℕ) (filter : Filter) (own_root : (name_at f.names root).owner ≡ o) where
+    pub iter_made : root < length f.names → StandOnce f → (each : Owner → KeyedTables) (r : Result ℕ Fault) →
+        OnOk r (each ≡ with_cursors tables.each o (one_iterator (tables.each o) root filter))
+        → ((r ≡ Err (Refused Limit)) ↔ (length (tables.each o).iterators ≡ 1000000)) → OnErr r (each ≡ tables.each) → IsHeld f.names f.trees (record tables { each = each })
+    iter_made node once each (Ok n) is limit same =
+        held_written f held is_d o there each
+        (one_iterator (tables.each o) root filter) is
+        (iter_pushed f held is_d o (record { root = root; reference = root; before = true; filter = filter })
+        (record {
+          stands = record {
+            root = node;
+            reference = record { node = node; within = above-itself f.trees (name_at f.names root) (once root node) };
+          };
+          own = own_root;
+        })
+        (λ e. let h = limit.1 e in cc))
+    iter_made node once each (Err e) is limit same = subst (λ (x : Owner → KeyedTables). IsHeld f.names f.trees (record tables { each = x })) (sym same) held
 
-    module _ (root : ℕ) (filter : Filter) (own_root : (name_at f.names root).owner ≡ o) where
-      pub iter_made : root < length f.names → StandOnce f → (u : KeyedTables) (r : Result ℕ Fault) →
-          OnOk r (u ≡ record t { iterators = t.iterators ++ record { root = root; reference = root; before = true; filter = filter } ∷ [] })
-          → ((r ≡ Err (Refused Limit)) ↔ (length t.iterators ≡ 1000000)) → OnErr r (u ≡ t) → IsHeld f.names f.trees (with_table_at tables place u)
-      iter_made node once u (Ok n) is limit same =
-          held_written f held is_d o there place is_place t read u
-          (record t { iterators = t.iterators ++ record { root = root; reference = root; before = true; filter = filter } ∷ [] }) is
-          (iter_pushed f held is_d o there place is_place t read (record { root = root; reference = root; before = true; filter = filter })
-          (record {
-            stands = record {
-              root = node;
-              reference = record { node = node; within = above-itself f.trees (name_at f.names root) (once root node) };
-            };
-            own = own_root;
-          })
-          (λ e. let h = limit.1 e in cc))
-      iter_made node once u (Err e) is limit same =
-          held_written f held is_d o there place is_place t read u t same (held.own o t (at f held is_d o there place is_place t read))
+    pub walk_made : root < length f.names → (each : Owner → KeyedTables) (r : Result ℕ Fault) →
+        OnOk r (each ≡ with_cursors tables.each o (one_walker (tables.each o) root filter))
+        → ((r ≡ Err (Refused Limit)) ↔ (length (tables.each o).walkers ≡ 1000000)) → OnErr r (each ≡ tables.each) → IsHeld f.names f.trees (record tables { each = each })
+    walk_made node each (Ok n) is limit same =
+        held_written f held is_d o there each
+        (one_walker (tables.each o) root filter) is
+        (walk_pushed f held is_d o (record { root = root; current = root; filter = filter })
+        (record { stands = record { root = node; current = node }; own = own_root; own_current = own_root })
+        (λ e. let h = limit.1 e in cc))
+    walk_made node each (Err e) is limit same = subst (λ (x : Owner → KeyedTables). IsHeld f.names f.trees (record tables { each = x })) (sym same) held
 
-      pub walk_made : root < length f.names → (u : KeyedTables) (r : Result ℕ Fault) →
-          OnOk r (u ≡ record t { walkers = t.walkers ++ record { root = root; current = root; filter = filter } ∷ [] })
-          → ((r ≡ Err (Refused Limit)) ↔ (length t.walkers ≡ 1000000)) → OnErr r (u ≡ t) → IsHeld f.names f.trees (with_table_at tables place u)
-      walk_made node u (Ok n) is limit same =
-          held_written f held is_d o there place is_place t read u
-          (record t { walkers = t.walkers ++ record { root = root; current = root; filter = filter } ∷ [] }) is
-          (walk_pushed f held is_d o there place is_place t read (record { root = root; current = root; filter = filter })
-          (record { stands = record { root = node; current = node }; own = own_root; own_current = own_root })
-          (λ e. let h = limit.1 e in cc))
-      walk_made node u (Err e) is limit same =
-          held_written f held is_d o there place is_place t read u t same (held.own o t (at f held is_d o there place is_place t read))
+    pub iter_made_writes : (each : Owner → KeyedTables) (r : Result ℕ Fault) →
+        OnOk r (each ≡ with_cursors tables.each o (one_iterator (tables.each o) root filter)) →
+        IfOk r (λ n. n ≡ length (tables.each o).iterators)
+        → IfOk r (λ n. Makes o (Command.iterator_new (own (name_at d.names root).number) filter) (an_iterator n) d.world
+        (world_from f.names f.trees (record tables { each = each })))
+    iter_made_writes each (Ok n) is number =
+        subst (λ k. Makes o (Command.iterator_new (own (name_at d.names root).number) filter) (an_iterator k) d.world
+        (world_from f.names f.trees (record tables { each = each }))) (sym number)
+        (writes f held is_d o there each
+        (one_iterator (tables.each o) root filter) is
+        (λ ns. Command.iterator_new (own (name_at ns root).number) filter) (λ ns. an_iterator (length (tables.each o).iterators))
+        (iterator_effect_new f.names f.trees tables held o there root filter own_root))
+    iter_made_writes each (Err e) is number = tt
 
-      pub iter_made_writes : (u : KeyedTables) (r : Result ℕ Fault) →
-          OnOk r (u ≡ record t { iterators = t.iterators ++ record { root = root; reference = root; before = true; filter = filter } ∷ [] }) →
-          IfOk r (λ n. n ≡ length t.iterators)
-          → IfOk r (λ n. Makes o (Command.iterator_new (own (name_at d.names root).number) filter) (an_iterator n) d.world
-          (world_from f.names f.trees (with_table_at tables place u)))
-      iter_made_writes u (Ok n) is number =
-          subst (λ k. Makes o (Command.iterator_new (own (name_at d.names root).number) filter) (an_iterator k) d.world
-          (world_from f.names f.trees (with_table_at tables place u))) (sym number)
-          (writes f held is_d o there place is_place t read u
-          (record t { iterators = t.iterators ++ record { root = root; reference = root; before = true; filter = filter } ∷ [] }) is
-          (λ ns. Command.iterator_new (own (name_at ns root).number) filter) (λ ns. an_iterator (length t.iterators))
-          (iterator_effect_new f.names f.trees tables held o t (at f held is_d o there place is_place t read) root filter own_root))
-      iter_made_writes u (Err e) is number = tt
-
-      pub walk_made_writes : (u : KeyedTables) (r : Result ℕ Fault) →
-          OnOk r (u ≡ record t { walkers = t.walkers ++ record { root = root; current = root; filter = filter } ∷ [] }) →
-          IfOk r (λ n. n ≡ length t.walkers)
-          → IfOk r (λ n. Makes o (Command.walker_new (own (name_at d.names root).number) filter) (a_walker n) d.world
-          (world_from f.names f.trees (with_table_at tables place u)))
-      walk_made_writes u (Ok n) is number =
-          subst (λ k. Makes o (Command.walker_new (own (name_at d.names root).number) filter) (a_walker k) d.world
-          (world_from f.names f.trees (with_table_at tables place u))) (sym number)
-          (writes f held is_d o there place is_place t read u
-          (record t { walkers = t.walkers ++ record { root = root; current = root; filter = filter } ∷ [] }) is
-          (λ ns. Command.walker_new (own (name_at ns root).number) filter) (λ ns. a_walker (length t.walkers))
-          (walker_effect_new f.names f.trees tables held o t (at f held is_d o there place is_place t read) root filter own_root))
-      walk_made_writes u (Err e) is number = tt
+    pub walk_made_writes : (each : Owner → KeyedTables) (r : Result ℕ Fault) →
+        OnOk r (each ≡ with_cursors tables.each o (one_walker (tables.each o) root filter)) →
+        IfOk r (λ n. n ≡ length (tables.each o).walkers)
+        → IfOk r (λ n. Makes o (Command.walker_new (own (name_at d.names root).number) filter) (a_walker n) d.world
+        (world_from f.names f.trees (record tables { each = each })))
+    walk_made_writes each (Ok n) is number =
+        subst (λ k. Makes o (Command.walker_new (own (name_at d.names root).number) filter) (a_walker k) d.world
+        (world_from f.names f.trees (record tables { each = each }))) (sym number)
+        (writes f held is_d o there each
+        (one_walker (tables.each o) root filter) is
+        (λ ns. Command.walker_new (own (name_at ns root).number) filter) (λ ns. a_walker (length (tables.each o).walkers))
+        (walker_effect_new f.names f.trees tables held o there root filter own_root))
+    walk_made_writes each (Err e) is number = tt

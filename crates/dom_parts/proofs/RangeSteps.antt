@@ -17,7 +17,7 @@ use Rattle.dom_parts.specs.Contents.{Contents, part_in}
 use Rattle.dom_parts.specs.Doc.{DocState, contents, world_from, state_from, IsHeld, owner_in, stepped}
 use Rattle.dom_parts.specs.AllTables.{AllTables, with_live}
 use Rattle.dom_parts.specs.Ranging.{IsOwnPoint, ranged}
-use Rattle.dom_parts.proofs.Places.{single_owners}
+use Rattle.dom_parts.proofs.Held.{single_owners}
 use Rattle.dom_parts.proofs.RangedCalls.{set_change, rewritten_own, written_few}
 use Rattle.dom_parts.proofs.RangedPassing.{range_is, there_range, live_held}
 use Rattle.dom_parts.proofs.Worlds.{part_at, changed}
@@ -89,7 +89,7 @@ module _ (f : NamedTrees) {tables : AllTables} (held : IsHeld f.names f.trees ta
           { ranges = slice_set (part_of w o).ranges k (Some g) } =
           ap (λ rs. record p { ranges = rs }) one ∙ ap (λ (q : Part). record q { ranges = slice_set q.ranges k (Some g) }) (sym here) in
           ap (λ (v : World). state f.names v)
-          (changed c (ranged u c) o (record p { ranges = named_ranges f.names (slice_set own k (Some r)) }) (single_owners (length tables.each))
+          (changed c (ranged u c) o (record p { ranges = named_ranges f.names (slice_set own k (Some r)) }) (single_owners f.names f.trees tables held)
           there_now (set_change c tables.ranges u held.ranges o there_now (slice_set own k (Some r)) set)
           ∙ ap (with_part w) part)
         where

@@ -29,7 +29,7 @@ use Rattle.dom_parts.specs.Contents.{Contents, part_in, world_of}
 use Rattle.dom_parts.specs.Doc.{DocState, contents, world_from, state_from, IsHeld, Makes, name_in, owner_in}
 use Rattle.dom_parts.specs.AllTables.{AllTables, with_live}
 use Rattle.dom_parts.specs.Ranging.{IsOwnPoint, AreRangesOf, ranged}
-use Rattle.dom_parts.proofs.Places.{single_owners}
+use Rattle.dom_parts.proofs.Held.{single_owners}
 use Rattle.dom_parts.proofs.RangedCalls.{set_makes, set_ranges, make_effect, drop_effect, collapse_effect, points_effect, start_effect, end_effect}
 use Rattle.dom_parts.proofs.RangedCalls.{range_read, made_own, made_few, dropped_own, rewritten_own, written_few}
 use Rattle.dom_parts.proofs.RangedRefusals.{limit_read, end_read}
@@ -92,7 +92,7 @@ module _ (f : NamedTrees) {tables : AllTables} (held : IsHeld f.names f.trees ta
           → Makes o (command d.names) v d.world (world_from f.names f.trees (with_live tables u))
       live_makes command v is =
           subst (λ (e : DocState). Makes o (command e.names) v e.world (world_from f.names f.trees (with_live tables u))) is_d
-          (set_makes c tables.ranges u held.ranges o there rs set (single_owners (length tables.each)) (command f.names) v is)
+          (set_makes c tables.ranges u held.ranges o there rs set (single_owners f.names f.trees tables held) (command f.names) v is)
 
       pub live_held : EachRange (BothEnds (IsOwnPoint f.names o)) rs → length rs ≤ 1000000 → IsHeld f.names f.trees (with_live tables u)
       live_held stand few = held_live f.names f.trees tables held u (set_ranges c tables.ranges u held.ranges o there rs set stand few)
@@ -172,7 +172,7 @@ module _ (f : NamedTrees) {tables : AllTables} (held : IsHeld f.names f.trees ta
     points_makes r is =
         subst (λ (e : DocState). Makes o (Command.range_get k) (boundaries (named_boundary e.names r.start) (named_boundary e.names r.end))
         e.world e.world) is_d
-        (set_makes c tables.ranges tables.ranges held.ranges o there_now own (λ q. sym (with_own q)) (single_owners (length tables.each))
+        (set_makes c tables.ranges tables.ranges held.ranges o there_now own (λ q. sym (with_own q)) (single_owners f.names f.trees tables held)
         (Command.range_get k) (boundaries (named_boundary f.names r.start) (named_boundary f.names r.end))
         (points_effect c tables.ranges held.ranges o k r is))
       where

@@ -54,7 +54,7 @@ held_live names ts tables held live stand = record {
   absent = λ o off. held.absent o (sym (who o) ∙ off);
   limited = held.limited;
   own = held.own;
-  counted = held.counted;
+  idle = λ o off. held.idle o (sym (who o) ∙ off);
   made = held.made;
   signals = record { free = held.signals.free; slots = held.signals.slots; nodes = held.signals.nodes };
   speaks = held.speaks;

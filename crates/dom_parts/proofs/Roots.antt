@@ -20,7 +20,7 @@ use Rattle.dom_parts.proofs.Shown.{known, owner_there, step_done}
 use Rattle.dom_tree_laws.proofs.Standing.{keeps_changed_below}
 
 -- how many closed trees can lie in one another, as the code has it
-pub depth_is : max_depth ≡ 1
+pub depth_is : max_depth ≡ 8
 unfolding max_depth
 depth_is = refl
 

@@ -14,14 +14,12 @@ use Rattle.dom_model.specs.WorldSteps.{world_step}
 use Rattle.dom_tree.specs.Forest.{NamedTrees, name_at}
 use Rattle.dom_tree.specs.Owners.{trees_of_owner, IsReadOwn, IsOwnChange}
 use Rattle.dom_tree.proofs.Owned.{read_own}
-use Rattle.dom_cursors.specs.OwnTables.{KeyedTables, place_of, table_of}
 use Rattle.dom_parts.specs.AllTables.{AllTables}
 use Rattle.dom_parts.specs.Doc.{DocState, named_trees, contents, state_from, world_from, IsHeld, name_in, owner_in, trees_in, stepped}
 use Rattle.dom_parts.proofs.Worlds.{part_at, part_off}
-use Rattle.dom_parts.proofs.Places.{table_placed}
 use Rattle.dom_tree_laws.proofs.Standing.{KeepsAbove}
 use Rattle.dom_slots.specs.Kept.{AreSlotsOf}
-use Rattle.dom_parts.proofs.Held.{held_changed, table_there}
+use Rattle.dom_parts.proofs.Held.{held_changed}
 use Rattle.dom_parts.proofs.Steps.{record_world}
 
 abbrev pub state_with : List NodeName → World → DocState
@@ -92,20 +90,3 @@ module _ (f : NamedTrees) {tables : AllTables} (held : IsHeld f.names f.trees ta
   untold k k< none c =
       subst (λ (e : DocState). e ≡ stepped (owner_in e k) (queue_record c) e) is_d
       (ap (λ w. state_with f.names w) (record_world f.names f.trees tables held (name_at f.names k).owner (owner_there k k<) none c))
-
-  -- ---- tables
-
-  -- the tables of an owner that is there, as they were read
-  pub table_at : (o : Owner) → is_there (world_from f.names f.trees tables) o ≡ true → (at : ℕ) (t : KeyedTables) → at ≡ place_of o →
-      t ≡ get_or tables.each at t → table_of tables.each o ≡ Some t
-  table_at o there at t place read =
-      let w = table_there f.names f.trees tables o there in
-      table_placed tables.each o w.1
-      ∙ slice_get-get_or tables.each (place_of o) t w.0
-      ∙ ap (λ k. Some (get_or tables.each k t)) (sym place)
-      ∙ ap Some (sym read)
-
-  -- those of a node's owner
-  pub table_read : (k : ℕ) → k < length d.names → (at : ℕ) (t : KeyedTables) → at ≡ place_of (name_at f.names k).owner →
-      t ≡ get_or tables.each at t → table_of tables.each (name_at f.names k).owner ≡ Some t
-  table_read k k< at t place read = table_at (name_at f.names k).owner (owner_there k k<) at t place read

@@ -1,11 +1,11 @@
 -- Steps that signal slots: what holds after them, and the state then; and what holds where they were refused memory.
-use Rattle.std.proofs.Common.{◌≡◌, ℕ, ◌^◌, arith, ◌<◌, true, false, List, [], fold, length, Result, Ok, Err, Option, Some, None, refl, sym, ap, subst, ◌∙◌}
-use Rattle.std.specs.Prelude.{OnOk, OnErr, nat_eq, slice_set, if◌then◌else◌}
+use Rattle.std.proofs.Common.{◌≡◌, ℕ, ◌^◌, arith, ◌<◌, true, false, List, [], ◌∷◌, fold, length, Result, Ok, Err, Option, Some, None, refl, sym, ap, subst, ◌∙◌}
+use Rattle.std.specs.Prelude.{OnOk, OnErr, nat_eq, if◌then◌else◌}
 use Rattle.std.specs.List.{AllByRecursion}
-use Rattle.std.proofs.lemmas.List.{length-set}
 use Rattle.std.specs.Option.{ForSome}
 use Rattle.dom_base.specs.declared.NodeName.{NodeName}
 use Rattle.dom_base.specs.declared.Owner.{Owner}
+use Rattle.dom_base.specs.declared.Owner.TheVariants.{Page}
 use Rattle.dom_model.specs.Names.{name_eq, owner_eq, append_once}
 use Rattle.dom_model.specs.Tree.{Trees, none, parent_of, index_of}
 use Rattle.dom_model.specs.TreeChanges.{taken_out}
@@ -29,12 +29,13 @@ use Rattle.dom_observers.specs.Tables.{TablesOf, no_tables as no_observers, left
 use Rattle.dom_observers.specs.Paths.{path_keys}
 use Rattle.dom_observers.specs.Naming.{IsKey, SpeaksOf, TellApart}
 use Rattle.dom_parts.specs.Contents.{Contents, part_in, world_of}
-use Rattle.dom_parts.specs.Hosting.{signals_in}
+use Rattle.dom_parts.specs.Hosting.{host_owners, signals_in}
 use Rattle.dom_node_trees.specs.Signalled.{SignalTables, HasSignalled, HasLeft}
-use Rattle.dom_cursors.specs.OwnTables.{KeyedTables, owners_up_to, place_of, table_of, AreLeft}
-use Rattle.dom_parts.specs.AllTables.{AllTables, AreTablesOf, AreFirst, signals_of, with_live, with_signals, with_table_at, with_observers}
+use Rattle.dom_cursors.specs.OwnTables.{KeyedTables, AreLeft, no_keyed_tables}
+use Rattle.dom_cursors.specs.Cursors.{with_cursors}
+use Rattle.dom_parts.specs.AllTables.{AllTables, AreTablesOf, AreFirst, signals_of, with_live, with_signals, with_observers}
 use Rattle.dom_parts.specs.Ranging.{AreRangesOf, ranged}
-use Rattle.dom_parts.specs.Doc.{DocState, named_trees, own_tables, shown_tables, contents, world_from, state_from, IsHeld, IsDue, name_in, owner_in, stepped}
+use Rattle.dom_parts.specs.Doc.{DocState, named_trees, shown_tables, contents, world_from, state_from, IsHeld, IsDue, name_in, owner_in, stepped}
 use Rattle.dom_parts.proofs.BoundedPlans.{index_few}
 use Rattle.dom_parts.proofs.Held.{are_hosts, held_with}
 use Rattle.dom_parts.proofs.HeldNodes.{given_up}
@@ -48,13 +49,14 @@ use Rattle.dom_parts.proofs.Shown.{state_with, owner_there}
 use Rattle.dom_node_trees.proofs.Signals.{all_appended, all_named}
 use Rattle.dom_parts.proofs.Tasks.{due_signalled}
 use Rattle.dom_tree_laws.proofs.Standing.{KeepsAbove}
-use Rattle.dom_parts.proofs.Steps.{left_own, left_speaks, left_off, left_part, left_change}
+use Rattle.dom_parts.proofs.Steps.{left_own, left_idle, left_speaks, left_off, left_part, left_change}
 use Rattle.dom_parts.proofs.Worlds.{IsChangeOf}
 
 module _ (f : NamedTrees) {tables : AllTables} (held : IsHeld f.names f.trees tables) {d : DocState}
     (is_d : state_from f.names f.trees tables ≡ d) (k : ℕ) (k< : k < length d.names)
-    (each : List KeyedTables) (same : length each ≡ length tables.each) (h : Trees → Trees) (change : IsOwnChange (name_at f.names k).owner h f.trees)
-    (own : (p : Owner) → ForSome (table_of each p) (AreTablesOf (named_trees f.names (h f.trees)) p))
+    (each : Owner → KeyedTables) (h : Trees → Trees) (change : IsOwnChange (name_at f.names k).owner h f.trees)
+    (own : (p : Owner) → AreTablesOf (named_trees f.names (h f.trees)) p (each p))
+    (idle : (p : Owner) → is_there (world_from f.names f.trees tables) p ≡ false → each p ≡ no_keyed_tables)
     (seen : Owner → TablesOf ℕ) (speaks : (p : Owner) → SpeaksOf (IsKey f.names) (seen p))
     (unobserved : (p : Owner) → is_there (world_from f.names f.trees tables) p ≡ false → seen p ≡ no_observers)
     (live : RangeLists) (stand : AreRangesOf (contents f.names (h f.trees) (record tables { each = each; observers = seen; ranges = live })) live) where
@@ -89,17 +91,17 @@ module _ (f : NamedTrees) {tables : AllTables} (held : IsHeld f.names f.trees ta
         subst (λ (ns : List NodeName). IsHeld ns m.trees (with_signals next after)) (sym names)
         (subst (λ (us : Trees). IsHeld f.names us (with_signals next after)) (sym trees)
         (held_with f.names f.trees tables held (name_at f.names k).owner (owner_there f held is_d k k<) f.names (h f.trees)
-        (with_signals next after) same here.hosts change.owned change.others held.present held.limited own held.made
+        (with_signals next after) here.hosts change.owned change.others held.present held.limited own idle held.made
         record { free = here.held.free; slots = here.held.slots; nodes = here.held.nodes } speaks unobserved due_then
-        (ranges_stay (contents f.names (h f.trees) next) (contents f.names (h f.trees) (with_signals next after)) live stand refl refl
-        (λ p. refl)) held.numbered))
+        (ranges_stay (contents f.names (h f.trees) next) (contents f.names (h f.trees) (with_signals next after)) live stand refl
+        (ap (λ (hs : List ShadowHost). Page ∷ host_owners hs) here.hosts) (λ p. refl)) held.numbered))
 
-    build : List Owner → List ShadowHost → List NodeName → List Task → Contents
-    build os hs xs ts = record {
-      owners = os;
+    build : List ShadowHost → List NodeName → List Task → Contents
+    build hs xs ts = record {
+      owners = Page ∷ host_owners hs;
       names = f.names;
       trees = h f.trees;
-      tables = λ o. shown_tables f.names hs o (own_tables next o) (seen o) (ranges_of live o);
+      tables = λ o. shown_tables f.names hs o (next.each o) (seen o) (ranges_of live o);
       signalled = xs;
       tasks = ts;
     }
@@ -107,12 +109,10 @@ module _ (f : NamedTrees) {tables : AllTables} (held : IsHeld f.names f.trees ta
     contents_now : contents f.names (h f.trees) (with_signals next after) ≡ signals_in before_signals signalled
     unfolding build
     contents_now =
-        ap (λ os. build os after.slots.hosts after.signalled after.tasks) (ap owners_up_to same)
-        ∙ (ap (λ (hs : List ShadowHost). build (owners_up_to (length tables.each)) hs after.signalled after.tasks) here.hosts
-        ∙ (ap (λ xs. build (owners_up_to (length tables.each)) tables.slots.hosts xs after.tasks) here.signalled
-        ∙ (ap (build (owners_up_to (length tables.each)) tables.slots.hosts
-        (fold (append_once name_eq) tables.signalled signalled)) here.tasks
-        ∙ sym (signalled_fields before_signals signalled))))
+        ap (λ (hs : List ShadowHost). build hs after.signalled after.tasks) here.hosts
+        ∙ (ap (λ xs. build tables.slots.hosts xs after.tasks) here.signalled
+        ∙ (ap (build tables.slots.hosts (fold (append_once name_eq) tables.signalled signalled)) here.tasks
+        ∙ sym (signalled_fields before_signals signalled)))
 
     pub signalled_state : (t : List NodeName → ModelStep)
         → world_of (signals_in before_signals
@@ -164,8 +164,8 @@ module _ (f : NamedTrees) {tables : AllTables} (held : IsHeld f.names f.trees ta
     (names : OnOk r (m.names ≡ f.names)) (trees : OnOk r (m.trees ≡ h f.trees))
     (signals : OnOk r (HasSignalled f.names f.trees m.trees s None (signals_of tables) after))
     (settled : Settled m g (with_signals tables after) last r q) where
-  pub own_kept : (p : Owner) → ForSome (table_of tables.each p) (AreTablesOf (named_trees f.names (h f.trees)) p)
-  own_kept p t e = tables_kept f.names f.trees (h f.trees) keeps p t (held.own p t e)
+  pub own_kept : (p : Owner) → AreTablesOf (named_trees f.names (h f.trees)) p (tables.each p)
+  own_kept p = tables_kept f.names f.trees (h f.trees) keeps p (tables.each p) (held.own p)
 
   pub ranges_kept : AreRangesOf (contents f.names (h f.trees) tables) tables.ranges
   ranges_kept = ranges_stay (contents f.names f.trees tables) (contents f.names (h f.trees) tables) tables.ranges held.ranges refl refl (λ p. refl)
@@ -173,18 +173,18 @@ module _ (f : NamedTrees) {tables : AllTables} (held : IsHeld f.names f.trees ta
   pub tree_held : IsHeld g.names g.trees last
   tree_held =
       settled_held m g (with_signals tables after) last r settled.forest settled.tables settled.empty settled.first
-      (on_three r names trees signals (λ ns us sig. signalled_held f held is_d k k< tables.each refl h change own_kept tables.observers
+      (on_three r names trees signals (λ ns us sig. signalled_held f held is_d k k< tables.each h change own_kept held.idle tables.observers
       held.speaks held.unobserved tables.ranges ranges_kept m ns us s None after sig))
 
   pub tree_state : (t : List NodeName → ModelStep)
-      → world_of (signals_in (before_signals f held is_d k k< tables.each refl h change own_kept tables.observers held.speaks held.unobserved
+      → world_of (signals_in (before_signals f held is_d k k< tables.each h change own_kept held.idle tables.observers held.speaks held.unobserved
       tables.ranges ranges_kept) (step_signals f.names (shadow_trees f.names f.trees tables.slots.hosts)
       (shadow_trees f.names (h f.trees) tables.slots.hosts) s None)) ≡ world_step (name_at f.names k).owner
       (world_from f.names f.trees tables) (t f.names)
       → OnOk q (state_from g.names g.trees last ≡ stepped (owner_in d k) (t d.names) d)
   tree_state t e =
       settled_state m g (with_signals tables after) last (stepped (owner_in d k) (t d.names) d) r q settled.result settled.forest settled.tables
-      (on_three r names trees signals (λ ns us sig. signalled_state f held is_d k k< tables.each refl h change own_kept tables.observers
+      (on_three r names trees signals (λ ns us sig. signalled_state f held is_d k k< tables.each h change own_kept held.idle tables.observers
       held.speaks held.unobserved tables.ranges ranges_kept m ns us s None after sig t e))
 
 -- ---- a removal
@@ -193,18 +193,19 @@ module _ (f : NamedTrees) {tables : AllTables} (held : IsHeld f.names f.trees ta
     (is_d : state_from f.names f.trees tables ≡ d) (k : ℕ) (k< : k < length d.names)
     (stay : Stays f) (once : StandOnce f) (only : StandAlone f) (apart : TellApart f.names) (parent : ℕ) (at_parent : parent < length f.names)
     (is_parent : Some (name_at f.names parent) ≡ parent_of f.trees (name_at f.names k))
-    (t u : KeyedTables) (at : table_of tables.each (name_at f.names k).owner ≡ Some t) (iterators : AreLeft f k t.iterators u.iterators)
-    (walkers : u.walkers ≡ t.walkers)
+    (u : KeyedTables) (iterators : AreLeft f k (tables.each (name_at f.names k).owner).iterators u.iterators)
+    (walkers : u.walkers ≡ (tables.each (name_at f.names k).owner).walkers)
+    (each : Owner → KeyedTables) (is_each : each ≡ with_cursors tables.each (name_at f.names k).owner u)
     (seen : Owner → TablesOf ℕ) (is_seen : (q : Owner) →
     seen q ≡ (if owner_eq (name_at f.names k).owner q then keyed_left nat_eq k (path_keys f parent)
     (tables.observers (name_at f.names k).owner) else tables.observers q))
     (live : RangeLists) (is_live : (q : Owner) →
     ranges_of live q ≡ ends_by (after_removal nat_eq (is_inside f k) parent (index_of f.trees (name_at f.names k))) (ranges_of tables.ranges q))
-    (place : ℕ) (is_place : place ≡ place_of (name_at f.names k).owner) (m g : NamedTrees) (after : SignalTables) (last : AllTables)
+    (m g : NamedTrees) (after : SignalTables) (last : AllTables)
     {T E : Type 0} (r q : Result T E)
     (names : OnOk r (m.names ≡ f.names)) (trees : OnOk r (m.trees ≡ taken_out (name_at f.names k) f.trees))
     (left : OnOk r (HasLeft f.names f.trees m.trees k (signals_of tables) after))
-    (settled : Settled m g (with_signals (with_live (with_observers (with_table_at tables place u) seen) live) after) last r q) where
+    (settled : Settled m g (with_signals (with_live (with_observers (record tables { each = each }) seen) live) after) last r q) where
   o : Owner
   o = (name_at f.names k).owner
 
@@ -214,39 +215,44 @@ module _ (f : NamedTrees) {tables : AllTables} (held : IsHeld f.names f.trees ta
   gone : IsOwnChange (name_at f.names k).owner (taken_out (name_at f.names k)) f.trees
   gone = taken f.trees held.owned (name_at f.names k).owner (name_at f.names k) refl
 
-  same_length : length (slice_set tables.each place u) ≡ length tables.each
-  same_length = length-set tables.each place u
+  there_then : is_there (world_from f.names f.trees tables) (name_at f.names k).owner ≡ true
+  there_then = owner_there f held is_d k k<
 
-  own_left : (p : Owner) → ForSome (table_of (slice_set tables.each place u) p) (AreTablesOf (named_trees f.names (taken_out (name_at f.names k) f.trees)) p)
-  own_left =
-      subst (λ n. (p : Owner) → ForSome (table_of (slice_set tables.each n u) p)
-      (AreTablesOf (named_trees f.names (taken_out (name_at f.names k) f.trees)) p)) (sym is_place)
-      (left_own f held stay once only apart k node (name_at f.names k).owner refl parent at_parent is_parent t u at iterators walkers seen is_seen)
+  own_left : (p : Owner) → AreTablesOf (named_trees f.names (taken_out (name_at f.names k) f.trees)) p (each p)
+  own_left p =
+      subst (λ (x : Owner → KeyedTables). AreTablesOf (named_trees f.names (taken_out (name_at f.names k) f.trees)) p (x p)) (sym is_each)
+      (left_own f held stay once only apart k node (name_at f.names k).owner refl parent at_parent is_parent there_then u iterators walkers seen is_seen p)
+
+  idle_left : (p : Owner) → is_there (world_from f.names f.trees tables) p ≡ false → each p ≡ no_keyed_tables
+  idle_left p off =
+      ap (λ (x : Owner → KeyedTables). x p) is_each
+      ∙ left_idle f held stay once only apart k node (name_at f.names k).owner refl parent at_parent is_parent there_then u iterators walkers seen is_seen p off
 
   speaks_then : (q : Owner) → SpeaksOf (IsKey f.names) (seen q)
-  speaks_then = left_speaks f held stay once only apart k node (name_at f.names k).owner refl parent at_parent is_parent t u at iterators walkers seen is_seen
+  speaks_then = left_speaks f held stay once only apart k node (name_at f.names k).owner refl
+      parent at_parent is_parent there_then u iterators walkers seen is_seen
 
   off_then : (q : Owner) → is_there (world_from f.names f.trees tables) q ≡ false → seen q ≡ no_observers
-  off_then = left_off f held stay once only apart k node (name_at f.names k).owner refl parent at_parent is_parent t u at iterators walkers seen is_seen
+  off_then = left_off f held stay once only apart k node (name_at f.names k).owner refl parent at_parent is_parent there_then u iterators walkers seen is_seen
 
   -- what is held then, before slots are signalled, with the live ranges as they were
   abbrev gone_contents : Contents
   gone_contents = record (contents f.names f.trees tables) {
     trees = taken_out (name_at f.names k) f.trees;
-    tables = (contents f.names (taken_out (name_at f.names k) f.trees) (with_observers (with_table_at tables place u) seen)).tables;
+    tables = (contents f.names (taken_out (name_at f.names k) f.trees) (with_observers (record tables { each = each }) seen)).tables;
   }
 
   changed : IsChangeOf (contents f.names f.trees tables) gone_contents (name_at f.names k).owner
-      (left_part f held stay once only apart k node (name_at f.names k).owner refl parent at_parent is_parent t u at iterators walkers seen is_seen)
+      (left_part f held stay once only apart k node (name_at f.names k).owner refl parent at_parent is_parent there_then u iterators walkers seen is_seen)
   changed =
-      subst (λ n. IsChangeOf (contents f.names f.trees tables)
+      subst (λ (x : Owner → KeyedTables). IsChangeOf (contents f.names f.trees tables)
       (record (contents f.names f.trees tables) {
         trees = taken_out (name_at f.names k) f.trees;
-        tables = (contents f.names (taken_out (name_at f.names k) f.trees) (with_observers (with_table_at tables n u) seen)).tables;
+        tables = (contents f.names (taken_out (name_at f.names k) f.trees) (with_observers (record tables { each = x }) seen)).tables;
       })
-      (name_at f.names k).owner (left_part f held stay once only apart k node (name_at f.names k).owner refl parent at_parent is_parent t u at
-      iterators walkers seen is_seen)) (sym is_place)
-      (left_change f held stay once only apart k node (name_at f.names k).owner refl parent at_parent is_parent t u at iterators walkers seen is_seen)
+      (name_at f.names k).owner (left_part f held stay once only apart k node (name_at f.names k).owner refl
+      parent at_parent is_parent there_then u iterators walkers seen is_seen)) (sym is_each)
+      (left_change f held stay once only apart k node (name_at f.names k).owner refl parent at_parent is_parent there_then u iterators walkers seen is_seen)
 
   -- the index at which the node stood is a number of the code's
   small : index_of f.trees (name_at f.names k) < 2 ^ 64
@@ -262,30 +268,30 @@ module _ (f : NamedTrees) {tables : AllTables} (held : IsHeld f.names f.trees ta
 
   -- the live ranges have left the tree
   live_then : AreRangesOf (contents f.names (taken_out (name_at f.names k) f.trees)
-      (record tables { each = slice_set tables.each place u; observers = seen; ranges = live })) live
+      (record tables { each = each; observers = seen; ranges = live })) live
   live_then =
       let was = contents f.names f.trees tables in
       ranges_stay (ranged live gone_contents)
       (contents f.names (taken_out (name_at f.names k) f.trees)
-      (record tables { each = slice_set tables.each place u; observers = seen; ranges = live })) live
+      (record tables { each = each; observers = seen; ranges = live })) live
       ((removal_ranged was tables.ranges live held.ranges apart (name_at f.names k).owner held.owned gone_contents refl k parent node at_parent
       refl (sym is_parent) is_live changed).1
       (removal_fits was tables.ranges held.ranges (name_at f.names k).owner (is_inside f k) parent (index_of f.trees (name_at f.names k)) small))
-      refl (ap owners_up_to same_length) (λ p. refl)
+      refl refl (λ p. refl)
 
   pub removal_held : IsHeld g.names g.trees last
   removal_held =
-      settled_held m g (with_signals (with_live (with_observers (with_table_at tables place u) seen) live) after) last r settled.forest
+      settled_held m g (with_signals (with_live (with_observers (record tables { each = each }) seen) live) after) last r settled.forest
       settled.tables settled.empty settled.first
-      (on_three r names trees left (λ ns us l. signalled_held f held is_d k k< (slice_set tables.each place u) same_length
-      (taken_out (name_at f.names k)) gone own_left seen speaks_then off_then live live_then m ns us (Removal k) l.left after l.signals))
+      (on_three r names trees left (λ ns us l. signalled_held f held is_d k k< each
+      (taken_out (name_at f.names k)) gone own_left idle_left seen speaks_then off_then live live_then m ns us (Removal k) l.left after l.signals))
 
   pub removal_state : OnOk q (state_from g.names g.trees last ≡ stepped (owner_in d k) (take_out (name_in d k)) d)
   removal_state =
-      settled_state m g (with_signals (with_live (with_observers (with_table_at tables place u) seen) live) after) last
+      settled_state m g (with_signals (with_live (with_observers (record tables { each = each }) seen) live) after) last
       (stepped (owner_in d k) (take_out (name_in d k)) d) r q settled.result settled.forest settled.tables
-      (on_three r names trees left (λ ns us l. signalled_state f held is_d k k< (slice_set tables.each place u) same_length
-      (taken_out (name_at f.names k)) gone own_left seen speaks_then off_then live live_then m ns us (Removal k) l.left after l.signals
+      (on_three r names trees left (λ ns us l. signalled_state f held is_d k k< each
+      (taken_out (name_at f.names k)) gone own_left idle_left seen speaks_then off_then live live_then m ns us (Removal k) l.left after l.signals
       (λ xs. take_out (name_at xs k))
       (removal_hosted (contents f.names f.trees tables) tables.slots.hosts (are_hosts f.names f.trees tables held) (name_at f.names k).owner
       (owner_there f held is_d k k<) (taken_out (name_at f.names k) f.trees)

@@ -1,8 +1,8 @@
 -- What the elementary steps do to what a `Doc` holds: the world after each.
 use Rattle.std.proofs.Common.{◌≡◌, ℕ, ◌<◌, inl, inr, Bool, true, false, true≢false, List, [], ◌++◌, length, Some, unwrap_or, map, refl, sym, ap, subst, ◌∙◌}
-use Rattle.std.specs.Prelude.{nat_eq, slice_set, if◌then◌else◌}
+use Rattle.std.specs.Prelude.{nat_eq, if◌then◌else◌}
 use Rattle.std.specs.Option.{ForSome}
-use Rattle.std.proofs.lemmas.Bool.{cases_Bool}
+use Rattle.std.proofs.lemmas.Bool.{cases_Bool, cond-true, cond-false}
 use Rattle.std.proofs.lemmas.Option.{same_Some}
 use Rattle.dom_base.specs.declared.NodeName.{NodeName}
 use Rattle.dom_base.specs.declared.Owner.{Owner}
@@ -33,16 +33,17 @@ use Rattle.dom_traversal.specs.Walkers.{walker_view}
 use Rattle.dom_ranges.specs.Settings.{named_ranges}
 use Rattle.dom_ranges.specs.Tables.{ranges_of}
 use Rattle.dom_parts.specs.Contents.{Contents, part_with, part_in, world_of}
-use Rattle.dom_cursors.specs.OwnTables.{KeyedTables, place_of, table_of, AreLeft, no_keyed_tables}
+use Rattle.dom_cursors.specs.OwnTables.{KeyedTables, AreLeft, no_keyed_tables}
+use Rattle.dom_cursors.specs.Cursors.{with_cursors}
+use Rattle.dom_cursors.proofs.Owners.{with-own, with-other}
 use Rattle.dom_parts.specs.AllTables.{tables_with, AreTablesOf, AllTables, with_table, with_observers}
-use Rattle.dom_parts.specs.Doc.{named_trees, own_tables, shown_tables, contents, world_from, IsHeld}
+use Rattle.dom_parts.specs.Doc.{named_trees, shown_tables, contents, world_from, IsHeld}
 use Rattle.dom_parts.specs.Hosting.{attached_of}
 use Rattle.dom_parts.proofs.Worlds.{IsChangeOf}
-use Rattle.dom_parts.proofs.Places.{table_set, table_set_other}
 use Rattle.dom_parts.proofs.Quiet.{untaken, untold_part}
 use Rattle.dom_parts.proofs.HostedSteps.{record_hosted}
 use Rattle.dom_parts.proofs.Keeping.{Stays, views_left, tables_left, tables_apart}
-use Rattle.dom_parts.proofs.Held.{are_hosts, there_table}
+use Rattle.dom_parts.proofs.Held.{are_hosts}
 use Rattle.dom_parts.proofs.Observed.{seen_own, seen_other, seen_speaks, seen_off}
 
 module _ (names : List NodeName) (ts : Trees) (tables : AllTables) (held : IsHeld names ts tables) (o : Owner)
@@ -85,42 +86,35 @@ module _ (names : List NodeName) (ts : Trees) (tables : AllTables) (held : IsHel
 
 -- ---- a removal
 
--- an owner that has tables
-own_table : (tables : AllTables) (o : Owner) (t : KeyedTables) → table_of tables.each o ≡ Some t → own_tables tables o ≡ t
-own_table tables o t e = ap (λ m. unwrap_or m no_keyed_tables) e
-
 module _ (f : NamedTrees) {tables : AllTables} (held : IsHeld f.names f.trees tables) (stay : Stays f) (once : StandOnce f) (only : StandAlone f)
     (apart : TellApart f.names)
     (node : ℕ) (at_node : node < length f.names) (o : Owner) (own : (name_at f.names node).owner ≡ o) (parent : ℕ)
     (at_parent : parent < length f.names) (is_parent : Some (name_at f.names parent) ≡ parent_of f.trees (name_at f.names node))
-    (t u : KeyedTables) (at : table_of tables.each o ≡ Some t) (left : AreLeft f node t.iterators u.iterators) (walkers : u.walkers ≡ t.walkers)
+    (there : is_there (world_from f.names f.trees tables) o ≡ true)
+    (u : KeyedTables) (left : AreLeft f node (tables.each o).iterators u.iterators) (walkers : u.walkers ≡ (tables.each o).walkers)
     (seen : Owner → TablesOf ℕ) (is_seen : (q : Owner) →
     seen q ≡ (if owner_eq o q then keyed_left nat_eq node (path_keys f parent) (tables.observers o) else tables.observers q)) where
   -- what is held then beside the trees
   abbrev pub left_tables : AllTables
   left_tables = with_observers (with_table tables o u) seen
 
-  there : is_there (world_from f.names f.trees tables) o ≡ true
-  there = there_table f.names f.trees tables o t at
-
   change : IsOwnChange o (taken_out (name_at f.names node)) f.trees
   change = taken f.trees held.owned o (name_at f.names node) own
 
   -- the tables after it
-  pub left_own : (p : Owner) → ForSome (table_of (slice_set tables.each (place_of o) u) p)
-      (AreTablesOf (named_trees f.names (taken_out (name_at f.names node) f.trees)) p)
-  left_own p v e = elim (cases_Bool (owner_eq p o)) [
-    | inl same ↦ own_case p v (owner_eq-true p o same) e
-    | inr other ↦ tables_apart f held.owned stay node at_node p (λ same. owner_eq-false p o other (sym same ∙ own)) v
-        (held.own p v (sym (table_set_other tables.each o t u at p (owner_eq-false p o other)) ∙ e))
+  pub left_own : (p : Owner) → AreTablesOf (named_trees f.names (taken_out (name_at f.names node) f.trees)) p (with_cursors tables.each o u p)
+  left_own p = elim (cases_Bool (owner_eq o p)) [
+    | inl same ↦ subst (AreTablesOf (with_taken_out f node) p) (sym (cond-true (owner_eq o p) u (tables.each p) same))
+        (subst (λ q. AreTablesOf (with_taken_out f node) q u) (owner_eq-true o p same)
+        (tables_left f held.owned stay node at_node o (tables.each o) u (held.own o) left walkers))
+    | inr other ↦ subst (AreTablesOf (with_taken_out f node) p) (sym (cond-false (owner_eq o p) u (tables.each p) other))
+        (tables_apart f held.owned stay node at_node p (λ same. owner_eq-false o p other (sym own ∙ same)) (tables.each p) (held.own p))
   ]
-    where
-      own_case : (p : Owner) (v : KeyedTables) → p ≡ o → table_of (slice_set tables.each (place_of o) u) p ≡ Some v →
-          AreTablesOf (named_trees f.names (taken_out (name_at f.names node) f.trees)) p v
-      own_case p v same e =
-          let is : u ≡ v = same_Some u v (sym (table_set tables.each o t u at) ∙ ap (table_of (slice_set tables.each (place_of o) u)) (sym same) ∙ e) in
-          subst (λ q. AreTablesOf (with_taken_out f node) q v) (sym same)
-          (subst (AreTablesOf (with_taken_out f node) o) is (tables_left f held.owned stay node at_node o t u (held.own o t at) left walkers))
+
+  -- whoever is not there still has none
+  pub left_idle : (p : Owner) → is_there (world_from f.names f.trees tables) p ≡ false → with_cursors tables.each o u p ≡ no_keyed_tables
+  left_idle p off =
+      with-other tables.each o u p (λ same. true≢false (sym there ∙ ap (is_there (world_from f.names f.trees tables)) (sym same) ∙ off)) ∙ held.idle p off
 
   -- the observers after it
   pub left_speaks : (q : Owner) → SpeaksOf (IsKey f.names) (seen q)
@@ -164,35 +158,33 @@ module _ (f : NamedTrees) {tables : AllTables} (held : IsHeld f.names f.trees ta
 
   pub left_change : IsChangeOf (contents f.names f.trees tables) left_contents o left_part
   left_change =
-      let now_tables : own_tables left_tables o ≡ u = own_table left_tables o u (table_set tables.each o t u at) in
+      let now_tables : left_tables.each o ≡ u = with-own tables.each o u in
       let iterators : map (iterator_view f.names) u.iterators ≡ map (adjusted_iterator (trees_of_owner o f.trees) (name_at f.names node))
-      (map (iterator_view f.names) (own_tables tables o).iterators) =
-      views_left f held.owned stay node at_node o own t.iterators u.iterators (held.own o t at).iterators left
-      ∙ ap (λ (v : KeyedTables). map (adjusted_iterator (trees_of_owner o f.trees) (name_at f.names node))
-      (map (iterator_view f.names) v.iterators)) (sym (own_table tables o t at)) in
-      let same_walkers : map (walker_view f.names) u.walkers ≡ map (walker_view f.names) (own_tables tables o).walkers =
-      ap (map (walker_view f.names)) (walkers ∙ ap (λ (v : KeyedTables). v.walkers) (sym (own_table tables o t at))) in
+      (map (iterator_view f.names) (tables.each o).iterators) =
+      views_left f held.owned stay node at_node o own (tables.each o).iterators u.iterators (held.own o).iterators left in
+      let same_walkers : map (walker_view f.names) u.walkers ≡ map (walker_view f.names) (tables.each o).walkers =
+      ap (map (walker_view f.names)) walkers in
       record {
         owners = refl;
         signalled = refl;
         tasks = refl;
         own = ap (λ us. part_with o us (count_of o f.names)
-            (shown_tables f.names tables.slots.hosts o (own_tables left_tables o) (seen o) (ranges_of tables.ranges o))) change.own
+            (shown_tables f.names tables.slots.hosts o (left_tables.each o) (seen o) (ranges_of tables.ranges o))) change.own
             ∙ ap (λ v. part_with o (taken_out (name_at f.names node) (trees_of_owner o f.trees)) (count_of o f.names)
             (shown_tables f.names tables.slots.hosts o v (seen o) (ranges_of tables.ranges o))) now_tables
             ∙ ap (λ is. part_of_lists is (map (walker_view f.names) u.walkers) (named_tables (name_at f.names) (seen o))) iterators
             ∙ ap (λ ws. part_of_lists (map (adjusted_iterator (trees_of_owner o f.trees) (name_at f.names node))
-            (map (iterator_view f.names) (own_tables tables o).iterators)) ws (named_tables (name_at f.names) (seen o))) same_walkers
+            (map (iterator_view f.names) (tables.each o).iterators)) ws (named_tables (name_at f.names) (seen o))) same_walkers
             ∙ ap (part_of_lists (map (adjusted_iterator (trees_of_owner o f.trees) (name_at f.names node))
-            (map (iterator_view f.names) (own_tables tables o).iterators)) (map (walker_view f.names) (own_tables tables o).walkers)) named_left;
+            (map (iterator_view f.names) (tables.each o).iterators)) (map (walker_view f.names) (tables.each o).walkers)) named_left;
         others = λ q other.
             ap (λ us. part_with q us (count_of q f.names)
-            (shown_tables f.names tables.slots.hosts q (own_tables left_tables q) (seen q) (ranges_of tables.ranges q))) (change.others q other)
+            (shown_tables f.names tables.slots.hosts q (left_tables.each q) (seen q) (ranges_of tables.ranges q))) (change.others q other)
             ∙ ap (λ m. part_with q (trees_of_owner q f.trees) (count_of q f.names)
-            (shown_tables f.names tables.slots.hosts q (unwrap_or m no_keyed_tables) (seen q) (ranges_of tables.ranges q)))
-            (table_set_other tables.each o t u at q other)
+            (shown_tables f.names tables.slots.hosts q m (seen q) (ranges_of tables.ranges q)))
+            (with-other tables.each o u q other)
             ∙ ap (λ r. part_with q (trees_of_owner q f.trees) (count_of q f.names)
-            (shown_tables f.names tables.slots.hosts q (own_tables tables q) r (ranges_of tables.ranges q)))
+            (shown_tables f.names tables.slots.hosts q (tables.each q) r (ranges_of tables.ranges q)))
             (seen_other f.names f.trees tables held o there (keyed_left nat_eq node (path_keys f parent) (tables.observers o)) seen is_seen q other);
       }
     where

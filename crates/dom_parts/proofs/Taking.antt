@@ -29,7 +29,7 @@ module _ (f : NamedTrees) {tables : AllTables} (held : IsHeld f.names f.trees ta
       absent = held.absent;
       limited = held.limited;
       own = held.own;
-      counted = held.counted;
+      idle = held.idle;
       made = held.made;
       signals = record {
         free = held.signals.free;

@@ -1,42 +1,44 @@
--- Whoever has tables is there, and no other one; and what is read of an owner's cursors.
-use Rattle.std.proofs.Common.{◌≡◌, ℕ, List, Option, Some, None, get_or, unwrap_or, sym, ap, subst, refl, ◌∙◌}
-use Rattle.std.specs.Prelude.{is_some, slice_get}
-use Rattle.std.proofs.lemmas.Bool.{false_from_ne_true}
-use Rattle.std.proofs.lemmas.Option.{slice_get-get_or, none-some}
-use Rattle.dom_base.specs.declared.NodeName.{NodeName}
+-- Whoever has nodes is there, and the page.
+use Rattle.std.proofs.Common.{◌≡◌, ◌≢◌, ℕ, ◌<◌, Bool, true, false, ◌||◌, inl, inr, [], ◌∷◌, length, sym, ap, subst, refl, ◌∙◌, arith}
+use Rattle.std.specs.Prelude.{nat_lt}
+use Rattle.std.proofs.lemmas.Bool.{false_from_ne_true, lt-ltb, le-ltb}
 use Rattle.dom_base.specs.declared.Owner.{Owner}
-use Rattle.dom_model.specs.Tree.{Trees}
-use Rattle.dom_model.specs.World.{part_of, is_there}
-use Rattle.dom_tree.specs.Forest.{NamedTrees}
-use Rattle.dom_cursors.specs.OwnTables.{KeyedTables, place_of, table_of, no_keyed_tables}
+use Rattle.dom_base.specs.declared.Owner.TheVariants.{Page, Component}
+use Rattle.dom_model.specs.World.{is_there}
+use Rattle.dom_model.specs.Names.{ComponentName}
+use Rattle.dom_tree.specs.Forest.{NamedTrees, name_at, count_of}
 use Rattle.dom_parts.specs.AllTables.{AllTables}
-use Rattle.dom_parts.specs.Doc.{DocState, world_from, state_from}
-use Rattle.dom_parts.proofs.Cursors.{has_iterator, has_walker}
-use Rattle.dom_parts.proofs.Held.{table_there, there_table}
-use Rattle.dom_parts.proofs.Places.{table_placed}
+use Rattle.dom_parts.specs.Doc.{DocState, contents, world_from, state_from, IsHeld}
+use Rattle.dom_parts.specs.Hosting.{host_owners}
+use Rattle.dom_parts.proofs.Attachable.{owner_node}
+use Rattle.dom_parts.proofs.AttachedWorlds.{count_none}
+use Rattle.dom_parts.proofs.Held.{are_hosts}
+use Rattle.dom_parts.proofs.HostedWorlds.{page_hosted}
+use Rattle.dom_parts.proofs.Worlds.{In, there_in}
 
--- so who has tables is there, and no other one
-pub there_is : (names : List NodeName) (ts : Trees) (tables : AllTables) (o : Owner) →
-    is_some (table_of tables.each o) ≡ is_there (world_from names ts tables) o
-there_is names ts tables o = by (table_of tables.each o) refl
-  where
-    by : (m : Option KeyedTables) → table_of tables.each o ≡ m → is_some (table_of tables.each o) ≡ is_there (world_from names ts tables) o
-    by (Some t) e = ap is_some e ∙ sym (there_table names ts tables o t e)
-    by None e =
-        ap is_some e ∙ sym (false_from_ne_true _ (λ there.
-        let w = table_there names ts tables o there in
-        none-some (get_or tables.each (place_of o) no_keyed_tables)
-        (sym e ∙ (table_placed tables.each o w.1 ∙ slice_get-get_or tables.each (place_of o) no_keyed_tables w.0))))
+module _ (f : NamedTrees) {tables : AllTables} (held : IsHeld f.names f.trees tables) {d : DocState} (is_d : state_from f.names f.trees tables ≡ d) where
+  pub page_there : true ≡ is_there d.world Page
+  page_there = subst (λ (e : DocState). true ≡ is_there e.world Page) is_d
+      (sym (page_hosted (contents f.names f.trees tables) tables.slots.hosts (are_hosts f.names f.trees tables held)))
 
--- whether an owner has an iterator, or a walker, of a number
-module _ (f : NamedTrees) (tables : AllTables) {d : DocState} (is_d : state_from f.names f.trees tables ≡ d) (o : Owner) (k : ℕ)
-    (m : Option KeyedTables) (at : m ≡ table_of tables.each o) where
-  pub iterator_there : is_some (slice_get (unwrap_or m no_keyed_tables).iterators k) ≡ is_some (slice_get (part_of d.world o).iterators k)
-  iterator_there =
-      subst (λ (e : DocState). is_some (slice_get (unwrap_or m no_keyed_tables).iterators k) ≡ is_some (slice_get (part_of e.world o).iterators k)) is_d
-      (ap (λ (n : Option KeyedTables). is_some (slice_get (unwrap_or n no_keyed_tables).iterators k)) at ∙ sym (has_iterator f.names f.trees tables o k))
+  -- a component that is there has nodes
+  counted : (o : Owner) → o ≢ Page → is_there (world_from f.names f.trees tables) o ≡ true → 0 < count_of o f.names
+  counted o other there = by (there_in (contents f.names f.trees tables) o there)
+    where
+      by : In o (Page ∷ host_owners tables.slots.hosts) → 0 < count_of o f.names
+      by (inl e) = absurd (other (sym e))
+      by (inr i) =
+          let node = owner_node f.names [] tables.slots.hosts o held.made held.signals.slots.hosts i in
+          let number = held.numbered node.0 node.1 in
+          let count = ap (λ (p : Owner). count_of p f.names) node.2 in
+          omega (arith, number, count)
 
-  pub walker_there : is_some (slice_get (unwrap_or m no_keyed_tables).walkers k) ≡ is_some (slice_get (part_of d.world o).walkers k)
-  walker_there =
-      subst (λ (e : DocState). is_some (slice_get (unwrap_or m no_keyed_tables).walkers k) ≡ is_some (slice_get (part_of e.world o).walkers k)) is_d
-      (ap (λ (n : Option KeyedTables). is_some (slice_get (unwrap_or n no_keyed_tables).walkers k)) at ∙ sym (has_walker f.names f.trees tables o k))
+  -- and no other one has
+  pub nodes_there : (o : Owner) → o ≢ Page → nat_lt 0 (count_of o f.names) ≡ is_there d.world o
+  nodes_there o other = subst (λ (e : DocState). nat_lt 0 (count_of o f.names) ≡ is_there e.world o) is_d (by (is_there (world_from f.names f.trees tables) o) refl)
+    where
+      by : (b : Bool) → is_there (world_from f.names f.trees tables) o ≡ b → nat_lt 0 (count_of o f.names) ≡ is_there (world_from f.names f.trees tables) o
+      by true there = lt-ltb 0 (count_of o f.names) (counted o other there) ∙ sym there
+      by false off =
+          let none = count_none o f.names (λ k k< e. let on = sym (ap (is_there (world_from f.names f.trees tables)) e) ∙ held.present k k< in cc) in
+          le-ltb 0 (count_of o f.names) (omega (arith, none)) ∙ sym off

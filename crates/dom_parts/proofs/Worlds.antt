@@ -17,6 +17,16 @@ abbrev pub In : Owner → List Owner → Type 0
 In o [] = ⊥
 In o (q ∷ os) = (q ≡ o) ⊎ In o os
 
+-- one of these is still one with another behind them
+pub In-push : (o : Owner) (os : List Owner) (q : Owner) → In o os → In o (os ++ q ∷ [])
+In-push o [] q h = absurd h
+In-push o (p ∷ os) q (inl e) = inl e
+In-push o (p ∷ os) q (inr h) = inr (In-push o os q h)
+
+pub In-end : (os : List Owner) (q : Owner) → In q (os ++ q ∷ [])
+In-end [] q = inl refl
+In-end (p ∷ os) q = inr (In-end os q)
+
 -- none of these stands there twice
 abbrev pub Single : List Owner → Type 0
 Single [] = Unit {0}

@@ -6,12 +6,10 @@ ghost use Rattle.dom_model.specs.Steps.{set_document};
 ghost use Rattle.dom_parts.specs.Doc.{name_in, owner_in, trees_in, stepped};
 
 use crate::Parts;
+use dom_base::MAX_DEPTH;
 use dom_node_trees::{roots_below, set_documents, set_each};
 use node_arena::Key;
 use std::alloc::AllocError;
-
-/// How many closed trees can lie in one another (own rule).
-const MAX_DEPTH: u8 = 1;
 
 impl Parts {
     /// The node document of a node.

@@ -1,72 +1,70 @@
-use Rattle.std.proofs.Common.{◌<◌, length, refl, ◌∙◌, arith}
+use Rattle.std.proofs.Common.{◌<◌, length, refl, ◌∙◌}
 use Rattle.dom_model.specs.Tree.{node_in}
 use Rattle.dom_tree.specs.Forest.{name_at}
+use Rattle.dom_cursors.specs.Cursors.{cursors_of}
 use Rattle.dom_observers.specs.Owners.{tables_of as observers_of}
 use Rattle.dom_parts.specs.AllTables.{tables_of}
 use Rattle.dom_parts.specs.Doc.{all_tables}
 use Rattle.dom_parts.proofs.HeldNodes.{given_up}
-use Rattle.dom_parts.proofs.Attachable.{accepted, may_of_name, next_is_for, new_owner, held_then, names_then, world_then}
+use Rattle.dom_parts.proofs.Attachable.{accepted, next_is_for, new_owner, held_then, names_then, world_then}
 use Rattle.dom_parts.proofs.Shown.{known}
 use Rattle.dom_parts.proofs.parts.Parts.attach.Goals as goal
 
 pub attach_root-made-requires-clause-new_owner : goal.attach_root-made-requires-clause-new_owner
 attach_root-made-requires-clause-new_owner c =
     new_owner c.self.inside.forest (all_tables c.self.inside) c.self.invariant c.args.host
-    (may_of_name c.self.inside.forest (all_tables c.self.inside) c.self.invariant c.nodes_stand_once.ensures.distinct c.args.self.now c.self.view_is
-    c.args.host c.requires.host_is_node c.requires.may_attach)
+    (accepted c.self.inside.forest (all_tables c.self.inside) c.self.invariant c.nodes_stand_once.ensures.distinct c.args.self.now c.self.view_is
+    c.args.host c.requires c.in-Ok.ensures.refusal).1.1
     c.in-Ok.owner (c.in-Ok.ensures.component ∙ next_is_for c.self.inside.forest (all_tables c.self.inside) c.self.invariant
-    c.nodes_stand_once.ensures.distinct c.args.self.now c.self.view_is c.args.host c.requires.host_is_node c.requires.may_attach)
+    c.nodes_stand_once.ensures.distinct c.args.self.now c.self.view_is c.args.host c.requires)
 
 pub attach_root-made-requires-clause-new_host : goal.attach_root-made-requires-clause-new_host
 attach_root-made-requires-clause-new_host c =
     (accepted c.self.inside.forest (all_tables c.self.inside) c.self.invariant c.nodes_stand_once.ensures.distinct c.args.self.now c.self.view_is
-    c.args.host c.requires.host_is_node c.requires.may_attach c.in-Ok.ensures.refusal).0
+    c.args.host c.requires c.in-Ok.ensures.refusal).0
 
 pub invariant_of-self : goal.invariant_of-self
 invariant_of-self c =
     let f = c.self.inside.forest in
     let d = (node_in f.trees (name_at f.names c.args.host)).document in
     held_then f (all_tables c.self.inside) c.self.invariant c.args.host
-    (may_of_name c.self.inside.forest (all_tables c.self.inside) c.self.invariant c.nodes_stand_once.ensures.distinct c.args.self.now c.self.view_is
-    c.args.host c.requires.host_is_node c.requires.may_attach)
-    c.in-Ok.owner (c.in-Ok.ensures.component ∙ next_is_for c.self.inside.forest (all_tables c.self.inside) c.self.invariant
-    c.nodes_stand_once.ensures.distinct c.args.self.now c.self.view_is c.args.host c.requires.host_is_node c.requires.may_attach) c.attach_root-made.new.forest
-    c.attach_root-made.new.tables.items c.attach_root-made.new.slots d c.in-Ok-made.ensures.names c.in-Ok-made.ensures.trees
-    c.in-Ok-made.ensures.tables c.in-Ok-made.ensures.hosts c.in-Ok-made.ensures.free c.in-Ok-made.ensures.slots
-    (known f c.self.invariant c.self.view_is (λ e. c.args.host < length e.names) c.requires.host_is_node)
     (accepted c.self.inside.forest (all_tables c.self.inside) c.self.invariant c.nodes_stand_once.ensures.distinct c.args.self.now c.self.view_is
-    c.args.host c.requires.host_is_node c.requires.may_attach c.in-Ok.ensures.refusal).1
-
-pub settle-requires : goal.settle-requires
-settle-requires c = let counted = c.self.invariant.counted in let kept = c.attach_root-made.ensures.kept in omega (arith, counted, kept)
+    c.args.host c.requires c.in-Ok.ensures.refusal).1.1
+    c.in-Ok.owner (c.in-Ok.ensures.component ∙ next_is_for c.self.inside.forest (all_tables c.self.inside) c.self.invariant
+    c.nodes_stand_once.ensures.distinct c.args.self.now c.self.view_is c.args.host c.requires) c.attach_root-made.new.forest
+    c.attach_root-made.new.slots d c.in-Ok-made.ensures.names c.in-Ok-made.ensures.trees
+    c.in-Ok-made.ensures.hosts c.in-Ok-made.ensures.free c.in-Ok-made.ensures.slots
+    (known f c.self.invariant c.self.view_is (λ e. c.args.host < length e.names) c.requires)
+    (accepted c.self.inside.forest (all_tables c.self.inside) c.self.invariant c.nodes_stand_once.ensures.distinct c.args.self.now c.self.view_is
+    c.args.host c.requires c.in-Ok.ensures.refusal).1.0
 
 pub returns-in-Ok-made-clause-names : goal.returns-in-Ok-made-clause-names
 returns-in-Ok-made-clause-names c =
     let f = c.self.inside.forest in
     let d = (node_in f.trees (name_at f.names c.args.host)).document in
     names_then f (all_tables c.self.inside) c.self.invariant c.args.host
-    (may_of_name c.self.inside.forest (all_tables c.self.inside) c.self.invariant c.nodes_stand_once.ensures.distinct c.args.self.now c.self.view_is
-    c.args.host c.requires.host_is_node c.requires.may_attach)
+    (accepted c.self.inside.forest (all_tables c.self.inside) c.self.invariant c.nodes_stand_once.ensures.distinct c.args.self.now c.self.view_is
+    c.args.host c.requires c.in-Ok.ensures.refusal).1.1
     c.in-Ok.owner (c.in-Ok.ensures.component ∙ next_is_for c.self.inside.forest (all_tables c.self.inside) c.self.invariant
-    c.nodes_stand_once.ensures.distinct c.args.self.now c.self.view_is c.args.host c.requires.host_is_node c.requires.may_attach) c.attach_root-made.new.forest
-    c.attach_root-made.new.tables.items c.attach_root-made.new.slots d c.in-Ok-made.ensures.names c.in-Ok-made.ensures.trees
-    c.in-Ok-made.ensures.tables c.in-Ok-made.ensures.hosts c.in-Ok-made.ensures.free c.in-Ok-made.ensures.slots
-    c.args.self.now c.self.view_is c.requires.host_is_node c.in-Ok.ensures.component
+    c.nodes_stand_once.ensures.distinct c.args.self.now c.self.view_is c.args.host c.requires) c.attach_root-made.new.forest
+    c.attach_root-made.new.slots d c.in-Ok-made.ensures.names c.in-Ok-made.ensures.trees
+    c.in-Ok-made.ensures.hosts c.in-Ok-made.ensures.free c.in-Ok-made.ensures.slots
+    c.args.self.now c.self.view_is c.requires c.in-Ok.ensures.component
 
 pub returns-in-Ok-made-clause-world : goal.returns-in-Ok-made-clause-world
 returns-in-Ok-made-clause-world c =
     let f = c.self.inside.forest in
     let d = (node_in f.trees (name_at f.names c.args.host)).document in
     world_then f (all_tables c.self.inside) c.self.invariant c.args.host
-    (may_of_name c.self.inside.forest (all_tables c.self.inside) c.self.invariant c.nodes_stand_once.ensures.distinct c.args.self.now c.self.view_is
-    c.args.host c.requires.host_is_node c.requires.may_attach)
+    (accepted c.self.inside.forest (all_tables c.self.inside) c.self.invariant c.nodes_stand_once.ensures.distinct c.args.self.now c.self.view_is
+    c.args.host c.requires c.in-Ok.ensures.refusal).1.1
     c.in-Ok.owner (c.in-Ok.ensures.component ∙ next_is_for c.self.inside.forest (all_tables c.self.inside) c.self.invariant
-    c.nodes_stand_once.ensures.distinct c.args.self.now c.self.view_is c.args.host c.requires.host_is_node c.requires.may_attach) c.attach_root-made.new.forest
-    c.attach_root-made.new.tables.items c.attach_root-made.new.slots d c.in-Ok-made.ensures.names c.in-Ok-made.ensures.trees
-    c.in-Ok-made.ensures.tables c.in-Ok-made.ensures.hosts c.in-Ok-made.ensures.free c.in-Ok-made.ensures.slots
-    c.args.self.now c.self.view_is c.requires.host_is_node refl
+    c.nodes_stand_once.ensures.distinct c.args.self.now c.self.view_is c.args.host c.requires) c.attach_root-made.new.forest
+    c.attach_root-made.new.slots d c.in-Ok-made.ensures.names c.in-Ok-made.ensures.trees
+    c.in-Ok-made.ensures.hosts c.in-Ok-made.ensures.free c.in-Ok-made.ensures.slots
+    c.args.self.now c.self.view_is c.requires refl
 
 pub invariant_of-self-in-Err-made : goal.invariant_of-self-in-Err-made
 invariant_of-self-in-Err-made c =
-    given_up c.settle.new.forest (tables_of c.settle.new.tables.items (observers_of c.settle.new.observers) c.settle.new.queue c.settle.new.slots
+    given_up c.settle.new.forest (tables_of (cursors_of c.settle.new.cursors) (observers_of c.settle.new.observers) c.settle.new.queue c.settle.new.slots
     c.settle.new.signalled c.settle.new.ranges) c.settle.ensures.empty c.settle.ensures.first

@@ -15,7 +15,7 @@ returns c =
     let f = c.self.inside.forest in
     let s = shadows f c.self.inside.slots.hosts in
     let x = name_at f.names c.args.node in
-    let depth = c.depth_of-depth.ensures ∙ ap (λ (y : NodeName). owner_depth y.owner) (sym c.name.ensures.at) in
+    let depth = c.depth-depth.ensures ∙ ap (λ (y : NodeName). owner_depth y.owner) (sym c.name.ensures.at) in
     subst (λ (d : DocState). c.is_document.result ≡ is_connected d.world (name_in d c.args.node)) c.self.view_is
     (c.is_document.ensures
     ∙ (ap is_document (c.kind.ensures ∙ ap (kind_of f.trees) (c.outermost_root-root.ensures.value ∙ ap (λ n. outermost_root s n (root_of f.trees x)) depth))

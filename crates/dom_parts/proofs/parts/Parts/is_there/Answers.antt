@@ -1,19 +1,21 @@
-use Rattle.std.proofs.Common.{◌≡◌, List, Option, Some, None, option_map, refl, subst, ap, ◌∙◌}
-use Rattle.std.specs.Prelude.{is_some}
+use Rattle.std.proofs.Common.{◌≡◌, ◌≢◌, true, true≢false, sym, ap, subst, ◌∙◌}
+use Rattle.std.specs.Prelude.{nat_lt}
+use Rattle.dom_base.specs.declared.Owner.{Owner}
+use Rattle.dom_base.specs.declared.Owner.TheVariants.{Page}
 use Rattle.dom_model.specs.World.{is_there}
-use Rattle.dom_cursors.specs.OwnTables.{KeyedTables, table_of}
-use Rattle.dom_parts.specs.Doc.{DocState, all_tables}
-use Rattle.dom_parts.proofs.There.{there_is}
+use Rattle.dom_parts.proofs.There.{page_there, nodes_there}
 use Rattle.dom_parts.proofs.parts.Parts.is_there.Goals as goal
+use Rattle.dom_parts.proofs.parts.Parts.is_there.Goals.{in-Page, in_default}
 
-some_mapped : {X Y : Type 0} (f : X → Y) (o : Option X) → is_some o ≡ is_some (option_map f o)
-some_mapped f None = refl
-some_mapped f (Some x) = refl
+pub returns-then-matches : goal.returns-then-matches
+returns-then-matches c =
+    elim c.match-matches.branch [
+      | in-Page w ↦ c.if-matches.true ∙ (page_there c.self.inside.forest c.self.invariant c.self.view_is ∙ ap (is_there c.args.self.now.world) (sym w.in-Page.is))
+      | in_default w ↦ absurd (true≢false (sym c.if-matches.true ∙ w.matches-is))
+    ]
 
-pub returns : goal.returns
-returns c =
-    let f = c.self.inside.forest in
-    subst (λ (d : DocState). c.is_some.result ≡ is_there d.world c.args.owner) c.self.view_is
-    (c.is_some.ensures ∙ (some_mapped _ c.table_of.result ∙
-    (ap is_some (c.table_of.ensures ∙ ap (λ (ts : List KeyedTables). table_of ts c.args.owner) c.deref.ensures.value) ∙
-    there_is f.names f.trees (all_tables c.self.inside) c.args.owner)))
+pub returns-else-matches : goal.returns-else-matches
+returns-else-matches c =
+    let other : c.args.owner ≢ Page =
+    elim c.match-matches.branch [ in-Page w ↦ absurd (true≢false (sym w.matches-is ∙ c.if-matches.false)) | in_default w ↦ w.in_default.not-Page ] in
+    ap (nat_lt 0) c.node_count.ensures ∙ nodes_there c.self.inside.forest c.self.invariant c.self.view_is c.args.owner other

@@ -5,34 +5,22 @@ use Rattle.dom_model.specs.Output.{reference}
 use Rattle.dom_model.specs.Effects.{Effect}
 use Rattle.dom_tree.specs.Forest.{name_at}
 use Rattle.dom_parts.proofs.Cursors.{item_there, with_own, at_effect}
-use Rattle.dom_parts.proofs.Passing.{place_there, there_iter, at, iter_there, reads, name_known}
+use Rattle.dom_parts.proofs.Passing.{there_iter, iter_there, reads, name_known}
 use Rattle.dom_parts.specs.Doc.{all_tables}
 use Rattle.dom_parts.proofs.parts.Parts.iter_at.Goals as goal
-
-pub index-tables-requires : goal.index-tables-requires
-index-tables-requires c =
-    let f = c.self.inside.forest in
-    let less : c.place_of.result < length (all_tables c.self.inside).each =
-    place_there f c.self.invariant c.self.view_is c.args.owner
-    (there_iter f c.self.invariant c.self.view_is c.args.owner c.args.number c.requires) c.place_of.result c.place_of.ensures in
-    omega (arith, c.self.inside.tables.ok.0)
 
 pub iter_at-requires : goal.iter_at-requires
 iter_at-requires c =
     let f = c.self.inside.forest in
-    iter_there f c.self.invariant c.self.view_is c.args.owner (there_iter f c.self.invariant c.self.view_is c.args.owner c.args.number c.requires)
-    c.place_of.result c.place_of.ensures c.index-tables.result.now c.index-tables.ensures c.args.number c.requires
+    iter_there f c.self.invariant c.self.view_is c.args.owner c.args.number c.requires
 
 pub returns-clause-node : goal.returns-clause-node
 returns-clause-node c =
     let f = c.self.inside.forest in
-    let there = there_iter f c.self.invariant c.self.view_is c.args.owner c.args.number c.requires in
-    let t = c.index-tables.result.now in
+    let t = (all_tables c.self.inside).each c.args.owner in
     let item = item_there (slice_get t.iterators c.args.number)
-    (iter_there f c.self.invariant c.self.view_is c.args.owner there c.place_of.result c.place_of.ensures t c.index-tables.ensures
-    c.args.number c.requires) in
-    let h = (c.self.invariant.own c.args.owner t
-    (at f c.self.invariant c.self.view_is c.args.owner there c.place_of.result c.place_of.ensures t c.index-tables.ensures)).iterators
+    (iter_there f c.self.invariant c.self.view_is c.args.owner c.args.number c.requires) in
+    let h = (c.self.invariant.own c.args.owner).iterators
     c.args.number item.0 item.1 in
     name_known f c.self.invariant c.self.view_is c.args.owner c.iter_at.result.0
     (subst (λ j. j < length f.names) (sym (ap (λ (p : ℕ × Bool). p.0) (c.iter_at.ensures item.0 item.1))) h.stands.reference.node)
@@ -41,16 +29,13 @@ pub returns-clause-value : goal.returns-clause-value
 returns-clause-value c =
     let f = c.self.inside.forest in
     let there = there_iter f c.self.invariant c.self.view_is c.args.owner c.args.number c.requires in
-    let t = c.index-tables.result.now in
+    let t = (all_tables c.self.inside).each c.args.owner in
     let item = item_there (slice_get t.iterators c.args.number)
-    (iter_there f c.self.invariant c.self.view_is c.args.owner there c.place_of.result c.place_of.ensures t c.index-tables.ensures
-    c.args.number c.requires) in
-    reads f c.self.invariant c.self.view_is c.args.owner there c.place_of.result c.place_of.ensures t c.index-tables.ensures
+    (iter_there f c.self.invariant c.self.view_is c.args.owner c.args.number c.requires) in
+    reads f c.self.invariant c.self.view_is c.args.owner there
     (λ ns. Command.iterator_at c.args.number) (λ ns. reference (name_at ns c.iter_at.result.0) c.iter_at.result.1)
-    (at_effect f.names f.trees (all_tables c.self.inside) c.self.invariant c.args.owner t
-    (at f c.self.invariant c.self.view_is c.args.owner there c.place_of.result c.place_of.ensures t c.index-tables.ensures) c.args.number
+    (at_effect f.names f.trees (all_tables c.self.inside) c.self.invariant c.args.owner there c.args.number
     item.0 item.1
     ∙ ap (λ (p : ℕ × Bool). Effect.tables
-    (with_own f.names f.trees (all_tables c.self.inside) c.self.invariant c.args.owner t
-    (at f c.self.invariant c.self.view_is c.args.owner there c.place_of.result c.place_of.ensures t c.index-tables.ensures) t) []
+    (with_own f.names f.trees (all_tables c.self.inside) c.self.invariant c.args.owner there t) []
     (reference (name_at f.names p.0) p.1)) (sym (c.iter_at.ensures item.0 item.1)))

@@ -5,55 +5,40 @@ use Rattle.dom_model.specs.Effects.{node_or_null}
 use Rattle.dom_tree.specs.Forest.{name_at}
 use Rattle.dom_traversal.specs.Iterators.{IsIteratorOf, iterator_at}
 use Rattle.dom_parts.proofs.Cursors.{item_there, previous_effect}
-use Rattle.dom_parts.proofs.Passing.{place_there, there_iter, at, iter_there, iters_of, writes, held_written, iter_moved, name_known}
+use Rattle.dom_parts.proofs.Passing.{there_iter, iter_there, iters_of, writes, held_written, iter_moved, name_known}
+use Rattle.dom_cursors.specs.Cursors.{cursors_of}
 use Rattle.dom_parts.specs.Doc.{all_tables}
 use Rattle.dom_parts.proofs.parts.Parts.iter_previous.Goals as goal
-
-pub index_mut-tables-requires : goal.index_mut-tables-requires
-index_mut-tables-requires c =
-    let f = c.self.inside.forest in
-    let less : c.place_of.result < length (all_tables c.self.inside).each =
-    place_there f c.self.invariant c.self.view_is c.args.owner
-    (there_iter f c.self.invariant c.self.view_is c.args.owner c.args.number c.requires) c.place_of.result c.place_of.ensures in
-    omega (arith, c.self.inside.tables.ok.0)
 
 pub iter_previous-requires-clause-there : goal.iter_previous-requires-clause-there
 iter_previous-requires-clause-there c =
     let f = c.self.inside.forest in
-    let there = there_iter f c.self.invariant c.self.view_is c.args.owner c.args.number c.requires in
-    let t = c.index_mut-tables.result.now in
-    iter_there f c.self.invariant c.self.view_is c.args.owner there c.place_of.result c.place_of.ensures t c.index_mut-tables.ensures.value
-    c.args.number c.requires
+    iter_there f c.self.invariant c.self.view_is c.args.owner c.args.number c.requires
 
 pub iter_previous-requires-clause-iterators : goal.iter_previous-requires-clause-iterators
 iter_previous-requires-clause-iterators c =
     let f = c.self.inside.forest in
-    let there = there_iter f c.self.invariant c.self.view_is c.args.owner c.args.number c.requires in
-    let t = c.index_mut-tables.result.now in
-    iters_of f c.self.invariant c.self.view_is c.args.owner there c.place_of.result c.place_of.ensures t c.index_mut-tables.ensures.value
+    iters_of f c.self.invariant c.self.view_is c.args.owner
 
 pub invariant_of-self : goal.invariant_of-self
 invariant_of-self c =
     let f = c.self.inside.forest in
     let there = there_iter f c.self.invariant c.self.view_is c.args.owner c.args.number c.requires in
-    let t = c.index_mut-tables.result.now in
+    let t = (all_tables c.self.inside).each c.args.owner in
     let item = item_there (slice_get t.iterators c.args.number)
-    (iter_there f c.self.invariant c.self.view_is c.args.owner there c.place_of.result c.place_of.ensures t
-    c.index_mut-tables.ensures.value c.args.number c.requires) in
-    held_written f c.self.invariant c.self.view_is c.args.owner there c.place_of.result c.place_of.ensures t c.index_mut-tables.ensures.value
-    c.iter_previous.new.self (record t { iterators = slice_set t.iterators c.args.number (iterator_at item.0 true c.iter_previous.result) })
+    (iter_there f c.self.invariant c.self.view_is c.args.owner c.args.number c.requires) in
+    held_written f c.self.invariant c.self.view_is c.args.owner there
+    (cursors_of c.iter_previous.new.self) (record t { iterators = slice_set t.iterators c.args.number (iterator_at item.0 true c.iter_previous.result) })
     (c.iter_previous.ensures.state item.0 item.1)
-    (iter_moved f c.self.invariant c.self.view_is c.args.owner there c.place_of.result c.place_of.ensures t c.index_mut-tables.ensures.value
+    (iter_moved f c.self.invariant c.self.view_is c.args.owner
     c.args.number item.0 true c.iter_previous.result item.1 (c.iter_previous.ensures.kept item.0 item.1))
 
 pub returns-clause-node : goal.returns-clause-node
 returns-clause-node c j e =
     let f = c.self.inside.forest in
-    let there = there_iter f c.self.invariant c.self.view_is c.args.owner c.args.number c.requires in
-    let t = c.index_mut-tables.result.now in
+    let t = (all_tables c.self.inside).each c.args.owner in
     let item = item_there (slice_get t.iterators c.args.number)
-    (iter_there f c.self.invariant c.self.view_is c.args.owner there c.place_of.result c.place_of.ensures t
-    c.index_mut-tables.ensures.value c.args.number c.requires) in
+    (iter_there f c.self.invariant c.self.view_is c.args.owner c.args.number c.requires) in
     let kept : IsIteratorOf f (iterator_at item.0 true (Some j)) =
     subst (λ r. IsIteratorOf f (iterator_at item.0 true r)) e (c.iter_previous.ensures.kept item.0 item.1) in
     name_known f c.self.invariant c.self.view_is c.args.owner j kept.reference.node
@@ -62,14 +47,12 @@ pub returns-clause-world : goal.returns-clause-world
 returns-clause-world c =
     let f = c.self.inside.forest in
     let there = there_iter f c.self.invariant c.self.view_is c.args.owner c.args.number c.requires in
-    let t = c.index_mut-tables.result.now in
+    let t = (all_tables c.self.inside).each c.args.owner in
     let item = item_there (slice_get t.iterators c.args.number)
-    (iter_there f c.self.invariant c.self.view_is c.args.owner there c.place_of.result c.place_of.ensures t
-    c.index_mut-tables.ensures.value c.args.number c.requires) in
-    writes f c.self.invariant c.self.view_is c.args.owner there c.place_of.result c.place_of.ensures t c.index_mut-tables.ensures.value
-    c.iter_previous.new.self (record t { iterators = slice_set t.iterators c.args.number (iterator_at item.0 true c.iter_previous.result) })
+    (iter_there f c.self.invariant c.self.view_is c.args.owner c.args.number c.requires) in
+    writes f c.self.invariant c.self.view_is c.args.owner there
+    (cursors_of c.iter_previous.new.self) (record t { iterators = slice_set t.iterators c.args.number (iterator_at item.0 true c.iter_previous.result) })
     (c.iter_previous.ensures.state item.0 item.1)
     (λ ns. Command.iterator_previous c.args.number) (λ ns. node_or_null (option_map (name_at ns) c.iter_previous.result))
-    (previous_effect f.names f.trees (all_tables c.self.inside) c.self.invariant c.args.owner t
-    (at f c.self.invariant c.self.view_is c.args.owner there c.place_of.result c.place_of.ensures t c.index_mut-tables.ensures.value)
+    (previous_effect f.names f.trees (all_tables c.self.inside) c.self.invariant c.args.owner there
     c.args.number item.0 c.iter_previous.result item.1 (c.iter_previous.ensures.value item.0 item.1))

@@ -6,7 +6,8 @@ use Rattle.dom_model.specs.Names.{node_of}
 use Rattle.dom_model.specs.TreeChanges.{with_node}
 use Rattle.dom_tree.specs.Forest.{NamedTrees, next_name, node_from}
 use Rattle.dom_tree.specs.declared.data.NodeData.{NodeData}
-use Rattle.dom_cursors.specs.OwnTables.{KeyedTables, no_keyed_tables}
+use Rattle.dom_cursors.specs.OwnTables.{no_keyed_tables}
+use Rattle.dom_cursors.specs.Cursors.{cursors_of}
 use Rattle.dom_parts.specs.AllTables.{no_slots, tables_of}
 use Rattle.dom_slots.specs.Kept.{SlotsNow}
 use Rattle.dom_parts.proofs.HeldNodes.{first_held}
@@ -23,15 +24,13 @@ invariant_of-result c =
     let slots = c.new-slots.result in
     let signalled = c.new-signalled.result in
     let ranges = c.new-ranges.result in
-    first_held c.add.new.self (tables_of c.push.new.self.items seen tasks slots signalled ranges) (node_from [] (node_of Page 0) first) refl record {
-      all = ap (λ (ts : List KeyedTables). tables_of ts seen tasks slots signalled ranges)
-          (c.in-Ok.ensures.items ∙ ap (λ (ts : List KeyedTables). ts ++ c.new-4.result ∷ []) c.new-tables.ensures.items ∙
-          ap (λ (t : KeyedTables). t ∷ []) c.new-4.ensures)
-          ∙ (λ j. tables_of (no_keyed_tables ∷ []) (λ o. c.new-observers.ensures o j) tasks slots signalled ranges)
-          ∙ ap (λ (ts : List Task). tables_of (no_keyed_tables ∷ []) (λ o. no_observers) ts slots signalled ranges) c.new-queue.ensures
-          ∙ ap (λ (s : SlotsNow). tables_of (no_keyed_tables ∷ []) (λ o. no_observers) [] s signalled ranges) c.new-slots.ensures.value
-          ∙ ap (λ (xs : List NodeName). tables_of (no_keyed_tables ∷ []) (λ o. no_observers) [] no_slots xs ranges) c.new-signalled.ensures;
+    first_held c.add.new.self (tables_of (cursors_of c.new-cursors.result) seen tasks slots signalled ranges) (node_from [] (node_of Page 0) first) refl record {
+      all = (λ j. tables_of (λ o. c.new-cursors.ensures o j) seen tasks slots signalled ranges)
+          ∙ (λ j. tables_of (λ o. no_keyed_tables) (λ o. c.new-observers.ensures o j) tasks slots signalled ranges)
+          ∙ ap (λ (ts : List Task). tables_of (λ o. no_keyed_tables) (λ o. no_observers) ts slots signalled ranges) c.new-queue.ensures
+          ∙ ap (λ (s : SlotsNow). tables_of (λ o. no_keyed_tables) (λ o. no_observers) [] s signalled ranges) c.new-slots.ensures.value
+          ∙ ap (λ (xs : List NodeName). tables_of (λ o. no_keyed_tables) (λ o. no_observers) [] no_slots xs ranges) c.new-signalled.ensures;
       no_ranges = c.new-ranges.ensures;
     }
-    (c.in-Ok-add.ensures.names ∙ ap (λ (g : NamedTrees). g.names ++ next_name Page g.names ∷ []) c.new-forest.ensures)
-    (c.in-Ok-add.ensures.trees ∙ ap (λ (g : NamedTrees). with_node (node_from g.names (next_name Page g.names) first) g.trees) c.new-forest.ensures)
+    (c.in-Ok.ensures.names ∙ ap (λ (g : NamedTrees). g.names ++ next_name Page g.names ∷ []) c.new-forest.ensures)
+    (c.in-Ok.ensures.trees ∙ ap (λ (g : NamedTrees). with_node (node_from g.names (next_name Page g.names) first) g.trees) c.new-forest.ensures)

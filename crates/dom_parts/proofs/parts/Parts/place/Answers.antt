@@ -1,4 +1,4 @@
-use Rattle.std.proofs.Common.{◌≡◌, ◌<◌, length, false, Some, None, option_map, refl, ap, ◌∙◌, arith}
+use Rattle.std.proofs.Common.{◌≡◌, ◌<◌, length, false, Some, None, option_map, refl, ap, ◌∙◌}
 use Rattle.dom_model.specs.Names.{name_eq, is_in}
 use Rattle.dom_model.specs.Tree.{parent_of, is_inclusive_ancestor}
 use Rattle.dom_model.specs.TreeChanges.{placed}
@@ -10,6 +10,7 @@ use Rattle.dom_traversal.proofs.Counts.{Once-forest, Has-forest}
 use Rattle.dom_tree_laws.proofs.Once.{once_forest}
 use Rattle.dom_tree_laws.proofs.Standing.{keeps_placed}
 use Rattle.dom_slots.specs.declared.step.Step.TheVariants.{Place}
+use Rattle.dom_cursors.specs.Cursors.{cursors_of}
 use Rattle.dom_observers.specs.Owners.{tables_of as observers_of}
 use Rattle.dom_node_trees.specs.Signalled.{signal_tables}
 use Rattle.dom_parts.specs.AllTables.{tables_of}
@@ -38,9 +39,6 @@ link-done-requires-clause-before_is_child c b is =
     ∙ known c.self.inside.forest c.self.invariant c.self.view_is (λ e. parent_of (trees_in e b) (name_in e b) ≡ Some (name_in e c.args.parent))
     (c.requires.before_is_child b is)
 
-pub settle-requires : goal.settle-requires
-settle-requires c = let counted = c.self.invariant.counted in omega arith
-
 pub invariant_of-self : goal.invariant_of-self
 invariant_of-self c =
     let f = c.self.inside.forest in
@@ -63,7 +61,7 @@ invariant_of-self c =
     (once_forest f.names f.trees c.nodes_stand_once.ensures.once c.nodes_stand_once.ensures.only))
     (Place c.args.node c.args.parent c.args.before)
     c.link-done.new.forest c.settle.new.forest (signal_tables c.link-done.new.slots c.link-done.new.signalled c.link-done.new.queue)
-    (tables_of c.settle.new.tables.items (observers_of c.settle.new.observers) c.settle.new.queue c.settle.new.slots c.settle.new.signalled
+    (tables_of (cursors_of c.settle.new.cursors) (observers_of c.settle.new.observers) c.settle.new.queue c.settle.new.slots c.settle.new.signalled
     c.settle.new.ranges) c.link-done.result c.settle.result c.link-done.ensures.names c.link-done.ensures.trees c.link-done.ensures.signals
     record {
       result = c.settle.ensures.result;
@@ -97,7 +95,7 @@ returns c =
     (once_forest f.names f.trees c.nodes_stand_once.ensures.once c.nodes_stand_once.ensures.only))
     (Place c.args.node c.args.parent c.args.before)
     c.link-done.new.forest c.settle.new.forest (signal_tables c.link-done.new.slots c.link-done.new.signalled c.link-done.new.queue)
-    (tables_of c.settle.new.tables.items (observers_of c.settle.new.observers) c.settle.new.queue c.settle.new.slots c.settle.new.signalled
+    (tables_of (cursors_of c.settle.new.cursors) (observers_of c.settle.new.observers) c.settle.new.queue c.settle.new.slots c.settle.new.signalled
     c.settle.new.ranges) c.link-done.result c.settle.result c.link-done.ensures.names c.link-done.ensures.trees c.link-done.ensures.signals
     record {
       result = c.settle.ensures.result;

@@ -22,7 +22,7 @@ all_set doc node tops roots f g h set names trees same =
 
 -- as deep as the definition goes
 as_deep : (f : NamedTrees) (hosts : List ShadowHost) (node : ℕ) →
-    roots_within max_depth f hosts (name_at f.names node) ≡ roots_within 1 f hosts (name_at f.names node)
+    roots_within max_depth f hosts (name_at f.names node) ≡ roots_within 8 f hosts (name_at f.names node)
 as_deep f hosts node = ap (λ n. roots_within n f hosts (name_at f.names node)) depth_is
 
 pub set_each-requires-clause-tops_are_nodes : goal.set_each-requires-clause-tops_are_nodes

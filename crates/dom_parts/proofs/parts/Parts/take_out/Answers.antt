@@ -1,17 +1,18 @@
-use Rattle.std.proofs.Common.{◌≡◌, true, true≢false, Result, Ok, Err, option_map, refl, sym, ap, ◌∙◌, arith}
+use Rattle.std.proofs.Common.{◌≡◌, true, true≢false, Result, Ok, Err, option_map, refl, sym, ap, subst, ◌∙◌}
 use Rattle.std.specs.Prelude.{is_some, OnOk}
-use Rattle.std.proofs.lemmas.List.{length-set}
 use Rattle.dom_model.specs.Tree.{parent_of}
 use Rattle.dom_tree.specs.Forest.{name_at}
+use Rattle.dom_cursors.specs.Cursors.{cursors_of, with_cursors}
 use Rattle.dom_observers.specs.Owners.{tables_of as observers_of}
 use Rattle.dom_node_trees.specs.Signalled.{signal_tables}
-use Rattle.dom_cursors.specs.OwnTables.{place_of}
+use Rattle.dom_base.specs.declared.NodeName.{NodeName}
+use Rattle.dom_base.specs.declared.Owner.{Owner}
+use Rattle.dom_cursors.specs.OwnTables.{KeyedTables, AreLeft}
 use Rattle.dom_parts.specs.AllTables.{tables_of}
-use Rattle.dom_parts.specs.Doc.{all_tables, name_in, trees_in}
-use Rattle.dom_parts.proofs.Held.{table_there}
+use Rattle.dom_parts.specs.Doc.{name_in, trees_in}
 use Rattle.dom_parts.proofs.Observing.{none_held}
 use Rattle.dom_parts.proofs.RangedLists.{own_at_nodes}
-use Rattle.dom_parts.proofs.Shown.{known, read_there, owner_there, table_read}
+use Rattle.dom_parts.proofs.Shown.{known, read_there}
 use Rattle.dom_parts.proofs.Signalling.{removal_held, removal_state}
 use Rattle.dom_parts.proofs.parts.Parts.take_out.Goals as goal
 
@@ -35,42 +36,30 @@ invariant_of-self c =
 
 pub leave-requires-clause-iterators : goal.leave-requires-clause-iterators
 leave-requires-clause-iterators c k i e =
-    let f = c.self.inside.forest in
-    let at = table_read f c.self.invariant c.self.view_is c.args.node c.requires.node_is_node c.place_of.result c.index_mut-tables.result.now
-    (c.place_of.ensures ∙ ap (λ n. place_of n.owner) (sym c.name-owner.ensures.at)) c.index_mut-tables.ensures.value in
-    ((c.self.invariant.own (name_at f.names c.args.node).owner c.index_mut-tables.result.now at).iterators k i e).stands
+    ((c.self.invariant.own c.name-owner.result.owner).iterators k i e).stands
 
 pub on_remove-requires-clause-ends : goal.on_remove-requires-clause-ends
 on_remove-requires-clause-ends c = own_at_nodes c.self.inside.forest.names c.self.inside.ranges c.self.invariant.ranges.own
 
-pub index_mut-tables-requires : goal.index_mut-tables-requires
-index_mut-tables-requires c =
-    let f = c.self.inside.forest in
-    let place = c.place_of.ensures ∙ ap (λ n. place_of n.owner) (sym c.name-owner.ensures.at) in
-    let within = (table_there f.names f.trees (all_tables c.self.inside) (name_at f.names c.args.node).owner
-    (owner_there f c.self.invariant c.self.view_is c.args.node c.requires.node_is_node)).0 in
-    omega arith
-
-pub settle-requires : goal.settle-requires
-settle-requires c =
-    let counted = c.self.invariant.counted in
-    let same = length-set c.self.inside.tables.items c.place_of.result c.leave.new.self in
-    omega arith
-
 pub invariant_of-self-2 : goal.invariant_of-self-2
 invariant_of-self-2 c =
     let f = c.self.inside.forest in
-    let place = c.place_of.ensures ∙ ap (λ n. place_of n.owner) (sym c.name-owner.ensures.at) in
-    let at = table_read f c.self.invariant c.self.view_is c.args.node c.requires.node_is_node c.place_of.result c.index_mut-tables.result.now
-    place c.index_mut-tables.ensures.value in
+    let each = cursors_of c.self.inside.cursors in
+    let o = (name_at f.names c.args.node).owner in
+    let is : o ≡ c.name-owner.result.owner = ap (λ (x : NodeName). x.owner) c.name-owner.ensures.at in
+    let u : KeyedTables = record (each o) { iterators = (cursors_of c.leave.new.self o).iterators } in
     removal_held f c.self.invariant c.self.view_is c.args.node c.requires.node_is_node c.iterators_stay.ensures c.nodes_stand_once.ensures.once
     c.nodes_stand_once.ensures.only c.nodes_stand_once.ensures.distinct
     c.in-Some.parent (c.parent.ensures.node c.in-Some.parent c.in-Some.is) c.in-Some.ensures.value
-    c.index_mut-tables.result.now c.leave.new.self at c.leave.ensures.iterators c.leave.ensures.walkers
+    u
+    (subst (λ (q : Owner). AreLeft f c.args.node (each q).iterators (cursors_of c.leave.new.self q).iterators) (sym is) c.leave.ensures.iterators) refl
+    (cursors_of c.leave.new.self)
+    (subst (λ (q : Owner). cursors_of c.leave.new.self ≡ with_cursors each q (record (each q) { iterators = (cursors_of c.leave.new.self q).iterators }))
+    (sym is) c.leave.ensures.others)
     (observers_of c.transient.new.self) (on_ok c.transient.result c.in_default-transient.not-Err c.transient.ensures) c.on_remove.new.self
-    (c.on_remove.ensures.child c.in-Some.parent (c.parent.ensures.node c.in-Some.parent c.in-Some.is) (sym c.in-Some.ensures.value)) c.place_of.result place
+    (c.on_remove.ensures.child c.in-Some.parent (c.parent.ensures.node c.in-Some.parent c.in-Some.is) (sym c.in-Some.ensures.value))
     c.unlink-done.new.forest c.settle.new.forest (signal_tables c.unlink-done.new.slots c.unlink-done.new.signalled c.unlink-done.new.queue)
-    (tables_of c.settle.new.tables.items (observers_of c.settle.new.observers) c.settle.new.queue c.settle.new.slots c.settle.new.signalled
+    (tables_of (cursors_of c.settle.new.cursors) (observers_of c.settle.new.observers) c.settle.new.queue c.settle.new.slots c.settle.new.signalled
     c.settle.new.ranges) c.unlink-done.result c.settle.result c.unlink-done.ensures.names c.unlink-done.ensures.trees
     c.unlink-done.ensures.signals
     record {
@@ -84,17 +73,22 @@ invariant_of-self-2 c =
 pub returns : goal.returns
 returns c =
     let f = c.self.inside.forest in
-    let place = c.place_of.ensures ∙ ap (λ n. place_of n.owner) (sym c.name-owner.ensures.at) in
-    let at = table_read f c.self.invariant c.self.view_is c.args.node c.requires.node_is_node c.place_of.result c.index_mut-tables.result.now
-    place c.index_mut-tables.ensures.value in
+    let each = cursors_of c.self.inside.cursors in
+    let o = (name_at f.names c.args.node).owner in
+    let is : o ≡ c.name-owner.result.owner = ap (λ (x : NodeName). x.owner) c.name-owner.ensures.at in
+    let u : KeyedTables = record (each o) { iterators = (cursors_of c.leave.new.self o).iterators } in
     removal_state f c.self.invariant c.self.view_is c.args.node c.requires.node_is_node c.iterators_stay.ensures c.nodes_stand_once.ensures.once
     c.nodes_stand_once.ensures.only c.nodes_stand_once.ensures.distinct
     c.in-Some.parent (c.parent.ensures.node c.in-Some.parent c.in-Some.is) c.in-Some.ensures.value
-    c.index_mut-tables.result.now c.leave.new.self at c.leave.ensures.iterators c.leave.ensures.walkers
+    u
+    (subst (λ (q : Owner). AreLeft f c.args.node (each q).iterators (cursors_of c.leave.new.self q).iterators) (sym is) c.leave.ensures.iterators) refl
+    (cursors_of c.leave.new.self)
+    (subst (λ (q : Owner). cursors_of c.leave.new.self ≡ with_cursors each q (record (each q) { iterators = (cursors_of c.leave.new.self q).iterators }))
+    (sym is) c.leave.ensures.others)
     (observers_of c.transient.new.self) (on_ok c.transient.result c.in_default-transient.not-Err c.transient.ensures) c.on_remove.new.self
-    (c.on_remove.ensures.child c.in-Some.parent (c.parent.ensures.node c.in-Some.parent c.in-Some.is) (sym c.in-Some.ensures.value)) c.place_of.result place
+    (c.on_remove.ensures.child c.in-Some.parent (c.parent.ensures.node c.in-Some.parent c.in-Some.is) (sym c.in-Some.ensures.value))
     c.unlink-done.new.forest c.settle.new.forest (signal_tables c.unlink-done.new.slots c.unlink-done.new.signalled c.unlink-done.new.queue)
-    (tables_of c.settle.new.tables.items (observers_of c.settle.new.observers) c.settle.new.queue c.settle.new.slots c.settle.new.signalled
+    (tables_of (cursors_of c.settle.new.cursors) (observers_of c.settle.new.observers) c.settle.new.queue c.settle.new.slots c.settle.new.signalled
     c.settle.new.ranges) c.unlink-done.result c.settle.result c.unlink-done.ensures.names c.unlink-done.ensures.trees
     c.unlink-done.ensures.signals
     record {

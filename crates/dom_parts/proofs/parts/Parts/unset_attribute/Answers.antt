@@ -1,9 +1,10 @@
-use Rattle.std.proofs.Common.{None, refl, arith}
+use Rattle.std.proofs.Common.{None, refl}
 use Rattle.dom_model.specs.TreeChanges.{change_node, with_attribute}
 use Rattle.dom_model.specs.Steps.{set_attribute}
 use Rattle.dom_slots.specs.declared.step.Step.TheVariants.{Attribute}
 use Rattle.dom_tree.specs.Forest.{name_at}
 use Rattle.dom_tree.proofs.OwnPlacings.{changed_node}
+use Rattle.dom_cursors.specs.Cursors.{cursors_of}
 use Rattle.dom_observers.specs.Owners.{tables_of as observers_of}
 use Rattle.dom_node_trees.specs.Signalled.{signal_tables}
 use Rattle.dom_parts.specs.AllTables.{tables_of}
@@ -16,9 +17,6 @@ use Rattle.dom_tree_laws.proofs.Standing.{keeps_changed}
 use Rattle.dom_parts.proofs.Steps.{trees_change}
 use Rattle.dom_parts.proofs.parts.Parts.unset_attribute.Goals as goal
 
-pub settle-requires : goal.settle-requires
-settle-requires c = let counted = c.self.invariant.counted in omega arith
-
 pub invariant_of-self : goal.invariant_of-self
 invariant_of-self c =
     let f = c.self.inside.forest in
@@ -28,7 +26,7 @@ invariant_of-self c =
     (changed_node f.trees c.self.invariant.owned x.owner h x (λ n. refl) refl) (keeps_changed h (λ n. refl) x f.trees) (Attribute c.args.node)
     c.remove_attr-done.new.forest c.settle.new.forest
     (signal_tables c.remove_attr-done.new.slots c.remove_attr-done.new.signalled c.remove_attr-done.new.queue)
-    (tables_of c.settle.new.tables.items (observers_of c.settle.new.observers) c.settle.new.queue c.settle.new.slots c.settle.new.signalled
+    (tables_of (cursors_of c.settle.new.cursors) (observers_of c.settle.new.observers) c.settle.new.queue c.settle.new.slots c.settle.new.signalled
     c.settle.new.ranges) c.remove_attr-done.result c.settle.result c.remove_attr-done.ensures.names c.remove_attr-done.ensures.trees
     c.remove_attr-done.ensures.signals
     record {
@@ -50,7 +48,7 @@ returns c =
     tree_state f c.self.invariant c.self.view_is c.args.node c.requires (change_node h x) change (keeps_changed h (λ n. refl) x f.trees) (Attribute c.args.node)
     c.remove_attr-done.new.forest c.settle.new.forest
     (signal_tables c.remove_attr-done.new.slots c.remove_attr-done.new.signalled c.remove_attr-done.new.queue)
-    (tables_of c.settle.new.tables.items (observers_of c.settle.new.observers) c.settle.new.queue c.settle.new.slots c.settle.new.signalled
+    (tables_of (cursors_of c.settle.new.cursors) (observers_of c.settle.new.observers) c.settle.new.queue c.settle.new.slots c.settle.new.signalled
     c.settle.new.ranges) c.remove_attr-done.result c.settle.result c.remove_attr-done.ensures.names c.remove_attr-done.ensures.trees
     c.remove_attr-done.ensures.signals
     record {

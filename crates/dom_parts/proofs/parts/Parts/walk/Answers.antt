@@ -5,48 +5,33 @@ use Rattle.dom_model.specs.Effects.{node_or_null}
 use Rattle.dom_tree.specs.Forest.{name_at}
 use Rattle.dom_traversal.specs.Walkers.{IsWalkerOf, walker_at}
 use Rattle.dom_parts.proofs.Cursors.{item_there, walk_effect}
-use Rattle.dom_parts.proofs.Passing.{place_there, there_walk, at, walk_there, walks_of, writes, held_written, walk_moved, walk_stays, name_known}
+use Rattle.dom_parts.proofs.Passing.{there_walk, walk_there, walks_of, writes, held_written, walk_moved, walk_stays, name_known}
+use Rattle.dom_cursors.specs.Cursors.{cursors_of}
 use Rattle.dom_parts.specs.Doc.{all_tables}
 use Rattle.dom_parts.proofs.parts.Parts.walk.Goals as goal
-
-pub index_mut-tables-requires : goal.index_mut-tables-requires
-index_mut-tables-requires c =
-    let f = c.self.inside.forest in
-    let less : c.place_of.result < length (all_tables c.self.inside).each =
-    place_there f c.self.invariant c.self.view_is c.args.owner
-    (there_walk f c.self.invariant c.self.view_is c.args.owner c.args.number c.requires) c.place_of.result c.place_of.ensures in
-    omega (arith, c.self.inside.tables.ok.0)
 
 pub walk-requires-clause-there : goal.walk-requires-clause-there
 walk-requires-clause-there c =
     let f = c.self.inside.forest in
-    let there = there_walk f c.self.invariant c.self.view_is c.args.owner c.args.number c.requires in
-    let t = c.index_mut-tables.result.now in
-    walk_there f c.self.invariant c.self.view_is c.args.owner there c.place_of.result c.place_of.ensures t c.index_mut-tables.ensures.value
-    c.args.number c.requires
+    walk_there f c.self.invariant c.self.view_is c.args.owner c.args.number c.requires
 
 pub walk-requires-clause-walkers : goal.walk-requires-clause-walkers
 walk-requires-clause-walkers c =
     let f = c.self.inside.forest in
-    let there = there_walk f c.self.invariant c.self.view_is c.args.owner c.args.number c.requires in
-    let t = c.index_mut-tables.result.now in
-    walks_of f c.self.invariant c.self.view_is c.args.owner there c.place_of.result c.place_of.ensures t c.index_mut-tables.ensures.value
+    walks_of f c.self.invariant c.self.view_is c.args.owner
 
 pub invariant_of-self : goal.invariant_of-self
 invariant_of-self c =
     let f = c.self.inside.forest in
     let there = there_walk f c.self.invariant c.self.view_is c.args.owner c.args.number c.requires in
-    let t = c.index_mut-tables.result.now in
+    let t = (all_tables c.self.inside).each c.args.owner in
     let item = item_there (slice_get t.walkers c.args.number)
-    (walk_there f c.self.invariant c.self.view_is c.args.owner there c.place_of.result c.place_of.ensures t
-    c.index_mut-tables.ensures.value c.args.number c.requires) in
-    let kept = (c.self.invariant.own c.args.owner t
-    (at f c.self.invariant c.self.view_is c.args.owner there c.place_of.result c.place_of.ensures t
-    c.index_mut-tables.ensures.value)).walkers c.args.number item.0 item.1 in
-    held_written f c.self.invariant c.self.view_is c.args.owner there c.place_of.result c.place_of.ensures t c.index_mut-tables.ensures.value
-    c.walk.new.self (record t { walkers = slice_set t.walkers c.args.number (walker_at item.0 c.walk.result) })
+    (walk_there f c.self.invariant c.self.view_is c.args.owner c.args.number c.requires) in
+    let kept = (c.self.invariant.own c.args.owner).walkers c.args.number item.0 item.1 in
+    held_written f c.self.invariant c.self.view_is c.args.owner there
+    (cursors_of c.walk.new.self) (record t { walkers = slice_set t.walkers c.args.number (walker_at item.0 c.walk.result) })
     (c.walk.ensures.state item.0 item.1)
-    (walk_moved f c.self.invariant c.self.view_is c.args.owner there c.place_of.result c.place_of.ensures t c.index_mut-tables.ensures.value
+    (walk_moved f c.self.invariant c.self.view_is c.args.owner
     c.args.number item.0 (walker_at item.0 c.walk.result) item.1
     (walk_stays f c.self.invariant.owned c.args.owner item.0 kept c.args.step c.walk.result (c.walk.ensures.value item.0 item.1)
     (c.walk.ensures.kept item.0 item.1)))
@@ -54,25 +39,21 @@ invariant_of-self c =
 pub returns-clause-node : goal.returns-clause-node
 returns-clause-node c j e =
     let f = c.self.inside.forest in
-    let there = there_walk f c.self.invariant c.self.view_is c.args.owner c.args.number c.requires in
-    let t = c.index_mut-tables.result.now in
+    let t = (all_tables c.self.inside).each c.args.owner in
     let item = item_there (slice_get t.walkers c.args.number)
-    (walk_there f c.self.invariant c.self.view_is c.args.owner there c.place_of.result c.place_of.ensures t
-    c.index_mut-tables.ensures.value c.args.number c.requires) in
+    (walk_there f c.self.invariant c.self.view_is c.args.owner c.args.number c.requires) in
     name_known f c.self.invariant c.self.view_is c.args.owner j (subst (λ r. IsWalkerOf f (walker_at item.0 r)) e (c.walk.ensures.kept item.0 item.1)).current
 
 pub returns-clause-world : goal.returns-clause-world
 returns-clause-world c =
     let f = c.self.inside.forest in
     let there = there_walk f c.self.invariant c.self.view_is c.args.owner c.args.number c.requires in
-    let t = c.index_mut-tables.result.now in
+    let t = (all_tables c.self.inside).each c.args.owner in
     let item = item_there (slice_get t.walkers c.args.number)
-    (walk_there f c.self.invariant c.self.view_is c.args.owner there c.place_of.result c.place_of.ensures t
-    c.index_mut-tables.ensures.value c.args.number c.requires) in
-    writes f c.self.invariant c.self.view_is c.args.owner there c.place_of.result c.place_of.ensures t c.index_mut-tables.ensures.value
-    c.walk.new.self (record t { walkers = slice_set t.walkers c.args.number (walker_at item.0 c.walk.result) })
+    (walk_there f c.self.invariant c.self.view_is c.args.owner c.args.number c.requires) in
+    writes f c.self.invariant c.self.view_is c.args.owner there
+    (cursors_of c.walk.new.self) (record t { walkers = slice_set t.walkers c.args.number (walker_at item.0 c.walk.result) })
     (c.walk.ensures.state item.0 item.1)
     (λ ns. Command.walk c.args.number c.args.step) (λ ns. node_or_null (option_map (name_at ns) c.walk.result))
-    (walk_effect f.names f.trees (all_tables c.self.inside) c.self.invariant c.args.owner t
-    (at f c.self.invariant c.self.view_is c.args.owner there c.place_of.result c.place_of.ensures t c.index_mut-tables.ensures.value)
+    (walk_effect f.names f.trees (all_tables c.self.inside) c.self.invariant c.args.owner there
     c.args.number item.0 c.args.step c.walk.result item.1 (c.walk.ensures.value item.0 item.1))

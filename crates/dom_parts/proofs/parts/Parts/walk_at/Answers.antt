@@ -5,34 +5,22 @@ use Rattle.dom_model.specs.Output.{a_node}
 use Rattle.dom_model.specs.Effects.{Effect}
 use Rattle.dom_tree.specs.Forest.{name_at}
 use Rattle.dom_parts.proofs.Cursors.{item_there, with_own, walk_at_effect}
-use Rattle.dom_parts.proofs.Passing.{place_there, there_walk, at, walk_there, reads, name_known}
+use Rattle.dom_parts.proofs.Passing.{there_walk, walk_there, reads, name_known}
 use Rattle.dom_parts.specs.Doc.{all_tables}
 use Rattle.dom_parts.proofs.parts.Parts.walk_at.Goals as goal
-
-pub index-tables-requires : goal.index-tables-requires
-index-tables-requires c =
-    let f = c.self.inside.forest in
-    let less : c.place_of.result < length (all_tables c.self.inside).each =
-    place_there f c.self.invariant c.self.view_is c.args.owner
-    (there_walk f c.self.invariant c.self.view_is c.args.owner c.args.number c.requires) c.place_of.result c.place_of.ensures in
-    omega (arith, c.self.inside.tables.ok.0)
 
 pub walker_at-requires : goal.walker_at-requires
 walker_at-requires c =
     let f = c.self.inside.forest in
-    walk_there f c.self.invariant c.self.view_is c.args.owner (there_walk f c.self.invariant c.self.view_is c.args.owner c.args.number c.requires)
-    c.place_of.result c.place_of.ensures c.index-tables.result.now c.index-tables.ensures c.args.number c.requires
+    walk_there f c.self.invariant c.self.view_is c.args.owner c.args.number c.requires
 
 pub returns-clause-node : goal.returns-clause-node
 returns-clause-node c =
     let f = c.self.inside.forest in
-    let there = there_walk f c.self.invariant c.self.view_is c.args.owner c.args.number c.requires in
-    let t = c.index-tables.result.now in
+    let t = (all_tables c.self.inside).each c.args.owner in
     let item = item_there (slice_get t.walkers c.args.number)
-    (walk_there f c.self.invariant c.self.view_is c.args.owner there c.place_of.result c.place_of.ensures t c.index-tables.ensures
-    c.args.number c.requires) in
-    let h = (c.self.invariant.own c.args.owner t
-    (at f c.self.invariant c.self.view_is c.args.owner there c.place_of.result c.place_of.ensures t c.index-tables.ensures)).walkers
+    (walk_there f c.self.invariant c.self.view_is c.args.owner c.args.number c.requires) in
+    let h = (c.self.invariant.own c.args.owner).walkers
     c.args.number item.0 item.1 in
     name_known f c.self.invariant c.self.view_is c.args.owner c.walker_at.result
     (subst (λ j. j < length f.names) (sym (c.walker_at.ensures item.0 item.1)) h.stands.current)
@@ -41,15 +29,12 @@ pub returns-clause-value : goal.returns-clause-value
 returns-clause-value c =
     let f = c.self.inside.forest in
     let there = there_walk f c.self.invariant c.self.view_is c.args.owner c.args.number c.requires in
-    let t = c.index-tables.result.now in
+    let t = (all_tables c.self.inside).each c.args.owner in
     let item = item_there (slice_get t.walkers c.args.number)
-    (walk_there f c.self.invariant c.self.view_is c.args.owner there c.place_of.result c.place_of.ensures t c.index-tables.ensures
-    c.args.number c.requires) in
-    reads f c.self.invariant c.self.view_is c.args.owner there c.place_of.result c.place_of.ensures t c.index-tables.ensures
+    (walk_there f c.self.invariant c.self.view_is c.args.owner c.args.number c.requires) in
+    reads f c.self.invariant c.self.view_is c.args.owner there
     (λ ns. Command.walker_at c.args.number) (λ ns. a_node (name_at ns c.walker_at.result))
-    (walk_at_effect f.names f.trees (all_tables c.self.inside) c.self.invariant c.args.owner t
-    (at f c.self.invariant c.self.view_is c.args.owner there c.place_of.result c.place_of.ensures t c.index-tables.ensures) c.args.number
+    (walk_at_effect f.names f.trees (all_tables c.self.inside) c.self.invariant c.args.owner there c.args.number
     item.0 item.1
-    ∙ ap (λ j. Effect.tables (with_own f.names f.trees (all_tables c.self.inside) c.self.invariant c.args.owner t
-    (at f c.self.invariant c.self.view_is c.args.owner there c.place_of.result c.place_of.ensures t c.index-tables.ensures) t) []
+    ∙ ap (λ j. Effect.tables (with_own f.names f.trees (all_tables c.self.inside) c.self.invariant c.args.owner there t) []
     (a_node (name_at f.names j))) (sym (c.walker_at.ensures item.0 item.1)))

@@ -3,45 +3,32 @@ use Rattle.std.specs.Prelude.{slice_get, slice_set}
 use Rattle.dom_model.specs.Command.{Command, own}
 use Rattle.dom_model.specs.Output.{nothing}
 use Rattle.dom_tree.specs.Forest.{name_at}
+use Rattle.dom_cursors.specs.Cursors.{cursors_of}
 use Rattle.dom_parts.specs.Doc.{owner_in, all_tables}
 use Rattle.dom_parts.proofs.Shown.{known}
 use Rattle.dom_parts.proofs.Cursors.{item_there, walk_set_effect}
-use Rattle.dom_parts.proofs.Passing.{place_there, there_walk, at, walk_there, writes, held_written, walk_moved}
+use Rattle.dom_parts.proofs.Passing.{there_walk, walk_there, writes, held_written, walk_moved}
 use Rattle.dom_parts.proofs.parts.Parts.walk_set.Goals as goal
-
-pub index_mut-tables-requires : goal.index_mut-tables-requires
-index_mut-tables-requires c =
-    let f = c.self.inside.forest in
-    let less : c.place_of.result < length (all_tables c.self.inside).each =
-    place_there f c.self.invariant c.self.view_is c.args.owner
-    (there_walk f c.self.invariant c.self.view_is c.args.owner c.args.number c.requires.there) c.place_of.result c.place_of.ensures in
-    omega (arith, c.self.inside.tables.ok.0)
 
 pub set_walker-requires : goal.set_walker-requires
 set_walker-requires c =
     let f = c.self.inside.forest in
-    let there = there_walk f c.self.invariant c.self.view_is c.args.owner c.args.number c.requires.there in
-    let t = c.index_mut-tables.result.now in
-    walk_there f c.self.invariant c.self.view_is c.args.owner there c.place_of.result c.place_of.ensures t c.index_mut-tables.ensures.value
-    c.args.number c.requires.there
+    walk_there f c.self.invariant c.self.view_is c.args.owner c.args.number c.requires.there
 
 pub invariant_of-self : goal.invariant_of-self
 invariant_of-self c =
     let f = c.self.inside.forest in
     let there = there_walk f c.self.invariant c.self.view_is c.args.owner c.args.number c.requires.there in
-    let t = c.index_mut-tables.result.now in
+    let t = (all_tables c.self.inside).each c.args.owner in
     let item = item_there (slice_get t.walkers c.args.number)
-    (walk_there f c.self.invariant c.self.view_is c.args.owner there c.place_of.result c.place_of.ensures t
-    c.index_mut-tables.ensures.value c.args.number c.requires.there) in
-    let kept = (c.self.invariant.own c.args.owner t
-    (at f c.self.invariant c.self.view_is c.args.owner there c.place_of.result c.place_of.ensures t
-    c.index_mut-tables.ensures.value)).walkers c.args.number item.0 item.1 in
+    (walk_there f c.self.invariant c.self.view_is c.args.owner c.args.number c.requires.there) in
+    let kept = (c.self.invariant.own c.args.owner).walkers c.args.number item.0 item.1 in
     let current = known f c.self.invariant c.self.view_is (λ e. c.args.current < length e.names) c.requires.current_is_node in
     let own_current = known f c.self.invariant c.self.view_is (λ e. owner_in e c.args.current ≡ c.args.owner) c.requires.own in
-    held_written f c.self.invariant c.self.view_is c.args.owner there c.place_of.result c.place_of.ensures t c.index_mut-tables.ensures.value
-    c.set_walker.new.self (record t { walkers = slice_set t.walkers c.args.number (record item.0 { current = c.args.current }) })
+    held_written f c.self.invariant c.self.view_is c.args.owner there
+    (cursors_of c.set_walker.new.self) (record t { walkers = slice_set t.walkers c.args.number (record item.0 { current = c.args.current }) })
     (c.set_walker.ensures item.0 item.1)
-    (walk_moved f c.self.invariant c.self.view_is c.args.owner there c.place_of.result c.place_of.ensures t c.index_mut-tables.ensures.value
+    (walk_moved f c.self.invariant c.self.view_is c.args.owner
     c.args.number item.0 (record item.0 { current = c.args.current }) item.1
     (record { stands = record { root = kept.stands.root; current = current }; own = kept.own; own_current = own_current }))
 
@@ -49,15 +36,13 @@ pub returns-clause-world : goal.returns-clause-world
 returns-clause-world c =
     let f = c.self.inside.forest in
     let there = there_walk f c.self.invariant c.self.view_is c.args.owner c.args.number c.requires.there in
-    let t = c.index_mut-tables.result.now in
+    let t = (all_tables c.self.inside).each c.args.owner in
     let item = item_there (slice_get t.walkers c.args.number)
-    (walk_there f c.self.invariant c.self.view_is c.args.owner there c.place_of.result c.place_of.ensures t
-    c.index_mut-tables.ensures.value c.args.number c.requires.there) in
+    (walk_there f c.self.invariant c.self.view_is c.args.owner c.args.number c.requires.there) in
     let own_current = known f c.self.invariant c.self.view_is (λ e. owner_in e c.args.current ≡ c.args.owner) c.requires.own in
-    writes f c.self.invariant c.self.view_is c.args.owner there c.place_of.result c.place_of.ensures t c.index_mut-tables.ensures.value
-    c.set_walker.new.self (record t { walkers = slice_set t.walkers c.args.number (record item.0 { current = c.args.current }) })
+    writes f c.self.invariant c.self.view_is c.args.owner there
+    (cursors_of c.set_walker.new.self) (record t { walkers = slice_set t.walkers c.args.number (record item.0 { current = c.args.current }) })
     (c.set_walker.ensures item.0 item.1)
     (λ ns. Command.walker_set c.args.number (own (name_at ns c.args.current).number)) (λ ns. nothing)
-    (walk_set_effect f.names f.trees (all_tables c.self.inside) c.self.invariant c.args.owner t
-    (at f c.self.invariant c.self.view_is c.args.owner there c.place_of.result c.place_of.ensures t c.index_mut-tables.ensures.value)
+    (walk_set_effect f.names f.trees (all_tables c.self.inside) c.self.invariant c.args.owner there
     c.args.number item.0 c.args.current item.1 own_current)

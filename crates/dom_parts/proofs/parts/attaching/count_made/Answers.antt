@@ -18,7 +18,7 @@ loop-low-preserved-then-node_count-gt0 c =
     record {
       order = omega (arith, less);
       few = c.loop-low.invariant.few;
-      made = λ k h none. some (c.requires k middle (omega (arith, h)) none);
+      made = λ k h none. some (c.requires.run k middle (omega (arith, h)) none);
       next = c.loop-low.invariant.next;
     }
 
