@@ -1,6 +1,6 @@
 -- A shadow root is attached: what is held has one host more, so it is still a legal `Doc`, and its world is that of the
 -- definitions.
-use Rattle.std.proofs.Common.{◌≡◌, ◌≢◌, ℕ, zero, suc, ◌<◌, ◌≤◌, ◌⊎◌, inl, inr, true, false, List, [], ◌∷◌, ◌++◌, Option, Some, None, length}
+use Rattle.std.proofs.Common.{◌≡◌, ◌≢◌, ℕ, ◌<◌, ◌≤◌, ◌⊎◌, inl, inr, true, false, List, [], ◌∷◌, ◌++◌, Option, None, length}
 use Rattle.std.proofs.Common.{refl, sym, ap, subst, ◌∙◌, arith}
 use Rattle.std.specs.List.{AllByRecursion}
 use Rattle.std.proofs.lemmas.Bool.{cases_Bool, false_from_ne_true}
@@ -34,7 +34,7 @@ use Rattle.dom_parts.specs.Ranging.{AreRangesOf}
 use Rattle.dom_cursors.specs.OwnTables.{KeyedTables, no_keyed_tables}
 use Rattle.dom_parts.specs.AllTables.{AllTables, tables_view, AreTablesOf}
 use Rattle.dom_parts.specs.Hosting.{maker_of, hosts_of, AreMadeBehind, host_names, host_owners, attached_of, AreHostsOf, IsAttached}
-use Rattle.dom_parts.specs.Doc.{named_trees, shown_tables, contents, world_from, IsHeld, IsDue}
+use Rattle.dom_parts.specs.Doc.{named_trees, contents, world_from, IsHeld, IsDue}
 use Rattle.dom_parts.proofs.AttachedWorlds.{count_none, counted_other, counted_new, component_new, attached_world, attached_hosts}
 use Rattle.dom_parts.proofs.Held.{are_hosts, due_kept}
 use Rattle.dom_parts.proofs.HostsOfOwners.{count_hosts, own-pushed, other-pushed}

@@ -1,10 +1,9 @@
 -- What holds of a `Doc` holds with one node more, and at first.
-use Rattle.std.proofs.Common.{◌≡◌, ℕ, ◌+◌, ◌<◌, ◌≤◌, ◌⊎◌, inl, inr, true, cond, List, [], ◌∷◌, ◌++◌, length, Option, Some, None}
-use Rattle.std.proofs.Common.{Result, Ok, Err, unwrap_or, zero, refl, sym, ap, subst, ◌∙◌, ◌≢◌, arith, add-one, suc}
+use Rattle.std.proofs.Common.{◌≡◌, ℕ, ◌+◌, ◌<◌, ◌≤◌, ◌⊎◌, inl, inr, true, cond, List, [], ◌∷◌, ◌++◌, length, Option}
+use Rattle.std.proofs.Common.{Result, Ok, Err, refl, sym, ap, subst, ◌∙◌, ◌≢◌, arith, add-one, suc}
 use Rattle.std.specs.Prelude.{OnOk, OnErr, ◌↔◌}
 use Rattle.std.proofs.lemmas.Bool.{cases_Bool}
 use Rattle.std.proofs.lemmas.List.{length_push}
-use Rattle.std.proofs.lemmas.Option.{none-some, same_Some}
 use Rattle.std.proofs.Math.Nat.{eq-or-lt_of_le, add-zero}
 use Rattle.std.proofs.Math.ListN.{get_or-append}
 use Rattle.std.proofs.Math.Seq.{get_or-append_seam}
@@ -13,7 +12,7 @@ use Rattle.dom_base.specs.declared.Fault.TheVariants.{Refused}
 use Rattle.dom_base.specs.declared.Refusal.TheVariants.{Limit}
 use Rattle.dom_base.specs.declared.NodeName.{NodeName}
 use Rattle.dom_base.specs.declared.Owner.{Owner}
-use Rattle.dom_base.specs.declared.Owner.TheVariants.{Page, Component}
+use Rattle.dom_base.specs.declared.Owner.TheVariants.{Page}
 use Rattle.dom_model.specs.Names.{name_eq, is_in, owner_eq, node_of}
 use Rattle.dom_model.specs.Tree.{Trees, none, Node}
 use Rattle.dom_model.specs.TreeChanges.{with_node, with_name}
@@ -31,8 +30,7 @@ use Rattle.dom_ranges.specs.Tables.{RangeLists, ranges_of}
 use Rattle.dom_observers.specs.Naming.{IsKey}
 use Rattle.dom_observers.proofs.Speaking.{speaks_none}
 use Rattle.dom_parts.specs.Contents.{Tables, part_with}
-use Rattle.dom_cursors.specs.OwnTables.{no_keyed_tables}
-use Rattle.dom_parts.specs.AllTables.{tables_view, AreTablesOf, AllTables, no_slots, first_tables, AreFirst, with_live}
+use Rattle.dom_parts.specs.AllTables.{tables_view, AllTables, no_slots, first_tables, AreFirst, with_live}
 use Rattle.dom_slots.specs.Kept.{AreSlotsOf, StandsOnce, HasOneMore}
 use Rattle.dom_slots.proofs.Added.{slots-more}
 use Rattle.dom_parts.proofs.HostedSteps.{names_pushed, made_renamed, attached_renamed, plain_step}

@@ -30,7 +30,7 @@ use Rattle.dom_tree.specs.Forest.{name_at}
 use Rattle.dom_tree.specs.Owners.{AreOwned}
 use Rattle.dom_tree.proofs.Owned.{read_own}
 use Rattle.dom_parts.specs.Contents.{Contents, Tables, part_in, world_of}
-use Rattle.dom_parts.specs.Hosting.{maker_of, hosts_of, IsMadeAs, AreMadeBehind, host_names, attached_of, AreHostsOf, shadows_in, signal_in, signals_in}
+use Rattle.dom_parts.specs.Hosting.{maker_of, hosts_of, AreMadeBehind, host_names, attached_of, AreHostsOf, shadows_in, signal_in, signals_in}
 use Rattle.dom_parts.proofs.Worlds.{IsChangeOf, part_at, changed, there_same}
 use Rattle.dom_parts.proofs.HostedWorlds.{single_hosted, trees_hosted, world_shown}
 

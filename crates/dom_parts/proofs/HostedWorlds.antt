@@ -1,5 +1,5 @@
 -- The world of what is held with hosts: its hosts, and the components in a tree, are looked up in the list of hosts.
-use Rattle.std.proofs.Common.{◌≡◌, ◌≢◌, ℕ, zero, suc, ◌+◌, ◌<◌, ◌≤◌, Bool, true, false, ltb, List, [], ◌∷◌, ◌++◌, Option, Some, None, filter_map, flat_map}
+use Rattle.std.proofs.Common.{◌≡◌, ℕ, zero, suc, ◌+◌, ◌<◌, ◌≤◌, Bool, true, false, ltb, List, [], ◌∷◌, ◌++◌, Option, Some, None, filter_map, flat_map}
 use Rattle.std.proofs.Common.{position, length, refl, sym, ap, subst, ◌∙◌, ◌⊎◌, inl, inr, arith, zero-add}
 use Rattle.std.specs.Prelude.{find, if◌then◌else◌, slice_get, option_map}
 use Rattle.std.specs.List.{AllByRecursion, cons_option, position_or_len}

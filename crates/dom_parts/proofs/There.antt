@@ -1,12 +1,11 @@
 -- Whoever has nodes is there, and the page.
-use Rattle.std.proofs.Common.{◌≡◌, ◌≢◌, ℕ, ◌<◌, Bool, true, false, ◌||◌, inl, inr, [], ◌∷◌, length, sym, ap, subst, refl, ◌∙◌, arith}
+use Rattle.std.proofs.Common.{◌≡◌, ◌≢◌, ◌<◌, Bool, true, false, inl, inr, [], ◌∷◌, sym, ap, subst, refl, ◌∙◌, arith}
 use Rattle.std.specs.Prelude.{nat_lt}
-use Rattle.std.proofs.lemmas.Bool.{false_from_ne_true, lt-ltb, le-ltb}
+use Rattle.std.proofs.lemmas.Bool.{lt-ltb, le-ltb}
 use Rattle.dom_base.specs.declared.Owner.{Owner}
-use Rattle.dom_base.specs.declared.Owner.TheVariants.{Page, Component}
+use Rattle.dom_base.specs.declared.Owner.TheVariants.{Page}
 use Rattle.dom_model.specs.World.{is_there}
-use Rattle.dom_model.specs.Names.{ComponentName}
-use Rattle.dom_tree.specs.Forest.{NamedTrees, name_at, count_of}
+use Rattle.dom_tree.specs.Forest.{NamedTrees, count_of}
 use Rattle.dom_parts.specs.AllTables.{AllTables}
 use Rattle.dom_parts.specs.Doc.{DocState, contents, world_from, state_from, IsHeld}
 use Rattle.dom_parts.specs.Hosting.{host_owners}

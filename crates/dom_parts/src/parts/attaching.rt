@@ -42,13 +42,7 @@ impl Parts {
             Err(refusal) => return Err(Fault::Refused(refusal)),
         };
         self.forest.nodes_stand_once();
-        let made = attach_root(
-            self.alloc,
-            &mut self.forest,
-            &mut self.slots,
-            host,
-            owner,
-        );
+        let made = attach_root(self.alloc, &mut self.forest, &mut self.slots, host, owner);
         match made {
             Ok(root) => Ok(root),
             Err(error) => {

@@ -1,14 +1,12 @@
-use Rattle.std.proofs.Common.{◌≡◌, ℕ, ◌≤◌, true, [], ◌∷◌, ◌++◌, length, refl, sym, ap, subst, ◌∙◌, arith}
-use Rattle.std.specs.Prelude.{IfOk, Result, Ok, Err, ◌↔◌}
+use Rattle.std.proofs.Common.{◌≡◌, ◌≤◌, true, [], ◌∷◌, ◌++◌, length, refl, sym, ap, subst, ◌∙◌, arith}
+use Rattle.std.specs.Prelude.{IfOk, Err, ◌↔◌}
 use Rattle.std.specs.Option.{IsSome}
-use Rattle.std.specs.Result.{IsErrAnd}
 use Rattle.std.proofs.lemmas.Result.{on_ok_weaker, on_err_weaker}
-use Rattle.dom_base.specs.declared.Fault.{Fault}
-use Rattle.dom_base.specs.declared.Fault.TheVariants.{Refused, Memory}
+use Rattle.dom_base.specs.declared.Fault.TheVariants.{Refused}
 use Rattle.dom_base.specs.declared.Refusal.TheVariants.{Limit}
 use Rattle.dom_traversal.specs.Filters.{filter_of}
 use Rattle.dom_cursors.specs.declared.cursors.Cursors.TheInside.{Inside}
-use Rattle.dom_cursors.specs.OwnTables.{KeyedTables, no_keyed_tables}
+use Rattle.dom_cursors.specs.OwnTables.{KeyedTables}
 use Rattle.dom_cursors.specs.Cursors.{cursors_of, with_cursors}
 use Rattle.dom_cursors.proofs.Owners.{had, written, with-same, not_limit}
 use Rattle.dom_cursors.proofs.cursors.Cursors.add_iter.Goals as goal
@@ -32,8 +30,10 @@ pub returns-clause-added : goal.returns-clause-added
 returns-clause-added c =
     let r : Inside = record { tables = c.get_mut.follows.lender c.add_iter.new.self; alloc = c.self.inside.alloc } in
     let now = sym (had c.self.inside c.prepare.new.self c.args.owner c.in-Some.tables.now c.self.view_is c.in-Some.ensures.value) ∙ ap (λ each. each c.args.owner) c.in_ok-prepare.ensures.keeps in
-    let more : KeyedTables → KeyedTables = λ t. record t { iterators = t.iterators ++
-    record { root = c.args.root; reference = c.args.root; before = true; filter = filter_of c.args.filter } ∷ [] } in
+    let more : KeyedTables → KeyedTables = λ t. record t {
+      iterators = t.iterators ++
+          record { root = c.args.root; reference = c.args.root; before = true; filter = filter_of c.args.filter } ∷ [];
+    } in
     let step : c.add_iter.new.self ≡ more c.in-Some.tables.now →
     cursors_of r.tables.entries ≡ with_cursors (cursors_of c.args.self.now) c.args.owner (more (cursors_of c.args.self.now c.args.owner)) =
     λ e. written c.self.inside r c.prepare.new.self c.args.owner c.add_iter.new.self c.self.view_is

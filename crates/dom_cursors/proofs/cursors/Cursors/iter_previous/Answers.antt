@@ -1,8 +1,6 @@
 use Rattle.std.proofs.Common.{◌≡◌, true, option_map, refl, sym, ap, subst, ◌∙◌}
 use Rattle.std.specs.Prelude.{is_some, slice_get, slice_set}
-use Rattle.std.specs.HashMap.{get}
 use Rattle.std.specs.Option.{ForSome, IsSome}
-use Rattle.dom_base.specs.contracts.OwnerPartialEq.TheImpl as OwnerImpl
 use Rattle.dom_model.specs.Traversal.{iterator_previous_node}
 use Rattle.dom_tree.specs.Forest.{name_at}
 use Rattle.dom_traversal.specs.Iterators.{iterator_view, iterator_at, IsIteratorOf}

@@ -3,7 +3,7 @@ use Rattle.std.specs.Option.{IsSome}
 use Rattle.dom_traversal.specs.Iterators.{KeyedIterator, IsIteratorOf}
 use Rattle.dom_traversal.specs.Walkers.{KeyedWalker}
 use Rattle.dom_cursors.specs.declared.cursors.Cursors.TheInside.{Inside}
-use Rattle.dom_cursors.specs.OwnTables.{KeyedTables, EachItem, AreLeft}
+use Rattle.dom_cursors.specs.OwnTables.{KeyedTables, EachItem}
 use Rattle.dom_cursors.specs.Cursors.{cursors_of, with_cursors}
 use Rattle.dom_cursors.proofs.Owners.{had, written, with-own}
 use Rattle.dom_cursors.proofs.cursors.Cursors.leave.Goals as goal

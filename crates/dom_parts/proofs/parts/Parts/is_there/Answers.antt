@@ -1,6 +1,5 @@
-use Rattle.std.proofs.Common.{◌≡◌, ◌≢◌, true, true≢false, sym, ap, subst, ◌∙◌}
+use Rattle.std.proofs.Common.{◌≢◌, true≢false, sym, ap, ◌∙◌}
 use Rattle.std.specs.Prelude.{nat_lt}
-use Rattle.dom_base.specs.declared.Owner.{Owner}
 use Rattle.dom_base.specs.declared.Owner.TheVariants.{Page}
 use Rattle.dom_model.specs.World.{is_there}
 use Rattle.dom_parts.proofs.There.{page_there, nodes_there}

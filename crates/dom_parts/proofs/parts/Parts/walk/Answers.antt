@@ -1,4 +1,4 @@
-use Rattle.std.proofs.Common.{option_map, subst, ◌<◌, length, arith}
+use Rattle.std.proofs.Common.{option_map, subst}
 use Rattle.std.specs.Prelude.{slice_get, slice_set}
 use Rattle.dom_model.specs.Command.{Command}
 use Rattle.dom_model.specs.Effects.{node_or_null}

@@ -1,4 +1,4 @@
-use Rattle.std.proofs.Common.{◌≡◌, ◌<◌, length, arith}
+use Rattle.std.proofs.Common.{◌≡◌, ◌<◌, length}
 use Rattle.std.specs.Prelude.{slice_get, slice_set}
 use Rattle.dom_model.specs.Command.{Command, own}
 use Rattle.dom_model.specs.Output.{nothing}
