@@ -32,8 +32,11 @@ returns-in_err-root-clause-handled c =
     let own : owner_in d c.key-host.result ≡ o = ap (λ (x : NodeName). x.owner) host_is ∙ owner-named d.world o (spelled_view c.args.host) in
     rw (p.1, p.2) (attach-faults o c.state.inside.turn d c.args.state.now c.state.view_is c.args.host c.key-host.result host_is
     (sym c.admit.ensures ∙ c.in_ok-admit.was) c.attach.new.self.world c.args.out.now.items c.in_err-root.field-0.0
-    (λ r e. (subst (λ (q : Owner). attaching_refusal (part_of d.world q) (name_in d c.key-host.result) ≡ Some r) own
-    ((c.in_err-root.ensures.refused r).0 (ap Err e)), ap (λ s. s.world) (c.in_err-root.ensures.unchanged r (ap Err e)))))
+    (λ r e. (
+      subst (λ (q : Owner). attaching_refusal (part_of d.world q) (name_in d c.key-host.result) ≡ Some r) own
+          ((c.in_err-root.ensures.refused r).0 (ap Err e)),
+      ap (λ s. s.world) (c.in_err-root.ensures.unchanged r (ap Err e)),
+    )))
 
 pub returns-clause-handled : goal.returns-clause-handled
 returns-clause-handled c =

@@ -16,7 +16,7 @@ returns-in-Some c =
     let new = with_item c.in-Some.slots.now c.args.number None in
     let r : Numbers = record { page = n.page; components = c.get_mut.follows.lender new; alloc = n.alloc } in
     let other : c.args.owner ≢ Page = elim c.match-matches.branch [
-      in-Page w ↦ absurd (true≢false (sym w.matches-is ∙ c.if-matches.false))
+      | in-Page w ↦ absurd (true≢false (sym w.matches-is ∙ c.if-matches.false))
       | in_default w ↦ w.in_default.not-Page
     ] in
     let found : get OwnerImpl.ghosts.eq n.components c.args.owner ≡ Some c.in-Some.slots.now = sym c.in-Some.ensures.value in
