@@ -1,5 +1,5 @@
 -- What is in the grammar is read: combinators, complex selectors and lists.
-use Rattle.std.proofs.Common.{◌≡◌, ◌<◌, true, false, List, [], ◌∷◌, ◌++◌, length, Option, Some, None, refl, ap, sym, subst, ◌∙◌}
+use Rattle.std.proofs.Common.{◌≡◌, ◌<◌, false, List, [], ◌∷◌, ◌++◌, length, Option, Some, None, refl, ap, sym, subst, ◌∙◌}
 use Rattle.std.proofs.Common.{append_assoc, length-append, arith}
 use Rattle.std.specs.Prelude.{◌||◌, ◌==◌, fold, option_map, codes, nat_lt, if◌then◌else◌}
 use Rattle.std.specs.Option.{option_and_then, option_or}

@@ -11,7 +11,6 @@ use Rattle.dom_model.specs.Selectors.{Simple, CompoundPart, is_space, of_type, o
 use Rattle.dom_model.specs.Selectors.{with_value, first_child, last_child, simple, is_not}
 use Rattle.dom_model.specs.SelectorText.{Reader, skip_space, read_map, expect, closed_by, read_all, read_one_of, read_simple, read_type_name}
 use Rattle.dom_model.specs.SelectorText.{read_type, read_compound_of, read_not, read_part, read_compound}
-use Rattle.dom_model.specs.SelectorText.{whole}
 use Rattle.dom_selectors.specs.Grammar.{Form, IsSpaces, IsSimple, IsType, AreEach, IsCompoundOf, IsPart, IsCompound}
 use Rattle.dom_selectors.specs.Reads.{behind_list}
 use Rattle.dom_selectors.proofs.Shorter.{Shrinks, simple-ends, part-ends}
