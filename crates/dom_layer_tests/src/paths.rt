@@ -1,6 +1,6 @@
 //! What no line of a script reaches. It refuses related nodes of other owners: each tree of a path sees a related node of its own, and
-//! a path is empty where the target would see itself as the related node. And no component has a host yet: a closed tree in another
-//! one sees out of it, and is not seen into.
+//! a path is empty where the target would see itself as the related node. And the components that it makes are named by who attached
+//! them: here the owner of a closed tree in another one has a number of its own. That tree sees out of it, and is not seen into.
 mod scene;
 
 use scene::Line::{Append, Attach};
