@@ -134,7 +134,7 @@ pub extern "C" fn dom_session_text(
     status
 }
 
-/// Copies as `dom_session_text` does, of the text's lines only those that begin with an owner's word, `p` or `c` and a number,
+/// Copies as `dom_session_text` does, of the text's lines only those that begin with an owner's word, as `p`, `c1` or `c1.2`,
 /// and a space.
 #[unsafe(no_mangle)]
 pub extern "C" fn dom_session_view(
