@@ -14,6 +14,7 @@ import sys
 sys.path.insert(0, os.path.join(os.path.dirname(os.path.abspath(__file__)), "..", "malformed"))
 import grammar  # noqa: E402
 
+OWNER = re.compile(rf"(p|{grammar.COMPONENT_WORD}) ")
 REPLY = re.compile(rf"! owner|(?:p|{grammar.COMPONENT_WORD}) (?:ok|!)(?: .*)?")
 
 
@@ -98,13 +99,26 @@ class Trees:
         return True
 
 
-def trace_of(script, output, kept=("p",), may_stop=False):
-    """The trace of a script that the program answered with this output: the lines of the owners kept, and tuples for the outward events of
-    all others. A component's listener that may stop an event is read on where `may_stop` says so."""
+def is_page(owner):
+    """Whether an owner is the page."""
+    return owner == "p"
+
+
+def is_in_family(component, owner):
+    """Whether the words of two components begin with one number."""
+    return owner.partition(".")[0] == component.partition(".")[0]
+
+
+def trace_of(script, output, is_kept=is_page, may_stop=False):
+    """The trace of a script that the program answered with this output: the lines of the owners that are kept, and tuples for the outward
+    events of all others. A component's listener that may stop an event is read on where `may_stop` says so."""
     hosts, trees, trace = {}, {}, []
     for line, reply in answered(script, output):
-        owner, _, rest = line.partition(" ")
-        if any(line.startswith(name + " ") for name in kept):
+        begins = OWNER.match(line)
+        if not begins:
+            continue
+        owner, rest = begins[1], line[begins.end() :]
+        if is_kept(owner):
             trace.append(line)
         if not reply.startswith(owner + " ok") or grammar.answer_class(line.encode("latin-1")) != "read":
             continue
@@ -112,9 +126,9 @@ def trace_of(script, output, kept=("p",), may_stop=False):
         value = reply[len(owner) + 4 :]
         if command == "attach":
             hosts[value], trees[value] = (owner, words[0]), Trees()
-        elif owner != "p":
+        elif not is_page(owner):
             trees[owner].follow(command, words, value)
-            if owner not in kept and command == "dispatch" and "composed" in words[2:] and words[-2] != "related":
+            if not is_kept(owner) and command == "dispatch" and "composed" in words[2:] and words[-2] != "related":
                 host = outermost_host(hosts, trees, owner, words[0])
                 trace.extend([(host, words[1], "bubbles" in words[2:], "cancelable" in words[2:])] if host else [])
             if command == "listen" and words[3] != "log" and not may_stop:
@@ -124,7 +138,7 @@ def trace_of(script, output, kept=("p",), may_stop=False):
 
 def outermost_host(hosts, trees, owner, node):
     """The page's node above a component's node, from host to host, or nothing where one of these stands in no tree."""
-    while owner != "p":
+    while not is_page(owner):
         if not trees[owner].is_inside(node):
             return None
         owner, node = hosts[owner]
