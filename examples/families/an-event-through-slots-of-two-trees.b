@@ -1,0 +1,31 @@
+p new element section
+p append n0 n1
+p attach n1
+p new element div
+p append n1 n2
+p attach n2
+p listen n1 e a log
+p .
+c1 new element div
+c1 append m0 m1
+c1 new element slot
+c1 append m1 m2
+c1 attach m1
+c1 listen m2 e s log
+c1 .
+c1.1 new element slot
+c1.1 append m0 m1
+c1.1 listen m1 e t log
+c1.1 listen m0 e r log
+c1.1 .
+c2 new element section
+c2 append m0 m1
+c2 attach m1
+c2 .
+c2.1 new element u
+c2.1 append m0 m1
+c2.1 new element i
+c2.1 append m1 m2
+c2.1 listen m1 e x log
+c2.1 dispatch m2 e bubbles composed
+c2.1 .
