@@ -1,7 +1,8 @@
 """Writes commands of one owner by the throw of dice, and learns from the replies what there is to speak of.
 
-What it remembers of trees is a guess, good enough that most commands are accepted. A component's author sends no event out: an event
-of its with `composed` has a related node in the same tree, or a target that was never placed. Its listeners neither stop nor cancel.
+What it remembers of trees is a guess, good enough that most commands are accepted. A component's author sends no event out, if it is not told
+to: an event of its with `composed` has a related node in the same tree, or a target that was never placed. Its listeners neither stop nor
+cancel. It attaches components to its own elements, as the page's author does.
 """
 PAGE_NAMES = ("div", "section", "p", "span", "b", "i", "a", "x-widget")
 COMPONENT_NAMES = ("slot", "slot", "slot", "div", "b", "i", "section")
@@ -27,15 +28,15 @@ WEIGHTS = {
     "connected": 2, "shadow-root": 1, "slot-of": 2, "range-new": 3, "range-start": 5, "range-end": 5, "range-collapse": 1,
     "range-drop": 1, "range-get": 4, "range-text": 3, "extract": 2, "delete": 1, "insert-node": 2, "iter-new": 2, "iter-next": 8,
     "iter-prev": 3, "iter-at": 2, "walk-new": 2, "walk": 8, "walk-at": 2, "walk-set": 2, "query": 3, "matches": 2, "listen": 6,
-    "unlisten": 2, "dispatch": 6, "observer": 1, "observe": 4, "disconnect": 1, "take": 2, "micro": 3, "wrong": 2,
+    "unlisten": 2, "dispatch": 6, "attach": 1, "observer": 1, "observe": 4, "disconnect": 1, "take": 2, "micro": 3, "wrong": 2,
 }  # fmt: skip
 
 
 class Author:
     """An owner's author: `line` gives a line, and `learn` takes in that it was accepted."""
 
-    def __init__(self, owner, dice):
-        self.owner, self.dice = owner, dice
+    def __init__(self, owner, dice, sends_out=False):
+        self.owner, self.dice, self.sends_out = owner, dice, sends_out
         self.is_page = owner == "p"
         self.first = "n0" if self.is_page else "m0"
         self.kinds = {self.first: "document" if self.is_page else "shadow"}
@@ -45,7 +46,7 @@ class Author:
         self.placed = set()
         self.tables = {"range": [], "iter": [], "walk": [], "observer": []}
         self.listeners = []
-        self.weights = {**WEIGHTS, **({"attach": 1} if self.is_page else {"assigned": 5})}
+        self.weights = {**WEIGHTS, **({} if self.is_page else {"assigned": 5})}
 
     def line(self):
         """A line of this owner."""
@@ -124,8 +125,8 @@ class Author:
     def words_of_wrong(self):
         """Words that are refused."""
         other = "m1" if self.is_page else "n1"
-        wrong = (f"remove {other}", "tree c1:m1", f"tree {self.first[0]}999999", "nonsense", f"tree {self.first} ", "new element 1a", "new text x")
-        return self.dice.choice(wrong)
+        wrong = [f"remove {other}", "tree c1:m1", "tree c1.1:m0", f"tree {self.first[0]}999999", f"tree {self.first} "]
+        return self.dice.choice(wrong + ["nonsense", "new element 1a", "new text x"])
 
     def words_of_new(self):
         kind = self.dice.choices(("element", "text", "comment", "fragment"), (12, 5, 2, 2))[0]
@@ -234,7 +235,7 @@ class Author:
 
     def words_of_dispatch(self):
         node, words = self.one(), self.some(("bubbles", "cancelable"), 0.5)
-        if self.is_page:
+        if self.is_page or self.sends_out:
             words += self.some(("composed",), 0.5) + self.some((f"related {self.one()}",), 0.3)
         elif self.dice.random() < 0.5:
             apart = [name for name in self.elements if name not in self.placed]
