@@ -252,16 +252,35 @@ def event_of(of_type, visits):
     return Event(of_type, items, seen)
 
 
+def merged(one, other):
+    """One path from two that owners are shown of one event: each may have nodes of trees that are closed to the other one."""
+    nodes, left = [], one
+    for node in other:
+        if node in left:
+            place = left.index(node)
+            nodes, left = nodes + left[:place], left[place + 1:]
+        nodes.append(node)
+    return nodes + left
+
+
+def fired_event(of_type, slot, paths):
+    """The event that was fired at a slot, from the path that each owner who heard it is shown."""
+    nodes = []
+    for path in paths.values():
+        nodes = merged(nodes, path)
+    items = [{"node": node, "target": slot, "atTarget": node == slot} for node in nodes]
+    seen = {owner: {"path": path, "targets": [slot], "related": ["null"]} for owner, path in paths.items()}
+    return Event(of_type, items, seen)
+
+
 def fired_events(lines):
-    """The events that the end of a turn fired, from the lines that tell of them: each is a `slotchange` at a slot, which stays in
-    its tree, so that the path of a line is all of it."""
-    found = {}
+    """The events that the end of a turn fired, from the lines that tell of them: each is a `slotchange` at a slot. It stays in its tree, but
+    for the trees inside whose slots it comes through; so the paths of its lines are all of it, where somebody hears it in each of them."""
+    paths = {}
     for line in lines:
         visit = EVENT.fullmatch(line)
         if visit:
             owner, of_type, target, path = visit.group(1, 3, 5, 8)
-            nodes = [whole_name(owner, name) for name in path.split(",")]
-            items = [{"node": node, "target": nodes[0], "atTarget": node == nodes[0]} for node in nodes]
-            seen = {owner: {"path": nodes, "targets": [whole_name(owner, target)], "related": ["null"]}}
-            found[(owner, target)] = Event(of_type, items, seen)
-    return list(found.values())
+            shown = paths.setdefault((of_type, whole_name(owner, target)), {})
+            shown[owner] = [whole_name(owner, name) for name in path.split(",")]
+    return [fired_event(of_type, slot, shown) for (of_type, slot), shown in paths.items()]
