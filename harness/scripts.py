@@ -247,10 +247,11 @@ class Maker(Draft):
         self.owner = self.one(self.owners + [self.page])
 
     def host(self):
-        if self.owner is not self.page or len(self.owners) > 3:
+        """Attaches a component: to an element of the page, or of another component."""
+        if len(self.owners) > 4 or self.owner is not self.page and self.chance.random() < 0.3:
             return self.slot()
         hosts = [name for name, node in self.owner.nodes.items() if node.tag in SLOTTED]
-        value = self.say(f"attach {self.one(hosts) if hosts else 'n0'}")
+        value = self.say(f"attach {self.one(hosts or list(self.owner.nodes))}")
         if value:
             owner = Owner(value)
             owner.nodes["m0"] = Node("shadow")
@@ -258,7 +259,7 @@ class Maker(Draft):
         return None
 
     def begin(self):
-        """The first lines: a few nodes, and in every second script a host with a child and a component with a slot."""
+        """The first lines: a few nodes, and in every second script a host with a child and components with slots, one in another."""
         for _ in range(3):
             self.make()
         self.place()
@@ -270,11 +271,23 @@ class Maker(Draft):
         self.host()
         self.place()
         self.say(".")
-        if len(self.owners) > 1:
-            self.owner = self.owners[1]
-            self.made(self.say("new element slot"), "element", "slot")
-            self.change(f"append m0 {max(self.owner.nodes)}", "m0", max(self.owner.nodes))
-            self.hear()
+        for component in self.owners[1:]:
+            self.begin_component(component)
+
+    def begin_component(self, component):
+        """The first lines of a component: a slot, which in every second one stands in a host of a component inside, and so on."""
+        self.owner, host = component, "m0"
+        if self.chance.random() < 0.5:
+            self.made(self.say("new element div"), "element", "div")
+            host = max(component.nodes)
+            self.change(f"append m0 {host}", "m0", host)
+            self.host()
+        self.made(self.say("new element slot"), "element", "slot")
+        slot = max(component.nodes, key=lambda name: int(name[1:]))
+        self.change(f"append {host} {slot}", host, slot)
+        self.hear()
+        for inner in [owner for owner in self.owners if owner.word.rpartition(".")[0] == component.word]:
+            self.begin_component(inner)
 
     def stray(self):
         """A line that is refused, or that another owner says in between."""
