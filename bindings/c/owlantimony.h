@@ -94,7 +94,8 @@ static inline uint32_t owlantimony_text(owlantimony_session *session, void *buff
     return dom_session_text(session, buffer ? (uint8_t *)buffer : &none, buffer_size, size);
 }
 
-/* The same of the lines that one owner sees: the owner's word is p, c1, c2, .. */
+/* The same of the lines that one owner sees: the owner's word is p, or a component's: c1, c2, .., and c1.1 of one
+   that c1 attached. */
 static inline uint32_t owlantimony_view(owlantimony_session *session, const void *owner, size_t owner_size, void *buffer, size_t buffer_size, size_t *size)
 {
     uint8_t none = 0;

@@ -26,7 +26,7 @@ class Closed(ValueError):
 
 
 class NoOwner(ValueError):
-    """The word is no owner's: an owner is "p", "c1", "c2", .."""
+    """The word is no owner's: an owner is "p", or a component such as "c1", "c2" and "c1.1"."""
 
 
 class _Handle(ctypes.Structure):
@@ -97,7 +97,7 @@ class Session:
         return _lines(self._text(size.value))
 
     def view(self, owner: str) -> List[str]:
-        """What an owner, "p", "c1", "c2", .., sees of the last answer. Raises `NoOwner` for another word."""
+        """What an owner, such as "p", "c1" and "c1.1", sees of the last answer. Raises `NoOwner` for another word."""
         word, size = owner.encode("utf-8"), ctypes.c_size_t()
         status = self._library.dom_session_view(self._handle, word, len(word), ctypes.create_string_buffer(1), 0, size)
         if status not in (DONE, SHORT):

@@ -58,9 +58,23 @@ class Sessions(unittest.TestCase):
             self.assertEqual(session.view("c1"), [both[0], both[2]])
             self.assertEqual(session.view("c2"), [])
 
+    def test_a_view_of_a_component_inside_another_is_its_own(self):
+        with Session() as session:
+            for line in ("p new element div", "p append n0 n1", "p attach n1", "p .", "c1 new element div", "c1 append m0 m1"):
+                session.line(line)
+            self.assertEqual(session.line("c1 attach m1"), ["c1 ok c1.1"])
+            session.line("c1 listen m1 pick outer log")
+            session.line("c1 .")
+            both = session.line("c1.1 dispatch m0 pick composed")
+            self.assertEqual([line.split(" ")[0] for line in both], ["c1", "c1.1"])
+            self.assertEqual(session.view("c1"), [both[0]])
+            self.assertEqual(session.view("c1.1"), [both[1]])
+            self.assertEqual(session.view("c1.1.1"), [])
+            self.assertEqual(session.view("c1.2.3.4.5.6.7.8"), [])
+
     def test_a_word_that_is_no_owners_is_refused(self):
         with Session() as session:
-            for word in ("", "x", "c", "c0", "c01", "pp"):
+            for word in ("", "x", "c", "c0", "c01", "pp", "p.1", "c1.", "c1.0", "c1.01", "c1..1", "c1.2.3.4.5.6.7.8.9"):
                 self.assertRaises(NoOwner, session.view, word)
 
     def test_a_closed_session_says_so(self):
