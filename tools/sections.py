@@ -231,7 +231,7 @@ ABSENT = {
     "that a listener throws; `signal` for a listener, and `passive` by default",
     "Aborting": "abort controllers and abort signals, all of it",
     "Kinds of nodes": "doctypes, processing instructions, CDATA sections, attributes as nodes of their own",
-    "Shadow trees": "open shadow roots, shadow roots of a component's own elements, manual slot assignment, `delegatesFocus`, clonable, "
+    "Shadow trees": "open shadow roots, manual slot assignment, `delegatesFocus`, clonable, "
     "serializable and declarative shadow roots, `onslotchange`; registries of custom elements",
     "Custom elements": "definitions, upgrades, and all custom element reactions; a name of a custom element is only a name that a host may have",
     "Mutation": "the steps that other standards add where a node is inserted, removed, moved or adopted, or its children or attributes change; "
