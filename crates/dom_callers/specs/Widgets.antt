@@ -1,6 +1,8 @@
 -- A document of two widgets, whose components have numbers that no script gives.
 use Rattle.std.specs.Prelude.{◌≡◌, ℕ, Bool, not, List, [], ◌∷◌, map, Option, None, option_map}
+use Rattle.dom_base.specs.declared.Owner.{Owner}
 use Rattle.dom_base.specs.declared.Owner.TheVariants.{Page, Component}
+use Rattle.dom_base.specs.Owners.{longer_path, no_path}
 use Rattle.dom_model.specs.Command.{EventWords}
 use Rattle.dom_model.specs.Listeners.{Listener}
 use Rattle.dom_model.specs.Paths.{View}
@@ -13,18 +15,22 @@ use Rattle.dom_path.specs.Items.{view_named}
 use Rattle.dom_path.specs.Paths.{AreViews}
 use Rattle.dom_dispatch.specs.Kept.{dispatch_along}
 
--- Each tree has one owner; the hosts are nodes of the page, and their shadow roots are of the components 7 and 3, without a parent.
+-- the component whose word has one number
+abbrev pub numbered : ℕ → Owner
+numbered n = Component (longer_path no_path n)
+
+-- Each tree has one owner; the hosts are nodes of the page, and their shadow roots are of the components with the numbers 7 and 3, without a parent.
 pub record AreWidgets (f : NamedTrees) (hosts : List ShadowHost) : Type 0 where
   pub first : ℕ
   pub second : ℕ
   pub seven : ℕ
   pub three : ℕ
-  pub hosts_are : hosts ≡ record { host = first; root = seven; owner = Component 7 } ∷ record { host = second; root = three; owner = Component 3 } ∷ []
+  pub hosts_are : hosts ≡ record { host = first; root = seven; owner = numbered 7 } ∷ record { host = second; root = three; owner = numbered 3 } ∷ []
   pub owners : HaveOwners f.trees
   pub first_owner : (name_at f.names first).owner ≡ Page
   pub second_owner : (name_at f.names second).owner ≡ Page
-  pub seven_owner : (name_at f.names seven).owner ≡ Component 7
-  pub three_owner : (name_at f.names three).owner ≡ Component 3
+  pub seven_owner : (name_at f.names seven).owner ≡ numbered 7
+  pub three_owner : (name_at f.names three).owner ≡ numbered 3
   pub seven_alone : parent_of f.trees (name_at f.names seven) ≡ None
   pub three_alone : parent_of f.trees (name_at f.names three) ≡ None
 

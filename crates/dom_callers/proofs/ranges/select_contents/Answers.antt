@@ -1,7 +1,8 @@
-use Rattle.std.proofs.Common.{◌∙◌}
+use Rattle.std.proofs.Common.{◌∙◌, inl, inr, Err, ap, arith}
 use Rattle.dom_model.specs.Tree.{length_of}
 use Rattle.dom_tree.specs.Forest.{name_at}
-use Rattle.dom_callers.proofs.Selections.{all-ended}
+use Rattle.dom_callers.proofs.Selections.{all-ended, range-made}
+use Rattle.dom_ranges.specs.Tables.{range_in, ranges_of}
 use Rattle.dom_callers.proofs.ranges.select_contents.Goals as goal
 
 -- src/ranges.rt:19:1
@@ -10,3 +11,13 @@ returns-clause-made c = λ o.
     let size = length_of c.args.forest.now.trees (name_at c.args.forest.now.names c.args.node) in
     c.in-Ok.ensures.set o ∙ rw (c.in_ok-number.ensures.number, c.length-length.ensures)
     (all-ended c.args.ranges.now c.make.new.self c.args.owner c.args.node c.in_ok-number.ensures.made c.args.forest.now size o)
+
+-- src/ranges.rt:38:9
+pub unreachable-requires : goal.unreachable-requires
+unreachable-requires c =
+    let made = range-made c.args.ranges.now c.make.new.self c.args.owner c.args.node c.in_ok-number.ensures.made in
+    let there = ap (range_in (ranges_of c.make.new.self c.args.owner)) c.in_ok-number.ensures.number ∙ made in
+    elim c.in_default.ensures.other [
+      | inl e ↦ let none = c.in_default.ensures.unknown.0 (ap Err e) in cc
+      | inr e ↦ let past = (c.in_default.ensures.index_size.0 (ap Err e)).1 in omega (arith, past, c.length-length.ensures)
+    ]
